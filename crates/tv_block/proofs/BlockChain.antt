@@ -58,13 +58,13 @@ module _ (w n : ℕ) (state : StateWires) (at : ℕ) where
   made = arithmetic_of w op triple.answer.other_word test operand.answer (test + 1)
 
   abbrev pub tapes : Made TapeWires
-  tapes = tapes_of w n state op operand.answer.bits made.next
+  tapes = tapes_of w n state op operand.answer made.next
 
   abbrev pub memory : Made StoreWires
-  memory = memory_of w state op operand.answer.bits (data_of made.answer triple.answer.other_word) tapes.answer tapes.next
+  memory = memory_of w state op operand.answer (data_of made.answer triple.answer.other_word) tapes.answer tapes.next
 
   abbrev pub results : Made ResultWires
-  results = results_of w state op operand.answer.bits (sources_of w made.answer operand.answer.word memory.answer.byte) tapes.answer memory.next
+  results = results_of w state op operand.answer (sources_of w made.answer memory.answer.byte) tapes.answer memory.next
 
   abbrev pub zero : Made (Unit {0})
   zero = zero_sign_of results.answer.tested test (sign_of op) results.next
@@ -76,7 +76,7 @@ module _ (w n : ℕ) (state : StateWires) (at : ℕ) where
   flag = next_flag_of w state op made.answer.x test tapes.answer written.next
 
   abbrev pub pc : Made ℕ
-  pc = pc_of w state op operand.answer.bits flag.next
+  pc = pc_of w state op operand.answer flag.next
 
   -- ---- where they begin, and where the last one ends
   module _ (width : IsWidth w) where
@@ -103,16 +103,16 @@ module _ (w n : ℕ) (state : StateWires) (at : ℕ) where
         omega (arith, arithmetic_begins, e)
 
     pub memory_begins : tapes.next ≡ at + memory_at w
-    memory_begins = let e = tapes_sizes.end w n state op operand.answer.bits made.next in omega (arith, tapes_begin, e)
+    memory_begins = let e = tapes_sizes.end w n state op operand.answer made.next in omega (arith, tapes_begin, e)
 
     pub results_begin : memory.next ≡ at + results_at w
     results_begin =
-        let e = memory_sizes.end w width state op operand.answer.bits (data_of made.answer triple.answer.other_word) tapes.answer tapes.next in
+        let e = memory_sizes.end w width state op operand.answer (data_of made.answer triple.answer.other_word) tapes.answer tapes.next in
         omega (arith, memory_begins, e)
 
     pub written_begins : zero.next ≡ at + written_at w
     written_begins =
-        let e = results_sizes.end w state op operand.answer.bits (sources_of w made.answer operand.answer.word memory.answer.byte) tapes.answer memory.next in
+        let e = results_sizes.end w state op operand.answer (sources_of w made.answer memory.answer.byte) tapes.answer memory.next in
         let f = zero_sign_sizes.end results.answer.tested test (sign_of op) results.next in
         omega (arith, results_begin, e, f)
 
@@ -123,7 +123,7 @@ module _ (w n : ℕ) (state : StateWires) (at : ℕ) where
     pc_begins = let e = flag_sizes.end w state op made.answer.x test tapes.answer written.next in omega (arith, flag_begins, e)
 
     step_ends : pc.next ≡ at + (pc_at w + 4)
-    step_ends = let e = pc_sizes.end w state op operand.answer.bits flag.next in omega (arith, pc_begins, e)
+    step_ends = let e = pc_sizes.end w state op operand.answer flag.next in omega (arith, pc_begins, e)
 
 pub block_end : (w : ℕ) → IsWidth w → (n : ℕ) (state : StateWires) (time at : ℕ) → (block_of w n state time at).next ≡ at + block_made w
 unfolding block_of computed_of effects_of fresh pure ◌>>=◌

@@ -285,8 +285,8 @@ back w width z n state at head tail o takes assigns in_range fore =
     let x_word = other_below w n v head tail range in
     let t = tapes w n state at in
     let h5 = some_had z arith_made.next t.next (tapes_values w n v i low takes) (effects_values w n v i low high takes f)
-    (tapes_sizes.fills w n state row_op taken.answer.bits v i low takes arith_made.next) fore.rest in
-    let m5 = tapes_filled w width z arith_made.next n state row_op taken.answer.bits v i low takes (record {
+    (tapes_sizes.fills w n state row_op taken.answer v i low takes arith_made.next) fore.rest in
+    let m5 = tapes_filled w width z arith_made.next n state row_op taken.answer v i low takes (record {
       assigns = assigns;
       short = in_range.short;
       within = range.taken;
@@ -294,7 +294,7 @@ back w width z n state at head tail o takes assigns in_range fore =
       before = refl;
       ended = refl;
       opcode = fore.row;
-      operand = fore.is.bits;
+      operand = fore.is;
     }) in_range.asked h5.0 in
     let b = took z t.answer in
     let are_tapes = tapes_in known head tail fore.row fore.is arith_made.next m5.0 in
@@ -311,14 +311,14 @@ back w width z n state at head tail o takes assigns in_range fore =
     let d = data_of arith_made.answer regs.answer.other_word in
     let mem = memory w n state at in
     let h6 = some_had z t.next mem.next (memory_values w n v i spelled low b) r2
-    (memory_sizes.fills w width n state row_op taken.answer.bits d t.answer v i spelled low b t.next) rest in
-    let m6 = memory_complete w width z t.next n state row_op taken.answer.bits d t.answer v i spelled low (record {
+    (memory_sizes.fills w width n state row_op taken.answer d t.answer v i spelled low b t.next) rest in
+    let m6 = memory_complete w width z t.next n state row_op taken.answer d t.answer v i spelled low (record {
       assigns = assigns;
       short = in_range.short;
       within = range.taken;
       before = refl;
       opcode = fore.row;
-      operand = fore.is.bits;
+      operand = fore.is;
       bits = fore.does.row.low;
       word = refl;
       spelled = fore.spelled;
@@ -328,18 +328,17 @@ back w width z n state at head tail o takes assigns in_range fore =
       tapes = are_tapes;
     }) h6.0 in
     let stored = memory_in known head tail fore.row fore.is fore.does are_tapes t.next regs.answer.other_word fore.are.other m6 in
-    let from = sources_of w arith_made.answer taken.answer.word mem.answer.byte in
+    let from = sources_of w arith_made.answer mem.answer.byte in
     let res = results w n state at in
     let h7 = some_had z mem.next res.next (results_values w i.op a low high finds) r3
-    (results_sizes.fills w state row_op taken.answer.bits from t.answer i.op a low high finds mem.next) h6.1 in
-    let m7 = results_complete w width z mem.next n state row_op taken.answer.bits from t.answer v i low high (record {
+    (results_sizes.fills w state row_op taken.answer from t.answer i.op a low high finds mem.next) h6.1 in
+    let m7 = results_complete w width z mem.next n state row_op taken.answer from t.answer v i low high (record {
       assigns = assigns;
       within = range.taken;
       short = in_range.short;
       before = refl;
       opcode = fore.row;
-      operand = fore.is.bits;
-      value = fore.is.word;
+      operand = fore.is;
       low_wire = refl;
       high_wire = refl;
       top = Spells-bit_at fore.does.row.low (w - 1) (omega (arith, width));
@@ -349,7 +348,7 @@ back w width z n state at head tail o takes assigns in_range fore =
       tapes = are_tapes;
     }) h7.0 in
     let are_results = results_in known head tail fore.row fore.is fore.does are_tapes mem.next mem.answer.byte stored.byte m7 in
-    let places = results_sizes.answer w state row_op taken.answer.bits from t.answer mem.next in
+    let places = results_sizes.answer w state row_op taken.answer from t.answer mem.next in
     let tested_at : slice_index z res.answer.tested ≡ y =
     ap (λ (r : ResultWires). slice_index z r.tested) places ∙ ap (slice_index z) (fourth mem.next) ∙ h7.0.1.1.1.1.0 in
     let sign_is = sign_value z row_op i.op fore.row in
@@ -400,7 +399,7 @@ back w width z n state at head tail o takes assigns in_range fore =
       halves = fore.does.halves;
       tapes = are_tapes;
     }) h10.0 in
-    let m11 = pc_complete w width z flags.next state row_op taken.answer.bits v i (record {
+    let m11 = pc_complete w width z flags.next state row_op taken.answer v i (record {
       assigns = assigns;
       small = range.pc_fits;
       aligned = range.pc_aligned;
@@ -408,7 +407,7 @@ back w width z n state at head tail o takes assigns in_range fore =
       pc = refl;
       flag = refl;
       opcode = fore.row;
-      operand = fore.is.bits;
+      operand = fore.is;
     }) h10.1 in
     record { met5 = m5.0; met6 = m6; met7 = m7; met8 = m8; met9 = m9; met10 = m10; met11 = m11; takes_is = m5.1 }
   where

@@ -147,9 +147,9 @@ module _ {w : ℕ} {z : List ℕ} {n : ℕ} {state : StateWires} (known : Before
               (either_word (slice_index z y == 0) 1 0 2 (omega arith) (omega arith));
         }) meets
 
-    pub tapes_in : (next : ℕ) → Meets z (tapes_of w n state op taken.bits next).list → AreTapes z (tapes_of w n state op taken.bits next).answer n v i
+    pub tapes_in : (next : ℕ) → Meets z (tapes_of w n state op taken next).list → AreTapes z (tapes_of w n state op taken next).answer n v i
     tapes_in next meets =
-        tapes_sound w known.width z next n state op taken.bits v i (record {
+        tapes_sound w known.width z next n state op taken v i (record {
           assigns = known.assigns;
           short = known.short;
           within = known.range.taken;
@@ -157,13 +157,13 @@ module _ {w : ℕ} {z : List ℕ} {n : ℕ} {state : StateWires} (known : Before
           before = refl;
           ended = refl;
           opcode = row;
-          operand = is.bits;
+          operand = is;
         }) meets
 
-    pc_in : (next : ℕ) → Meets z (pc_of w state op taken.bits next).list
-        → slice_index z (pc_of w state op taken.bits next).answer ≡ chosen (pcs w v.pc a v.flag) i.op
+    pc_in : (next : ℕ) → Meets z (pc_of w state op taken next).list
+        → slice_index z (pc_of w state op taken next).answer ≡ chosen (pcs w v.pc a v.flag) i.op
     pc_in next meets =
-        pc_sound w known.width z next state op taken.bits v i (record {
+        pc_sound w known.width z next state op taken v i (record {
           assigns = known.assigns;
           small = known.range.pc_fits;
           aligned = known.range.pc_aligned;
@@ -171,7 +171,7 @@ module _ {w : ℕ} {z : List ℕ} {n : ℕ} {state : StateWires} (known : Before
           pc = refl;
           flag = refl;
           opcode = row;
-          operand = is.bits;
+          operand = is;
         }) meets
 
     module _ {f : ℕ} {made : ArithmeticWires} {t : TapeWires} (does : IsArithmetic w z made f taken i.op x a) (tapes : AreTapes z t n v i) where
@@ -181,16 +181,16 @@ module _ {w : ℕ} {z : List ℕ} {n : ℕ} {state : StateWires} (known : Before
       abbrev high : ℕ
       high = slice_index z made.row.high
 
-      pub memory_in : (next other : ℕ) → slice_index z other ≡ x → Meets z (memory_of w state op taken.bits (data_of made other) t next).list
-          → AreStored w z (memory_of w state op taken.bits (data_of made other) t next).answer n v i low (took z t)
+      pub memory_in : (next other : ℕ) → slice_index z other ≡ x → Meets z (memory_of w state op taken (data_of made other) t next).list
+          → AreStored w z (memory_of w state op taken (data_of made other) t next).answer n v i low (took z t)
       memory_in next other held meets =
-          memory_sound w known.width z next n state op taken.bits (data_of made other) t v i does.bits.0 low (record {
+          memory_sound w known.width z next n state op taken (data_of made other) t v i does.bits.0 low (record {
             assigns = known.assigns;
             short = known.short;
             within = known.range.taken;
             before = refl;
             opcode = row;
-            operand = is.bits;
+            operand = is;
             bits = does.row.low;
             word = refl;
             spelled = does.bits.1;
@@ -201,18 +201,17 @@ module _ {w : ℕ} {z : List ℕ} {n : ℕ} {state : StateWires} (known : Before
           }) meets
 
       pub results_in : (next byte : ℕ) → slice_index z byte ≡ byte_of low (a % word_size w)
-          → Meets z (results_of w state op taken.bits (sources_of w made taken.word byte) t next).list
-          → AreResults w z (results_of w state op taken.bits (sources_of w made taken.word byte) t next).answer n v i low high (took z t)
+          → Meets z (results_of w state op taken (sources_of w made byte) t next).list
+          → AreResults w z (results_of w state op taken (sources_of w made byte) t next).answer n v i low high (took z t)
       results_in next byte is_byte meets =
           let width = known.width in
-          results_sound w width z next n state op taken.bits (sources_of w made taken.word byte) t v i low high (record {
+          results_sound w width z next n state op taken (sources_of w made byte) t v i low high (record {
             assigns = known.assigns;
             within = known.range.taken;
             short = known.short;
             before = refl;
             opcode = row;
-            operand = is.bits;
-            value = is.word;
+            operand = is;
             low_wire = refl;
             high_wire = refl;
             top = Spells-bit_at does.row.low (w - 1) (omega (arith, width));
@@ -322,15 +321,15 @@ step_in w width z n state time at short early assigns range meets =
     let operand = operand_of w (imm_wire w decoded.answer) decoded.answer.tail regs.answer.named_word regs.next in
     let test = operand.next in
     let made = arithmetic_of w op regs.answer.other_word test operand.answer (operand.next + 1) in
-    let tapes = tapes_of w n state op operand.answer.bits made.next in
+    let tapes = tapes_of w n state op operand.answer made.next in
     let d = data_of made.answer regs.answer.other_word in
-    let memory = memory_of w state op operand.answer.bits d tapes.answer tapes.next in
-    let from = sources_of w made.answer operand.answer.word memory.answer.byte in
-    let results = results_of w state op operand.answer.bits from tapes.answer memory.next in
+    let memory = memory_of w state op operand.answer d tapes.answer tapes.next in
+    let from = sources_of w made.answer memory.answer.byte in
+    let results = results_of w state op operand.answer from tapes.answer memory.next in
     let zeros = zero_sign_of results.answer.tested test (sign_of op) results.next in
     let written = written_of op state regs.answer results.answer.word zeros.next in
     let flag = next_flag_of w state op made.answer.x test tapes.answer written.next in
-    let pc = pc_of w state op operand.answer.bits flag.next in
+    let pc = pc_of w state op operand.answer flag.next in
     let computed = computed_of w state at in
     let effects = effects_of w n state computed.answer computed.next in
     let first = Meets-split z computed.list _ meets in
@@ -360,7 +359,7 @@ step_in w width z n state time at short early assigns range meets =
     let is = operand_in known head tail regs.next decoded.answer regs.answer.named_word is_decoded are.named m3.0 in
     let is_test = test_in known head tail results.next op results.answer.tested test row m8.0 in
     let shifted : among shift_ops i.op ≡ true → (if slice_index z results.answer.tested == 0 then 1 else 0) ≡ flag_of (nat_lt (operand_word v i) w) =
-    (λ e. shift_test_sound w width z memory.next state op operand.answer.bits from tapes.answer i.op (operand_word v i) assigns row e is.bits m7.0) in
+    (λ e. shift_test_sound w width z memory.next state op operand.answer from tapes.answer i.op (operand_word v i) assigns row e is m7.0) in
     let does = arithmetic_in known head tail row is (operand.next + 1) regs.answer.other_word results.answer.tested test are.other is_test shifted m4.0 in
     let are_tapes = tapes_in known head tail row is made.next m5.0 in
     let stored = memory_in known head tail row is does are_tapes tapes.next regs.answer.other_word are.other m6.0 in

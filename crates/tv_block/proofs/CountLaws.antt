@@ -47,7 +47,7 @@ unfolding fresh
 fresh_sized = record { end = λ next. refl; count = λ next. refl; size = λ next. refl }
 
 -- the tapes' terms, and those that are missing where there is no word
-both_terms : (none : Bool) → (if none then 23 else 25) + (if none then 2 else 0) ≡ 25
+both_terms : (none : Bool) → (if none then 29 else 31) + (if none then 2 else 0) ≡ 31
 both_terms true = refl
 both_terms false = refl
 
@@ -104,30 +104,30 @@ module _ (w : ℕ) (width : IsWidth w) where
 
   -- ---- what it does
   abbrev tape_terms : ℕ → ℕ
-  tape_terms n = if n == 0 then 23 else 25
+  tape_terms n = if n == 0 then 29 else 31
 
   module _ (n : ℕ) (state : StateWires) (c : Computed) where
-    tapes_sized : Sized (tapes_of w n state c.instruction.op c.operand.bits) 7 7 (2 * w + tape_terms n)
+    tapes_sized : Sized (tapes_of w n state c.instruction.op c.operand) 7 7 (tape_terms n)
     tapes_sized = record {
-      end = tapes_sizes.end w n state c.instruction.op c.operand.bits;
-      count = tapes_costs.constraints w n state c.instruction.op c.operand.bits;
-      size = tapes_costs.terms w width n state c.instruction.op c.operand.bits;
+      end = tapes_sizes.end w n state c.instruction.op c.operand;
+      count = tapes_costs.constraints w n state c.instruction.op c.operand;
+      size = tapes_costs.terms w width n state c.instruction.op c.operand;
     }
 
     memory_sized : (t : TapeWires)
-        → Sized (memory_of w state c.instruction.op c.operand.bits (data_of c.made c.regs.other_word) t) (w / 8 + 5) (w / 8 + 5) (3 * w + 36)
+        → Sized (memory_of w state c.instruction.op c.operand (data_of c.made c.regs.other_word) t) (w / 8 + 5) (w / 8 + 5) (2 * w + w / 8 + 37)
     memory_sized t = record {
-      end = memory_sizes.end w width state c.instruction.op c.operand.bits (data_of c.made c.regs.other_word) t;
-      count = memory_costs.constraints w width state c.instruction.op c.operand.bits (data_of c.made c.regs.other_word) t;
-      size = memory_costs.terms w width state c.instruction.op c.operand.bits (data_of c.made c.regs.other_word) t;
+      end = memory_sizes.end w width state c.instruction.op c.operand (data_of c.made c.regs.other_word) t;
+      count = memory_costs.constraints w width state c.instruction.op c.operand (data_of c.made c.regs.other_word) t;
+      size = memory_costs.terms w width state c.instruction.op c.operand (data_of c.made c.regs.other_word) t;
     }
 
     results_sized : (byte : ℕ) (t : TapeWires)
-        → Sized (results_of w state c.instruction.op c.operand.bits (sources_of w c.made c.operand.word byte) t) 5 8 (w - w / 16 + 55)
+        → Sized (results_of w state c.instruction.op c.operand (sources_of w c.made byte) t) 5 8 (w / 16 + 62)
     results_sized byte t = record {
-      end = results_sizes.end w state c.instruction.op c.operand.bits (sources_of w c.made c.operand.word byte) t;
-      count = results_costs.constraints w state c.instruction.op c.operand.bits (sources_of w c.made c.operand.word byte) t;
-      size = results_costs.terms w width state c.instruction.op c.operand.bits (sources_of w c.made c.operand.word byte) t;
+      end = results_sizes.end w state c.instruction.op c.operand (sources_of w c.made byte) t;
+      count = results_costs.constraints w state c.instruction.op c.operand (sources_of w c.made byte) t;
+      size = results_costs.terms w width state c.instruction.op c.operand (sources_of w c.made byte) t;
     }
 
     zero_sized : (tested : ℕ) → Sized (zero_sign_of tested c.test (sign_of c.instruction.op)) 1 2 23
@@ -151,24 +151,24 @@ module _ (w : ℕ) (width : IsWidth w) where
       size = flag_costs.terms w state c.instruction.op c.made.x c.test t;
     }
 
-    pc_sized : Sized (pc_of w state c.instruction.op c.operand.bits) 4 4 (w - w / 16 + 24)
+    pc_sized : Sized (pc_of w state c.instruction.op c.operand) 4 4 (w / 16 + 27)
     pc_sized = record {
-      end = pc_sizes.end w state c.instruction.op c.operand.bits;
-      count = pc_costs.constraints w state c.instruction.op c.operand.bits;
-      size = pc_costs.terms w width state c.instruction.op c.operand.bits;
+      end = pc_sizes.end w state c.instruction.op c.operand;
+      count = pc_costs.constraints w state c.instruction.op c.operand;
+      size = pc_costs.terms w width state c.instruction.op c.operand;
     }
 
-    effects_sized : Sized (effects_of w n state c) (w / 8 + 42) (w / 8 + 47) (7 * w - 2 * (w / 16) + 291 + tape_terms n)
+    effects_sized : Sized (effects_of w n state c) (w / 8 + 42) (w / 8 + 47) (2 * w + w / 8 + 2 * (w / 16) + 302 + tape_terms n)
     unfolding effects_of
     effects_sized =
-        sized_as (effects_of w n state c) _ _ _ (w / 8 + 42) (w / 8 + 47) (7 * w - 2 * (w / 16) + 291 + tape_terms n)
-        (sized_then (tapes_of w n state c.instruction.op c.operand.bits) _ _ _ _ _ _ _ tapes_sized
-        (λ h. sized_then (memory_of w state c.instruction.op c.operand.bits _ _) _ _ _ _ _ _ _ (memory_sized _)
-        (λ i. sized_then (results_of w state c.instruction.op c.operand.bits _ _) _ _ _ _ _ _ _ (results_sized _ _)
+        sized_as (effects_of w n state c) _ _ _ (w / 8 + 42) (w / 8 + 47) (2 * w + w / 8 + 2 * (w / 16) + 302 + tape_terms n)
+        (sized_then (tapes_of w n state c.instruction.op c.operand) _ _ _ _ _ _ _ tapes_sized
+        (λ h. sized_then (memory_of w state c.instruction.op c.operand _ _) _ _ _ _ _ _ _ (memory_sized _)
+        (λ i. sized_then (results_of w state c.instruction.op c.operand _ _) _ _ _ _ _ _ _ (results_sized _ _)
         (λ j. sized_then (zero_sign_of _ c.test (sign_of c.instruction.op)) _ _ _ _ _ _ _ (zero_sized _)
         (λ k. sized_then (written_of c.instruction.op state c.regs _) _ _ _ _ _ _ _ (written_sized _)
         (λ l. sized_then (next_flag_of w state c.instruction.op c.made.x c.test _) _ _ _ _ _ _ _ (flag_sized _)
-        (λ m. sized_then (pc_of w state c.instruction.op c.operand.bits) _ _ _ _ _ _ _ pc_sized
+        (λ m. sized_then (pc_of w state c.instruction.op c.operand) _ _ _ _ _ _ _ pc_sized
         (λ last. sized_pure _))))))))
         (omega arith) (omega arith) (omega arith)
 
@@ -181,7 +181,7 @@ module _ (w : ℕ) (width : IsWidth w) where
       (λ a. sized_then (effects_of w n state (computed_of w state a).answer) _ _ _ _ _ _ _ (effects_sized n state (computed_of w state a).answer)
       (λ b. sized_pure _)))
       (omega (arith, width)) (omega (arith, width))
-      (for_widths (λ w. 28 * w + w / 4 + 451 + (7 * w - 2 * (w / 16) + 291 + tape_terms n + 0) ≡ block_terms w n) (omega (arith, both_terms (n == 0)))
+      (for_widths (λ w. 28 * w + w / 4 + 451 + (2 * w + w / 8 + 2 * (w / 16) + 302 + tape_terms n + 0) ≡ block_terms w n) (omega (arith, both_terms (n == 0)))
       (omega (arith, both_terms (n == 0))) w width)
 
 -- ---- its lines

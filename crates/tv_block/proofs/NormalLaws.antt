@@ -1,8 +1,6 @@
 -- A step's constraints are of normal combinations.
-use Rattle.std.proofs.Common.{◌≡◌, ℕ, ◌+◌, ◌-◌, ◌*◌, ◌/◌, ◌^◌, ◌<◌, ◌≤◌, List, [], ◌∷◌, ◌++◌, refl, ◌∙◌, ap, arith}
-use Rattle.std.specs.List.{range_with_len}
+use Rattle.std.proofs.Common.{◌≡◌, ℕ, ◌+◌, ◌-◌, ◌*◌, ◌/◌, ◌^◌, ◌<◌, ◌≤◌, [], ◌∷◌, ◌++◌, refl, ◌∙◌, ap, arith}
 use Rattle.tv_bits.proofs.NormalLaws.{bits_normal_plain, bits_top, zero_sign_normal}
-use Rattle.tv_bits.specs.ZeroSign.{zero_sign_of}
 use Rattle.tv_core.proofs.NormalCircuits.{normal_both}
 use Rattle.tv_core.proofs.NormalLaws.{IsNormalFrom-lower}
 use Rattle.tv_core.specs.Circuits.{fresh, pure, ◌>>=◌}
@@ -10,7 +8,7 @@ use Rattle.tv_core.specs.Combinations.{top}
 use Rattle.tv_core.specs.Normal.{IsNormal, AreNormal}
 use Rattle.tv_decode.proofs.InstructionLaws.{instruction_sizes}
 use Rattle.tv_decode.proofs.NormalLaws.{instruction_normal}
-use Rattle.tv_decode.specs.Instructions.{instruction_of, dest_bits, source_bits, register_bits, imm_wire, number_of}
+use Rattle.tv_decode.specs.Instructions.{dest_bits, source_bits, register_bits, imm_wire, number_of}
 use Rattle.tv_decode.specs.declared.records.InstructionWires.{InstructionWires}
 use Rattle.tv_numbers.specs.Tables.{store_ops}
 use Rattle.tv_regs.proofs.NormalLaws.{reg_below, triple_normal}
@@ -22,7 +20,7 @@ use Rattle.tv_parts.proofs.ArithmeticCounts.{arithmetic_sizes}
 use Rattle.tv_parts.proofs.NormalArithmetic.{arithmetic_normal}
 use Rattle.tv_parts.proofs.NormalFlag.{flag_normal}
 use Rattle.tv_parts.proofs.NormalMemory.{memory_normal}
-use Rattle.tv_parts.proofs.NormalOpcodes.{opcode_sum_normal, opcodes_top}
+use Rattle.tv_parts.proofs.NormalOpcodes.{opcode_sum_normal}
 use Rattle.tv_parts.proofs.NormalOperand.{operand_normal}
 use Rattle.tv_parts.proofs.NormalPc.{pc_normal}
 use Rattle.tv_parts.proofs.NormalResults.{SourcesRise, results_normal, sign_normal, sign_top}
@@ -46,7 +44,7 @@ use Rattle.tv_block.proofs.BlockChain.{flag_begins, pc_begins}
 use Rattle.tv_block.specs.Block.{data_of, sources_of, computed_of, effects_of, block_of}
 use Rattle.tv_block.specs.Complete.{block_made}
 use Rattle.tv_block.specs.Normal.{BlockIsNormal}
-use Rattle.tv_block.specs.Places.{registers_at, operand_at, arithmetic_at, tapes_at, memory_at, results_at, written_at, next_state}
+use Rattle.tv_block.specs.Places.{registers_at, operand_at, arithmetic_at, tapes_at, results_at, written_at, next_state}
 
 -- what the arithmetic answers where the first of its wires has this number
 abbrev arithmetic_wires : ℕ → ℕ → ArithmeticWires
@@ -123,7 +121,7 @@ module _ (w n : ℕ) (state : StateWires) (at : ℕ) (width : IsWidth w) where
     takes = (made w n state at).next + 5;
     ended = (made w n state at).next + 6;
   }
-  tapes_are = tapes_sizes.answer w n state (op w n state at) (operand w n state at).answer.bits (made w n state at).next
+  tapes_are = tapes_sizes.answer w n state (op w n state at) (operand w n state at).answer (made w n state at).next
 
   taken_at : (tapes w n state at).answer.taken ≡ at + tapes_at w + 3
   taken_at = ap (λ (t : TapeWires). t.taken) tapes_are ∙ ap (λ k. k + 3) (tapes_begin w n state at width)
@@ -133,8 +131,8 @@ module _ (w n : ℕ) (state : StateWires) (at : ℕ) (width : IsWidth w) where
 
   results_are : (results w n state at).answer ≡ record { word = (memory w n state at).next + 3; tested = (memory w n state at).next + 4 }
   results_are =
-      results_sizes.answer w state (op w n state at) (operand w n state at).answer.bits
-      (sources_of w (made w n state at).answer (operand w n state at).answer.word (memory w n state at).answer.byte) (tapes w n state at).answer
+      results_sizes.answer w state (op w n state at) (operand w n state at).answer
+      (sources_of w (made w n state at).answer (memory w n state at).answer.byte) (tapes w n state at).answer
       (memory w n state at).next
 
   result_at : (results w n state at).answer.word ≡ at + results_at w + 3
@@ -178,15 +176,15 @@ module _ (w n : ℕ) (state : StateWires) (at : ℕ) (width : IsWidth w) where
     tapes_put : AreNormal (tapes w n state at).list
     tapes_put =
         let start = tapes_begin w n state at width in
-        tapes_normal w width n state (op w n state at) (operand w n state at).answer.bits (made w n state at).next short apart.taken
+        tapes_normal w width n state (op w n state at) (operand w n state at).answer (made w n state at).next short apart.taken
         (omega (arith, under.taken, start))
-        apart.ended (omega (arith, under.ended, start)) (omega (arith, op_at, start, width))
+        apart.ended (omega (arith, under.ended, start)) (omega (arith, op_at, start, width)) (omega (arith, word_at, bits_at))
 
     results_put : AreNormal (results w n state at).list
     results_put =
         let m = (made w n state at).answer in
         let start = results_begin w n state at width in
-        let from = sources_of w m (operand w n state at).answer.word (memory w n state at).answer.byte in
+        let from = sources_of w m (memory w n state at).answer.byte in
         let rise : SourcesRise (op w n state at) (memory w n state at).next state from (tapes w n state at).answer = record {
           taken_some = apart.taken;
           before = omega (arith, under.taken, op_at);
@@ -196,8 +194,8 @@ module _ (w n : ℕ) (state : StateWires) (at : ℕ) (width : IsWidth w) where
           halves = omega (arith, row_first_at, high_half_at, width);
           high = omega (arith, high_half_at, start, width);
         } in
-        results_normal w width state (op w n state at) (operand w n state at).answer.bits from (tapes w n state at).answer (memory w n state at).next rise
-        (omega (arith, bits_at, start, width))
+        results_normal w width state (op w n state at) (operand w n state at).answer from (tapes w n state at).answer (memory w n state at).next rise
+        (omega (arith, word_at, bits_at)) (omega (arith, bits_at, start, width))
 
     zero_put : AreNormal (zero w n state at).list
     zero_put =
@@ -232,10 +230,10 @@ module _ (w n : ℕ) (state : StateWires) (at : ℕ) (width : IsWidth w) where
     memory_put =
         let m = (made w n state at).answer in
         let start = memory_begins w n state at width in
-        memory_normal w width state (op w n state at) (operand w n state at).answer.bits (data_of m (triple w n state at).answer.other_word)
+        memory_normal w width state (op w n state at) (operand w n state at).answer (data_of m (triple w n state at).answer.other_word)
         (tapes w n state at).answer
         (tapes w n state at).next apart.taken (omega (arith, under.taken, op_at)) (omega (arith, op_at, taken_at, width)) (omega (arith, taken_at, start))
-        (omega (arith, bits_at))
+        (omega (arith, word_at)) (omega (arith, word_at, bits_at))
         (omega (arith, bits_at, both_at, width)) (omega (arith, row_first_at, start, width)) (omega (arith, x_at, start, width))
         (omega (arith, other_at, low_half_at, width))
 
@@ -249,8 +247,8 @@ module _ (w n : ℕ) (state : StateWires) (at : ℕ) (width : IsWidth w) where
 
     pc_put : AreNormal (pc w n state at).list
     pc_put =
-        pc_normal w width state (op w n state at) (operand w n state at).answer.bits (flag w n state at).next apart.pc (omega (arith, under.pc, op_at))
-        (omega (arith, op_at, bits_at, width)) (omega (arith, bits_at, pc_begins w n state at width, width))
+        pc_normal w width state (op w n state at) (operand w n state at).answer (flag w n state at).next apart.pc (omega (arith, under.pc, op_at))
+        (omega (arith, op_at, word_at, width)) (omega (arith, word_at, bits_at)) (omega (arith, bits_at, pc_begins w n state at width, width))
 
     effects_put : AreNormal (effects_of w n state (computed_of w state at).answer (computed_of w state at).next).list
     unfolding effects_of computed_of fresh pure ◌>>=◌

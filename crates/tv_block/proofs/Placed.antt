@@ -67,14 +67,14 @@ block_placed w width n state time at =
     let instruction_is = instruction_sizes.answer w at in
     let operand_is = operand_sizes.answer w (imm_wire w i.answer) i.answer.tail r.answer.named_word r.next in
     let made_is = arithmetic_sizes.answer w width op r.answer.other_word o.next o.answer (o.next + 1) in
-    let tapes_is = tapes_sizes.answer w n state op o.answer.bits m.next in
-    let memory_is = memory_sizes.answer w width state op o.answer.bits (data_of m.answer r.answer.other_word) t.answer t.next in
+    let tapes_is = tapes_sizes.answer w n state op o.answer m.next in
+    let memory_is = memory_sizes.answer w width state op o.answer (data_of m.answer r.answer.other_word) t.answer t.next in
     let written_is = written_sizes.answer op state r.answer (results w n state at).answer.word (zero w n state at).next in
     let from_written = written_begins w n state at width in
     let from_tapes = tapes_begin w n state at width in
     same_wires _ _ _ _ _ _ _ _ _ _ _ _ _ _
     (same_state _ _ _ _ _ _ _ _ _ _
-    (pc_sizes.answer w state op o.answer.bits (flag w n state at).next ∙ moved _ at (pc_at w) 3 (pc_begins w n state at width))
+    (pc_sizes.answer w state op o.answer (flag w n state at).next ∙ moved _ at (pc_at w) 3 (pc_begins w n state at width))
     (written_is ∙ ap (λ k. range_with_len k 16) (moved _ at (written_at w) 1 from_written))
     (flag_sizes.answer w state op m.answer.x o.next t.answer (written w n state at).next ∙ moved _ at (flag_at w) 2 (flag_begins w n state at width))
     (ap (λ (t : TapeWires). t.taken) tapes_is ∙ moved _ at (tapes_at w) 3 from_tapes)

@@ -83,7 +83,7 @@ block_length w width n state v head tail o takes size =
     let regs : Triple = (triple_of [] [] [] [] [] 0).answer in
     let b : OperandWires = (operand_of w 0 0 0 0).answer in
     let m : ArithmeticWires = (arithmetic_of w 0 0 0 b 0).answer in
-    let t : TapeWires = (tapes_of w n state 0 b.bits 0).answer in
+    let t : TapeWires = (tapes_of w n state 0 b 0).answer in
     let e1 =
     counted (instruction_of w) (instruction_values w head tail) (2 * w + 26) (instruction_sizes.end w width)
     (instruction_sizes.fills w width head tail) in
@@ -95,16 +95,16 @@ block_length w width n state v head tail o takes size =
     counted (arithmetic_of w 0 0 0 b) (arithmetic_values w i.op x a f low high) (3 * w + w / 16 + 12) (arithmetic_sizes.end w width 0 0 0 b)
     (arithmetic_sizes.fills w width 0 0 0 b i.op x a f low high) in
     let e5 =
-    counted (tapes_of w n state 0 b.bits) (tapes_values w n v i low takes) 7 (tapes_sizes.end w n state 0 b.bits)
-    (tapes_sizes.fills w n state 0 b.bits v i low takes) in
+    counted (tapes_of w n state 0 b) (tapes_values w n v i low takes) 7 (tapes_sizes.end w n state 0 b)
+    (tapes_sizes.fills w n state 0 b v i low takes) in
     let e6 =
-    counted (memory_of w state 0 b.bits (data_of m 0) t) (memory_values w n v i (spelled_word w i.op x a) low takes) (w / 8 + 5)
-    (memory_sizes.end w width state 0 b.bits (data_of m 0) t)
-    (memory_sizes.fills w width n state 0 b.bits (data_of m 0) t v i (spelled_word w i.op x a) low takes) in
+    counted (memory_of w state 0 b (data_of m 0) t) (memory_values w n v i (spelled_word w i.op x a) low takes) (w / 8 + 5)
+    (memory_sizes.end w width state 0 b (data_of m 0) t)
+    (memory_sizes.fills w width n state 0 b (data_of m 0) t v i (spelled_word w i.op x a) low takes) in
     let e7 =
-    counted (results_of w state 0 b.bits (sources_of w m 0 0) t) (results_values w i.op a low high finds) 5
-    (results_sizes.end w state 0 b.bits (sources_of w m 0 0) t)
-    (results_sizes.fills w state 0 b.bits (sources_of w m 0 0) t i.op a low high finds) in
+    counted (results_of w state 0 b (sources_of w m 0) t) (results_values w i.op a low high finds) 5
+    (results_sizes.end w state 0 b (sources_of w m 0) t)
+    (results_sizes.fills w state 0 b (sources_of w m 0) t i.op a low high finds) in
     let e8 = counted (zero_sign_of 0 0 []) (zero_sign_values y (sign_at i.op)) 1 (zero_sign_sizes.end 0 0 []) (zero_sign_sizes.fills 0 0 [] y (sign_at i.op)) in
     let e9 =
     counted (written_of 0 state regs 0) (written_values w n v i low takes) 17 (written_sizes.end 0 state regs 0)
@@ -112,7 +112,7 @@ block_length w width n state v head tail o takes size =
     let e10 =
     counted (next_flag_of w state 0 m.x 0 t) (flag_values w n v i low takes f) 3 (flag_sizes.end w state 0 m.x 0 t)
     (flag_sizes.fills w state 0 m.x 0 t n v i low takes f) in
-    let e11 = counted (pc_of w state 0 b.bits) (pc_values w v i) 4 (pc_sizes.end w state 0 b.bits) (pc_sizes.fills w state 0 b.bits v i) in
+    let e11 = counted (pc_of w state 0 b) (pc_values w v i) 4 (pc_sizes.end w state 0 b) (pc_sizes.fills w state 0 b v i) in
     let all : HasLength (block_values w n v head tail o takes) _ =
     joined _ _ _ _ e1 (joined _ _ _ _ e2 (joined _ _ _ _ e3 (one_more f _ _ (joined _ _ _ _ e4 (joined _ _ _ _ e5
     (joined _ _ _ _ e6 (joined _ _ _ _ e7 (joined _ _ _ _ e8 (joined _ _ _ _ e9 (joined _ _ _ _ e10 e11)))))))))) in

@@ -1,4 +1,4 @@
--- That a step's values are given from what a trace tells of it.
+-- That a step's values are computed from what a trace has of it.
 use Rattle.std.proofs.Common.{◌≡◌, ℕ, ◌+◌, ◌-◌, ◌/◌, Bool, List, length, refl, ◌∙◌, ap, ap₂, arith}
 use Rattle.tv_core.specs.Lines.{Line}
 use Rattle.tv_mem.proofs.WordLaws.{words_are_small}

@@ -60,19 +60,19 @@ computed_of w state = do
 abbrev pub data_of : ArithmeticWires → ℕ → DataWires
 data_of m other = record { bits = m.row.first; word = m.row.low; x = m.x; other = other; both = m.both }
 
-abbrev pub sources_of : ℕ → ArithmeticWires → ℕ → ℕ → Sources
-sources_of w m operand byte = record { low = m.row.low; high = m.row.high; top = m.row.first + (w - 1); operand = operand; byte = byte }
+abbrev pub sources_of : ℕ → ArithmeticWires → ℕ → Sources
+sources_of w m byte = record { low = m.row.low; high = m.row.high; top = m.row.first + (w - 1); byte = byte }
 
 -- what it does: to the tapes, memory, the registers, the flag and the program counter
 unfoldable pub effects_of : ℕ → ℕ → StateWires → Computed → Circuit Effects
 effects_of w n state c = do
-  tapes ← tapes_of w n state c.instruction.op c.operand.bits
-  memory ← memory_of w state c.instruction.op c.operand.bits (data_of c.made c.regs.other_word) tapes
-  results ← results_of w state c.instruction.op c.operand.bits (sources_of w c.made c.operand.word memory.byte) tapes
+  tapes ← tapes_of w n state c.instruction.op c.operand
+  memory ← memory_of w state c.instruction.op c.operand (data_of c.made c.regs.other_word) tapes
+  results ← results_of w state c.instruction.op c.operand (sources_of w c.made memory.byte) tapes
   _ ← zero_sign_of results.tested c.test (sign_of c.instruction.op)
   written ← written_of c.instruction.op state c.regs results.word
   flag ← next_flag_of w state c.instruction.op c.made.x c.test tapes
-  pc ← pc_of w state c.instruction.op c.operand.bits
+  pc ← pc_of w state c.instruction.op c.operand
   pure (record { tapes = tapes; memory = memory; regs = written; flag = flag; pc = pc })
 
 -- the inverse modulo P of the number of a word's bytes, which divides P - 1
@@ -101,11 +101,11 @@ block_of w n state time = do
     value = c.operand.word;
   })
 
--- what a step leads to, of all that a block answers: that doesn't depend on the time
+-- what a step leads to, of all that a block returns: the part that doesn't depend on the time
 abbrev pub reached : Block → Reached
 reached made = record { next = made.next; answers = made.answers; value = made.value }
 
--- one step of which only that is answered
+-- one step that returns only this part
 abbrev pub step_of : ℕ → ℕ → StateWires → ℕ → Circuit Reached
 step_of w n state time = do
   made ← block_of w n state time

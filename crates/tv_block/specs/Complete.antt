@@ -19,8 +19,8 @@ use Rattle.tv_block.specs.Block.{block_of, did}
 use Rattle.tv_block.specs.Values.{row_low, block_values}
 
 -- ---- of numbers
--- z meets what a block puts, and the numbers in its wires are the step by these words: the data word that they show is the
--- low half of the row, which is o where the instruction loads, stores or reads
+-- z satisfies a block's constraints, and the numbers in its wires are the step by these words: the data word that they
+-- show is the low half of the row, which is o where the instruction loads, stores or reads
 pub record MeetsStep (w : ℕ) (z : List ℕ) (n : ℕ) (state : StateWires) (time next head tail o : ℕ) (takes : Bool) : Type 0 where
   pub met : Meets z (block_of w n state time next).list
   pub shows : did z state (block_of w n state time next).answer
@@ -54,13 +54,14 @@ pub record HasMachineStep (w : ℕ) (z x : List ℕ) (state : StateWires) (time 
   pub may : MayTake w (state_in z state) st word
   pub has : HasFrom z next (step_values w (length x) (state_in z state) (olds_of w (length x) st time) word)
 
--- z meets what a block puts; the lines are those of the machine's step, and the word is the one that was handed in
+-- z satisfies a block's constraints; the lines are those of the machine's step, and the word is the one that was passed
 pub record MeetsMachineStep (w : ℕ) (z x : List ℕ) (state : StateWires) (time next : ℕ) (st : State) (word : Option ℕ) : Type 0 where
   pub met : Meets z (block_of w (length x) state time next).list
   pub lines : lines_in (did z state (block_of w (length x) state time next).answer) ≡ step_lines w (length x) st time
   pub takes : (did z state (block_of w (length x) state time next).answer).takes ≡ is_some word
   pub same : (v : ℕ) → word ≡ Some v → (did z state (block_of w (length x) state time next).answer).word ≡ v
 
+-- an assignment that has the values of a machine's step satisfies the constraints, and has that step in its wires
 abbrev pub MachineStepIsMet : Type 0
 MachineStepIsMet = (w : ℕ) → IsWidth w → (z x : List ℕ) (state : StateWires) (time next : ℕ) (st : State) (word : Option ℕ)
     → HasMachineStep w z x state time next st word → MeetsMachineStep w z x state time next st word
@@ -85,7 +86,7 @@ block_made w = 6 * w + 3 * (w / 16) + 113
 abbrev pub block_added : ℕ → ℕ
 block_added w = 6 * w + 3 * (w / 16) + 126
 
--- the wires are as many whatever a step is given; the values are one number of the field for each
+-- the number of wires is the same for every step; the values are one number of the field for each
 pub record BlockSizes : Type 0 where
   pub end : (w : ℕ) → IsWidth w → (n : ℕ) (state : StateWires) (time next : ℕ) → (block_of w n state time next).next ≡ next + block_made w
   pub three : (w n : ℕ) (state : StateWires) (time next : ℕ) → length (block_of w n state time next).answer.lines ≡ 3

@@ -20,7 +20,7 @@ terms_are cell old new = record { cell = cell; old = old; new = new }
 -- how many terms the constraints of a step have, the primary tape having n words: two combinations have the constant n,
 -- where it is not 0
 abbrev pub block_terms : ℕ → ℕ → ℕ
-block_terms w n = (if w == 16 then 1329 else 1891) - (if n == 0 then 2 else 0)
+block_terms w n = (if w == 16 then 1272 else 1760) - (if n == 0 then 2 else 0)
 
 -- its other costs, by the width alone
 abbrev pub step_costs : ℕ → StepCosts

@@ -1,4 +1,4 @@
--- Where a step's wires stand: all that it answers follows from its first wire, the wires of the state before it, and the
+-- Where a step's wires stand: all that it returns follows from its first wire, the wires of the state before it, and the
 -- time.
 use Rattle.std.specs.Prelude.{◌≡◌, ℕ, ◌+◌, ◌-◌, ◌*◌, ◌/◌, ◌≤◌, ◌<◌, [], ◌∷◌, ◌++◌, length, All}
 use Rattle.std.specs.List.{range_with_len}
@@ -74,6 +74,7 @@ third_line w time at = record {
   new = wire (at + (memory_at w + (w / 8 + 4)));
 }
 
+-- all that a block returns, from the number of its first wire
 abbrev pub block_wires : ℕ → StateWires → ℕ → ℕ → Block
 block_wires w state time at = record {
   next = next_state w at;
@@ -90,7 +91,7 @@ pub record IsShort (line : LineLc) : Type 0 where
   pub old : length line.old ≤ 32
   pub new : length line.new ≤ 32
 
--- a block answers those wires; its lines are short, and of the state's program counter and wires that the block makes;
+-- a block returns those wires; its lines are short, and of the state's program counter and wires that the block makes;
 -- so are the state after it, and where it takes a word
 pub record BlockPlaces : Type 0 where
   pub answer : (w : ℕ) → IsWidth w → (n : ℕ) (state : StateWires) (time next : ℕ) → (block_of w n state time next).answer ≡ block_wires w state time next

@@ -22,7 +22,7 @@ tail_told w n st time = slice_index (olds_of w n st time) 1
 abbrev pub data_told : ℕ → ℕ → State → ℕ → ℕ
 data_told w n st time = handed (slice_index (olds_of w n st time) 2) (word_taken w st)
 
--- they are in range, and the values that they give are those of the machine's step; n and m are how many words the
+-- they are in range, and the values made from them are those of the machine's step; n and m are how many words the
 -- tapes have had
 pub record GivesStep (w n m time : ℕ) (st : State) (ended : Bool) : Type 0 where
   pub range : ViewInRange w n (traced_view (told_of n m st ended))

@@ -4,8 +4,9 @@ use Rattle.tv_core.specs.Combinations.{top}
 use Rattle.tv_core.specs.declared.lines.LineLc.{LineLc}
 use Rattle.tv_decode.specs.declared.records.InstructionWires.{InstructionWires}
 use Rattle.tv_regs.specs.Reading.{wires_top}
-use Rattle.tv_parts.specs.States.{TripleUnder, OperandUnder, ArithmeticUnder, TapesUnder, StoreUnder}
+use Rattle.tv_parts.specs.States.{StateUnder, TripleUnder, OperandUnder, ArithmeticUnder, TapesUnder, StoreUnder}
 use Rattle.tv_parts.specs.declared.records.Spot.{Spot}
+use Rattle.tv_block.specs.declared.records.Block.{Block}
 use Rattle.tv_block.specs.declared.records.Computed.{Computed}
 use Rattle.tv_block.specs.declared.records.Effects.{Effects}
 
@@ -18,6 +19,13 @@ pub record LineUnder (wires : ℕ) (line : LineLc) : Type 0 where
 pub record SpotUnder (wires : ℕ) (spot : Spot) : Type 0 where
   pub taken : spot.taken < wires
   pub word : spot.word < wires
+
+-- all of a step but its lines
+pub record BlockUnder (wires : ℕ) (made : Block) : Type 0 where
+  pub next : StateUnder wires made.next
+  pub spot : SpotUnder wires made.spot
+  pub answers : made.answers < wires
+  pub value : made.value < wires
 
 -- an instruction of words of w bits
 pub record InstructionUnder (w wires : ℕ) (i : InstructionWires) : Type 0 where

@@ -55,7 +55,7 @@ pub fn step_terms<const W: u32>(n: u32) -> u32
     ensures is { result ≡ block_terms W n }
     ensures few { result ≤ 2 ^ 14 }
 {
-    let most = if W == 16 { 1329 } else { 1891 };
+    let most = if W == 16 { 1272 } else { 1760 };
     if n == 0 { most - 2 } else { most }
 }
 

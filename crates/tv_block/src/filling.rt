@@ -87,9 +87,9 @@ fn traced(state: &StateNum) -> TraceState
     }
 }
 
-/// The same from a state as a trace has it, the words `head` and `tail` of the instruction, and the
-/// data word. That is the word that the step takes of the auxiliary tape where `takes`, and else
-/// the one in the cell that it looks at.
+/// Like `fill_block`, from a state as a trace has it, the words `head` and `tail` of the
+/// instruction, and the data word. The data word is the one that the step takes of the auxiliary
+/// tape where `takes`, and else the one in the cell that it accesses.
 ///
 /// All words are below 2^`W`, and the primary tape has `n` of them, fewer than 2^29. It takes no
 /// memory. Of its time most goes into the hints that are inverses.

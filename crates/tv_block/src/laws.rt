@@ -7,13 +7,13 @@ ghost use Rattle.tv_block.specs.Normal.{BlockIsNormal};
 ghost use Rattle.tv_block.specs.Places.{BlockPlaces};
 ghost use Rattle.tv_block.specs.Told.{StepsAreGiven};
 
-/// A step's circuit is sound. Where an assignment meets the constraints of a step and has a state
-/// in range at the wires before it, the numbers in its wires are those of a step, by the words of
-/// an instruction whose opcode is used and a data word, whatever memory holds: the lines, what is
-/// taken, the answer, and the state after it, which is in range. From each state of the machine
-/// that the numbers are of and whose cells hold the lines' old words, that is the machine's step.
-/// The wires that say whether it takes a word of the auxiliary tape and whether it answers hold 0
-/// or 1.
+/// A step's circuit is sound. Where an assignment satisfies the constraints of a step and has a
+/// state in range at the wires before it, the numbers in its wires are those of a step, by the
+/// words of an instruction whose opcode is used and a data word, whatever memory holds: the lines,
+/// what is taken, the answer, and the state after it, which is in range. From each state of the
+/// machine that the numbers are of and whose cells hold the lines' old words, that is the machine's
+/// step. The wires that say whether it takes a word of the auxiliary tape and whether it answers
+/// hold 0 or 1.
 pub fn block_is_sound()
     ensures numbers { BlockIsStep }
     ensures machine { BlockIsSound }
@@ -46,7 +46,7 @@ pub fn steps_are_given()
     ensures { StepsAreGiven }
 {}
 
-/// Says which wires a block answers: all of it follows from its first wire, the wires of the state
+/// Says which wires a block returns: all of it follows from its first wire, the wires of the state
 /// before it and the time. A line's combinations have at most 32 terms.
 #[tactic(auto, using(crate::proofs::Placed::block_places))]
 pub fn block_is_placed()

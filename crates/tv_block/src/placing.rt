@@ -1,3 +1,4 @@
+//! The wires of a step, computed from the number of its first wire.
 ghost use Rattle.std.specs.Prelude.{◌≡◌, ◌+◌, ◌<◌, ◌^◌, ℕ};
 ghost use Rattle.tv_block.specs.Block.{word_inverse};
 ghost use Rattle.tv_block.specs.Complete.{block_made};
@@ -105,7 +106,7 @@ pub fn block_spot<const W: u32>(first: Wire) -> Spot
     }
 }
 
-/// Returns all that `block` answers for a step from a state, the step's first wire being `first`.
+/// Returns all that `block` returns for a step from a state, the step's first wire being `first`.
 /// It is the same however many words the primary tape has.
 pub fn block_wires<const W: u32>(first: Wire, state: &StateWires, _n: u32, time: u32) -> Block
     requires width { IsWidth W }

@@ -1,3 +1,4 @@
+//! Records of a step's numbers.
 use tv_core::{LineLc, Wire};
 use tv_decode::InstructionWires;
 use tv_parts::{ArithmeticWires, OperandWires, Spot, StateWires, StoreWires, TapeWires};

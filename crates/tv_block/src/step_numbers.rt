@@ -1,4 +1,4 @@
-//! What the values of a step's wires are worked out from.
+//! What the values of a step's wires are computed from.
 ghost use Rattle.std.specs.Prelude.{◌≡◌, ◌<◌, ◌^◌, ◌||◌, if◌then◌else◌};
 ghost use Rattle.tv_block.specs.Values.{row_low, row_high, other_register};
 ghost use Rattle.tv_isa.specs.Instruction.{IsInstruction, decode};

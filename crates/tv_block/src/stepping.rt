@@ -5,7 +5,7 @@ ghost use Rattle.tv_block.specs.Block.{registers_of, computed_of, data_of, sourc
 ghost use Rattle.tv_block.specs.Block.{block_of, step_of};
 ghost use Rattle.tv_block.specs.Complete.{computed_made, computed_added};
 ghost use Rattle.tv_block.specs.Complete.{effects_made, effects_added, block_made, block_added};
-ghost use Rattle.tv_block.specs.Under.{InstructionUnder, ComputedUnder, EffectsUnder};
+ghost use Rattle.tv_block.specs.Under.{BlockUnder, InstructionUnder, ComputedUnder, EffectsUnder};
 ghost use Rattle.tv_core.specs.Sinks.{PutsIn, Grows, Room};
 ghost use Rattle.tv_parts.specs.Memory.{memory_of};
 ghost use Rattle.tv_parts.specs.Results.{sign_of, results_of};
@@ -36,19 +36,15 @@ pub fn block<const W: u32, S: Sink>(s: &mut S, state: &StateWires, n: u32, time:
     requires times { time + 2 < 2 ^ 32 }
     ensures puts { PutsIn S.meaning s.old s.new (block_of W n state.now time) result }
     ensures grows { IfOk result (λ _. Grows S.meaning s.old s.new (block_made W) (block_added W)) }
-    ensures next_below { IfOk result (λ made. StateUnder (S.meaning.wires s.new) made.next) }
-    ensures taken_below { IfOk result (λ made. made.spot.taken < S.meaning.wires s.new) }
-    ensures word_below { IfOk result (λ made. made.spot.word < S.meaning.wires s.new) }
-    ensures answers_below { IfOk result (λ made. made.answers < S.meaning.wires s.new) }
-    ensures value_below { IfOk result (λ made. made.value < S.meaning.wires s.new) }
+    ensures below { IfOk result (λ made. BlockUnder (S.meaning.wires s.new) made) }
 {
     let first = Wire(s.wires());
     step::<W, S>(s, state, n)?;
     Ok(block_wires::<W>(first, state, n, time))
 }
 
-/// The same, returning only the state after the step and its answer: these are the same whatever
-/// the time of its lines is.
+/// Emits the same constraints as `block`, but returns only the next state and the answer, which do
+/// not depend on `time`.
 pub fn step<const W: u32, S: Sink>(s: &mut S, state: &StateWires, n: u32) -> Put<Reached>
     requires width { IsWidth W }
     requires room { Room S.meaning s.old (block_made W) (block_added W) }
@@ -150,7 +146,7 @@ fn act<const W: u32, S: Sink>(
     ensures below { IfOk result (λ made. EffectsUnder (S.meaning.wires s.new) made) }
 {
     let op = c.instruction.op;
-    let a = &c.operand.bits;
+    let a = &c.operand;
     let tapes = put_tapes::<W, S>(s, scratch, n, state, op, a)?;
     let memory = store::<W, S>(s, scratch, state, c, &tapes)?;
     let results = results::<W, S>(s, scratch, state, c, memory.byte, &tapes)?;
@@ -181,7 +177,7 @@ fn store<const W: u32, S: Sink>(
     requires computed_made { ComputedUnder W (S.meaning.wires s.old) c.now }
     requires tapes_made { TapesUnder (S.meaning.wires s.old) tapes.now }
     ensures puts { PutsIn S.meaning s.old s.new (memory_of W state.now c.now.instruction.op
-        c.now.operand.bits (data_of c.now.made c.now.regs.other_word) tapes.now) result }
+        c.now.operand (data_of c.now.made c.now.regs.other_word) tapes.now) result }
     ensures grows { IfOk result (λ _. Grows S.meaning s.old s.new (W / 8 + 5) (W / 8 + 5)) }
     ensures below { IfOk result (λ made. StoreUnder (S.meaning.wires s.new) made) }
 {
@@ -193,7 +189,7 @@ fn store<const W: u32, S: Sink>(
         both: c.made.both,
     };
     let op = c.instruction.op;
-    put_memory::<W, S>(s, scratch, state, op, &c.operand.bits, &data, tapes)
+    put_memory::<W, S>(s, scratch, state, op, &c.operand, &data, tapes)
 }
 
 // Constrains the result and the number whose test for 0 is the flag.
@@ -212,7 +208,7 @@ fn results<const W: u32, S: Sink>(
     requires byte_made { byte < S.meaning.wires s.old }
     requires tapes_made { TapesUnder (S.meaning.wires s.old) tapes.now }
     ensures puts { PutsIn S.meaning s.old s.new (results_of W state.now c.now.instruction.op
-        c.now.operand.bits (sources_of W c.now.made c.now.operand.word byte) tapes.now) result }
+        c.now.operand (sources_of W c.now.made byte) tapes.now) result }
     ensures grows { IfOk result (λ _. Grows S.meaning s.old s.new 5 8) }
     ensures below { IfOk result (λ made. ResultUnder (S.meaning.wires s.new) made) }
 {
@@ -220,11 +216,10 @@ fn results<const W: u32, S: Sink>(
         low: c.made.row.low,
         high: c.made.row.high,
         top: c.made.row.first.offset(W - 1),
-        operand: c.operand.word,
         byte,
     };
     let op = c.instruction.op;
-    put_results::<W, S>(s, scratch, state, op, &c.operand.bits, &sources, tapes)
+    put_results::<W, S>(s, scratch, state, op, &c.operand, &sources, tapes)
 }
 
 // Constrains the test of the flag to the sign of its opcode where the tested number is 0, else to

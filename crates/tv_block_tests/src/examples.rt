@@ -11,8 +11,8 @@ pub fn steps_are_so_large()
     ensures wires_of_32 { block_made 32 ≡ 311 }
     ensures constraints_of_16 { block_added 16 ≡ 225 }
     ensures constraints_of_32 { block_added 32 ≡ 324 }
-    ensures terms_of_16 { block_terms 16 3 ≡ 1329 }
-    ensures terms_of_32 { block_terms 32 3 ≡ 1891 }
-    ensures terms_of_16_without { block_terms 16 0 ≡ 1327 }
-    ensures terms_of_32_without { block_terms 32 0 ≡ 1889 }
+    ensures terms_of_16 { block_terms 16 3 ≡ 1272 }
+    ensures terms_of_32 { block_terms 32 3 ≡ 1760 }
+    ensures terms_of_16_without { block_terms 16 0 ≡ 1270 }
+    ensures terms_of_32_without { block_terms 32 0 ≡ 1758 }
 {}

@@ -47,17 +47,20 @@ pub const JUMPS: [&str; 4] = ["jmp _b", "_a: answer 5", "_b: cmpe r0, 0", "cjmp 
 /// The program counters before its four steps and after the last one.
 pub const JUMPED_32: [u32; 5] = [0, 16, 24, 8, 8];
 
+/// The same for words of 16 bits.
 pub const JUMPED_16: [u32; 5] = [0, 8, 12, 4, 4];
 
 /// What stands before the lines.
 pub const HEADER_32: &str = "; TinyRAM W=32\n";
 
+/// The same for words of 16 bits.
 pub const HEADER_16: &str = "; TinyRAM W=16\n";
 
 /// The place of the read of the auxiliary tape after its end.
 pub const LATE_READ: usize = 31;
 
-/// The words of the two tapes.
+/// The words of the primary tape.
 pub const TAPE: [u32; 1] = [11];
 
+/// The words of the auxiliary tape.
 pub const AUX: [u32; 1] = [22];

@@ -18,9 +18,9 @@ fn size_of<const W: u32>(n: u32) -> Put<(u32, u32, u64)>
 
 #[test]
 fn a_step_is_as_large_as_said(rt: HostRuntime) -> Result<(), Fail> {
-    assert_eq!(rt; size_of::<32>(3)?, (311, 324, 1891));
-    assert_eq!(rt; size_of::<32>(0)?, (311, 324, 1889));
-    assert_eq!(rt; size_of::<16>(3)?, (212, 225, 1329));
-    assert_eq!(rt; size_of::<16>(0)?, (212, 225, 1327));
+    assert_eq!(rt; size_of::<32>(3)?, (311, 324, 1760));
+    assert_eq!(rt; size_of::<32>(0)?, (311, 324, 1758));
+    assert_eq!(rt; size_of::<16>(3)?, (212, 225, 1272));
+    assert_eq!(rt; size_of::<16>(0)?, (212, 225, 1270));
     Ok(())
 }

@@ -1,4 +1,4 @@
--- What an assignment that meets the constraints of the arithmetic has.
+-- What an assignment that satisfies the constraints of the arithmetic has.
 use Rattle.std.proofs.Common.{◌≡◌, ℕ, ◌+◌, ◌-◌, ◌*◌, ◌%◌, ◌^◌, ◌<◌, ◌==◌, nat_lt, Bool, true, false, if◌then◌else◌, List, [], ◌∷◌, refl, sym, ◌∙◌, ap, ap₂}
 use Rattle.std.proofs.Common.{subst, arith, mod-eq_of_lt, zero-mul, one-mul}
 use Rattle.std.specs.Int.{bit_at}

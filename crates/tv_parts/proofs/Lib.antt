@@ -30,4 +30,5 @@ pub mod Sized
 pub mod TapeFills
 pub mod TapeGates
 pub mod TapeLaws
+pub mod UpperLaws
 pub mod WrittenFills

@@ -7,7 +7,6 @@ use Rattle.tv_bits.proofs.SpelledNumbers.{Spells-below}
 use Rattle.tv_bits.proofs.TimesLaws.{times_sound, times_complete, times_next}
 use Rattle.tv_bits.specs.Bits.{Spells, bits_combination}
 use Rattle.tv_bits.specs.Times.{times_of}
-use Rattle.tv_bits.specs.declared.bit_wires.Bits.{Bits}
 use Rattle.tv_core.proofs.CombinationLaws.{value-wire, value-append, value-cons, wire-below}
 use Rattle.tv_core.proofs.FieldLaws.{InField-cons, InField-none, InField-append}
 use Rattle.tv_core.proofs.Meeting.{Meets-split, Meets-join, HasFrom-split}
@@ -40,9 +39,11 @@ use Rattle.tv_parts.specs.Accumulation.{closed_of, accumulated_of}
 use Rattle.tv_parts.specs.Memory.{line_of, byte_of_pair, byte_of_four, byte_at_of, power_in, new_of, memory_of, line_values, byte_values, gained, new_values}
 use Rattle.tv_parts.specs.Memory.{memory_values, HasMemory, MemoryIsSound, MemoryIsComplete, MemorySizes, MemoryCosts}
 use Rattle.tv_parts.specs.OpcodeSums.{opcode_sum}
+use Rattle.tv_parts.specs.Operand.{upper_of}
 use Rattle.tv_parts.specs.Tapes.{primary_in, took}
 use Rattle.tv_parts.specs.declared.records.DataWires.{DataWires}
 use Rattle.tv_parts.specs.declared.records.LineWires.{LineWires}
+use Rattle.tv_parts.specs.declared.records.OperandWires.{OperandWires}
 use Rattle.tv_parts.specs.declared.records.StateWires.{StateWires}
 use Rattle.tv_parts.specs.declared.records.StoreWires.{StoreWires}
 use Rattle.tv_parts.specs.declared.records.TapeWires.{TapeWires}
@@ -64,8 +65,8 @@ power_is z a both at one is w width = for_widths (λ w. Spells z a w at → valu
         ∙ power_four at (at % 2) (at / 2 % 2) (parity_bit at) (parity_bit (at / 2)) (omega arith)
 
 -- ---- the word after the step
-module _ (w : ℕ) (width : IsWidth w) (z : List ℕ) (n : ℕ) (state : StateWires) (op : ℕ) (a : Bits) (d : DataWires) (t : TapeWires) (v : View) (i : Instr)
-    (x o : ℕ) (has : HasMemory w z n state op a d t v i x o) where
+module _ (w : ℕ) (width : IsWidth w) (z : List ℕ) (n : ℕ) (state : StateWires) (op : ℕ) (a : OperandWires) (d : DataWires) (t : TapeWires) (v : View)
+    (i : Instr) (x o : ℕ) (has : HasMemory w z n state op a d t v i x o) where
   abbrev at : ℕ
   at = operand_word v i
 
@@ -78,9 +79,9 @@ module _ (w : ℕ) (width : IsWidth w) (z : List ℕ) (n : ℕ) (state : StateWi
   abbrev change_terms : ℕ → Combination
   change_terms byte = bits_combination d.x.first 8 ++ (P - 1, byte) ∷ []
 
-  change_is : (byte : ℕ) → slice_index z byte ≡ byte_of o j → value (power_in w a.first d.both) z * value (change_terms byte) z % P ≡ gained o j (x % 256)
+  change_is : (byte : ℕ) → slice_index z byte ≡ byte_of o j → value (power_in w a.bits.first d.both) z * value (change_terms byte) z % P ≡ gained o j (x % 256)
   change_is byte is =
-      ap₂ (λ m k. m * k % P) (power_is z a.first d.both at has.assigns.one has.both w width has.operand)
+      ap₂ (λ m k. m * k % P) (power_is z a.bits.first d.both at has.assigns.one has.both w width has.operand.bits)
       (value-append (bits_combination d.x.first 8) ((P - 1, byte) ∷ []) z
       ∙ ap₂ (λ m k. (m + k) % P) (byte_value z w d.x.first d.x.first x 0 (w - 8) (omega arith) (omega (arith, width)) has.spelled
       ∙ (let e : x / 2 ^ (8 * 0) % 2 ^ 8 ≡ x % 256 = omega arith in e))
@@ -122,11 +123,11 @@ module _ (w : ℕ) (width : IsWidth w) (z : List ℕ) (n : ℕ) (state : StateWi
       kept k e f = ap (λ b. if b || takes_primary v i n then o else 0) (ap (among memory_ops) e ∙ f)
 
 -- ---- where the parts end
-line_next : (w : ℕ) (state : StateWires) (op : ℕ) (a : Bits) (word : ℕ) (t : TapeWires) (next : ℕ) → (line_of w state op a word t next).next ≡ next + 3
+line_next : (w : ℕ) (state : StateWires) (op : ℕ) (a : OperandWires) (word : ℕ) (t : TapeWires) (next : ℕ) → (line_of w state op a word t next).next ≡ next + 3
 unfolding line_of times_of closed_of fresh put pure ◌>>=◌
 line_next w state op a word t next = omega arith
 
-line_answer : (w : ℕ) (state : StateWires) (op : ℕ) (a : Bits) (word : ℕ) (t : TapeWires) (next : ℕ)
+line_answer : (w : ℕ) (state : StateWires) (op : ℕ) (a : OperandWires) (word : ℕ) (t : TapeWires) (next : ℕ)
     → (line_of w state op a word t next).answer ≡ record { cell = next + 1; old = next + 1 + 1 }
 unfolding line_of times_of closed_of fresh put pure ◌>>=◌
 line_answer w state op a word t next = refl
@@ -142,11 +143,11 @@ four_next bits a next = omega arith
 byte_next : (w : ℕ) → IsWidth w → (bits a next : ℕ) → (byte_at_of w bits a next).next ≡ next + (w / 8 - 1)
 byte_next w width = for_widths (λ w. (bits a next : ℕ) → (byte_at_of w bits a next).next ≡ next + (w / 8 - 1)) two_next four_next w width
 
-new_next : (w op : ℕ) (d : DataWires) (a : Bits) (line : LineWires) (byte next : ℕ) → (new_of w op d a line byte next).next ≡ next + 3
+new_next : (w op : ℕ) (d : DataWires) (a : OperandWires) (line : LineWires) (byte next : ℕ) → (new_of w op d a line byte next).next ≡ next + 3
 unfolding new_of times_of closed_of fresh put pure ◌>>=◌
 new_next w op d a line byte next = omega arith
 
-new_answer : (w op : ℕ) (d : DataWires) (a : Bits) (line : LineWires) (byte next : ℕ) → (new_of w op d a line byte next).answer ≡ next + 2
+new_answer : (w op : ℕ) (d : DataWires) (a : OperandWires) (line : LineWires) (byte next : ℕ) → (new_of w op d a line byte next).answer ≡ next + 2
 unfolding new_of times_of closed_of fresh put pure ◌>>=◌
 new_answer w op d a line byte next = omega arith
 
@@ -155,13 +156,13 @@ record AreLine (w : ℕ) (z : List ℕ) (line : LineWires) (n : ℕ) (v : View) 
   pub cell : slice_index z line.cell ≡ (data_line w n v i o takes 0).cell
   pub old : slice_index z line.old ≡ old_in w n v i o takes
 
-line_sound : (w : ℕ) (width : IsWidth w) (z : List ℕ) (next n : ℕ) (state : StateWires) (op : ℕ) (a : Bits) (d : DataWires) (t : TapeWires) (v : View)
+line_sound : (w : ℕ) (width : IsWidth w) (z : List ℕ) (next n : ℕ) (state : StateWires) (op : ℕ) (a : OperandWires) (d : DataWires) (t : TapeWires) (v : View)
     (i : Instr) (x o : ℕ) → HasMemory w z n state op a d t v i x o
     → Meets z (line_of w state op a d.word t next).list → AreLine w z (line_of w state op a d.word t next).answer n v i o (took z t)
 unfolding line_of pure ◌>>=◌
 line_sound w width z next n state op a d t v i x o has meets =
     let assigns = has.assigns in
-    let cells = (P - NULL_CELL, 0) ∷ bits_combination (a.first + w / 16) (w - w / 16) in
+    let cells = (P - NULL_CELL, 0) ∷ upper_of 1 a (w / 16) in
     let located = accumulated_of (constant NULL_CELL) (opcode_sum op memory_ops) cells next in
     let tape = (TAPE_CELLS, 0) ∷ (1, state.taken_of_primary) ∷ (P - 1, located.answer) ∷ [] in
     let cell = accumulated_of (wire located.answer) (primary_in state t) tape located.next in
@@ -177,13 +178,13 @@ line_sound w width z next n state op a d t v i x o has meets =
       old = times_sound z cell.next gate (wire d.word) assigns m3.0 ∙ line_old w width z n state op a d t v i x o has;
     }
 
-line_complete : (w : ℕ) (width : IsWidth w) (z : List ℕ) (next n : ℕ) (state : StateWires) (op : ℕ) (a : Bits) (d : DataWires) (t : TapeWires) (v : View)
-    (i : Instr) (x o : ℕ) → HasMemory w z n state op a d t v i x o
+line_complete : (w : ℕ) (width : IsWidth w) (z : List ℕ) (next n : ℕ) (state : StateWires) (op : ℕ) (a : OperandWires) (d : DataWires) (t : TapeWires)
+    (v : View) (i : Instr) (x o : ℕ) → HasMemory w z n state op a d t v i x o
     → HasFrom z next (line_values w n v i o (took z t)) → Meets z (line_of w state op a d.word t next).list
 unfolding line_of pure ◌>>=◌
 line_complete w width z next n state op a d t v i x o has values =
     let assigns = has.assigns in
-    let cells = (P - NULL_CELL, 0) ∷ bits_combination (a.first + w / 16) (w - w / 16) in
+    let cells = (P - NULL_CELL, 0) ∷ upper_of 1 a (w / 16) in
     let located = accumulated_of (constant NULL_CELL) (opcode_sum op memory_ops) cells next in
     let tape = (TAPE_CELLS, 0) ∷ (1, state.taken_of_primary) ∷ (P - 1, located.answer) ∷ [] in
     let cell = accumulated_of (wire located.answer) (primary_in state t) tape located.next in
@@ -200,7 +201,7 @@ line_complete w width z next n state op a d t v i x o has values =
     (ap (λ k. slice_index z k) e2 ∙ values.1.1.0 ∙ sym (line_old w width z n state op a d t v i x o has), tt) in
     Meets-join z located.list _ m1 (Meets-join z cell.list _ m2 (Meets-join z old.list _ m3 tt))
 
-new_sound : (w : ℕ) (width : IsWidth w) (z : List ℕ) (next n : ℕ) (state : StateWires) (op : ℕ) (a : Bits) (d : DataWires) (t : TapeWires) (v : View)
+new_sound : (w : ℕ) (width : IsWidth w) (z : List ℕ) (next n : ℕ) (state : StateWires) (op : ℕ) (a : OperandWires) (d : DataWires) (t : TapeWires) (v : View)
     (i : Instr) (x o : ℕ) → HasMemory w z n state op a d t v i x o
     → (line : LineWires) (byte : ℕ) → slice_index z line.old ≡ old_in w n v i o (took z t) → slice_index z byte ≡ byte_of o (operand_word v i % word_size w)
     → Meets z (new_of w op d a line byte next).list → slice_index z (new_of w op d a line byte next).answer ≡ (data_line w n v i o (took z t) 0).new
@@ -208,17 +209,17 @@ unfolding new_of ◌>>=◌
 new_sound w width z next n state op a d t v i x o has line byte is_old is_byte meets =
     let assigns = has.assigns in
     let other = bits_combination d.x.first 8 ++ (P - 1, byte) ∷ [] in
-    let change = times_of (power_in w a.first d.both) other next in
+    let change = times_of (power_in w a.bits.first d.both) other next in
     let changed = times_of (opcode_sum op (26 ∷ [])) (wire change.answer) change.next in
     let m1 = Meets-split z change.list _ meets in
     let m2 = Meets-split z changed.list _ m1.1 in
-    let is_change = times_sound z next (power_in w a.first d.both) other assigns m1.0 ∙ change_is w width z n state op a d t v i x o has byte is_byte in
+    let is_change = times_sound z next (power_in w a.bits.first d.both) other assigns m1.0 ∙ change_is w width z n state op a d t v i x o has byte is_byte in
     let is_changed = times_sound z change.next (opcode_sum op (26 ∷ [])) (wire change.answer) assigns m2.0
     ∙ changed_is w width z n state op a d t v i x o has change.answer is_change in
     accumulated_sound z changed.next (wire line.old ++ wire changed.answer) (opcode_sum op (28 ∷ [])) ((1, d.other) ∷ (P - 1, d.word) ∷ []) assigns m2.1
     ∙ new_is w width z n state op a d t v i x o has line.old changed.answer is_old is_changed
 
-new_complete : (w : ℕ) (width : IsWidth w) (z : List ℕ) (next n : ℕ) (state : StateWires) (op : ℕ) (a : Bits) (d : DataWires) (t : TapeWires) (v : View)
+new_complete : (w : ℕ) (width : IsWidth w) (z : List ℕ) (next n : ℕ) (state : StateWires) (op : ℕ) (a : OperandWires) (d : DataWires) (t : TapeWires) (v : View)
     (i : Instr) (x o : ℕ) → HasMemory w z n state op a d t v i x o
     → (line : LineWires) (byte : ℕ) → slice_index z line.old ≡ old_in w n v i o (took z t) → slice_index z byte ≡ byte_of o (operand_word v i % word_size w)
     → HasFrom z next (new_values w n v i x o (took z t)) → Meets z (new_of w op d a line byte next).list
@@ -226,13 +227,13 @@ unfolding new_of ◌>>=◌
 new_complete w width z next n state op a d t v i x o has line byte is_old is_byte values =
     let assigns = has.assigns in
     let other = bits_combination d.x.first 8 ++ (P - 1, byte) ∷ [] in
-    let change = times_of (power_in w a.first d.both) other next in
+    let change = times_of (power_in w a.bits.first d.both) other next in
     let changed = times_of (opcode_sum op (26 ∷ [])) (wire change.answer) change.next in
-    let e1 : change.next ≡ next + 1 = times_next (power_in w a.first d.both) other next in
+    let e1 : change.next ≡ next + 1 = times_next (power_in w a.bits.first d.both) other next in
     let e2 : changed.next ≡ next + 1 + 1 = times_next (opcode_sum op (26 ∷ [])) (wire change.answer) change.next ∙ ap (λ k. k + 1) e1 in
     let change_number = change_is w width z n state op a d t v i x o has byte is_byte in
-    let m1 = times_complete z next (power_in w a.first d.both) other assigns (values.0 ∙ sym change_number, tt) in
-    let is_change = times_sound z next (power_in w a.first d.both) other assigns m1 ∙ change_number in
+    let m1 = times_complete z next (power_in w a.bits.first d.both) other assigns (values.0 ∙ sym change_number, tt) in
+    let is_change = times_sound z next (power_in w a.bits.first d.both) other assigns m1 ∙ change_number in
     let changed_number = changed_is w width z n state op a d t v i x o has change.answer is_change in
     let m2 = times_complete z change.next (opcode_sum op (26 ∷ [])) (wire change.answer) assigns
     (ap (λ k. slice_index z k) e1 ∙ values.1.0 ∙ sym changed_number, tt) in
@@ -246,13 +247,13 @@ pub memory_sound : MemoryIsSound
 unfolding memory_of pure ◌>>=◌
 memory_sound w width z next n state op a d t v i x o has meets =
     let line = line_of w state op a d.word t next in
-    let byte = byte_at_of w d.bits a.first line.next in
+    let byte = byte_at_of w d.bits a.bits.first line.next in
     let new = new_of w op d a line.answer byte.answer byte.next in
     let m1 = Meets-split z line.list _ meets in
     let m2 = Meets-split z byte.list _ m1.1 in
     let m3 = Meets-split z new.list _ m2.1 in
     let are = line_sound w width z next n state op a d t v i x o has m1.0 in
-    let is_byte = (byte_laws z line.next d.bits a.first o (operand_word v i) has.assigns w width has.bits has.operand).0 m2.0 in
+    let is_byte = (byte_laws z line.next d.bits a.bits.first o (operand_word v i) has.assigns w width has.bits has.operand.bits).0 m2.0 in
     record {
       cell = are.cell;
       old = are.old;
@@ -268,16 +269,16 @@ unfolding memory_of pure ◌>>=◌
 memory_complete w width z next n state op a d t v i x o has values =
     let at = operand_word v i in
     let line = line_of w state op a d.word t next in
-    let byte = byte_at_of w d.bits a.first line.next in
+    let byte = byte_at_of w d.bits a.bits.first line.next in
     let new = new_of w op d a line.answer byte.answer byte.next in
     let e1 : line.next ≡ next + 3 = line_next w state op a d.word t next in
-    let e2 : byte.next ≡ next + 3 + length (byte_values w o at) = byte_next w width d.bits a.first line.next
+    let e2 : byte.next ≡ next + 3 + length (byte_values w o at) = byte_next w width d.bits a.bits.first line.next
     ∙ ap₂ (λ m k. m + k) e1 (sym (byte_length w width o at)) in
     let first = HasFrom-split z next (line_values w n v i o (took z t)) (byte_values w o at ++ new_values w n v i x o (took z t)) values in
     let second = HasFrom-split z (next + 3) (byte_values w o at) (new_values w n v i x o (took z t)) first.1 in
     let m1 = line_complete w width z next n state op a d t v i x o has first.0 in
     let are = line_sound w width z next n state op a d t v i x o has m1 in
-    let laws = byte_laws z line.next d.bits a.first o at has.assigns w width has.bits has.operand in
+    let laws = byte_laws z line.next d.bits a.bits.first o at has.assigns w width has.bits has.operand.bits in
     let m2 = laws.1 (subst (λ k. HasFrom z k (byte_values w o at)) (sym e1) second.0) in
     let is_byte = laws.0 m2 in
     let m3 = new_complete w width z byte.next n state op a d t v i x o has line.answer byte.answer are.old is_byte
@@ -292,7 +293,7 @@ same_wires : (a b c e f g h k : ℕ) → a ≡ f → b ≡ g → c ≡ h → e �
 same_wires a b c e f g h k p q r s = ap (λ x. wires_from x b c e) p ∙ ap (λ x. wires_from f x c e) q ∙ ap (λ x. wires_from f g x e) r ∙ ap (wires_from f g h) s
 
 abbrev MadeAt : ℕ → Type 0
-MadeAt w = (state : StateWires) (op : ℕ) (a : Bits) (d : DataWires) (t : TapeWires) (next : ℕ) → (memory_of w state op a d t next).answer
+MadeAt w = (state : StateWires) (op : ℕ) (a : OperandWires) (d : DataWires) (t : TapeWires) (next : ℕ) → (memory_of w state op a d t next).answer
     ≡ record { line = record { cell = next + 1; old = next + 2 }; byte = next + (w / 8 + 1); new = next + (w / 8 + 4) }
 
 made_two : MadeAt 16
@@ -304,7 +305,8 @@ unfolding memory_of line_of byte_at_of byte_of_four byte_of_pair new_of times_of
 made_four state op a d t next = same_wires _ _ _ _ _ _ _ _ (omega arith) (omega arith) (omega arith) (omega arith)
 
 abbrev EndsAt : ℕ → Type 0
-EndsAt w = (state : StateWires) (op : ℕ) (a : Bits) (d : DataWires) (t : TapeWires) (next : ℕ) → (memory_of w state op a d t next).next ≡ next + (w / 8 + 5)
+EndsAt w = (state : StateWires) (op : ℕ) (a : OperandWires) (d : DataWires) (t : TapeWires) (next : ℕ)
+    → (memory_of w state op a d t next).next ≡ next + (w / 8 + 5)
 
 ends_two : EndsAt 16
 unfolding memory_of line_of byte_at_of byte_of_pair new_of times_of closed_of fresh put pure ◌>>=◌
@@ -380,7 +382,8 @@ memory_sizes = record {
 }
 
 abbrev CountsAt : ℕ → Type 0
-CountsAt w = (state : StateWires) (op : ℕ) (a : Bits) (d : DataWires) (t : TapeWires) (next : ℕ) → length (memory_of w state op a d t next).list ≡ w / 8 + 5
+CountsAt w = (state : StateWires) (op : ℕ) (a : OperandWires) (d : DataWires) (t : TapeWires) (next : ℕ)
+    → length (memory_of w state op a d t next).list ≡ w / 8 + 5
 
 counts_two : CountsAt 16
 unfolding memory_of line_of byte_at_of byte_of_pair new_of times_of closed_of fresh put pure ◌>>=◌
@@ -391,7 +394,8 @@ unfolding memory_of line_of byte_at_of byte_of_four byte_of_pair new_of times_of
 counts_four state op a d t next = refl
 
 abbrev TermsAt : ℕ → Type 0
-TermsAt w = (state : StateWires) (op : ℕ) (a : Bits) (d : DataWires) (t : TapeWires) (next : ℕ) → terms_in (memory_of w state op a d t next).list ≡ 3 * w + 36
+TermsAt w = (state : StateWires) (op : ℕ) (a : OperandWires) (d : DataWires) (t : TapeWires) (next : ℕ)
+    → terms_in (memory_of w state op a d t next).list ≡ 2 * w + w / 8 + 37
 
 terms_two : TermsAt 16
 unfolding memory_of line_of byte_at_of byte_of_pair new_of times_of closed_of fresh put pure ◌>>=◌ weighted

@@ -8,7 +8,6 @@ use Rattle.tv_bits.proofs.BitLaws.{bit_cases}
 use Rattle.tv_bits.proofs.SpelledNumbers.{value-bits_below, Spells-below, Spells-high, Spells-low, Spells-bit_at}
 use Rattle.tv_bits.specs.Bit.{IsBit}
 use Rattle.tv_bits.specs.Bits.{Spells, bits_combination}
-use Rattle.tv_bits.specs.declared.bit_wires.Bits.{Bits}
 use Rattle.tv_core.proofs.CombinationLaws.{value-wire, value-append, value-cons, value-scaled, value-constant, value-below}
 use Rattle.tv_core.proofs.Meeting.{Meets-split, Meets-join}
 use Rattle.tv_core.specs.Circuits.{put, ◌>>=◌}
@@ -32,11 +31,14 @@ use Rattle.tv_parts.proofs.FlagFills.{no_primary}
 use Rattle.tv_parts.proofs.OpcodeLaws.{opcode_sum_sound}
 use Rattle.tv_parts.proofs.ResultLaws.{small_word}
 use Rattle.tv_parts.proofs.TapeGates.{value-two, value-three}
+use Rattle.tv_parts.proofs.UpperLaws.{upper_once}
 use Rattle.tv_parts.specs.Accumulation.{accumulated_of}
 use Rattle.tv_parts.specs.Memory.{byte_of_pair, byte_of_four, byte_at_of, byte_values, gained, HasMemory}
 use Rattle.tv_parts.specs.OpcodeSums.{opcode_sum}
+use Rattle.tv_parts.specs.Operand.{upper_of}
 use Rattle.tv_parts.specs.Tapes.{primary_in, took}
 use Rattle.tv_parts.specs.declared.records.DataWires.{DataWires}
+use Rattle.tv_parts.specs.declared.records.OperandWires.{OperandWires}
 use Rattle.tv_parts.specs.declared.records.StateWires.{StateWires}
 use Rattle.tv_parts.specs.declared.records.TapeWires.{TapeWires}
 
@@ -121,8 +123,8 @@ pub place_small : (w : ℕ) → IsWidth w → (at : ℕ) → at % (w / 8) < 4
 place_small w width = for_widths (λ w. (at : ℕ) → at % (w / 8) < 4) (λ at. omega arith) (λ at. omega arith) w width
 
 -- ---- the values
-module _ (w : ℕ) (width : IsWidth w) (z : List ℕ) (n : ℕ) (state : StateWires) (op : ℕ) (a : Bits) (d : DataWires) (t : TapeWires) (v : View) (i : Instr)
-    (x o : ℕ) (has : HasMemory w z n state op a d t v i x o) where
+module _ (w : ℕ) (width : IsWidth w) (z : List ℕ) (n : ℕ) (state : StateWires) (op : ℕ) (a : OperandWires) (d : DataWires) (t : TapeWires) (v : View)
+    (i : Instr) (x o : ℕ) (has : HasMemory w z n state op a d t v i x o) where
   abbrev at : ℕ
   at = operand_word v i
 
@@ -147,23 +149,21 @@ module _ (w : ℕ) (width : IsWidth w) (z : List ℕ) (n : ℕ) (state : StateWi
   gate : value (opcode_sum op memory_ops) z ≡ flag_of m
   gate = opcode_sum_sound z op i.op memory_ops has.opcode refl
 
-  abbrev cell_bits : Combination
-  cell_bits = bits_combination (a.first + w / 16) (w - w / 16)
+  abbrev cell_upper : Combination
+  cell_upper = upper_of 1 a (w / 16)
 
-  cell_is : value cell_bits z ≡ at / word_size w
+  cell_is : value cell_upper z ≡ at / word_size w
   cell_is =
       let most = width_short w width in
-      let size : w ≡ w / 16 + (w - w / 16) = omega arith in
-      value-bits_below (Spells-high z a.first (w / 16) (w - w / 16) at (subst (λ k. Spells z a.first k at) size has.operand)) (omega arith)
-      ∙ ap (λ k. at / k) (word_power w width)
+      upper_once w width z a at (w / 16) has.assigns has.operand (omega arith) ∙ ap (λ k. at / k) (word_power w width)
 
   cell_small : at / word_size w < P
-  cell_small = subst (λ k. k < P) cell_is (value-below cell_bits z)
+  cell_small = subst (λ k. k < P) cell_is (value-below cell_upper z)
 
-  pub located_is : (value (constant NULL_CELL) z + value (opcode_sum op memory_ops) z * value ((P - NULL_CELL, 0) ∷ cell_bits) z) % P ≡ located_number
+  pub located_is : (value (constant NULL_CELL) z + value (opcode_sum op memory_ops) z * value ((P - NULL_CELL, 0) ∷ cell_upper) z) % P ≡ located_number
   located_is =
       ap₂ (λ c k. (c + k) % P) (value-constant has.assigns NULL_CELL)
-      (ap₂ (λ g k. g * k) gate (value-cons (P - NULL_CELL) 0 cell_bits z ∙ ap₂ (λ j k. ((P - NULL_CELL) * j + k) % P) has.assigns.one cell_is
+      (ap₂ (λ g k. g * k) gate (value-cons (P - NULL_CELL) 0 cell_upper z ∙ ap₂ (λ j k. ((P - NULL_CELL) * j + k) % P) has.assigns.one cell_is
       ∙ null_number (at / word_size w) cell_small))
       ∙ located_by m (at / word_size w) NULL_CELL _ cell_small (omega arith) refl
 

@@ -1,29 +1,30 @@
 -- What a step does to memory is put by normal combinations.
-use Rattle.std.proofs.Common.{◌≡◌, ℕ, ◌+◌, ◌-◌, ◌/◌, ◌<◌, ◌≤◌, List, [], ◌∷◌, ◌++◌, refl, arith}
+use Rattle.std.proofs.Common.{◌≡◌, ℕ, ◌+◌, ◌-◌, ◌/◌, ◌<◌, ◌≤◌, [], ◌∷◌, ◌++◌, refl, arith}
 use Rattle.tv_bits.proofs.NormalLaws.{wire_normal, constant_normal, bits_normal, bits_top, scaled_bits_top, times_normal}
 use Rattle.tv_bits.specs.Bits.{bits_combination}
 use Rattle.tv_bits.specs.Times.{times_of}
-use Rattle.tv_bits.specs.declared.bit_wires.Bits.{Bits}
 use Rattle.tv_core.proofs.NormalCircuits.{normal_append, normal_negated, normal_both}
 use Rattle.tv_core.proofs.NormalLaws.{IsNormalFrom-lower}
 use Rattle.tv_core.specs.Circuits.{fresh, put, pure, ◌>>=◌}
 use Rattle.tv_core.specs.Combinations.{wire, constant, scaled, top}
-use Rattle.tv_core.specs.Constraints.{Combination}
 use Rattle.tv_core.specs.Normal.{IsNormal, IsNormalFrom, AreNormal}
 use Rattle.tv_core.specs.declared.field.TheConstants.{P}
 use Rattle.tv_core.specs.declared.limits.TheConstants.{TAPE_CELLS, NULL_CELL}
 use Rattle.tv_isa.specs.declared.opcode.TheConstants.{STORE_B, STORE_W}
 use Rattle.tv_numbers.specs.Tables.{memory_ops}
-use Rattle.tv_word.proofs.WidthLaws.{width_short, for_widths}
+use Rattle.tv_word.proofs.WidthLaws.{for_widths}
 use Rattle.tv_word.specs.Widths.{IsWidth}
 use Rattle.tv_parts.proofs.NormalAccumulation.{accumulated_normal}
 use Rattle.tv_parts.proofs.NormalOpcodes.{opcode_sum_normal, opcodes_then}
+use Rattle.tv_parts.proofs.UpperLaws.{upper_normal}
 use Rattle.tv_parts.specs.Accumulation.{closed_of}
 use Rattle.tv_parts.specs.Memory.{line_of, byte_of_pair, byte_of_four, byte_at_of, power_in, new_of, memory_of}
 use Rattle.tv_parts.specs.OpcodeSums.{opcode_sum}
+use Rattle.tv_parts.specs.Operand.{upper_of}
 use Rattle.tv_parts.specs.Tapes.{primary_in}
 use Rattle.tv_parts.specs.declared.records.DataWires.{DataWires}
 use Rattle.tv_parts.specs.declared.records.LineWires.{LineWires}
+use Rattle.tv_parts.specs.declared.records.OperandWires.{OperandWires}
 use Rattle.tv_parts.specs.declared.records.StateWires.{StateWires}
 use Rattle.tv_parts.specs.declared.records.TapeWires.{TapeWires}
 
@@ -35,11 +36,9 @@ fall_normal : (old new : ℕ) → old < new → IsNormal ((1, old) ∷ (P - 1, n
 fall_normal old new h = (omega arith, omega arith, omega arith, (omega arith, omega arith, omega arith, tt))
 
 -- ---- the cell
-cells_normal : (w : ℕ) → IsWidth w → (first : ℕ) → 0 < first → IsNormal ((P - NULL_CELL, 0) ∷ bits_combination (first + w / 16) (w - w / 16))
-cells_normal w width first some =
-    let most = width_short w width in
-    let bits = bits_combination (first + w / 16) (w - w / 16) in
-    let rest = IsNormalFrom-lower 1 (first + w / 16) bits (omega arith) (bits_normal (first + w / 16) (w - w / 16) (omega arith)) in
+cells_normal : (w : ℕ) → IsWidth w → (a : OperandWires) → 0 < a.word → a.word < a.bits.first → IsNormal ((P - NULL_CELL, 0) ∷ upper_of 1 a (w / 16))
+cells_normal w width a some rise =
+    let rest = upper_normal 1 1 a (w / 16) (omega (arith, width)) (λ e. omega arith) some rise in
     (omega arith, omega arith, omega arith, rest)
 
 tape_normal : (taken located : ℕ) → 0 < taken → taken < located → IsNormal ((TAPE_CELLS, 0) ∷ (1, taken) ∷ (P - 1, located) ∷ [])
@@ -57,18 +56,18 @@ held_normal before op after h k =
     opcodes_then 1 op 0 29 memory_ops (wire after) (omega arith) (omega arith) refl refl (omega arith) last in
     (omega arith, omega arith, omega arith, IsNormalFrom-lower (before + 1) (op + 0) (opcode_sum op memory_ops ++ wire after) (omega arith) rest)
 
-line_normal : (w : ℕ) → IsWidth w → (state : StateWires) (op : ℕ) (a : Bits) (word : ℕ) (t : TapeWires) (next : ℕ) → 0 < state.taken_of_primary
-    → state.taken_of_primary < op → op + 29 ≤ t.taken → t.taken < next → 0 < a.first → AreNormal (line_of w state op a word t next).list
+line_normal : (w : ℕ) → IsWidth w → (state : StateWires) (op : ℕ) (a : OperandWires) (word : ℕ) (t : TapeWires) (next : ℕ) → 0 < state.taken_of_primary
+    → state.taken_of_primary < op → op + 29 ≤ t.taken → t.taken < next → 0 < a.word → a.word < a.bits.first → AreNormal (line_of w state op a word t next).list
 unfolding line_of times_of closed_of fresh put pure ◌>>=◌
-line_normal w width state op a word t next some before row within address =
-    let cells = (P - NULL_CELL, 0) ∷ bits_combination (a.first + w / 16) (w - w / 16) in
+line_normal w width state op a word t next some before row within operand rise =
+    let cells = (P - NULL_CELL, 0) ∷ upper_of 1 a (w / 16) in
     let tape = (TAPE_CELLS, 0) ∷ (1, state.taken_of_primary) ∷ (P - 1, next) ∷ [] in
     let held = (P - 1, state.taken_of_primary) ∷ (opcode_sum op memory_ops ++ wire t.taken) in
     let null = constant_normal NULL_CELL (omega arith) (omega arith) in
     let touched = opcode_sum_normal op memory_ops refl in
     let primary : IsNormal (primary_in state t) = rise_normal state.taken_of_primary t.taken (omega arith) in
     let located = accumulated_normal (constant NULL_CELL) (opcode_sum op memory_ops) cells next null (omega arith) touched
-    (cells_normal w width a.first address) in
+    (cells_normal w width a operand rise) in
     let tape_is = tape_normal state.taken_of_primary next some (omega arith) in
     let cell = accumulated_normal (wire next) (primary_in state t) tape (next + 1) (wire_normal 0 next (omega arith)) (omega arith) primary tape_is in
     let held_is = held_normal state.taken_of_primary op t.taken before row in
@@ -155,13 +154,13 @@ stored_normal first byte within =
     IsNormalFrom-lower 0 first (bits ++ (P - 1, byte) ∷ []) (omega arith)
     (normal_append first byte bits ((P - 1, byte) ∷ []) (bits_normal first 8 (omega arith)) below (omega arith) last)
 
-new_normal : (w : ℕ) → IsWidth w → (op : ℕ) (d : DataWires) (a : Bits) (line : LineWires) (byte next : ℕ) → 0 < a.first → a.first + 1 < d.both
+new_normal : (w : ℕ) → IsWidth w → (op : ℕ) (d : DataWires) (a : OperandWires) (line : LineWires) (byte next : ℕ) → 0 < a.bits.first → a.bits.first + 1 < d.both
     → d.x.first + 8 ≤ byte → d.other < d.word → line.old < next → AreNormal (new_of w op d a line byte next).list
 unfolding new_of times_of closed_of fresh put pure ◌>>=◌
 new_normal w width op d a line byte next address both bits other old =
-    let power = power_normal w width a.first d.both address both in
+    let power = power_normal w width a.bits.first d.both address both in
     let stored = bits_combination d.x.first 8 ++ (P - 1, byte) ∷ [] in
-    let change = times_normal (power_in w a.first d.both) stored next power (stored_normal d.x.first byte bits) in
+    let change = times_normal (power_in w a.bits.first d.both) stored next power (stored_normal d.x.first byte bits) in
     let changed = times_normal (opcode_sum op (STORE_B ∷ [])) (wire next) (next + 1) (opcode_sum_normal op (STORE_B ∷ []) refl)
     (wire_normal 0 next (omega arith)) in
     let kept : IsNormal (wire line.old ++ wire (next + 1)) = (omega arith, omega arith, omega arith, (omega arith, omega arith, omega arith, tt)) in
@@ -170,16 +169,17 @@ new_normal w width op d a line byte next address both bits other old =
     (change.0, (changed.0, (new.0, tt)))
 
 -- ---- all of it
-pub memory_normal : (w : ℕ) → IsWidth w → (state : StateWires) (op : ℕ) (a : Bits) (d : DataWires) (t : TapeWires) (next : ℕ)
-    → 0 < state.taken_of_primary → state.taken_of_primary < op → op + 29 ≤ t.taken → t.taken < next → 0 < a.first → a.first + 1 < d.both
+pub memory_normal : (w : ℕ) → IsWidth w → (state : StateWires) (op : ℕ) (a : OperandWires) (d : DataWires) (t : TapeWires) (next : ℕ)
+    → 0 < state.taken_of_primary → state.taken_of_primary < op → op + 29 ≤ t.taken → t.taken < next → 0 < a.word
+    → a.word < a.bits.first → a.bits.first + 1 < d.both
     → d.bits + w ≤ next → d.x.first + 8 ≤ next → d.other < d.word → AreNormal (memory_of w state op a d t next).list
 unfolding memory_of line_of times_of closed_of fresh put pure ◌>>=◌
-memory_normal w width state op a d t next some before row within address both bits spelled other =
+memory_normal w width state op a d t next some before row within operand rise both bits spelled other =
     let line = line_of w state op a d.word t next in
-    let byte = byte_at_of w d.bits a.first line.next in
+    let byte = byte_at_of w d.bits a.bits.first line.next in
     let new = new_of w op d a line.answer byte.answer byte.next in
-    let places = byte_after w width d.bits a.first line.next in
-    let first = line_normal w width state op a d.word t next some before row within address in
-    let second = byte_normal w width d.bits a.first line.next (omega arith) in
-    let third = new_normal w width op d a line.answer byte.answer byte.next address both (omega (arith, places.0)) other (omega (arith, places.1)) in
+    let places = byte_after w width d.bits a.bits.first line.next in
+    let first = line_normal w width state op a d.word t next some before row within operand rise in
+    let second = byte_normal w width d.bits a.bits.first line.next (omega arith) in
+    let third = new_normal w width op d a line.answer byte.answer byte.next (omega arith) both (omega (arith, places.0)) other (omega (arith, places.1)) in
     normal_both line.list _ first (normal_both byte.list _ second (normal_both new.list [] third tt))

@@ -1,14 +1,10 @@
 -- The result of a step, and the sign of its test, are put by normal combinations.
-use Rattle.std.proofs.Common.{◌≡◌, ℕ, ◌+◌, ◌-◌, ◌*◌, ◌/◌, ◌^◌, ◌<◌, ◌≤◌, List, [], ◌∷◌, ◌++◌, refl, arith}
-use Rattle.tv_bits.proofs.NormalLaws.{bits_normal, bits_top}
-use Rattle.tv_bits.specs.Bits.{bits_combination}
+use Rattle.std.proofs.Common.{◌≡◌, ℕ, ◌+◌, ◌-◌, ◌*◌, ◌/◌, ◌^◌, ◌<◌, ◌≤◌, [], ◌∷◌, ◌++◌, refl, arith}
 use Rattle.tv_bits.specs.Times.{times_of}
-use Rattle.tv_bits.specs.declared.bit_wires.Bits.{Bits}
-use Rattle.tv_core.proofs.CombinationLaws.{top-scaled}
-use Rattle.tv_core.proofs.NormalCircuits.{normal_append, normal_negated, normal_both}
+use Rattle.tv_core.proofs.NormalCircuits.{normal_append, normal_both}
 use Rattle.tv_core.proofs.NormalLaws.{IsNormalFrom-lower}
 use Rattle.tv_core.specs.Circuits.{fresh, put, pure, ◌>>=◌}
-use Rattle.tv_core.specs.Combinations.{wire, scaled, top}
+use Rattle.tv_core.specs.Combinations.{wire, top}
 use Rattle.tv_core.specs.Constraints.{Combination}
 use Rattle.tv_core.specs.Normal.{IsNormal, IsNormalFrom, IsNormalConstraint, AreNormal}
 use Rattle.tv_core.specs.declared.field.TheConstants.{P}
@@ -19,9 +15,11 @@ use Rattle.tv_word.specs.Widths.{IsWidth}
 use Rattle.tv_parts.proofs.NormalAccumulation.{accumulated_normal}
 use Rattle.tv_parts.proofs.NormalOpcodes.{opcodes_normal, opcodes_then, opcode_sum_normal}
 use Rattle.tv_parts.proofs.ResultFills.{result_answer, result_next}
-use Rattle.tv_parts.specs.Accumulation.{closed_of}
+use Rattle.tv_parts.proofs.UpperLaws.{upper_normal, upper_top}
 use Rattle.tv_parts.specs.OpcodeSums.{place_of, opcode_terms, opcode_sum}
+use Rattle.tv_parts.specs.Operand.{upper_of}
 use Rattle.tv_parts.specs.Results.{low_ops, high_ops, zero_ops, carry_ops, place_bits, parts_in, signs_in, result_of, tested_of, results_of, sign_of}
+use Rattle.tv_parts.specs.declared.records.OperandWires.{OperandWires}
 use Rattle.tv_parts.specs.declared.records.Sources.{Sources}
 use Rattle.tv_parts.specs.declared.records.StateWires.{StateWires}
 use Rattle.tv_parts.specs.declared.records.TapeWires.{TapeWires}
@@ -65,10 +63,11 @@ pub record SourcesRise (op next : ℕ) (state : StateWires) (from : Sources) (t 
   pub halves : from.top < from.high
   pub high : from.high < next
 
-result_normal : (w : ℕ) → IsWidth w → (state : StateWires) (op : ℕ) (from : Sources) (t : TapeWires) (next : ℕ) → SourcesRise op next state from t
-    → AreNormal (result_of w state op from t next).list
+result_normal : (w : ℕ) → IsWidth w → (state : StateWires) (op : ℕ) (a : OperandWires) (from : Sources) (t : TapeWires) (next : ℕ)
+    → SourcesRise op next state from t
+    → AreNormal (result_of w state op a from t next).list
 unfolding result_of times_of fresh put pure ◌>>=◌
-result_normal w width state op from t next rise =
+result_normal w width state op a from t next rise =
     let before = state.taken_of_primary in
     let taken = rise.row in
     let takes = rise.tapes in
@@ -118,29 +117,27 @@ result_normal w width state op from t next rise =
     record { a = opcode_sum_normal op high_ops refl; b = half from.high; c = half (next + 1) } in
     let moved_put : IsNormalConstraint (record {
       a = (P - 1, op + place_of NOT) ∷ opcode_sum op (MOV ∷ CMOV ∷ []);
-      b = wire from.operand;
+      b = wire a.word;
       c = wire (next + 1 + 1);
     }) =
-    record { a = moved_gate; b = half from.operand; c = half (next + 1 + 1) } in
+    record { a = moved_gate; b = half a.word; c = half (next + 1 + 1) } in
     (low_put, (high_put, (moved_put, last)))
 
 -- ---- the number that is tested
-tested_normal : (w : ℕ) → IsWidth w → (op : ℕ) (a : Bits) (from : Sources) (result next : ℕ) → a.first + w ≤ next → result < next → from.top < from.high
+tested_normal : (w : ℕ) → IsWidth w → (op : ℕ) (a : OperandWires) (from : Sources) (result next : ℕ)
+    → a.word < a.bits.first → a.bits.first + w ≤ next → result < next → from.top < from.high
     → from.high < next
     → AreNormal (tested_of w op a from result next).list
 unfolding tested_of fresh put pure ◌>>=◌
-tested_normal w width op a from result next bits below halves high =
+tested_normal w width op a from result next operand bits below halves high =
     let most = largest w width in
     let short = width_short w width in
-    let place = bits_combination (a.first + place_bits w) (w - place_bits w) in
-    let place_is : IsNormal (scaled (P - 1) place) =
-    normal_negated 0 place (IsNormalFrom-lower 0 (a.first + place_bits w) place (omega arith)
-    (bits_normal (a.first + place_bits w) (w - place_bits w) (omega arith))) in
-    let place_top : top (scaled (P - 1) place) ≤ next =
-    omega (arith, top-scaled (P - 1) place, bits_top (a.first + place_bits w) (w - place_bits w), bits, width) in
+    let upper = upper_of (P - 1) a (place_bits w) in
+    let upper_is = upper_normal 0 (P - 1) a (place_bits w) (omega (arith, width)) (λ e. omega arith) (omega arith) operand in
+    let within : top upper ≤ next = omega (arith, upper_top (P - 1) a (place_bits w) operand, bits, width) in
     let signs : IsNormal (signs_in w from.top from.high next) =
     (omega arith, most.0, most.1, (omega arith, omega arith, omega arith, (omega arith, omega arith, omega arith, tt))) in
-    let shifts = normal_append 0 next (scaled (P - 1) place) (wire next) place_is place_top (omega arith) (omega arith, omega arith, omega arith, tt) in (
+    let shifts = normal_append 0 next upper (wire next) upper_is within (omega arith) (omega arith, omega arith, omega arith, tt) in (
       record { a = opcode_sum_normal op zero_ops refl; b = rise_normal result next below; c = tt },
       (
         record { a = opcode_sum_normal op carry_ops refl; b = rise_normal from.high next high; c = tt },
@@ -151,16 +148,16 @@ tested_normal w width op a from result next bits below halves high =
       ),
     )
 
-pub results_normal : (w : ℕ) → IsWidth w → (state : StateWires) (op : ℕ) (a : Bits) (from : Sources) (t : TapeWires) (next : ℕ)
+pub results_normal : (w : ℕ) → IsWidth w → (state : StateWires) (op : ℕ) (a : OperandWires) (from : Sources) (t : TapeWires) (next : ℕ)
     → SourcesRise op next state from t
-    → a.first + w ≤ next → AreNormal (results_of w state op a from t next).list
+    → a.word < a.bits.first → a.bits.first + w ≤ next → AreNormal (results_of w state op a from t next).list
 unfolding results_of ◌>>=◌ pure
-results_normal w width state op a from t next rise bits =
-    let word = result_of w state op from t next in
-    let answer = result_answer w state op from t next in
-    let end = result_next w state op from t next in
+results_normal w width state op a from t next rise operand bits =
+    let word = result_of w state op a from t next in
+    let answer = result_answer w state op a from t next in
+    let end = result_next w state op a from t next in
     let below : word.answer < word.next = omega (arith, answer, end) in
-    let within : a.first + w ≤ word.next = omega (arith, bits, end) in
+    let within : a.bits.first + w ≤ word.next = omega (arith, bits, end) in
     let high : from.high < word.next = omega (arith, rise.high, end) in
-    let tested = tested_normal w width op a from word.answer word.next within below rise.halves high in
-    normal_both word.list _ (result_normal w width state op from t next rise) (normal_both (tested_of w op a from word.answer word.next).list [] tested tt)
+    let tested = tested_normal w width op a from word.answer word.next operand within below rise.halves high in
+    normal_both word.list _ (result_normal w width state op a from t next rise) (normal_both (tested_of w op a from word.answer word.next).list [] tested tt)

@@ -1,23 +1,21 @@
 -- What a step does to the tapes is put by normal combinations.
-use Rattle.std.proofs.Common.{◌≡◌, ℕ, ◌+◌, ◌-◌, ◌^◌, ◌<◌, ◌≤◌, ◌≢◌, ◌==◌, if◌then◌else◌, List, [], ◌∷◌, ◌++◌, inl, inr, refl, sym, subst, ap, arith}
+use Rattle.std.proofs.Common.{◌≡◌, ℕ, ◌+◌, ◌-◌, ◌^◌, ◌<◌, ◌≤◌, ◌≢◌, ◌==◌, if◌then◌else◌, List, [], ◌∷◌, ◌++◌, inl, inr, refl, sym, subst, arith}
 use Rattle.std.proofs.lemmas.Bool.{cases_eq, eq-eqb, ne_eqb}
-use Rattle.tv_bits.proofs.NormalLaws.{bits_normal}
-use Rattle.tv_bits.specs.Bits.{bits_combination}
 use Rattle.tv_bits.specs.Times.{times_of}
-use Rattle.tv_bits.specs.declared.bit_wires.Bits.{Bits}
 use Rattle.tv_core.proofs.NormalCircuits.{normal_append, normal_both}
-use Rattle.tv_core.proofs.NormalLaws.{IsNormalFrom-lower}
 use Rattle.tv_core.specs.Circuits.{fresh, put, pure, ◌>>=◌}
-use Rattle.tv_core.specs.Combinations.{wire, less, one_less, top}
+use Rattle.tv_core.specs.Combinations.{wire, top}
 use Rattle.tv_core.specs.Constraints.{Combination, Constraint}
-use Rattle.tv_core.specs.Normal.{IsNormal, IsNormalFrom, IsNormalConstraint, AreNormal}
+use Rattle.tv_core.specs.Normal.{IsNormal, IsNormalConstraint, AreNormal}
 use Rattle.tv_core.specs.declared.field.TheConstants.{P}
 use Rattle.tv_isa.specs.declared.opcode.TheConstants.{READ}
-use Rattle.tv_word.proofs.WidthLaws.{width_short}
 use Rattle.tv_word.specs.Widths.{IsWidth}
 use Rattle.tv_parts.proofs.NormalOpcodes.{opcode_sum_normal, opcodes_top}
+use Rattle.tv_parts.proofs.UpperLaws.{upper_normal}
 use Rattle.tv_parts.specs.OpcodeSums.{opcode_sum}
+use Rattle.tv_parts.specs.Operand.{upper_of}
 use Rattle.tv_parts.specs.Tapes.{if_zero_of, left_in, primary_of, auxiliary_of, tapes_of}
+use Rattle.tv_parts.specs.declared.records.OperandWires.{OperandWires}
 use Rattle.tv_parts.specs.declared.records.StateWires.{StateWires}
 
 -- ---- a number where another is 0
@@ -79,28 +77,27 @@ auxiliary_normal taken aux before next some h = (
   ),
 )
 
-pub tapes_normal : (w : ℕ) → IsWidth w → (n : ℕ) (state : StateWires) (op : ℕ) (a : Bits) (next : ℕ) → n < 2 ^ 29 → 0 < state.taken_of_primary
+pub tapes_normal : (w : ℕ) → IsWidth w → (n : ℕ) (state : StateWires) (op : ℕ) (a : OperandWires) (next : ℕ) → n < 2 ^ 29 → 0 < state.taken_of_primary
     → state.taken_of_primary < next
-    → 0 < state.aux_ended → state.aux_ended < next → op + 29 ≤ next → AreNormal (tapes_of w n state op a next).list
+    → 0 < state.aux_ended → state.aux_ended < next → op + 29 ≤ next → a.word < a.bits.first → AreNormal (tapes_of w n state op a next).list
 unfolding tapes_of if_zero_of times_of primary_of auxiliary_of fresh put pure ◌>>=◌
-tapes_normal w width n state op a next short some within ended_some ended_within row =
-    let most = width_short w width in
+tapes_normal w width n state op a next short some within ended_some ended_within row rise =
     let read = opcode_sum op (READ ∷ []) in
-    let high = bits_combination (a.first + 1) (w - 1) in
+    let upper = upper_of 1 a 1 in
     let read_is = opcode_sum_normal op (READ ∷ []) refl in
     let read_top : top read ≤ next = omega (arith, opcodes_top 1 op 29 (READ ∷ []) refl, row) in
-    let high_is = IsNormalFrom-lower 0 (a.first + 1) high (omega arith) (bits_normal (a.first + 1) (w - 1) (omega arith)) in
-    let product : IsNormalConstraint (record { a = wire next; b = wire a.first; c = wire (next + 1 + 1) }) =
+    let upper_is = upper_normal 0 1 a 1 (omega arith) (λ e. omega arith) (omega arith) rise in
+    let product : IsNormalConstraint (record { a = wire next; b = wire a.bits.first; c = wire (next + 1 + 1) }) =
     record {
       a = (omega arith, omega arith, omega arith, tt);
       b = (omega arith, omega arith, omega arith, tt);
       c = (omega arith, omega arith, omega arith, tt);
     } in
-    let first = if_zero_normal read high next read_is read_top high_is in
+    let first = if_zero_normal read upper next read_is read_top upper_is in
     let primary = primary_normal n state.taken_of_primary next (next + 1 + 1) (next + 1 + 1 + 1) short some within (omega arith) (omega arith) in
     let auxiliary = auxiliary_normal (next + 1 + 1 + 1) (next + 1 + 1) state.aux_ended (next + 1 + 1 + 1 + 1 + 1) ended_some (omega arith) in
-    let list2 : List Constraint = (times_of (wire next) (wire a.first) (next + 1 + 1)).list in
+    let list2 : List Constraint = (times_of (wire next) (wire a.bits.first) (next + 1 + 1)).list in
     let list3 : List Constraint = (primary_of n state.taken_of_primary next (next + 1 + 1) (next + 1 + 1 + 1)).list in
     let list4 : List Constraint = (auxiliary_of (next + 1 + 1 + 1) (next + 1 + 1) state.aux_ended (next + 1 + 1 + 1 + 1 + 1)).list in
-    normal_both (if_zero_of read high next).list (list2 ++ (list3 ++ list4)) first
+    normal_both (if_zero_of read upper next).list (list2 ++ (list3 ++ list4)) first
     (normal_both list2 (list3 ++ list4) (product, tt) (normal_both list3 list4 primary auxiliary))

@@ -2,18 +2,14 @@
 use Rattle.std.proofs.Common.{◌≡◌, ℕ, ◌+◌, ◌-◌, ◌*◌, ◌/◌, ◌%◌, ◌^◌, ◌<◌, ◌==◌, not, Bool, true, false, if◌then◌else◌, List, [], ◌∷◌, ◌++◌, length}
 use Rattle.std.proofs.Common.{length-append, refl, sym, ◌∙◌, ap, ap₂, subst, arith}
 use Rattle.std.specs.Prelude.{slice_index}
-use Rattle.std.proofs.lemmas.List.{length-map}
-use Rattle.tv_bits.proofs.SpelledNumbers.{value-bits_below, Spells-high, Spells-below}
+use Rattle.tv_bits.proofs.SpelledNumbers.{Spells-below}
 use Rattle.tv_bits.proofs.TimesLaws.{times_sound, times_complete, times_next, residue_below}
-use Rattle.tv_bits.specs.Bits.{Spells, bits_combination}
 use Rattle.tv_bits.specs.Times.{times_of}
-use Rattle.tv_bits.specs.declared.bit_wires.Bits.{Bits}
-use Rattle.tv_core.proofs.BelowLaws.{length-weighted}
-use Rattle.tv_core.proofs.CombinationLaws.{value-wire, value-append, value-cons, value-scaled, value-below}
+use Rattle.tv_core.proofs.CombinationLaws.{value-wire, value-append, value-cons, value-below}
 use Rattle.tv_core.proofs.FieldLaws.{InField-cons, InField-none}
 use Rattle.tv_core.proofs.Meeting.{Meets-split, Meets-join}
 use Rattle.tv_core.specs.Circuits.{fresh, put, pure, ◌>>=◌}
-use Rattle.tv_core.specs.Combinations.{wire, scaled}
+use Rattle.tv_core.specs.Combinations.{wire}
 use Rattle.tv_core.specs.Constraints.{Combination, value}
 use Rattle.tv_core.specs.Inverse.{inverse_of}
 use Rattle.tv_core.specs.Laws.{InField}
@@ -24,7 +20,7 @@ use Rattle.tv_isa.specs.declared.instr.Instr.{Instr}
 use Rattle.tv_numbers.specs.Numbers.{operand_word}
 use Rattle.tv_numbers.specs.Tables.{target, pcs}
 use Rattle.tv_numbers.specs.Views.{View, flag_of}
-use Rattle.tv_word.proofs.WidthLaws.{width_short, for_widths}
+use Rattle.tv_word.proofs.WidthLaws.{for_widths}
 use Rattle.tv_word.specs.Widths.{IsWidth}
 use Rattle.tv_parts.proofs.AccumulationLaws.{accumulated_sound, accumulated_complete}
 use Rattle.tv_parts.proofs.OpcodeLaws.{opcode_wire_is}
@@ -33,17 +29,20 @@ use Rattle.tv_parts.proofs.PcLaws.{distance, wrap_of, after_of, flag_jump, jump_
 use Rattle.tv_parts.proofs.TapeFills.{flag_in_field, either}
 use Rattle.tv_parts.proofs.TapeGates.{value-two, value-three, value-four, if_zero_sound, if_zero_complete}
 use Rattle.tv_parts.proofs.TapeLaws.{flag_small}
+use Rattle.tv_parts.proofs.UpperLaws.{upper_is, length-upper}
 use Rattle.tv_parts.specs.Accumulation.{closed_of}
 use Rattle.tv_parts.specs.OpcodeSums.{place_of}
+use Rattle.tv_parts.specs.Operand.{upper_of}
 use Rattle.tv_parts.specs.Pc.{from_last, goes_in, after_in, jump_in, pc_of, pc_values, HasPc, PcIsSound, PcIsComplete, PcSizes, PcCosts}
 use Rattle.tv_parts.specs.Tapes.{if_zero_of}
+use Rattle.tv_parts.specs.declared.records.OperandWires.{OperandWires}
 use Rattle.tv_parts.specs.declared.records.StateWires.{StateWires}
 
 -- ---- the combinations' values
 folded_four : (k l m n : ℕ) → (k + (l + (m + n % P) % P) % P) % P ≡ (k + l + m + n % P) % P
 folded_four k l m n = omega arith
 
-module _ (w : ℕ) (width : IsWidth w) (z : List ℕ) (state : StateWires) (op : ℕ) (a : Bits) (v : View) (i : Instr) (has : HasPc w z state op a v i) where
+module _ (w : ℕ) (width : IsWidth w) (z : List ℕ) (state : StateWires) (op : ℕ) (a : OperandWires) (v : View) (i : Instr) (has : HasPc w z state op a v i) where
   abbrev at : ℕ
   at = operand_word v i
 
@@ -102,22 +101,20 @@ module _ (w : ℕ) (width : IsWidth w) (z : List ℕ) (state : StateWires) (op :
       lower true n h = h
       lower false n h = omega arith
 
-  target_is : value (scaled (w / 4) (bits_combination (a.first + (w / 16 + 1)) (w - (w / 16 + 1)))) z ≡ target w at
+  abbrev target_upper : Combination
+  target_upper = upper_of (w / 4) a (w / 16 + 1)
+
+  target_is : value target_upper z ≡ target w at
   target_is =
-      let most = width_short w width in
-      let size : w ≡ (w / 16 + 1) + (w - (w / 16 + 1)) = omega arith in
-      value-scaled (w / 4) (bits_combination (a.first + (w / 16 + 1)) (w - (w / 16 + 1))) z
-      ∙ ap (λ n. w / 4 * n % P) (value-bits_below
-      (Spells-high z a.first (w / 16 + 1) (w - (w / 16 + 1)) at (subst (λ k. Spells z a.first k at) size has.operand)) (omega arith))
-      ∙ target_by w width at (Spells-below has.operand)
+      upper_is w width z a at (w / 4) (w / 16 + 1) has.assigns has.operand (omega (arith, width)) ∙ target_by w width at (Spells-below has.operand.bits)
 
   target_small : target w at < P
-  target_small = subst (λ n. n < P) target_is (value-below (scaled (w / 4) (bits_combination (a.first + (w / 16 + 1)) (w - (w / 16 + 1)))) z)
+  target_small = subst (λ n. n < P) target_is (value-below target_upper z)
 
   jump_value : (wraps : ℕ) → slice_index z wraps ≡ wrap_of w v.pc i.op
       → value (jump_in w state.pc (op + place_of 31) a wraps) z ≡ (target w at + (P - after_of w v.pc i.op)) % P
   jump_value wraps is =
-      let bits = scaled (w / 4) (bits_combination (a.first + (w / 16 + 1)) (w - (w / 16 + 1))) in
+      let bits = target_upper in
       let tail : value (bits ++ (2 ^ w, wraps) ∷ []) z ≡ (target w at + 2 ^ w * wrap_of w v.pc i.op) % P =
       value-append bits ((2 ^ w, wraps) ∷ []) z ∙ ap₂ (λ m n. (m + n) % P) target_is (value-cons (2 ^ w) wraps [] z ∙ ap (λ n. (2 ^ w * n + 0) % P) is)
       ∙ last (target w at) (2 ^ w * wrap_of w v.pc i.op) in
@@ -159,7 +156,7 @@ pc_sound w width z next state op a v i has meets =
     ((1, op + place_of 20) ∷ (1, op + place_of 22) ∷ (1, by_flag.answer) ∷ []) (jump_in w state.pc (op + place_of 31) a wraps.answer) assigns m2.1
     ∙ ap₂ (λ m n. (m + n) % P) (after_value w width z state op a v i has wraps.answer is_wraps)
     (ap₂ (λ m n. m * n) (gate_is w width z state op a v i has by_flag.answer is_flag) (jump_value w width z state op a v i has wraps.answer is_wraps))
-    ∙ pc_number w width v.pc (operand_word v i) v.flag has.small has.aligned (Spells-below has.operand) has.bit i.op has.opcode.within has.opcode.used
+    ∙ pc_number w width v.pc (operand_word v i) v.flag has.small has.aligned (Spells-below has.operand.bits) has.bit i.op has.opcode.within has.opcode.used
 
 pub pc_complete : PcIsComplete
 unfolding pc_of ◌>>=◌
@@ -181,17 +178,17 @@ pc_complete w width z next state op a v i has values =
     let is_flag : slice_index z by_flag.answer ≡ flag_jump i.op v.flag = times_sound z wraps.next (wire state.flag) flags assigns m2 ∙ product in
     let sum = ap₂ (λ m n. (m + n) % P) (after_value w width z state op a v i has wraps.answer is_wraps)
     (ap₂ (λ m n. m * n) (gate_is w width z state op a v i has by_flag.answer is_flag) (jump_value w width z state op a v i has wraps.answer is_wraps))
-    ∙ pc_number w width v.pc (operand_word v i) v.flag has.small has.aligned (Spells-below has.operand) has.bit i.op has.opcode.within has.opcode.used in
+    ∙ pc_number w width v.pc (operand_word v i) v.flag has.small has.aligned (Spells-below has.operand.bits) has.bit i.op has.opcode.within has.opcode.used in
     let m3 = accumulated_complete z by_flag.next (after_in w state.pc (op + place_of 31) wraps.answer)
     ((1, op + place_of 20) ∷ (1, op + place_of 22) ∷ (1, by_flag.answer) ∷ []) (jump_in w state.pc (op + place_of 31) a wraps.answer) assigns
     (ap (λ k. slice_index z k) e2 ∙ values.1.1.1.0 ∙ sym sum, tt) in
     Meets-join z wraps.list _ m1 (Meets-join z by_flag.list _ m2 m3)
 
-pc_answer : (w : ℕ) (state : StateWires) (op : ℕ) (a : Bits) (next : ℕ) → (pc_of w state op a next).answer ≡ next + 3
+pc_answer : (w : ℕ) (state : StateWires) (op : ℕ) (a : OperandWires) (next : ℕ) → (pc_of w state op a next).answer ≡ next + 3
 unfolding pc_of if_zero_of times_of closed_of fresh put pure ◌>>=◌
 pc_answer w state op a next = omega arith
 
-pc_next : (w : ℕ) (state : StateWires) (op : ℕ) (a : Bits) (next : ℕ) → (pc_of w state op a next).next ≡ next + 4
+pc_next : (w : ℕ) (state : StateWires) (op : ℕ) (a : OperandWires) (next : ℕ) → (pc_of w state op a next).next ≡ next + 4
 unfolding pc_of if_zero_of times_of closed_of fresh put pure ◌>>=◌
 pc_next w state op a next = omega arith
 
@@ -226,18 +223,15 @@ pc_sizes = record {
   in_field = pc_in_field;
 }
 
-pc_count : (w : ℕ) (state : StateWires) (op : ℕ) (a : Bits) (next : ℕ) → length (pc_of w state op a next).list ≡ 4
+pc_count : (w : ℕ) (state : StateWires) (op : ℕ) (a : OperandWires) (next : ℕ) → length (pc_of w state op a next).list ≡ 4
 unfolding pc_of if_zero_of times_of closed_of fresh put pure ◌>>=◌
 pc_count w state op a next = refl
 
--- a combination of bits with one wire more
-longer : (k first n c x : ℕ) → length (scaled k (bits_combination first n) ++ (c, x) ∷ []) ≡ n + 1
-longer k first n c x = length-append (scaled k (bits_combination first n)) ((c, x) ∷ [])
-    ∙ ap (λ m. m + 1) (length-map (bits_combination first n) _ ∙ length-weighted first n (λ i. 2 ^ i % P))
-
-pc_terms : (w : ℕ) → IsWidth w → (state : StateWires) (op : ℕ) (a : Bits) (next : ℕ) → terms_in (pc_of w state op a next).list ≡ w - w / 16 + 24
+pc_terms : (w : ℕ) → IsWidth w → (state : StateWires) (op : ℕ) (a : OperandWires) (next : ℕ) → terms_in (pc_of w state op a next).list ≡ w / 16 + 27
 unfolding pc_of if_zero_of times_of closed_of fresh put pure ◌>>=◌
-pc_terms w width state op a next = omega (arith, longer (w / 4) (a.first + (w / 16 + 1)) (w - (w / 16 + 1)) (2 ^ w) next, width)
+pc_terms w width state op a next =
+    let upper = upper_of (w / 4) a (w / 16 + 1) in
+    omega (arith, length-append upper ((2 ^ w, next) ∷ []), length-upper (w / 4) a (w / 16 + 1))
 
 pub pc_costs : PcCosts
 pc_costs = record { constraints = pc_count; terms = pc_terms }

@@ -1,21 +1,17 @@
 -- The laws of a step's result, and of the number that is tested.
 use Rattle.std.proofs.Common.{◌≡◌, ℕ, ◌+◌, ◌-◌, ◌*◌, ◌/◌, ◌%◌, ◌^◌, ◌<◌, ◌==◌, ◌||◌, Bool, true, false, if◌then◌else◌, List, [], ◌∷◌, ◌++◌, length}
-use Rattle.std.proofs.Common.{length-append, inl, inr, refl, sym, ◌∙◌, ap, ap₂, subst, arith, mod-lt, true≢false}
+use Rattle.std.proofs.Common.{length-append, div-le_self, inl, inr, refl, sym, ◌∙◌, ap, ap₂, subst, arith, mod-lt, true≢false}
 use Rattle.std.specs.Int.{bit_at}
 use Rattle.std.specs.Prelude.{slice_index}
 use Rattle.std.proofs.lemmas.Bool.{cases_eq, eqb-true, ne_eqb}
-use Rattle.std.proofs.lemmas.List.{length-map}
-use Rattle.tv_bits.proofs.SpelledNumbers.{value-bits_below, Spells-high, Spells-below}
+use Rattle.tv_bits.proofs.SpelledNumbers.{Spells-below}
 use Rattle.tv_bits.proofs.TimesLaws.{times_sound, times_complete, times_next}
-use Rattle.tv_bits.specs.Bits.{Spells, bits_combination}
 use Rattle.tv_bits.specs.Times.{times_of}
-use Rattle.tv_bits.specs.declared.bit_wires.Bits.{Bits}
-use Rattle.tv_core.proofs.BelowLaws.{length-weighted}
-use Rattle.tv_core.proofs.CombinationLaws.{value-wire, value-append, value-cons, value-scaled, value-below, wire-below}
+use Rattle.tv_core.proofs.CombinationLaws.{value-wire, value-append, value-cons, value-below, wire-below}
 use Rattle.tv_core.proofs.FieldLaws.{InField-cons, InField-none}
 use Rattle.tv_core.proofs.Meeting.{Meets-split, Meets-join}
 use Rattle.tv_core.specs.Circuits.{fresh, put, pure, ◌>>=◌}
-use Rattle.tv_core.specs.Combinations.{wire, scaled}
+use Rattle.tv_core.specs.Combinations.{wire}
 use Rattle.tv_core.specs.Constraints.{Combination, value}
 use Rattle.tv_core.specs.Laws.{Meets, InField}
 use Rattle.tv_core.specs.Meanings.{terms_in}
@@ -27,7 +23,7 @@ use Rattle.tv_numbers.proofs.Cases.{chosen_in}
 use Rattle.tv_numbers.specs.Numbers.{operand_word, other_word, takes_primary, found}
 use Rattle.tv_numbers.specs.Views.{View, flag_of}
 use Rattle.tv_step.specs.Rows.{word_size}
-use Rattle.tv_word.proofs.WidthLaws.{width_short, for_widths}
+use Rattle.tv_word.proofs.WidthLaws.{for_widths}
 use Rattle.tv_word.specs.Widths.{IsWidth}
 use Rattle.tv_parts.proofs.AccumulationLaws.{accumulated_sound, accumulated_complete}
 use Rattle.tv_parts.proofs.FlagFills.{no_primary, no_auxiliary, one_tape}
@@ -35,13 +31,16 @@ use Rattle.tv_parts.proofs.OpcodeLaws.{opcode_sum_sound, opcode_wire_is}
 use Rattle.tv_parts.proofs.ResultLaws.{ResultCase, result_is, compared_is, tested_is, small_word, either}
 use Rattle.tv_parts.proofs.TapeGates.{value-two, value-three, value-four}
 use Rattle.tv_parts.proofs.TapeLaws.{among_one}
+use Rattle.tv_parts.proofs.UpperLaws.{upper_is, length-upper}
 use Rattle.tv_parts.specs.Accumulation.{closed_of}
 use Rattle.tv_parts.specs.OpcodeSums.{place_of, opcode_sum}
+use Rattle.tv_parts.specs.Operand.{upper_of}
 use Rattle.tv_parts.specs.Rows.{covers}
 use Rattle.tv_parts.specs.Results.{low_ops, high_ops, zero_ops, carry_ops, place_bits, parts_in, signs_in, result_of, tested_of, results_of, tested_numbers}
 use Rattle.tv_parts.specs.Results.{HasSources, ResultsAreSound, low_part, high_part, moved_part, result_number, tested_number, results_values}
 use Rattle.tv_parts.specs.Results.{ResultsAreComplete, ResultsSizes, ResultsCosts}
 use Rattle.tv_parts.specs.Tapes.{took}
+use Rattle.tv_parts.specs.declared.records.OperandWires.{OperandWires}
 use Rattle.tv_parts.specs.declared.records.ResultWires.{ResultWires}
 use Rattle.tv_parts.specs.declared.records.Sources.{Sources}
 use Rattle.tv_parts.specs.declared.records.StateWires.{StateWires}
@@ -113,8 +112,8 @@ pick_four false false false true y v1 v2 v3 v4 p q r s e = s refl
 pick_four false false false false y v1 v2 v3 v4 p q r s e = absurd (true≢false (sym e))
 
 -- ---- the values
-module _ (w : ℕ) (width : IsWidth w) (z : List ℕ) (n : ℕ) (state : StateWires) (op : ℕ) (a : Bits) (from : Sources) (t : TapeWires) (v : View) (i : Instr)
-    (low high : ℕ) (has : HasSources w z n state op a from t v i low high) where
+module _ (w : ℕ) (width : IsWidth w) (z : List ℕ) (n : ℕ) (state : StateWires) (op : ℕ) (a : OperandWires) (from : Sources) (t : TapeWires) (v : View)
+    (i : Instr) (low high : ℕ) (has : HasSources w z n state op a from t v i low high) where
   abbrev at : ℕ
   at = operand_word v i
 
@@ -125,7 +124,7 @@ module _ (w : ℕ) (width : IsWidth w) (z : List ℕ) (n : ℕ) (state : StateWi
   byte = byte_of low (at % word_size w)
 
   at_small : at < P
-  at_small = small_word w width at (Spells-below has.operand)
+  at_small = small_word w width at (Spells-below has.operand.bits)
 
   low_small : low < P
   low_small = small_word w width low has.halves.low_word
@@ -136,7 +135,7 @@ module _ (w : ℕ) (width : IsWidth w) (z : List ℕ) (n : ℕ) (state : StateWi
   byte_small : byte < P
   byte_small = omega arith
 
-  pub case_of : ResultCase w width (other_word v i) at low high finds (Spells-below has.operand) i.op
+  pub case_of : ResultCase w width (other_word v i) at low high finds (Spells-below has.operand.bits) i.op
   case_of = record {
     reads = λ e. ap₂ (λ p q. p || q) (no_primary v i n e) (no_auxiliary v i (took z t) has.tapes.asked e);
     halves = has.halves;
@@ -173,13 +172,13 @@ module _ (w : ℕ) (width : IsWidth w) (z : List ℕ) (n : ℕ) (state : StateWi
   high_is = ap₂ (λ g m. g * m % P) (opcode_sum_sound z op i.op high_ops has.opcode refl) (value-wire has.assigns from.high ∙ has.high_wire)
       ∙ flag_times (among high_ops i.op) high high_small
 
-  moved_is : value moved_terms z * value (wire from.operand) z % P ≡ moved_part i.op at
+  moved_is : value moved_terms z * value (wire a.word) z % P ≡ moved_part i.op at
   moved_is =
       ap₂ (λ g m. g * m % P)
       (value-cons (P - 1) (op + place_of 3) (opcode_sum op (18 ∷ 19 ∷ [])) z
       ∙ ap₂ (λ m g. ((P - 1) * m + g) % P) (opcode_wire_is z op i.op 3 has.opcode (omega arith) refl)
       (opcode_sum_sound z op i.op (18 ∷ 19 ∷ []) has.opcode refl))
-      (value-wire has.assigns from.operand ∙ has.value)
+      (value-wire has.assigns a.word ∙ has.operand.word)
       ∙ moved_gate (i.op == 3) (among (18 ∷ 19 ∷ []) i.op) at at_small (apart_ops (18 ∷ 19 ∷ []) 3 refl)
 
   part_small : (b : Bool) (m : ℕ) → m < P → (if b then m else 0) < P
@@ -218,21 +217,16 @@ module _ (w : ℕ) (width : IsWidth w) (z : List ℕ) (n : ℕ) (state : StateWi
   shift_gate : value (opcode_sum op (11 ∷ 12 ∷ [])) z ≡ flag_of (among (11 ∷ 12 ∷ []) i.op)
   shift_gate = opcode_sum_sound z op i.op (11 ∷ 12 ∷ []) has.opcode refl
 
-  abbrev place : Combination
-  place = bits_combination (a.first + place_bits w) (w - place_bits w)
+  abbrev place : ℕ
+  place = at / 2 ^ place_bits w
 
-  place_is : value place z ≡ at / 2 ^ place_bits w
-  place_is =
-      let most = width_short w width in
-      let size : w ≡ place_bits w + (w - place_bits w) = omega (arith, width) in
-      value-bits_below (Spells-high z a.first (place_bits w) (w - place_bits w) at (subst (λ k. Spells z a.first k at) size has.operand)) (omega arith)
+  place_small : place < P
+  place_small = omega (arith, at_small, div-le_self at (2 ^ place_bits w))
 
-  shift_value : (y : ℕ) → value (scaled (P - 1) place ++ wire y) z ≡ ((P - 1) * (at / 2 ^ place_bits w) % P + slice_index z y) % P
-  shift_value y = value-append (scaled (P - 1) place) (wire y) z
-      ∙ ap₂ (λ p q. (p + q) % P) (value-scaled (P - 1) place z ∙ ap (λ m. (P - 1) * m % P) place_is) (value-wire has.assigns y)
-
-  place_small : at / 2 ^ place_bits w < P
-  place_small = subst (λ m. m < P) place_is (value-below place z)
+  shift_value : (y : ℕ) → value (upper_of (P - 1) a (place_bits w) ++ wire y) z ≡ ((P - 1) * place % P + slice_index z y) % P
+  shift_value y =
+      value-append (upper_of (P - 1) a (place_bits w)) (wire y) z
+      ∙ ap₂ (λ p q. (p + q) % P) (upper_is w width z a at (P - 1) (place_bits w) has.assigns has.operand (omega (arith, width))) (value-wire has.assigns y)
 
   signs_value : (y : ℕ) → value (signs_in w from.top from.high y) z ≡ ((2 ^ w - 1) * bit_at low (w - 1) + (P - 1) * high + 1 * slice_index z y) % P
   signs_value y = value-three z (2 ^ w - 1) (P - 1) 1 from.top from.high y
@@ -261,9 +255,9 @@ module _ (w : ℕ) (width : IsWidth w) (z : List ℕ) (n : ℕ) (state : StateWi
       (λ e. signs_by w width (bit_at low (w - 1)) high y top_small high_small ys
       (sym (signs_value next) ∙ held (among (8 ∷ []) i.op) (value (opcode_sum op (8 ∷ [])) z) _
       (value-below (signs_in w from.top from.high next) z) signs_gate meets.1.1.0 e))
-      (λ e. shift_by (at / 2 ^ place_bits w) y place_small ys
+      (λ e. shift_by place y place_small ys
       (sym (shift_value next) ∙ held (among (11 ∷ 12 ∷ []) i.op) (value (opcode_sum op (11 ∷ 12 ∷ [])) z) _
-      (value-below (scaled (P - 1) place ++ wire next) z) shift_gate meets.1.1.1.0 e))
+      (value-below (upper_of (P - 1) a (place_bits w) ++ wire next) z) shift_gate meets.1.1.1.0 e))
 
   tested_complete : (next result : ℕ) → slice_index z next ≡ tested_number w i.op at low high (slice_index z result)
       → Meets z (tested_of w op a from result next).list
@@ -279,7 +273,7 @@ module _ (w : ℕ) (width : IsWidth w) (z : List ℕ) (n : ℕ) (state : StateWi
                 (λ k. signs_value next ∙ signs_none w width (bit_at low (w - 1)) high (slice_index z next) top_small high_small (e ∙ is.2 k)),
             (
               holds_by (among (11 ∷ 12 ∷ []) i.op) _ _ shift_gate
-                  (λ k. shift_value next ∙ shift_none (at / 2 ^ place_bits w) (slice_index z next) place_small (e ∙ is.3 k)),
+                  (λ k. shift_value next ∙ shift_none place (slice_index z next) place_small (e ∙ is.3 k)),
               tt,
             ),
           ),
@@ -287,24 +281,24 @@ module _ (w : ℕ) (width : IsWidth w) (z : List ℕ) (n : ℕ) (state : StateWi
       )
 
 -- ---- the laws
-pub result_answer : (w : ℕ) (state : StateWires) (op : ℕ) (from : Sources) (t : TapeWires) (next : ℕ)
-    → (result_of w state op from t next).answer ≡ next + 1 + 1 + 1
+pub result_answer : (w : ℕ) (state : StateWires) (op : ℕ) (a : OperandWires) (from : Sources) (t : TapeWires) (next : ℕ)
+    → (result_of w state op a from t next).answer ≡ next + 1 + 1 + 1
 unfolding result_of times_of closed_of fresh put pure ◌>>=◌
-result_answer w state op from t next = refl
+result_answer w state op a from t next = refl
 
-pub result_next : (w : ℕ) (state : StateWires) (op : ℕ) (from : Sources) (t : TapeWires) (next : ℕ)
-    → (result_of w state op from t next).next ≡ next + 1 + 1 + 1 + 1
+pub result_next : (w : ℕ) (state : StateWires) (op : ℕ) (a : OperandWires) (from : Sources) (t : TapeWires) (next : ℕ)
+    → (result_of w state op a from t next).next ≡ next + 1 + 1 + 1 + 1
 unfolding result_of times_of closed_of fresh put pure ◌>>=◌
-result_next w state op from t next = refl
+result_next w state op a from t next = refl
 
-tested_answer : (w op : ℕ) (a : Bits) (from : Sources) (result next : ℕ) → (tested_of w op a from result next).answer ≡ next
+tested_answer : (w op : ℕ) (a : OperandWires) (from : Sources) (result next : ℕ) → (tested_of w op a from result next).answer ≡ next
 unfolding tested_of fresh put pure ◌>>=◌
 tested_answer w op a from result next = refl
 
-word_sound : (w : ℕ) (width : IsWidth w) (z : List ℕ) (next n : ℕ) (state : StateWires) (op : ℕ) (a : Bits) (from : Sources) (t : TapeWires) (v : View)
+word_sound : (w : ℕ) (width : IsWidth w) (z : List ℕ) (next n : ℕ) (state : StateWires) (op : ℕ) (a : OperandWires) (from : Sources) (t : TapeWires) (v : View)
     (i : Instr) (low high : ℕ) (has : HasSources w z n state op a from t v i low high)
-    → Meets z (result_of w state op from t next).list
-    → slice_index z (result_of w state op from t next).answer ≡ result_number w i.op (operand_word v i) low high (takes_primary v i n || took z t)
+    → Meets z (result_of w state op a from t next).list
+    → slice_index z (result_of w state op a from t next).answer ≡ result_number w i.op (operand_word v i) low high (takes_primary v i n || took z t)
 unfolding result_of ◌>>=◌
 word_sound w width z next n state op a from t v i low high has meets =
     let assigns = has.assigns in
@@ -312,22 +306,22 @@ word_sound w width z next n state op a from t v i low high has meets =
     let moved_terms = (P - 1, op + place_of 3) ∷ opcode_sum op (18 ∷ 19 ∷ []) in
     let l = times_of low_terms (wire from.low) next in
     let h = times_of (opcode_sum op high_ops) (wire from.high) l.next in
-    let m = times_of moved_terms (wire from.operand) h.next in
+    let m = times_of moved_terms (wire a.word) h.next in
     let m1 = Meets-split z l.list _ meets in
     let m2 = Meets-split z h.list _ m1.1 in
     let m3 = Meets-split z m.list _ m2.1 in
     let l_is = times_sound z next low_terms (wire from.low) assigns m1.0 ∙ low_is w width z n state op a from t v i low high has in
     let h_is = times_sound z l.next (opcode_sum op high_ops) (wire from.high) assigns m2.0 ∙ high_is w width z n state op a from t v i low high has in
-    let m_is = times_sound z h.next moved_terms (wire from.operand) assigns m3.0 ∙ moved_is w width z n state op a from t v i low high has in
+    let m_is = times_sound z h.next moved_terms (wire a.word) assigns m3.0 ∙ moved_is w width z n state op a from t v i low high has in
     accumulated_sound z m.next (parts_in w (op + place_of 3) l.answer h.answer m.answer) (opcode_sum op (27 ∷ [])) (wire from.byte) assigns m3.1
     ∙ word_is w width z n state op a from t v i low high has l.answer h.answer m.answer l_is h_is m_is
 
-word_complete : (w : ℕ) (width : IsWidth w) (z : List ℕ) (next n : ℕ) (state : StateWires) (op : ℕ) (a : Bits) (from : Sources) (t : TapeWires) (v : View)
-    (i : Instr) (low high : ℕ) (has : HasSources w z n state op a from t v i low high)
+word_complete : (w : ℕ) (width : IsWidth w) (z : List ℕ) (next n : ℕ) (state : StateWires) (op : ℕ) (a : OperandWires) (from : Sources) (t : TapeWires)
+    (v : View) (i : Instr) (low high : ℕ) (has : HasSources w z n state op a from t v i low high)
     → let finds : Bool = takes_primary v i n || took z t in
     slice_index z next ≡ low_part i.op low finds → slice_index z (next + 1) ≡ high_part i.op high
     → slice_index z (next + 1 + 1) ≡ moved_part i.op (operand_word v i)
-    → slice_index z (next + 1 + 1 + 1) ≡ result_number w i.op (operand_word v i) low high finds → Meets z (result_of w state op from t next).list
+    → slice_index z (next + 1 + 1 + 1) ≡ result_number w i.op (operand_word v i) low high finds → Meets z (result_of w state op a from t next).list
 unfolding result_of ◌>>=◌
 word_complete w width z next n state op a from t v i low high has e f g r =
     let assigns = has.assigns in
@@ -335,19 +329,19 @@ word_complete w width z next n state op a from t v i low high has e f g r =
     let moved_terms = (P - 1, op + place_of 3) ∷ opcode_sum op (18 ∷ 19 ∷ []) in
     let l = times_of low_terms (wire from.low) next in
     let h = times_of (opcode_sum op high_ops) (wire from.high) l.next in
-    let m = times_of moved_terms (wire from.operand) h.next in
+    let m = times_of moved_terms (wire a.word) h.next in
     let e1 : l.next ≡ next + 1 = times_next low_terms (wire from.low) next in
     let e2 : h.next ≡ next + 1 + 1 = times_next (opcode_sum op high_ops) (wire from.high) l.next ∙ ap (λ k. k + 1) e1 in
-    let e3 : m.next ≡ next + 1 + 1 + 1 = times_next moved_terms (wire from.operand) h.next ∙ ap (λ k. k + 1) e2 in
+    let e3 : m.next ≡ next + 1 + 1 + 1 = times_next moved_terms (wire a.word) h.next ∙ ap (λ k. k + 1) e2 in
     let l_number = low_is w width z n state op a from t v i low high has in
     let h_number = high_is w width z n state op a from t v i low high has in
     let m_number = moved_is w width z n state op a from t v i low high has in
     let m1 = times_complete z next low_terms (wire from.low) assigns (e ∙ sym l_number, tt) in
     let m2 = times_complete z l.next (opcode_sum op high_ops) (wire from.high) assigns (ap (λ k. slice_index z k) e1 ∙ f ∙ sym h_number, tt) in
-    let m3 = times_complete z h.next moved_terms (wire from.operand) assigns (ap (λ k. slice_index z k) e2 ∙ g ∙ sym m_number, tt) in
+    let m3 = times_complete z h.next moved_terms (wire a.word) assigns (ap (λ k. slice_index z k) e2 ∙ g ∙ sym m_number, tt) in
     let l_is = times_sound z next low_terms (wire from.low) assigns m1 ∙ l_number in
     let h_is = times_sound z l.next (opcode_sum op high_ops) (wire from.high) assigns m2 ∙ h_number in
-    let m_is = times_sound z h.next moved_terms (wire from.operand) assigns m3 ∙ m_number in
+    let m_is = times_sound z h.next moved_terms (wire a.word) assigns m3 ∙ m_number in
     let m4 = accumulated_complete z m.next (parts_in w (op + place_of 3) l.answer h.answer m.answer) (opcode_sum op (27 ∷ [])) (wire from.byte) assigns
     (ap (λ k. slice_index z k) e3 ∙ r ∙ sym (word_is w width z n state op a from t v i low high has l.answer h.answer m.answer l_is h_is m_is), tt) in
     Meets-join z l.list _ m1 (Meets-join z h.list _ m2 (Meets-join z m.list _ m3 m4))
@@ -356,7 +350,7 @@ pub results_sound : ResultsAreSound
 unfolding results_of pure ◌>>=◌
 results_sound w width z next n state op a from t v i low high has meets =
     let finds : Bool = takes_primary v i n || took z t in
-    let word = result_of w state op from t next in
+    let word = result_of w state op a from t next in
     let tested = tested_of w op a from word.answer word.next in
     let m1 = Meets-split z word.list _ meets in
     let m2 = Meets-split z tested.list _ m1.1 in
@@ -364,8 +358,8 @@ results_sound w width z next n state op a from t v i low high has meets =
     let known = case_of w width z n state op a from t v i low high has in
     record {
       word = λ e. is ∙ result_is w width (other_word v i) (operand_word v i) low high finds
-          (Spells-below has.operand) i.op has.opcode.within has.opcode.used e known;
-      compared = λ e. is ∙ at_cmpe w width v i low high finds (Spells-below has.operand) e known;
+          (Spells-below has.operand.bits) i.op has.opcode.within has.opcode.used e known;
+      compared = λ e. is ∙ at_cmpe w width v i low high finds (Spells-below has.operand.bits) e known;
       tested = λ e. ap (λ k. slice_index z k) (tested_answer w op a from word.answer word.next)
           ∙ tested_sound w width z n state op a from t v i low high has word.next word.answer m2.0 e;
     }
@@ -380,28 +374,26 @@ pub results_complete : ResultsAreComplete
 unfolding results_of pure ◌>>=◌
 results_complete w width z next n state op a from t v i low high has values =
     let finds : Bool = takes_primary v i n || took z t in
-    let word = result_of w state op from t next in
+    let word = result_of w state op a from t next in
     let tested = tested_of w op a from word.answer word.next in
     let m1 = word_complete w width z next n state op a from t v i low high has values.0 values.1.0 values.1.1.0 values.1.1.1.0 in
     let is : slice_index z word.answer ≡ result_number w i.op (operand_word v i) low high finds = ap (λ k. slice_index z k)
-    (result_answer w state op from t next) ∙ values.1.1.1.0 in
+    (result_answer w state op a from t next) ∙ values.1.1.1.0 in
     let m2 = tested_complete w width z n state op a from t v i low high has word.next word.answer
-    (ap (λ k. slice_index z k) (result_next w state op from t next) ∙ values.1.1.1.1.0 ∙ sym (ap (tested_number w i.op (operand_word v i) low high) is)) in
+    (ap (λ k. slice_index z k) (result_next w state op a from t next) ∙ values.1.1.1.1.0 ∙ sym (ap (tested_number w i.op (operand_word v i) low high) is)) in
     Meets-join z word.list _ m1 (Meets-join z tested.list _ m2 tt)
 
-results_count : (w : ℕ) (state : StateWires) (op : ℕ) (a : Bits) (from : Sources) (t : TapeWires) (next : ℕ)
+results_count : (w : ℕ) (state : StateWires) (op : ℕ) (a : OperandWires) (from : Sources) (t : TapeWires) (next : ℕ)
     → length (results_of w state op a from t next).list ≡ 8
 unfolding results_of result_of tested_of times_of closed_of fresh put pure ◌>>=◌
 results_count w state op a from t next = refl
 
-longer : (k first n x : ℕ) → length (scaled k (bits_combination first n) ++ wire x) ≡ n + 1
-longer k first n x = length-append (scaled k (bits_combination first n)) (wire x)
-    ∙ ap (λ m. m + 1) (length-map (bits_combination first n) _ ∙ length-weighted first n (λ i. 2 ^ i % P))
-
-results_terms : (w : ℕ) → IsWidth w → (state : StateWires) (op : ℕ) (a : Bits) (from : Sources) (t : TapeWires) (next : ℕ)
-    → terms_in (results_of w state op a from t next).list ≡ w - w / 16 + 55
+results_terms : (w : ℕ) → IsWidth w → (state : StateWires) (op : ℕ) (a : OperandWires) (from : Sources) (t : TapeWires) (next : ℕ)
+    → terms_in (results_of w state op a from t next).list ≡ w / 16 + 62
 unfolding results_of result_of tested_of times_of closed_of fresh put pure ◌>>=◌
-results_terms w width state op a from t next = omega (arith, longer (P - 1) (a.first + place_bits w) (w - place_bits w) (next + 1 + 1 + 1 + 1), width)
+results_terms w width state op a from t next =
+    let upper = upper_of (P - 1) a (place_bits w) in
+    omega (arith, length-append upper (wire (next + 1 + 1 + 1 + 1)), length-upper (P - 1) a (place_bits w))
 
 pub results_costs : ResultsCosts
 results_costs = record { constraints = results_count; terms = results_terms }
@@ -410,13 +402,13 @@ results_costs = record { constraints = results_count; terms = results_terms }
 abbrev wires_from : ℕ → ℕ → ResultWires
 wires_from a b = record { word = a; tested = b }
 
-results_answer : (w : ℕ) (state : StateWires) (op : ℕ) (a : Bits) (from : Sources) (t : TapeWires) (next : ℕ)
+results_answer : (w : ℕ) (state : StateWires) (op : ℕ) (a : OperandWires) (from : Sources) (t : TapeWires) (next : ℕ)
     → (results_of w state op a from t next).answer ≡ record { word = next + 3; tested = next + 4 }
 unfolding results_of result_of tested_of times_of closed_of fresh put pure ◌>>=◌
 results_answer w state op a from t next = ap₂ wires_from (let e : next + 1 + 1 + 1 ≡ next + 3 = omega arith in e)
     (let e : next + 1 + 1 + 1 + 1 ≡ next + 4 = omega arith in e)
 
-results_next : (w : ℕ) (state : StateWires) (op : ℕ) (a : Bits) (from : Sources) (t : TapeWires) (next : ℕ)
+results_next : (w : ℕ) (state : StateWires) (op : ℕ) (a : OperandWires) (from : Sources) (t : TapeWires) (next : ℕ)
     → (results_of w state op a from t next).next ≡ next + 5
 unfolding results_of result_of tested_of times_of closed_of fresh put pure ◌>>=◌
 results_next w state op a from t next = omega arith

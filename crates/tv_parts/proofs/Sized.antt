@@ -5,7 +5,7 @@ use Rattle.tv_core.specs.Circuits.{Circuit, put, pure, ◌>>=◌}
 use Rattle.tv_core.specs.Constraints.{Combination}
 use Rattle.tv_core.specs.Meanings.{terms_in}
 
--- a circuit makes so many wires and constraints, of so many terms, whatever the next wire is
+-- a circuit makes these numbers of wires, constraints and terms, whatever the next wire is
 pub record Sized {A : Type 0} (circuit : Circuit A) (made constraints terms : ℕ) : Type 0 where
   pub end : (next : ℕ) → (circuit next).next ≡ next + made
   pub count : (next : ℕ) → length (circuit next).list ≡ constraints
@@ -44,7 +44,7 @@ pub sized_put : (a b c : Combination) → Sized (put a b c) 0 1 (length a + leng
 unfolding put
 sized_put a b c = record { end = none_more; count = λ next. refl; size = λ next. omega arith }
 
--- so many from one wire on
+-- these numbers from one wire on
 pub record SizedAt {A : Type 0} (circuit : Circuit A) (next made constraints terms : ℕ) : Type 0 where
   pub end : (circuit next).next ≡ next + made
   pub count : length (circuit next).list ≡ constraints

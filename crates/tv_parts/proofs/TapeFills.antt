@@ -3,13 +3,10 @@ use Rattle.std.proofs.Common.{◌≡◌, ℕ, ◌+◌, ◌-◌, ◌*◌, ◌/◌
 use Rattle.std.proofs.Common.{sym, ◌∙◌, ap, ap₂, subst, arith}
 use Rattle.std.specs.Int.{bit_at}
 use Rattle.std.specs.Prelude.{slice_index}
-use Rattle.tv_bits.proofs.SpelledNumbers.{value-bits_below, Spells-high, Spells-bit_at}
+use Rattle.tv_bits.proofs.SpelledNumbers.{Spells-bit_at}
 use Rattle.tv_bits.proofs.TimesLaws.{times_sound, times_complete, times_next, residue_below}
 use Rattle.tv_bits.specs.Bit.{IsBit}
-use Rattle.tv_bits.specs.Bits.{Spells, bits_combination}
 use Rattle.tv_bits.specs.Times.{times_of}
-use Rattle.tv_bits.specs.declared.bit_wires.Bits.{Bits}
-use Rattle.tv_core.proofs.BelowLaws.{length-weighted}
 use Rattle.tv_core.proofs.CombinationLaws.{value-wire}
 use Rattle.tv_core.proofs.FieldLaws.{InField-cons, InField-none}
 use Rattle.tv_core.proofs.Meeting.{Meets-join}
@@ -28,8 +25,11 @@ use Rattle.tv_word.specs.Widths.{IsWidth}
 use Rattle.tv_parts.proofs.OpcodeLaws.{opcode_sum_sound}
 use Rattle.tv_parts.proofs.TapeGates.{if_zero_sound, if_zero_complete, primary_complete, auxiliary_complete}
 use Rattle.tv_parts.proofs.TapeLaws.{among_one, reading_by, more_by, flag_small}
+use Rattle.tv_parts.proofs.UpperLaws.{upper_once, length-upper}
 use Rattle.tv_parts.specs.OpcodeSums.{opcode_sum}
+use Rattle.tv_parts.specs.Operand.{upper_of}
 use Rattle.tv_parts.specs.Tapes.{if_zero_of, primary_of, auxiliary_of, tapes_of, tapes_values, tapes_terms, TapesAreComplete, TapesSizes, TapesCosts}
+use Rattle.tv_parts.specs.declared.records.OperandWires.{OperandWires}
 use Rattle.tv_parts.specs.declared.records.StateWires.{StateWires}
 use Rattle.tv_parts.specs.declared.records.TapeWires.{TapeWires}
 
@@ -62,36 +62,34 @@ tapes_filled w width z next n state op a v i o takes has asked values =
     let k = i.op == 30 in
     let assigns = has.assigns in
     let most = width_short w width in
-    let size : w ≡ 1 + (w - 1) = omega arith in
     let before = state.taken_of_primary in
-    let high_bits = bits_combination (a.first + 1) (w - 1) in
+    let upper = upper_of 1 a 1 in
     let read = opcode_sum op (30 ∷ []) in
-    let reads = if_zero_of read high_bits next in
-    let aux = times_of (wire reads.answer) (wire a.first) reads.next in
+    let reads = if_zero_of read upper next in
+    let aux = times_of (wire reads.answer) (wire a.bits.first) reads.next in
     let primary = primary_of n before reads.answer aux.answer aux.next in
     let auxiliary = auxiliary_of primary.answer aux.answer state.aux_ended primary.next in
-    let e1 : reads.next ≡ next + 1 + 1 = if_zero_next read high_bits next in
-    let e2 : aux.next ≡ next + 1 + 1 + 1 = times_next (wire reads.answer) (wire a.first) reads.next ∙ ap (λ m. m + 1) e1 in
+    let e1 : reads.next ≡ next + 1 + 1 = if_zero_next read upper next in
+    let e2 : aux.next ≡ next + 1 + 1 + 1 = times_next (wire reads.answer) (wire a.bits.first) reads.next ∙ ap (λ m. m + 1) e1 in
     let e3 : primary.next ≡ next + 1 + 1 + 1 + 1 + 1 = primary_next n before reads.answer aux.answer aux.next ∙ ap (λ m. m + 1 + 1) e2 in
-    let high : value high_bits z ≡ at / 2 = value-bits_below (Spells-high z a.first 1 (w - 1) at (subst (λ k. Spells z a.first k at) size has.operand))
-    (omega arith) in
-    let low : slice_index z a.first ≡ at % 2 = ap (λ w. slice_index z w) (let e : a.first ≡ a.first + 0 = omega arith in e)
-    ∙ Spells-bit_at has.operand 0 (omega arith) ∙ (let e : bit_at at 0 ≡ at % 2 = omega arith in e) in
+    let high : value upper z ≡ at / 2 = upper_once w width z a at 1 assigns has.operand (omega arith) in
+    let low : slice_index z a.bits.first ≡ at % 2 = ap (λ w. slice_index z w) (let e : a.bits.first ≡ a.bits.first + 0 = omega arith in e)
+    ∙ Spells-bit_at has.operand.bits 0 (omega arith) ∙ (let e : bit_at at 0 ≡ at % 2 = omega arith in e) in
     let is_read : value read z ≡ flag_of k = opcode_sum_sound z op i.op (30 ∷ []) has.opcode refl ∙ ap flag_of (among_one 30 i.op) in
-    let m1 = if_zero_complete z next read high_bits assigns (values.0 ∙ sym (ap₂ (λ x g. if x == 0 then g else 0) high is_read))
+    let m1 = if_zero_complete z next read upper assigns (values.0 ∙ sym (ap₂ (λ x g. if x == 0 then g else 0) high is_read))
     (values.1.0 ∙ sym (ap₂ (λ x g. inverse_of x * g % P) high is_read)) in
-    let is_reads : slice_index z reads.answer ≡ (if at / 2 == 0 then flag_of k else 0) = if_zero_sound z next read high_bits assigns m1
+    let is_reads : slice_index z reads.answer ≡ (if at / 2 == 0 then flag_of k else 0) = if_zero_sound z next read upper assigns m1
     ∙ ap₂ (λ x g. if x == 0 then g else 0) high is_read in
-    let reading = reading_by k at (slice_index z a.first) (slice_index z reads.answer)
-    (slice_index z reads.answer * slice_index z a.first % P) low is_reads refl in
-    let m2 = times_complete z reads.next (wire reads.answer) (wire a.first) assigns (
+    let reading = reading_by k at (slice_index z a.bits.first) (slice_index z reads.answer)
+    (slice_index z reads.answer * slice_index z a.bits.first % P) low is_reads refl in
+    let m2 = times_complete z reads.next (wire reads.answer) (wire a.bits.first) assigns (
       ap (λ w. slice_index z w) e1 ∙ values.1.1.0 ∙ sym reading.one
-          ∙ sym (ap₂ (λ m n. m * n % P) (value-wire assigns reads.answer) (value-wire assigns a.first)),
+          ∙ sym (ap₂ (λ m n. m * n % P) (value-wire assigns reads.answer) (value-wire assigns a.bits.first)),
       tt,
     ) in
-    let is_aux : slice_index z aux.answer ≡ slice_index z reads.answer * slice_index z a.first % P =
-    times_sound z reads.next (wire reads.answer) (wire a.first) assigns m2
-    ∙ ap₂ (λ m n. m * n % P) (value-wire assigns reads.answer) (value-wire assigns a.first) in
+    let is_aux : slice_index z aux.answer ≡ slice_index z reads.answer * slice_index z a.bits.first % P =
+    times_sound z reads.next (wire reads.answer) (wire a.bits.first) assigns m2
+    ∙ ap₂ (λ m n. m * n % P) (value-wire assigns reads.answer) (value-wire assigns a.bits.first) in
     let zero_read = k && (at == 0) in
     let none : (slice_index z reads.answer + (P - slice_index z aux.answer)) % P
     ≡ flag_of zero_read = ap (λ m. (slice_index z reads.answer + (P - m)) % P) is_aux ∙ reading.none in
@@ -114,12 +112,12 @@ wires_from a b c = record { taken = a; takes = b; ended = c }
 same_wires : (a b c d e f : ℕ) → a ≡ d → b ≡ e → c ≡ f → wires_from a b c ≡ wires_from d e f
 same_wires a b c d e f p q r = ap (λ x. wires_from x b c) p ∙ ap (λ x. wires_from d x c) q ∙ ap (wires_from d e) r
 
-tapes_answer : (w n : ℕ) (state : StateWires) (op : ℕ) (a : Bits) (next : ℕ)
+tapes_answer : (w n : ℕ) (state : StateWires) (op : ℕ) (a : OperandWires) (next : ℕ)
     → (tapes_of w n state op a next).answer ≡ record { taken = next + 3; takes = next + 5; ended = next + 6 }
 unfolding tapes_of if_zero_of times_of primary_of auxiliary_of fresh put pure ◌>>=◌
 tapes_answer w n state op a next = same_wires _ _ _ _ _ _ (omega arith) (omega arith) (omega arith)
 
-tapes_next : (w n : ℕ) (state : StateWires) (op : ℕ) (a : Bits) (next : ℕ) → (tapes_of w n state op a next).next ≡ next + 7
+tapes_next : (w n : ℕ) (state : StateWires) (op : ℕ) (a : OperandWires) (next : ℕ) → (tapes_of w n state op a next).next ≡ next + 7
 unfolding tapes_of if_zero_of times_of primary_of auxiliary_of fresh put pure ◌>>=◌
 tapes_next w n state op a next = omega arith
 
@@ -157,21 +155,22 @@ tapes_sizes = record {
   in_field = tapes_in_field;
 }
 
-tapes_count : (w n : ℕ) (state : StateWires) (op : ℕ) (a : Bits) (next : ℕ) → length (tapes_of w n state op a next).list ≡ 7
+tapes_count : (w n : ℕ) (state : StateWires) (op : ℕ) (a : OperandWires) (next : ℕ) → length (tapes_of w n state op a next).list ≡ 7
 unfolding tapes_of if_zero_of times_of primary_of auxiliary_of fresh put pure ◌>>=◌
 tapes_count w n state op a next = refl
 
 -- what is left of the words has one term, or two
-length-left : (b : Bool) (x y : Combination) → length x ≡ 1 → length y ≡ 2 → 2 * length (if b then x else y) + 21 ≡ (if b then 23 else 25)
+length-left : (b : Bool) (x y : Combination) → length x ≡ 1 → length y ≡ 2 → 2 * length (if b then x else y) + 27 ≡ (if b then 29 else 31)
 length-left true x y one two = omega (arith, one)
 length-left false x y one two = omega (arith, two)
 
-terms_put : (w : ℕ) → IsWidth w → (n : ℕ) (state : StateWires) (op : ℕ) (a : Bits) (next : ℕ) → terms_in (tapes_of w n state op a next).list ≡ tapes_terms w n
+terms_put : (w : ℕ) → IsWidth w → (n : ℕ) (state : StateWires) (op : ℕ) (a : OperandWires) (next : ℕ)
+    → terms_in (tapes_of w n state op a next).list ≡ tapes_terms n
 unfolding tapes_of if_zero_of times_of primary_of auxiliary_of fresh put pure ◌>>=◌
 terms_put w width n state op a next =
     let before = state.taken_of_primary in
     let left = length-left (n == 0) ((P - 1, before) ∷ []) ((n, 0) ∷ (P - 1, before) ∷ []) refl refl in
-    omega (arith, length-weighted (a.first + 1) (w - 1) (λ i. 2 ^ i % P), width, left)
+    omega (arith, length-upper 1 a 1, left)
 
 pub tapes_costs : TapesCosts
 tapes_costs = record { constraints = tapes_count; terms = terms_put }

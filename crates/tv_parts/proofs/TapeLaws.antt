@@ -4,10 +4,9 @@ use Rattle.std.proofs.Common.{sym, ◌∙◌, ap, ap₂, subst, arith, zero-mul}
 use Rattle.std.specs.Int.{bit_at}
 use Rattle.std.specs.Prelude.{slice_index}
 use Rattle.std.proofs.lemmas.Bool.{cases_eq, cases_lt, eq-eqb, ne_eqb, lt-ltb, le-ltb}
-use Rattle.tv_bits.proofs.SpelledNumbers.{value-bits_below, Spells-high, Spells-bit_at}
+use Rattle.tv_bits.proofs.SpelledNumbers.{Spells-bit_at}
 use Rattle.tv_bits.proofs.TimesLaws.{times_sound}
 use Rattle.tv_bits.specs.Bit.{IsBit}
-use Rattle.tv_bits.specs.Bits.{Spells, bits_combination}
 use Rattle.tv_bits.specs.Times.{times_of}
 use Rattle.tv_core.proofs.CombinationLaws.{value-wire}
 use Rattle.tv_core.proofs.Meeting.{Meets-split}
@@ -21,7 +20,9 @@ use Rattle.tv_numbers.specs.Views.{flag_of}
 use Rattle.tv_word.proofs.WidthLaws.{width_short}
 use Rattle.tv_parts.proofs.OpcodeLaws.{opcode_sum_sound}
 use Rattle.tv_parts.proofs.TapeGates.{if_zero_sound, primary_sound, auxiliary_sound}
+use Rattle.tv_parts.proofs.UpperLaws.{upper_once}
 use Rattle.tv_parts.specs.OpcodeSums.{opcode_sum}
+use Rattle.tv_parts.specs.Operand.{upper_of}
 use Rattle.tv_parts.specs.Tapes.{if_zero_of, primary_of, auxiliary_of, tapes_of, TapesAreSound}
 
 -- ---- tests
@@ -35,7 +36,7 @@ and_if : (b c : Bool) → (if b then c else false) ≡ (b && c)
 and_if true c = refl
 and_if false c = refl
 
--- ---- the numbers of a read, k telling that the step is one
+-- ---- the numbers of a read, k saying whether the step is one
 pub record Reading (k : Bool) (a reads aux : ℕ) : Type 0 where
   pub one : aux ≡ flag_of (k && (a == 1))
   pub none : (reads + (P - aux)) % P ≡ flag_of (k && (a == 0))
@@ -125,26 +126,24 @@ tapes_sound w width z next n state op a v i has meets =
     let k = i.op == 30 in
     let assigns = has.assigns in
     let most = width_short w width in
-    let size : w ≡ 1 + (w - 1) = omega arith in
     let before = state.taken_of_primary in
-    let high_bits = bits_combination (a.first + 1) (w - 1) in
-    let reads = if_zero_of (opcode_sum op (30 ∷ [])) high_bits next in
-    let aux = times_of (wire reads.answer) (wire a.first) reads.next in
+    let upper = upper_of 1 a 1 in
+    let reads = if_zero_of (opcode_sum op (30 ∷ [])) upper next in
+    let aux = times_of (wire reads.answer) (wire a.bits.first) reads.next in
     let primary = primary_of n before reads.answer aux.answer aux.next in
     let m1 = Meets-split z reads.list _ meets in
     let m2 = Meets-split z aux.list _ m1.1 in
     let m3 = Meets-split z primary.list _ m2.1 in
-    let high : value high_bits z ≡ at / 2 = value-bits_below (Spells-high z a.first 1 (w - 1) at (subst (λ k. Spells z a.first k at) size has.operand))
-    (omega arith) in
-    let low : slice_index z a.first ≡ at % 2 = ap (λ w. slice_index z w) (let e : a.first ≡ a.first + 0 = omega arith in e)
-    ∙ Spells-bit_at has.operand 0 (omega arith) ∙ (let e : bit_at at 0 ≡ at % 2 = omega arith in e) in
+    let high : value upper z ≡ at / 2 = upper_once w width z a at 1 assigns has.operand (omega arith) in
+    let low : slice_index z a.bits.first ≡ at % 2 = ap (λ w. slice_index z w) (let e : a.bits.first ≡ a.bits.first + 0 = omega arith in e)
+    ∙ Spells-bit_at has.operand.bits 0 (omega arith) ∙ (let e : bit_at at 0 ≡ at % 2 = omega arith in e) in
     let is_reads : slice_index z reads.answer ≡ (if at / 2 == 0 then flag_of k else 0) =
-    if_zero_sound z next (opcode_sum op (30 ∷ [])) high_bits assigns m1.0
+    if_zero_sound z next (opcode_sum op (30 ∷ [])) upper assigns m1.0
     ∙ ap₂ (λ x g. if x == 0 then g else 0) high (opcode_sum_sound z op i.op (30 ∷ []) has.opcode refl ∙ ap flag_of (among_one 30 i.op)) in
-    let is_aux : slice_index z aux.answer ≡ slice_index z reads.answer * slice_index z a.first % P =
-    times_sound z reads.next (wire reads.answer) (wire a.first) assigns m2.0
-    ∙ ap₂ (λ m n. m * n % P) (value-wire assigns reads.answer) (value-wire assigns a.first) in
-    let reading = reading_by k at (slice_index z a.first) (slice_index z reads.answer) (slice_index z aux.answer) low is_reads is_aux in
+    let is_aux : slice_index z aux.answer ≡ slice_index z reads.answer * slice_index z a.bits.first % P =
+    times_sound z reads.next (wire reads.answer) (wire a.bits.first) assigns m2.0
+    ∙ ap₂ (λ m n. m * n % P) (value-wire assigns reads.answer) (value-wire assigns a.bits.first) in
+    let reading = reading_by k at (slice_index z a.bits.first) (slice_index z reads.answer) (slice_index z aux.answer) low is_reads is_aux in
     let zero_read = k && (at == 0) in
     let is_taken : slice_index z primary.answer ≡ (if takes_primary v i n then v.taken + 1 else v.taken) =
     primary_sound z aux.next n before reads.answer aux.answer (flag_of zero_read) assigns has.short (subst (λ t. t ≤ n) (sym has.before) has.within)

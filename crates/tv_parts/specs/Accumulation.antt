@@ -21,7 +21,7 @@ accumulated_of x f g = closed_of (scaled (P - 1) x) f g
 abbrev pub accumulated_values : ℕ → ℕ → ℕ → List ℕ
 accumulated_values x f g = (x + f * g) % P ∷ []
 
--- an assignment that meets the constraint has the sum at the wire that is answered
+-- an assignment that meets the constraint has the sum at the returned wire
 abbrev pub AccumulatedIsSound : Type 0
 AccumulatedIsSound = (z : List ℕ) (next : ℕ) (x f g : Combination) → Assigns z → Meets z (accumulated_of x f g next).list
     → slice_index z (accumulated_of x f g next).answer ≡ (value x z + value f z * value g z) % P
@@ -31,7 +31,7 @@ abbrev pub AccumulatedIsComplete : Type 0
 AccumulatedIsComplete = (z : List ℕ) (next : ℕ) (x f g : Combination) → Assigns z
     → HasFrom z next (accumulated_values (value x z) (value f z) (value g z)) → Meets z (accumulated_of x f g next).list
 
--- which wire is answered, and that the value is one number of the field for the wire that is made
+-- which wire is returned, and that the value is one number of the field for the wire that is made
 pub record AccumulatedSizes : Type 0 where
   pub answer : (x f g : Combination) (next : ℕ) → (accumulated_of x f g next).answer ≡ next
   pub end : (x f g : Combination) (next : ℕ) → (accumulated_of x f g next).next ≡ next + 1

@@ -5,7 +5,6 @@ use Rattle.std.specs.Int.{bit_at}
 use Rattle.tv_bits.specs.Bit.{IsBit}
 use Rattle.tv_bits.specs.Bits.{Spells, bits_values, new_bits_of}
 use Rattle.tv_bits.specs.DoubleRow.{SpellsRow, double_row_of, double_row_values}
-use Rattle.tv_bits.specs.declared.bit_wires.Bits.{Bits}
 use Rattle.tv_bits.specs.declared.signed_words.SignedWord.{SignedWord}
 use Rattle.tv_core.specs.Circuits.{Circuit, pure, ◌>>=◌}
 use Rattle.tv_core.specs.Laws.{Assigns, Meets, HasFrom, Fills, InField}
@@ -51,12 +50,15 @@ strict_ops = CMPA ∷ CMPG ∷ []
 abbrev pub signed_ops : List ℕ
 signed_ops = CMPG ∷ CMPGE ∷ []
 
+-- the unsigned products
 abbrev pub product_ops : List ℕ
 product_ops = MULL ∷ UMULH ∷ []
 
+-- the divisions
 abbrev pub division_ops : List ℕ
 division_ops = UDIV ∷ UMOD ∷ []
 
+-- the shifts
 abbrev pub shift_ops : List ℕ
 shift_ops = SHL ∷ SHR ∷ []
 
@@ -87,7 +89,7 @@ products_of w op other a r = do
   row_signed_product_of w (opcode_sum op (SMULH ∷ [])) (with_sign w other r.x.first) (with_sign w a.word a.bits.first) r.row
 
 -- its halves are remainder and quotient, or it is the other word, kept where f is 1, shifted by the operand; the product
--- of the operand's two lowest bits is answered
+-- of the operand's two lowest bits is returned
 unfoldable pub shifts_of : ℕ → ℕ → ℕ → ℕ → OperandWires → RowWires → Circuit ℕ
 shifts_of w op other f a r = do
   kept ← row_division_of w (opcode_sum op division_ops) other a.word f r.x r.row
@@ -105,7 +107,7 @@ arithmetic_of w op other f a = do
   pure (record { x = r.x; row = r.row; both = both })
 
 -- ---- in numbers
--- the number whose bits x spells: at a division how much room the remainder leaves below the divisor, else the other word
+-- the number whose bits x represents: at a division how much room the remainder leaves below the divisor, else the other word
 abbrev pub spelled_word : ℕ → ℕ → ℕ → ℕ → ℕ
 spelled_word w k x a = if among division_ops k then below_divisor w x a else x
 
@@ -183,8 +185,8 @@ pub record HasArithmetic (w : ℕ) (z : List ℕ) (op other f : ℕ) (operand : 
   pub shifts : among shift_ops k ≡ true → slice_index z f ≡ flag_of (nat_lt a w)
   pub divides : among division_ops k ≡ true → IsBit (slice_index z f)
 
--- the row holds the halves of the operation's number, with their bits; x spells the other word but at a division, where
--- f tells whether the operand is 0
+-- the row holds the halves of the operation's number, with their bits; x represents the other word but at a division, where
+-- f says whether the operand is 0
 pub record IsArithmetic (w : ℕ) (z : List ℕ) (made : ArithmeticWires) (f : ℕ) (operand : OperandWires) (k x a : ℕ) : Type 0 where
   pub halves : AreHalves w x a k (slice_index z made.row.low) (slice_index z made.row.high)
   pub row : SpellsRow w z made.row
@@ -193,7 +195,7 @@ pub record IsArithmetic (w : ℕ) (z : List ℕ) (made : ArithmeticWires) (f : �
   pub by_zero : among division_ops k ≡ true → slice_index z f ≡ flag_of (a == 0)
   pub both : slice_index z made.both ≡ slice_index z operand.bits.first * slice_index z (operand.bits.first + 1) % P
 
--- an assignment that meets the constraints has them at the wires that are answered
+-- an assignment that satisfies the constraints has them at the returned wires
 abbrev pub ArithmeticIsSound : Type 0
 ArithmeticIsSound = (w : ℕ) → IsWidth w → (z : List ℕ) (next op other f : ℕ) (operand : OperandWires) (k x a : ℕ)
     → HasArithmetic w z op other f operand k x a → Meets z (arithmetic_of w op other f operand next).list
@@ -211,11 +213,11 @@ ArithmeticIsComplete = (w : ℕ) → IsWidth w → (z : List ℕ) (next op other
 
 -- at a shift the number that is tested for the flag is 0 exactly where the operand is below w, whatever the row holds
 abbrev pub ShiftTestIsSound : Type 0
-ShiftTestIsSound = (w : ℕ) → IsWidth w → (z : List ℕ) (next : ℕ) (state : StateWires) (op : ℕ) (bits : Bits) (from : Sources) (t : TapeWires) (k a : ℕ)
-    → Assigns z → IsOpcode z op k → among shift_ops k ≡ true → Spells z bits.first w a → Meets z (results_of w state op bits from t next).list
-    → (if slice_index z (results_of w state op bits from t next).answer.tested == 0 then 1 else 0) ≡ flag_of (nat_lt a w)
+ShiftTestIsSound = (w : ℕ) → IsWidth w → (z : List ℕ) (next : ℕ) (state : StateWires) (op : ℕ) (operand : OperandWires) (from : Sources) (t : TapeWires) (k a : ℕ)
+    → Assigns z → IsOpcode z op k → among shift_ops k ≡ true → IsOperand w z operand a → Meets z (results_of w state op operand from t next).list
+    → (if slice_index z (results_of w state op operand from t next).answer.tested == 0 then 1 else 0) ≡ flag_of (nat_lt a w)
 
--- which wires are answered, and that the values are one number of the field for each wire that is made
+-- which wires are returned, and that the values are one number of the field for each wire that is made
 pub record ArithmeticSizes : Type 0 where
   pub answer : (w : ℕ) → IsWidth w → (op other f : ℕ) (operand : OperandWires) (next : ℕ) → (arithmetic_of w op other f operand next).answer
       ≡ record {

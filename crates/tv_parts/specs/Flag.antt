@@ -44,7 +44,7 @@ abbrev pub sign_at : ℕ → ℕ
 sign_at k = if among plus_ops k then 1 else if among minus_ops k then P - 1 else 0
 
 -- z has what the flag is made from: f is the sign where the number y that is tested is 0, and else 0; at a division,
--- where nothing is said of y, f tells whether the operand is 0
+-- where nothing is said of y, f says whether the operand is 0
 pub record HasFlag (w : ℕ) (z : List ℕ) (n : ℕ) (state : StateWires) (op : ℕ) (x : Bits) (f : ℕ) (t : TapeWires) (v : View) (i : Instr) (low high result y : ℕ) : Type 0 where
   pub assigns : Assigns z
   pub short : n < 2 ^ 29
@@ -68,7 +68,7 @@ pub record HasFlag (w : ℕ) (z : List ℕ) (n : ℕ) (state : StateWires) (op :
 abbrev pub flag_in : ℕ → ℕ → View → Instr → ℕ → Bool → ℕ
 flag_in w n v i o takes = chosen (flags w (other_word v i) (operand_word v i) (found w n v i o takes) v.flag) i.op
 
--- an assignment that meets the constraints has it at the wire that is answered
+-- an assignment that satisfies the constraints has it at the returned wire
 abbrev pub FlagIsSound : Type 0
 FlagIsSound = (w : ℕ) → IsWidth w → (z : List ℕ) (next n : ℕ) (state : StateWires) (op : ℕ) (x : Bits) (f : ℕ) (t : TapeWires) (v : View) (i : Instr) (low high result y o : ℕ)
     → HasFlag w z n state op x f t v i low high result y → Meets z (next_flag_of w state op x f t next).list
@@ -86,7 +86,7 @@ FlagIsComplete = (w : ℕ) → IsWidth w → (z : List ℕ) (next n : ℕ) (stat
     → HasFlag w z n state op x f t v i low high result y → HasFrom z next (flag_values w n v i o (took z t) (slice_index z f))
     → Meets z (next_flag_of w state op x f t next).list
 
--- which wire is answered, and that the values are one number of the field for each wire that is made
+-- which wire is returned, and that the values are one number of the field for each wire that is made
 pub record FlagSizes : Type 0 where
   pub answer : (w : ℕ) (state : StateWires) (op : ℕ) (x : Bits) (f : ℕ) (t : TapeWires) (next : ℕ) → (next_flag_of w state op x f t next).answer ≡ next + 2
   pub end : (w : ℕ) (state : StateWires) (op : ℕ) (x : Bits) (f : ℕ) (t : TapeWires) (next : ℕ) → (next_flag_of w state op x f t next).next ≡ next + 3

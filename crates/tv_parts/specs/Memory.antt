@@ -2,7 +2,6 @@
 use Rattle.std.specs.Prelude.{◌≡◌, ℕ, ◌+◌, ◌-◌, ◌*◌, ◌/◌, ◌%◌, ◌^◌, ◌<◌, ◌≤◌, Bool, ◌==◌, if◌then◌else◌, List, [], ◌∷◌, ◌++◌, length, slice_index}
 use Rattle.tv_bits.specs.Bits.{Spells, bits_combination}
 use Rattle.tv_bits.specs.Times.{times_of}
-use Rattle.tv_bits.specs.declared.bit_wires.Bits.{Bits}
 use Rattle.tv_core.specs.Circuits.{Circuit, pure, ◌>>=◌}
 use Rattle.tv_core.specs.Combinations.{wire, constant, scaled}
 use Rattle.tv_core.specs.Constraints.{Combination}
@@ -20,20 +19,22 @@ use Rattle.tv_step.specs.Rows.{word_size}
 use Rattle.tv_word.specs.Widths.{IsWidth}
 use Rattle.tv_parts.specs.Accumulation.{accumulated_of}
 use Rattle.tv_parts.specs.OpcodeSums.{opcode_sum, IsOpcode}
+use Rattle.tv_parts.specs.Operand.{upper_of, IsOperand}
 use Rattle.tv_parts.specs.Tapes.{primary_in, took, AreTapes}
 use Rattle.tv_parts.specs.declared.records.DataWires.{DataWires}
 use Rattle.tv_parts.specs.declared.records.LineWires.{LineWires}
+use Rattle.tv_parts.specs.declared.records.OperandWires.{OperandWires}
 use Rattle.tv_parts.specs.declared.records.StateWires.{StateWires}
 use Rattle.tv_parts.specs.declared.records.StoreWires.{StoreWires}
 use Rattle.tv_parts.specs.declared.records.TapeWires.{TapeWires}
 
 -- ---- the cell
 -- the cell of the data line, and the word that it holds before the step: at a load or store that of the operand's
--- address, all bits but those that tell a byte of a word; where a word of tape 0 is taken, its cell; else the null cell,
--- which holds 0. The wire `word` is the data word
-unfoldable pub line_of : ℕ → StateWires → ℕ → Bits → ℕ → TapeWires → Circuit LineWires
+-- address, all bits but those that select a byte of a word; where a word of tape 0 is taken, its cell; else the null
+-- cell, which holds 0. The wire `word` is the data word
+unfoldable pub line_of : ℕ → StateWires → ℕ → OperandWires → ℕ → TapeWires → Circuit LineWires
 line_of w state op a word t = do
-  located ← accumulated_of (constant NULL_CELL) (opcode_sum op memory_ops) ((P - NULL_CELL, 0) ∷ bits_combination (a.first + w / 16) (w - w / 16))
+  located ← accumulated_of (constant NULL_CELL) (opcode_sum op memory_ops) ((P - NULL_CELL, 0) ∷ upper_of 1 a (w / 16))
   cell ← accumulated_of (wire located) (primary_in state t) ((TAPE_CELLS, 0) ∷ (1, state.taken_of_primary) ∷ (P - 1, located) ∷ [])
   old ← times_of ((P - 1, state.taken_of_primary) ∷ (opcode_sum op memory_ops ++ wire t.taken)) (wire word)
   pure (record { cell = cell; old = old })
@@ -60,17 +61,17 @@ abbrev pub power_in : ℕ → ℕ → ℕ → Combination
 power_in w a both = if w == 16 then (1, 0) ∷ (255, a) ∷ [] else (1, 0) ∷ (255, a) ∷ (65535, a + 1) ∷ (16711425, both) ∷ []
 
 -- the word with the lowest byte of x in place of that byte at store.b, the other word at store.w, and else as it was
-unfoldable pub new_of : ℕ → ℕ → DataWires → Bits → LineWires → ℕ → Circuit ℕ
+unfoldable pub new_of : ℕ → ℕ → DataWires → OperandWires → LineWires → ℕ → Circuit ℕ
 new_of w op d a line byte = do
-  change ← times_of (power_in w a.first d.both) (bits_combination d.x.first 8 ++ (P - 1, byte) ∷ [])
+  change ← times_of (power_in w a.bits.first d.both) (bits_combination d.x.first 8 ++ (P - 1, byte) ∷ [])
   changed ← times_of (opcode_sum op (STORE_B ∷ [])) (wire change)
   accumulated_of (wire line.old ++ wire changed) (opcode_sum op (STORE_W ∷ [])) ((1, d.other) ∷ (P - 1, d.word) ∷ [])
 
 -- ---- all of it
-unfoldable pub memory_of : ℕ → StateWires → ℕ → Bits → DataWires → TapeWires → Circuit StoreWires
+unfoldable pub memory_of : ℕ → StateWires → ℕ → OperandWires → DataWires → TapeWires → Circuit StoreWires
 memory_of w state op a d t = do
   line ← line_of w state op a d.word t
-  byte ← byte_at_of w d.bits a.first
+  byte ← byte_at_of w d.bits a.bits.first
   new ← new_of w op d a line byte
   pure (record { line = line; byte = byte; new = new })
 
@@ -98,19 +99,19 @@ memory_values w n v i x o takes = line_values w n v i o takes ++ (byte_values w 
 -- ---- the laws
 -- z has what memory is read and written by: the data word o with its bits, a word x whose lowest byte is stored, and
 -- which is the other word at store.b, and the product of the operand's two lowest bits
-pub record HasMemory (w : ℕ) (z : List ℕ) (n : ℕ) (state : StateWires) (op : ℕ) (a : Bits) (d : DataWires) (t : TapeWires) (v : View) (i : Instr) (x o : ℕ) : Type 0 where
+pub record HasMemory (w : ℕ) (z : List ℕ) (n : ℕ) (state : StateWires) (op : ℕ) (a : OperandWires) (d : DataWires) (t : TapeWires) (v : View) (i : Instr) (x o : ℕ) : Type 0 where
   pub assigns : Assigns z
   pub short : n < 2 ^ 29
   pub within : v.taken ≤ n
   pub before : slice_index z state.taken_of_primary ≡ v.taken
   pub opcode : IsOpcode z op i.op
-  pub operand : Spells z a.first w (operand_word v i)
+  pub operand : IsOperand w z a (operand_word v i)
   pub bits : Spells z d.bits w o
   pub word : slice_index z d.word ≡ o
   pub spelled : Spells z d.x.first w x
   pub stored : i.op ≡ STORE_B → x ≡ other_word v i
   pub other : slice_index z d.other ≡ other_word v i
-  pub both : slice_index z d.both ≡ slice_index z a.first * slice_index z (a.first + 1) % P
+  pub both : slice_index z d.both ≡ slice_index z a.bits.first * slice_index z (a.bits.first + 1) % P
   pub tapes : AreTapes z t n v i
 
 -- the wires are those of the data line, and of the byte at the operand's address
@@ -122,25 +123,25 @@ pub record AreStored (w : ℕ) (z : List ℕ) (s : StoreWires) (n : ℕ) (v : Vi
 
 -- an assignment that meets the constraints has them at the wires that are answered
 abbrev pub MemoryIsSound : Type 0
-MemoryIsSound = (w : ℕ) → IsWidth w → (z : List ℕ) (next n : ℕ) (state : StateWires) (op : ℕ) (a : Bits) (d : DataWires) (t : TapeWires) (v : View) (i : Instr) (x o : ℕ)
+MemoryIsSound = (w : ℕ) → IsWidth w → (z : List ℕ) (next n : ℕ) (state : StateWires) (op : ℕ) (a : OperandWires) (d : DataWires) (t : TapeWires) (v : View) (i : Instr) (x o : ℕ)
     → HasMemory w z n state op a d t v i x o → Meets z (memory_of w state op a d t next).list → AreStored w z (memory_of w state op a d t next).answer n v i o (took z t)
 
 -- an assignment that has these values at the wires that are made meets the constraints
 abbrev pub MemoryIsComplete : Type 0
-MemoryIsComplete = (w : ℕ) → IsWidth w → (z : List ℕ) (next n : ℕ) (state : StateWires) (op : ℕ) (a : Bits) (d : DataWires) (t : TapeWires) (v : View) (i : Instr) (x o : ℕ)
+MemoryIsComplete = (w : ℕ) → IsWidth w → (z : List ℕ) (next n : ℕ) (state : StateWires) (op : ℕ) (a : OperandWires) (d : DataWires) (t : TapeWires) (v : View) (i : Instr) (x o : ℕ)
     → HasMemory w z n state op a d t v i x o → HasFrom z next (memory_values w n v i x o (took z t)) → Meets z (memory_of w state op a d t next).list
 
 -- which wires are answered, and that the values are one number of the field for each wire that is made
 pub record MemorySizes : Type 0 where
-  pub answer : (w : ℕ) → IsWidth w → (state : StateWires) (op : ℕ) (a : Bits) (d : DataWires) (t : TapeWires) (next : ℕ) → (memory_of w state op a d t next).answer
+  pub answer : (w : ℕ) → IsWidth w → (state : StateWires) (op : ℕ) (a : OperandWires) (d : DataWires) (t : TapeWires) (next : ℕ) → (memory_of w state op a d t next).answer
       ≡ record { line = record { cell = next + 1; old = next + 2 }; byte = next + (w / 8 + 1); new = next + (w / 8 + 4) }
-  pub end : (w : ℕ) → IsWidth w → (state : StateWires) (op : ℕ) (a : Bits) (d : DataWires) (t : TapeWires) (next : ℕ) → (memory_of w state op a d t next).next ≡ next + (w / 8 + 5)
-  pub fills : (w : ℕ) → IsWidth w → (n : ℕ) (state : StateWires) (op : ℕ) (a : Bits) (d : DataWires) (t : TapeWires) (v : View) (i : Instr) (x o : ℕ) (takes : Bool)
+  pub end : (w : ℕ) → IsWidth w → (state : StateWires) (op : ℕ) (a : OperandWires) (d : DataWires) (t : TapeWires) (next : ℕ) → (memory_of w state op a d t next).next ≡ next + (w / 8 + 5)
+  pub fills : (w : ℕ) → IsWidth w → (n : ℕ) (state : StateWires) (op : ℕ) (a : OperandWires) (d : DataWires) (t : TapeWires) (v : View) (i : Instr) (x o : ℕ) (takes : Bool)
       → Fills (memory_of w state op a d t) (memory_values w n v i x o takes)
   pub in_field : (w : ℕ) → IsWidth w → (n : ℕ) (v : View) (i : Instr) (x o : ℕ) (takes : Bool) → n < 2 ^ 29 → v.taken ≤ n → operand_word v i < 2 ^ w → other_word v i < 2 ^ w → o < 2 ^ w
       → InField (memory_values w n v i x o takes)
 
--- nine constraints, or seven for words of two bytes, of 3 w + 36 terms
+-- nine constraints, or seven for words of two bytes, of 2 w + w / 8 + 37 terms
 pub record MemoryCosts : Type 0 where
-  pub constraints : (w : ℕ) → IsWidth w → (state : StateWires) (op : ℕ) (a : Bits) (d : DataWires) (t : TapeWires) (next : ℕ) → length (memory_of w state op a d t next).list ≡ w / 8 + 5
-  pub terms : (w : ℕ) → IsWidth w → (state : StateWires) (op : ℕ) (a : Bits) (d : DataWires) (t : TapeWires) (next : ℕ) → terms_in (memory_of w state op a d t next).list ≡ 3 * w + 36
+  pub constraints : (w : ℕ) → IsWidth w → (state : StateWires) (op : ℕ) (a : OperandWires) (d : DataWires) (t : TapeWires) (next : ℕ) → length (memory_of w state op a d t next).list ≡ w / 8 + 5
+  pub terms : (w : ℕ) → IsWidth w → (state : StateWires) (op : ℕ) (a : OperandWires) (d : DataWires) (t : TapeWires) (next : ℕ) → terms_in (memory_of w state op a d t next).list ≡ 2 * w + w / 8 + 37

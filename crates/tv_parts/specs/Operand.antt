@@ -1,8 +1,9 @@
 -- The operand of an instruction: its second word, or the register that this names.
-use Rattle.std.specs.Prelude.{◌≡◌, ℕ, ◌+◌, ◌-◌, ◌*◌, ◌^◌, ◌<◌, Bool, if◌then◌else◌, List, [], ◌∷◌, length, slice_index}
-use Rattle.tv_bits.specs.Bits.{Spells, bits_values, bits_of}
+use Rattle.std.specs.Prelude.{◌≡◌, ℕ, ◌+◌, ◌-◌, ◌*◌, ◌/◌, ◌%◌, ◌^◌, ◌<◌, Bool, if◌then◌else◌, List, [], ◌∷◌, length, slice_index}
+use Rattle.tv_bits.specs.Bits.{Spells, bits_combination, bits_values, bits_of}
 use Rattle.tv_core.specs.Circuits.{Circuit, pure, ◌>>=◌}
-use Rattle.tv_core.specs.Combinations.{wire}
+use Rattle.tv_core.specs.Combinations.{wire, scaled, less}
+use Rattle.tv_core.specs.Constraints.{Combination}
 use Rattle.tv_core.specs.Laws.{Assigns, Meets, HasFrom, Fills, InField}
 use Rattle.tv_core.specs.Meanings.{terms_in}
 use Rattle.tv_core.specs.declared.field.TheConstants.{P}
@@ -17,6 +18,14 @@ operand_of w imm tail register = do
   word ← accumulated_of (wire register) (wire imm) ((1, tail) ∷ (P - 1, register) ∷ [])
   bits ← bits_of (wire word) w
   pure (record { word = word; bits = bits })
+
+-- the inverse modulo P of 2 ^ k, which divides P - 1 where k is at most 32
+abbrev pub power_inverse : ℕ → ℕ
+power_inverse k = P - (P - 1) / 2 ^ k
+
+-- m times the number of the operand's bits from number k on: m / 2 ^ k times the operand less its k lowest bits
+abbrev pub upper_of : ℕ → OperandWires → ℕ → Combination
+upper_of m a k = scaled (m * power_inverse k % P) (less (wire a.word) (bits_combination a.bits.first k))
 
 -- the values of the wires that are made, for an operand
 abbrev pub operand_values : ℕ → ℕ → List ℕ
@@ -36,7 +45,7 @@ pub record IsOperand (w : ℕ) (z : List ℕ) (made : OperandWires) (a : ℕ) : 
   pub word : slice_index z made.word ≡ a
   pub bits : Spells z made.bits.first w a
 
--- an assignment that meets the constraints has the operand at the wires that are answered
+-- an assignment that satisfies the constraints has the operand at the returned wires
 abbrev pub OperandIsSound : Type 0
 OperandIsSound = (w : ℕ) → IsWidth w → (z : List ℕ) (next imm tail register : ℕ) (immediate : Bool) (second named : ℕ)
     → HasOperand w z imm tail register immediate second named → Meets z (operand_of w imm tail register next).list
@@ -48,7 +57,7 @@ OperandIsComplete = (w : ℕ) → IsWidth w → (z : List ℕ) (next imm tail re
     → HasOperand w z imm tail register immediate second named → HasFrom z next (operand_values w (if immediate then second else named))
     → Meets z (operand_of w imm tail register next).list
 
--- which wires are answered, and that the values are one number of the field for each wire that is made
+-- which wires are returned, and that the values are one number of the field for each wire that is made
 pub record OperandSizes : Type 0 where
   pub answer : (w imm tail register next : ℕ) → (operand_of w imm tail register next).answer ≡ record { word = next; bits = record { first = next + 1; n = w } }
   pub end : (w imm tail register next : ℕ) → (operand_of w imm tail register next).next ≡ next + (w + 1)

@@ -1,11 +1,9 @@
 -- The program counter after a step.
 use Rattle.std.specs.Prelude.{◌≡◌, ℕ, ◌+◌, ◌-◌, ◌*◌, ◌/◌, ◌%◌, ◌^◌, ◌<◌, not, ◌==◌, if◌then◌else◌, List, [], ◌∷◌, ◌++◌, length, slice_index}
 use Rattle.tv_bits.specs.Bit.{IsBit}
-use Rattle.tv_bits.specs.Bits.{Spells, bits_combination}
 use Rattle.tv_bits.specs.Times.{times_of}
-use Rattle.tv_bits.specs.declared.bit_wires.Bits.{Bits}
 use Rattle.tv_core.specs.Circuits.{Circuit, ◌>>=◌}
-use Rattle.tv_core.specs.Combinations.{wire, scaled}
+use Rattle.tv_core.specs.Combinations.{wire}
 use Rattle.tv_core.specs.Constraints.{Combination}
 use Rattle.tv_core.specs.Inverse.{inverse_of}
 use Rattle.tv_core.specs.Laws.{Assigns, Meets, HasFrom, Fills, InField}
@@ -20,7 +18,9 @@ use Rattle.tv_numbers.specs.Views.{View, flag_of}
 use Rattle.tv_word.specs.Widths.{IsWidth}
 use Rattle.tv_parts.specs.Accumulation.{accumulated_of}
 use Rattle.tv_parts.specs.OpcodeSums.{place_of, IsOpcode}
+use Rattle.tv_parts.specs.Operand.{upper_of, IsOperand}
 use Rattle.tv_parts.specs.Tapes.{if_zero_of}
+use Rattle.tv_parts.specs.declared.records.OperandWires.{OperandWires}
 use Rattle.tv_parts.specs.declared.records.StateWires.{StateWires}
 
 -- 0 where the counter is that of the last instruction
@@ -36,14 +36,14 @@ goes_in op = (1, 0) ∷ (P - 1, op + place_of ANSWER) ∷ []
 abbrev pub after_in : ℕ → ℕ → ℕ → ℕ → Combination
 after_in w pc answers wraps = (w / 4, 0) ∷ (1, pc) ∷ (P - w / 4, answers) ∷ (P - 2 ^ w, wraps) ∷ []
 
--- the place to which a jump goes, the operand without the bits that tell a byte of an instruction, less that place
-abbrev pub jump_in : ℕ → ℕ → ℕ → Bits → ℕ → Combination
+-- the place to which a jump goes, the operand without the bits that select a byte of an instruction, less that place
+abbrev pub jump_in : ℕ → ℕ → ℕ → OperandWires → ℕ → Combination
 jump_in w pc answers a wraps =
-    (P - w / 4, 0) ∷ (P - 1, pc) ∷ (w / 4, answers) ∷ (scaled (w / 4) (bits_combination (a.first + (w / 16 + 1)) (w - (w / 16 + 1))) ++ (2 ^ w, wraps) ∷ [])
+    (P - w / 4, 0) ∷ (P - 1, pc) ∷ (w / 4, answers) ∷ (upper_of (w / 4) a (w / 16 + 1) ++ (2 ^ w, wraps) ∷ [])
 
 -- whether the counter wraps; whether a jump by the flag is taken, less whether it is one that is taken where the flag is
 -- clear; the counter
-unfoldable pub pc_of : ℕ → StateWires → ℕ → Bits → Circuit ℕ
+unfoldable pub pc_of : ℕ → StateWires → ℕ → OperandWires → Circuit ℕ
 pc_of w state op a = do
   wraps ← if_zero_of (goes_in op) (from_last w state.pc)
   by_flag ← times_of (wire state.flag) ((1, op + place_of CJMP) ∷ (P - 1, op + place_of CNJMP) ∷ [])
@@ -59,7 +59,7 @@ pc_values w v i =
     ∷ chosen (pcs w v.pc (operand_word v i) v.flag) i.op ∷ []
 
 -- z has what the counter is made from
-pub record HasPc (w : ℕ) (z : List ℕ) (state : StateWires) (op : ℕ) (a : Bits) (v : View) (i : Instr) : Type 0 where
+pub record HasPc (w : ℕ) (z : List ℕ) (state : StateWires) (op : ℕ) (a : OperandWires) (v : View) (i : Instr) : Type 0 where
   pub assigns : Assigns z
   pub small : v.pc < 2 ^ w
   pub aligned : v.pc % (w / 4) ≡ 0
@@ -67,27 +67,27 @@ pub record HasPc (w : ℕ) (z : List ℕ) (state : StateWires) (op : ℕ) (a : B
   pub pc : slice_index z state.pc ≡ v.pc
   pub flag : slice_index z state.flag ≡ v.flag
   pub opcode : IsOpcode z op i.op
-  pub operand : Spells z a.first w (operand_word v i)
+  pub operand : IsOperand w z a (operand_word v i)
 
 -- an assignment that meets the constraints has the counter after the step at the wire that is answered
 abbrev pub PcIsSound : Type 0
-PcIsSound = (w : ℕ) → IsWidth w → (z : List ℕ) (next : ℕ) (state : StateWires) (op : ℕ) (a : Bits) (v : View) (i : Instr)
+PcIsSound = (w : ℕ) → IsWidth w → (z : List ℕ) (next : ℕ) (state : StateWires) (op : ℕ) (a : OperandWires) (v : View) (i : Instr)
     → HasPc w z state op a v i → Meets z (pc_of w state op a next).list
     → slice_index z (pc_of w state op a next).answer ≡ chosen (pcs w v.pc (operand_word v i) v.flag) i.op
 
 -- an assignment that has these values at the wires that are made meets the constraints
 abbrev pub PcIsComplete : Type 0
-PcIsComplete = (w : ℕ) → IsWidth w → (z : List ℕ) (next : ℕ) (state : StateWires) (op : ℕ) (a : Bits) (v : View) (i : Instr)
+PcIsComplete = (w : ℕ) → IsWidth w → (z : List ℕ) (next : ℕ) (state : StateWires) (op : ℕ) (a : OperandWires) (v : View) (i : Instr)
     → HasPc w z state op a v i → HasFrom z next (pc_values w v i) → Meets z (pc_of w state op a next).list
 
 -- which wire is answered, and that the values are one number of the field for each wire that is made
 pub record PcSizes : Type 0 where
-  pub answer : (w : ℕ) (state : StateWires) (op : ℕ) (a : Bits) (next : ℕ) → (pc_of w state op a next).answer ≡ next + 3
-  pub end : (w : ℕ) (state : StateWires) (op : ℕ) (a : Bits) (next : ℕ) → (pc_of w state op a next).next ≡ next + 4
-  pub fills : (w : ℕ) (state : StateWires) (op : ℕ) (a : Bits) (v : View) (i : Instr) → Fills (pc_of w state op a) (pc_values w v i)
+  pub answer : (w : ℕ) (state : StateWires) (op : ℕ) (a : OperandWires) (next : ℕ) → (pc_of w state op a next).answer ≡ next + 3
+  pub end : (w : ℕ) (state : StateWires) (op : ℕ) (a : OperandWires) (next : ℕ) → (pc_of w state op a next).next ≡ next + 4
+  pub fills : (w : ℕ) (state : StateWires) (op : ℕ) (a : OperandWires) (v : View) (i : Instr) → Fills (pc_of w state op a) (pc_values w v i)
   pub in_field : (w : ℕ) → IsWidth w → (v : View) (i : Instr) → v.pc < 2 ^ w → operand_word v i < 2 ^ w → InField (pc_values w v i)
 
--- four constraints; the terms are 54 for words of 32 bits, and 39 for words of 16
+-- four constraints; the terms are 29 for words of 32 bits, and 28 for words of 16
 pub record PcCosts : Type 0 where
-  pub constraints : (w : ℕ) (state : StateWires) (op : ℕ) (a : Bits) (next : ℕ) → length (pc_of w state op a next).list ≡ 4
-  pub terms : (w : ℕ) → IsWidth w → (state : StateWires) (op : ℕ) (a : Bits) (next : ℕ) → terms_in (pc_of w state op a next).list ≡ w - w / 16 + 24
+  pub constraints : (w : ℕ) (state : StateWires) (op : ℕ) (a : OperandWires) (next : ℕ) → length (pc_of w state op a next).list ≡ 4
+  pub terms : (w : ℕ) → IsWidth w → (state : StateWires) (op : ℕ) (a : OperandWires) (next : ℕ) → terms_in (pc_of w state op a next).list ≡ w / 16 + 27

@@ -1,11 +1,9 @@
 -- The result of a step, and the number whose test for 0 is its flag.
 use Rattle.std.specs.Prelude.{◌≡◌, ℕ, ◌+◌, ◌-◌, ◌*◌, ◌/◌, ◌%◌, ◌^◌, ◌<◌, ◌≤◌, Bool, true, ◌==◌, ◌||◌, if◌then◌else◌, List, [], ◌∷◌, ◌++◌, length, slice_index}
 use Rattle.std.specs.Int.{bit_at}
-use Rattle.tv_bits.specs.Bits.{Spells, bits_combination}
 use Rattle.tv_bits.specs.Times.{times_of}
-use Rattle.tv_bits.specs.declared.bit_wires.Bits.{Bits}
 use Rattle.tv_core.specs.Circuits.{Circuit, fresh, put, pure, ◌>>=◌}
-use Rattle.tv_core.specs.Combinations.{wire, scaled}
+use Rattle.tv_core.specs.Combinations.{wire}
 use Rattle.tv_core.specs.Constraints.{Combination}
 use Rattle.tv_core.specs.Laws.{Assigns, Meets, HasFrom, Fills, InField}
 use Rattle.tv_core.specs.Meanings.{terms_in}
@@ -21,8 +19,10 @@ use Rattle.tv_step.specs.Rows.{word_size}
 use Rattle.tv_word.specs.Widths.{IsWidth}
 use Rattle.tv_parts.specs.Accumulation.{accumulated_of}
 use Rattle.tv_parts.specs.OpcodeSums.{place_of, opcode_terms, opcode_sum, IsOpcode}
+use Rattle.tv_parts.specs.Operand.{upper_of, IsOperand}
 use Rattle.tv_parts.specs.Rows.{covers, AreHalves}
 use Rattle.tv_parts.specs.Tapes.{took, AreTapes}
+use Rattle.tv_parts.specs.declared.records.OperandWires.{OperandWires}
 use Rattle.tv_parts.specs.declared.records.ResultWires.{ResultWires}
 use Rattle.tv_parts.specs.declared.records.Sources.{Sources}
 use Rattle.tv_parts.specs.declared.records.StateWires.{StateWires}
@@ -42,22 +42,22 @@ parts_in w not low high moved = (2 ^ w - 1, not) ∷ (1, low) ∷ (1, high) ∷ 
 
 -- the result: the halves, the operand at mov and cmov, 2 ^ w - 1 less it at not, the byte at load.b, and the data word
 -- at a read that finds one
-unfoldable pub result_of : ℕ → StateWires → ℕ → Sources → TapeWires → Circuit ℕ
-result_of w state op from t = do
+unfoldable pub result_of : ℕ → StateWires → ℕ → OperandWires → Sources → TapeWires → Circuit ℕ
+result_of w state op a from t = do
   low ← times_of ((P - 1, state.taken_of_primary) ∷ (opcode_sum op low_ops ++ (1, t.taken) ∷ (1, t.takes) ∷ [])) (wire from.low)
   high ← times_of (opcode_sum op high_ops) (wire from.high)
-  moved ← times_of ((P - 1, op + place_of NOT) ∷ opcode_sum op (MOV ∷ CMOV ∷ [])) (wire from.operand)
+  moved ← times_of ((P - 1, op + place_of NOT) ∷ opcode_sum op (MOV ∷ CMOV ∷ [])) (wire a.word)
   accumulated_of (parts_in w (op + place_of NOT) low high moved) (opcode_sum op (LOAD_B ∷ [])) (wire from.byte)
 
 -- ---- the number that is tested
--- the opcodes whose flag tells whether the result is 0, and those where it tells whether the high half is
+-- the opcodes whose flag says whether the result is 0, and those where it says whether the high half is
 abbrev pub zero_ops : List ℕ
 zero_ops = AND ∷ OR ∷ XOR ∷ NOT ∷ CMPE ∷ []
 
 abbrev pub carry_ops : List ℕ
 carry_ops = ADD ∷ SUB ∷ MULL ∷ UMULH ∷ CMPA ∷ CMPAE ∷ CMPG ∷ CMPGE ∷ []
 
--- how many bits tell a place in a word: the shifts' operand is below w where the bits above them are 0
+-- how many bits select a place in a word: the shifts' operand is below w where the bits above them are 0
 abbrev pub place_bits : ℕ → ℕ
 place_bits w = w / 16 + 3
 
@@ -67,18 +67,18 @@ signs_in w top high y = (2 ^ w - 1, top) ∷ (P - 1, high) ∷ (1, y) ∷ []
 
 -- the number y that is tested: the result, the high half, at smulh the high half less 2 ^ w - 1 times the low one's top
 -- bit, and at the shifts the operand's bits from number log w on
-unfoldable pub tested_of : ℕ → ℕ → Bits → Sources → ℕ → Circuit ℕ
+unfoldable pub tested_of : ℕ → ℕ → OperandWires → Sources → ℕ → Circuit ℕ
 tested_of w op a from result = do
   y ← fresh
   _ ← put (opcode_sum op zero_ops) ((P - 1, result) ∷ (1, y) ∷ []) []
   _ ← put (opcode_sum op carry_ops) ((P - 1, from.high) ∷ (1, y) ∷ []) []
   _ ← put (opcode_sum op (SMULH ∷ [])) (signs_in w from.top from.high y) []
-  _ ← put (opcode_sum op (SHL ∷ SHR ∷ [])) (scaled (P - 1) (bits_combination (a.first + place_bits w) (w - place_bits w)) ++ wire y) []
+  _ ← put (opcode_sum op (SHL ∷ SHR ∷ [])) (upper_of (P - 1) a (place_bits w) ++ wire y) []
   pure y
 
-unfoldable pub results_of : ℕ → StateWires → ℕ → Bits → Sources → TapeWires → Circuit ResultWires
+unfoldable pub results_of : ℕ → StateWires → ℕ → OperandWires → Sources → TapeWires → Circuit ResultWires
 results_of w state op a from t = do
-  word ← result_of w state op from t
+  word ← result_of w state op a from t
   tested ← tested_of w op a from word
   pure (record { word = word; tested = tested })
 
@@ -108,14 +108,13 @@ tested_numbers w a low high result =
     ∷ []
 
 -- z has what the result is made from
-pub record HasSources (w : ℕ) (z : List ℕ) (n : ℕ) (state : StateWires) (op : ℕ) (a : Bits) (from : Sources) (t : TapeWires) (v : View) (i : Instr) (low high : ℕ) : Type 0 where
+pub record HasSources (w : ℕ) (z : List ℕ) (n : ℕ) (state : StateWires) (op : ℕ) (a : OperandWires) (from : Sources) (t : TapeWires) (v : View) (i : Instr) (low high : ℕ) : Type 0 where
   pub assigns : Assigns z
   pub within : v.taken ≤ n
   pub short : n < 2 ^ 29
   pub before : slice_index z state.taken_of_primary ≡ v.taken
   pub opcode : IsOpcode z op i.op
-  pub operand : Spells z a.first w (operand_word v i)
-  pub value : slice_index z from.operand ≡ operand_word v i
+  pub operand : IsOperand w z a (operand_word v i)
   pub low_wire : slice_index z from.low ≡ low
   pub high_wire : slice_index z from.high ≡ high
   pub top : slice_index z from.top ≡ bit_at low (w - 1)
@@ -134,7 +133,7 @@ pub record AreResults (w : ℕ) (z : List ℕ) (r : ResultWires) (n : ℕ) (v : 
 
 -- an assignment that meets the constraints has them at the wires that are answered
 abbrev pub ResultsAreSound : Type 0
-ResultsAreSound = (w : ℕ) → IsWidth w → (z : List ℕ) (next n : ℕ) (state : StateWires) (op : ℕ) (a : Bits) (from : Sources) (t : TapeWires) (v : View) (i : Instr) (low high : ℕ)
+ResultsAreSound = (w : ℕ) → IsWidth w → (z : List ℕ) (next n : ℕ) (state : StateWires) (op : ℕ) (a : OperandWires) (from : Sources) (t : TapeWires) (v : View) (i : Instr) (low high : ℕ)
     → HasSources w z n state op a from t v i low high → Meets z (results_of w state op a from t next).list
     → AreResults w z (results_of w state op a from t next).answer n v i low high (took z t)
 
@@ -163,18 +162,18 @@ results_values w k a low high found =
 
 -- an assignment that has these values at the wires that are made meets the constraints
 abbrev pub ResultsAreComplete : Type 0
-ResultsAreComplete = (w : ℕ) → IsWidth w → (z : List ℕ) (next n : ℕ) (state : StateWires) (op : ℕ) (a : Bits) (from : Sources) (t : TapeWires) (v : View) (i : Instr) (low high : ℕ)
+ResultsAreComplete = (w : ℕ) → IsWidth w → (z : List ℕ) (next n : ℕ) (state : StateWires) (op : ℕ) (a : OperandWires) (from : Sources) (t : TapeWires) (v : View) (i : Instr) (low high : ℕ)
     → HasSources w z n state op a from t v i low high → HasFrom z next (results_values w i.op (operand_word v i) low high (found w n v i low (took z t)))
     → Meets z (results_of w state op a from t next).list
 
 -- which wires are answered, and that the values are one number of the field for each wire that is made
 pub record ResultsSizes : Type 0 where
-  pub answer : (w : ℕ) (state : StateWires) (op : ℕ) (a : Bits) (from : Sources) (t : TapeWires) (next : ℕ) → (results_of w state op a from t next).answer ≡ record { word = next + 3; tested = next + 4 }
-  pub end : (w : ℕ) (state : StateWires) (op : ℕ) (a : Bits) (from : Sources) (t : TapeWires) (next : ℕ) → (results_of w state op a from t next).next ≡ next + 5
-  pub fills : (w : ℕ) (state : StateWires) (op : ℕ) (a : Bits) (from : Sources) (t : TapeWires) (k x low high : ℕ) (found : Bool) → Fills (results_of w state op a from t) (results_values w k x low high found)
+  pub answer : (w : ℕ) (state : StateWires) (op : ℕ) (a : OperandWires) (from : Sources) (t : TapeWires) (next : ℕ) → (results_of w state op a from t next).answer ≡ record { word = next + 3; tested = next + 4 }
+  pub end : (w : ℕ) (state : StateWires) (op : ℕ) (a : OperandWires) (from : Sources) (t : TapeWires) (next : ℕ) → (results_of w state op a from t next).next ≡ next + 5
+  pub fills : (w : ℕ) (state : StateWires) (op : ℕ) (a : OperandWires) (from : Sources) (t : TapeWires) (k x low high : ℕ) (found : Bool) → Fills (results_of w state op a from t) (results_values w k x low high found)
   pub in_field : (w : ℕ) → IsWidth w → (k a low high : ℕ) (found : Bool) → a < 2 ^ w → low < 2 ^ w → high < 2 ^ w → InField (results_values w k a low high found)
 
--- eight constraints, of w - w / 16 + 55 terms
+-- eight constraints, of w / 16 + 62 terms
 pub record ResultsCosts : Type 0 where
-  pub constraints : (w : ℕ) (state : StateWires) (op : ℕ) (a : Bits) (from : Sources) (t : TapeWires) (next : ℕ) → length (results_of w state op a from t next).list ≡ 8
-  pub terms : (w : ℕ) → IsWidth w → (state : StateWires) (op : ℕ) (a : Bits) (from : Sources) (t : TapeWires) (next : ℕ) → terms_in (results_of w state op a from t next).list ≡ w - w / 16 + 55
+  pub constraints : (w : ℕ) (state : StateWires) (op : ℕ) (a : OperandWires) (from : Sources) (t : TapeWires) (next : ℕ) → length (results_of w state op a from t next).list ≡ 8
+  pub terms : (w : ℕ) → IsWidth w → (state : StateWires) (op : ℕ) (a : OperandWires) (from : Sources) (t : TapeWires) (next : ℕ) → terms_in (results_of w state op a from t next).list ≡ w / 16 + 62

@@ -38,7 +38,7 @@ high_halves w x a =
     ∷ (record { ops = SHR ∷ []; gives = if nat_lt a w then x / 2 ^ a else 0 })
     ∷ []
 
--- low and high are the halves of the operation's number; at other opcodes nothing is said of them
+-- low and high are the halves of the operation's number; at other opcodes they may be anything
 pub record AreHalves (w x a k low high : ℕ) : Type 0 where
   pub low_word : low < 2 ^ w
   pub high_word : high < 2 ^ w

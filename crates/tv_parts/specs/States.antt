@@ -77,7 +77,6 @@ pub record SourcesUnder (wires : ℕ) (from : Sources) : Type 0 where
   pub low : from.low < wires
   pub high : from.high < wires
   pub top : from.top < wires
-  pub operand : from.operand < wires
   pub byte : from.byte < wires
 
 pub record ResultUnder (wires : ℕ) (r : ResultWires) : Type 0 where

@@ -1,9 +1,7 @@
 -- What a step does to the tapes.
 use Rattle.std.specs.Prelude.{◌≡◌, ℕ, ◌+◌, ◌-◌, ◌*◌, ◌/◌, ◌%◌, ◌^◌, ◌<◌, ◌≤◌, Bool, true, not, ◌&&◌, ◌==◌, if◌then◌else◌, List, [], ◌∷◌, length, slice_index}
 use Rattle.tv_bits.specs.Bit.{IsBit}
-use Rattle.tv_bits.specs.Bits.{Spells, bits_combination}
 use Rattle.tv_bits.specs.Times.{times_of}
-use Rattle.tv_bits.specs.declared.bit_wires.Bits.{Bits}
 use Rattle.tv_core.specs.Circuits.{Circuit, fresh, put, pure, ◌>>=◌}
 use Rattle.tv_core.specs.Combinations.{wire, less, one_less}
 use Rattle.tv_core.specs.Constraints.{Combination}
@@ -17,6 +15,8 @@ use Rattle.tv_numbers.specs.Numbers.{operand_word, asks, takes_primary, stepped}
 use Rattle.tv_numbers.specs.Views.{flag_of, View}
 use Rattle.tv_word.specs.Widths.{IsWidth}
 use Rattle.tv_parts.specs.OpcodeSums.{opcode_sum, IsOpcode}
+use Rattle.tv_parts.specs.Operand.{upper_of, IsOperand}
+use Rattle.tv_parts.specs.declared.records.OperandWires.{OperandWires}
 use Rattle.tv_parts.specs.declared.records.StateWires.{StateWires}
 use Rattle.tv_parts.specs.declared.records.TapeWires.{TapeWires}
 
@@ -34,7 +34,7 @@ abbrev pub left_in : ℕ → ℕ → Combination
 left_in n before = if n == 0 then (P - 1, before) ∷ [] else (n, 0) ∷ (P - 1, before) ∷ []
 
 -- a new wire that is `before`, and one more where the step reads tape 0 and a word is left: there `reads` is 1 and
--- `aux`, which tells that it reads tape 1, is 0
+-- `aux`, which says that it reads tape 1, is 0
 unfoldable pub primary_of : ℕ → ℕ → ℕ → ℕ → Circuit ℕ
 primary_of n before reads aux = do
   taken ← fresh
@@ -53,12 +53,12 @@ auxiliary_of taken aux before = do
   _ ← put (wire takes) ((P - 1, before) ∷ (1, ended) ∷ []) []
   pure (record { taken = taken; takes = takes; ended = ended })
 
--- the tapes by the row of the opcode and the bits a of the operand: the step reads a tape where its opcode is that of
--- read and the operand is 0 or 1, which tells which
-unfoldable pub tapes_of : ℕ → ℕ → StateWires → ℕ → Bits → Circuit TapeWires
+-- the tapes by the row of the opcode and the operand a: the step reads a tape where its opcode is that of read and the
+-- operand is 0 or 1, the number of the tape
+unfoldable pub tapes_of : ℕ → ℕ → StateWires → ℕ → OperandWires → Circuit TapeWires
 tapes_of w n state op a = do
-  reads ← if_zero_of (opcode_sum op (READ ∷ [])) (bits_combination (a.first + 1) (w - 1))
-  aux ← times_of (wire reads) (wire a.first)
+  reads ← if_zero_of (opcode_sum op (READ ∷ [])) (upper_of 1 a 1)
+  aux ← times_of (wire reads) (wire a.bits.first)
   taken ← primary_of n state.taken_of_primary reads aux
   auxiliary_of taken aux state.aux_ended
 
@@ -87,8 +87,8 @@ pub record AreTapes (z : List ℕ) (t : TapeWires) (n : ℕ) (v : View) (i : Ins
   pub asked : took z t ≡ true → asks v i ≡ true
   pub ended : slice_index z t.ended ≡ (if asks v i && not (took z t) then 1 else v.ended)
 
--- z has what the tapes are read from: the state's numbers, the opcode's row and the operand's bits
-pub record HasTapes (w : ℕ) (z : List ℕ) (n : ℕ) (state : StateWires) (op : ℕ) (a : Bits) (v : View) (i : Instr) : Type 0 where
+-- z has what the tapes are read from: the state's numbers, the opcode's row and the operand
+pub record HasTapes (w : ℕ) (z : List ℕ) (n : ℕ) (state : StateWires) (op : ℕ) (a : OperandWires) (v : View) (i : Instr) : Type 0 where
   pub assigns : Assigns z
   pub short : n < 2 ^ 29
   pub within : v.taken ≤ n
@@ -96,33 +96,33 @@ pub record HasTapes (w : ℕ) (z : List ℕ) (n : ℕ) (state : StateWires) (op 
   pub before : slice_index z state.taken_of_primary ≡ v.taken
   pub ended : slice_index z state.aux_ended ≡ v.ended
   pub opcode : IsOpcode z op i.op
-  pub operand : Spells z a.first w (operand_word v i)
+  pub operand : IsOperand w z a (operand_word v i)
 
 -- an assignment that meets the constraints has them at the wires that are answered
 abbrev pub TapesAreSound : Type 0
-TapesAreSound = (w : ℕ) → IsWidth w → (z : List ℕ) (next n : ℕ) (state : StateWires) (op : ℕ) (a : Bits) (v : View) (i : Instr)
+TapesAreSound = (w : ℕ) → IsWidth w → (z : List ℕ) (next n : ℕ) (state : StateWires) (op : ℕ) (a : OperandWires) (v : View) (i : Instr)
     → HasTapes w z n state op a v i → Meets z (tapes_of w n state op a next).list → AreTapes z (tapes_of w n state op a next).answer n v i
 
 -- an assignment that has these values at the wires that are made meets the constraints, and whether a word of tape 1
 -- is taken, where one is asked for, is free
 abbrev pub TapesAreComplete : Type 0
-TapesAreComplete = (w : ℕ) → IsWidth w → (z : List ℕ) (next n : ℕ) (state : StateWires) (op : ℕ) (a : Bits) (v : View) (i : Instr) (o : ℕ) (takes : Bool)
+TapesAreComplete = (w : ℕ) → IsWidth w → (z : List ℕ) (next n : ℕ) (state : StateWires) (op : ℕ) (a : OperandWires) (v : View) (i : Instr) (o : ℕ) (takes : Bool)
     → HasTapes w z n state op a v i → (takes ≡ true → asks v i ≡ true) → HasFrom z next (tapes_values w n v i o takes)
     → Meets z (tapes_of w n state op a next).list × (took z (tapes_of w n state op a next).answer ≡ takes)
 
 -- which wires are answered, and that the values are one number of the field for each wire that is made
 pub record TapesSizes : Type 0 where
-  pub answer : (w n : ℕ) (state : StateWires) (op : ℕ) (a : Bits) (next : ℕ)
+  pub answer : (w n : ℕ) (state : StateWires) (op : ℕ) (a : OperandWires) (next : ℕ)
       → (tapes_of w n state op a next).answer ≡ record { taken = next + 3; takes = next + 5; ended = next + 6 }
-  pub end : (w n : ℕ) (state : StateWires) (op : ℕ) (a : Bits) (next : ℕ) → (tapes_of w n state op a next).next ≡ next + 7
-  pub fills : (w n : ℕ) (state : StateWires) (op : ℕ) (a : Bits) (v : View) (i : Instr) (o : ℕ) (takes : Bool) → Fills (tapes_of w n state op a) (tapes_values w n v i o takes)
+  pub end : (w n : ℕ) (state : StateWires) (op : ℕ) (a : OperandWires) (next : ℕ) → (tapes_of w n state op a next).next ≡ next + 7
+  pub fills : (w n : ℕ) (state : StateWires) (op : ℕ) (a : OperandWires) (v : View) (i : Instr) (o : ℕ) (takes : Bool) → Fills (tapes_of w n state op a) (tapes_values w n v i o takes)
   pub in_field : (w n : ℕ) (v : View) (i : Instr) (o : ℕ) (takes : Bool) → n < 2 ^ 29 → v.taken ≤ n → v.ended < 2 → InField (tapes_values w n v i o takes)
 
 -- how many terms the tapes cost: where n is not 0, two combinations have the constant n
-abbrev pub tapes_terms : ℕ → ℕ → ℕ
-tapes_terms w n = 2 * w + (if n == 0 then 23 else 25)
+abbrev pub tapes_terms : ℕ → ℕ
+tapes_terms n = if n == 0 then 29 else 31
 
 -- how many constraints and terms the tapes cost
 pub record TapesCosts : Type 0 where
-  pub constraints : (w n : ℕ) (state : StateWires) (op : ℕ) (a : Bits) (next : ℕ) → length (tapes_of w n state op a next).list ≡ 7
-  pub terms : (w : ℕ) → IsWidth w → (n : ℕ) (state : StateWires) (op : ℕ) (a : Bits) (next : ℕ) → terms_in (tapes_of w n state op a next).list ≡ tapes_terms w n
+  pub constraints : (w n : ℕ) (state : StateWires) (op : ℕ) (a : OperandWires) (next : ℕ) → length (tapes_of w n state op a next).list ≡ 7
+  pub terms : (w : ℕ) → IsWidth w → (n : ℕ) (state : StateWires) (op : ℕ) (a : OperandWires) (next : ℕ) → terms_in (tapes_of w n state op a next).list ≡ tapes_terms n

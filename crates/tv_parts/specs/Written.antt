@@ -47,7 +47,7 @@ abbrev pub WrittenIsComplete : Type 0
 WrittenIsComplete = (w : ℕ) (z : List ℕ) (next n : ℕ) (state : StateWires) (op : ℕ) (regs : Triple) (result : ℕ) (v : View) (i : Instr) (o : ℕ) (takes : Bool)
     → HasWritten w z n state op regs result v i o takes → HasFrom z next (written_values w n v i o takes) → Meets z (written_of op state regs result next).list
 
--- which wires are answered, and that the values are one number of the field for each wire that is made
+-- which wires are returned, and that the values are one number of the field for each wire that is made
 pub record WrittenSizes : Type 0 where
   pub answer : (op : ℕ) (state : StateWires) (regs : Triple) (result next : ℕ) → (written_of op state regs result next).answer ≡ range_with_len (next + 1) 16
   pub end : (op : ℕ) (state : StateWires) (regs : Triple) (result next : ℕ) → (written_of op state regs result next).next ≡ next + 17

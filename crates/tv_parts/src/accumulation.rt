@@ -35,7 +35,7 @@ pub fn accumulated_is_complete()
     ensures { AccumulatedIsComplete }
 {}
 
-/// Says which wire `accumulated` answers, and that its value is one number of the field.
+/// Says which wire `accumulated` returns, and that its value is one number of the field.
 #[tactic(auto, using(crate::proofs::AccumulationLaws::accumulated_sizes))]
 pub fn accumulated_fills()
     ensures { AccumulatedSizes }

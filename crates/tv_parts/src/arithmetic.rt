@@ -343,12 +343,13 @@ fn shifted_word<const W: u32>(x: u32, a: u32) -> u32
     if a < W { x } else { 0 }
 }
 
-/// An assignment that meets the constraints has the halves of the operation's number in the row.
+/// An assignment that satisfies the constraints has the halves of the operation's number in the
+/// row.
 pub fn arithmetic_is_sound()
     ensures { ArithmeticIsSound }
 {}
 
-/// At a shift, an assignment that meets the constraints of the result tests a number that is 0
+/// At a shift, an assignment that satisfies the constraints of the result tests a number that is 0
 /// exactly where the operand is below the width, whatever the row holds.
 pub fn shift_test_is_sound()
     ensures { ShiftTestIsSound }
@@ -359,7 +360,7 @@ pub fn arithmetic_is_complete()
     ensures { ArithmeticIsComplete }
 {}
 
-/// Says which wires `put_arithmetic` answers, and that `fill_arithmetic` assigns one number to each
+/// Says which wires `put_arithmetic` returns, and that `fill_arithmetic` assigns one number to each
 /// wire that it makes.
 pub fn arithmetic_fills()
     ensures { ArithmeticSizes }

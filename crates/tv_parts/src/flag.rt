@@ -199,7 +199,7 @@ fn flag_after<const W: u32>(op: u8, x: u32, a: u32, found: bool, flag: bool) -> 
     }
 }
 
-/// An assignment that meets the constraints has the flag after the step.
+/// An assignment that satisfies the constraints has the flag after the step.
 pub fn flag_is_sound()
     ensures { FlagIsSound }
 {}
@@ -209,7 +209,7 @@ pub fn flag_is_complete()
     ensures { FlagIsComplete }
 {}
 
-/// Says which wire `put_flag` answers, and that `fill_flag` assigns one number to each wire that it
+/// Says which wire `put_flag` returns, and that `fill_flag` assigns one number to each wire that it
 /// makes.
 #[tactic(auto, using(crate::proofs::FlagFills::flag_sizes))]
 pub fn flag_fills()

@@ -7,7 +7,8 @@ ghost use Rattle.tv_core.specs.Sinks.{PutsIn, Grows, Room};
 ghost use Rattle.tv_parts.specs.Memory.{line_of, byte_of_pair, byte_of_four, byte_at_of};
 ghost use Rattle.tv_parts.specs.Memory.{power_in, new_of, memory_of};
 ghost use Rattle.tv_parts.specs.Memory.{MemoryIsSound, MemoryIsComplete, MemorySizes, MemoryCosts};
-ghost use Rattle.tv_parts.specs.States.{StateUnder, TapesUnder, DataUnder, LineUnder, StoreUnder};
+ghost use Rattle.tv_parts.specs.States.{StateUnder, OperandUnder, TapesUnder, DataUnder, LineUnder};
+ghost use Rattle.tv_parts.specs.States.{StoreUnder};
 ghost use Rattle.tv_parts.specs.Memory.{line_values, byte_values, gained, new_values};
 ghost use Rattle.tv_parts.specs.Memory.{memory_values};
 ghost use Rattle.tv_parts.specs.Traced.{traced_view, AreNumbers};
@@ -20,7 +21,8 @@ ghost use Rattle.tv_word.specs.Widths.{IsWidth};
 
 use crate::accumulation::accumulated;
 use crate::opcode_sums::{opcode_wire, plus_opcodes, set_opcodes};
-use crate::records::{DataWires, LineWires, StateWires, StoreWires, TapeWires};
+use crate::operand::plus_upper;
+use crate::records::{DataWires, LineWires, OperandWires, StateWires, StoreWires, TapeWires};
 use crate::step_numbers::StepNumbers;
 use crate::tapes::set_terms;
 use tv_bits::{Bits, times_by};
@@ -30,14 +32,14 @@ use tv_isa::opcode::{LOAD_B, LOAD_W, STORE_B, STORE_W};
 use tv_step::TraceState;
 
 /// Constrains the data line of a step and the byte at its operand's address: `op` is the row of its
-/// opcode, and `a` the bits of its operand. For words of 32 bits it makes 9 wires and 9
+/// opcode, and `a` its operand. For words of 32 bits it makes 9 wires and 9
 /// constraints, and 7 of each for words of 16 bits.
 pub fn put_memory<const W: u32, S: Sink>(
     s: &mut S,
     scratch: &mut Scratch,
     state: &StateWires,
     op: Wire,
-    a: &Bits,
+    a: &OperandWires,
     d: &DataWires,
     tapes: &TapeWires,
 ) -> Put<StoreWires>
@@ -45,8 +47,7 @@ pub fn put_memory<const W: u32, S: Sink>(
     requires room { Room S.meaning s.old (W / 8 + 5) (W / 8 + 5) }
     requires state_made { StateUnder (S.meaning.wires s.old) state.now }
     requires op_made { op + 29 ≤ S.meaning.wires s.old }
-    requires a_word { a.now.n ≡ W }
-    requires a_made { a.now.first + W ≤ S.meaning.wires s.old }
+    requires operand_made { OperandUnder W (S.meaning.wires s.old) a.now }
     requires data_made { DataUnder W (S.meaning.wires s.old) d.now }
     requires tapes_made { TapesUnder (S.meaning.wires s.old) tapes.now }
     ensures puts { PutsIn S.meaning s.old s.new (memory_of W state.now op a.now d.now tapes.now)
@@ -55,7 +56,7 @@ pub fn put_memory<const W: u32, S: Sink>(
     ensures below { IfOk result (λ made. StoreUnder (S.meaning.wires s.new) made) }
 {
     let line = put_line::<W, S>(s, scratch, state, op, a, d.word, tapes)?;
-    let byte = byte_at::<W, S>(s, scratch, d.bits, a.first)?;
+    let byte = byte_at::<W, S>(s, scratch, d.bits, a.bits.first)?;
     let new = put_new::<W, S>(s, scratch, op, d, a, &line, byte)?;
     Ok(StoreWires { line, byte, new })
 }
@@ -66,7 +67,7 @@ fn put_line<const W: u32, S: Sink>(
     scratch: &mut Scratch,
     state: &StateWires,
     op: Wire,
-    a: &Bits,
+    a: &OperandWires,
     word: Wire,
     tapes: &TapeWires,
 ) -> Put<LineWires>
@@ -74,8 +75,7 @@ fn put_line<const W: u32, S: Sink>(
     requires room { Room S.meaning s.old 3 3 }
     requires state_made { StateUnder (S.meaning.wires s.old) state.now }
     requires op_made { op + 29 ≤ S.meaning.wires s.old }
-    requires a_word { a.now.n ≡ W }
-    requires a_made { a.now.first + W ≤ S.meaning.wires s.old }
+    requires operand_made { OperandUnder W (S.meaning.wires s.old) a.now }
     requires word_made { word < S.meaning.wires s.old }
     requires tapes_made { TapesUnder (S.meaning.wires s.old) tapes.now }
     ensures puts { PutsIn S.meaning s.old s.new (line_of W state.now op a.now word tapes.now)
@@ -87,7 +87,7 @@ fn put_line<const W: u32, S: Sink>(
     let before = state.taken_of_primary;
     set_opcodes(&mut scratch.a, op, &[STORE_B, LOAD_B, STORE_W, LOAD_W]);
     set_terms(&mut scratch.b, &[(-F::from(NULL_CELL), Wire(0))]);
-    a.above(W / 16).plus_to(&mut scratch.b, F::ONE);
+    plus_upper(&mut scratch.b, F::ONE, a, W / 16);
     scratch.c.clear();
     scratch
         .c
@@ -189,7 +189,7 @@ fn put_new<const W: u32, S: Sink>(
     scratch: &mut Scratch,
     op: Wire,
     d: &DataWires,
-    a: &Bits,
+    a: &OperandWires,
     line: &LineWires,
     byte: Wire,
 ) -> Put<Wire>
@@ -197,7 +197,7 @@ fn put_new<const W: u32, S: Sink>(
     requires room { Room S.meaning s.old 3 3 }
     requires op_made { op + 29 ≤ S.meaning.wires s.old }
     requires data_made { DataUnder W (S.meaning.wires s.old) d.now }
-    requires a_made { a.now.first + W ≤ S.meaning.wires s.old }
+    requires a_made { a.now.bits.first + W ≤ S.meaning.wires s.old }
     requires line_made { LineUnder (S.meaning.wires s.old) line.now }
     requires byte_made { byte < S.meaning.wires s.old }
     ensures puts { PutsIn S.meaning s.old s.new (new_of W op d.now a.now line.now byte) result }
@@ -205,7 +205,7 @@ fn put_new<const W: u32, S: Sink>(
     ensures below { IfOk result (λ w. w < S.meaning.wires s.new) }
 {
     let minus = -F::ONE;
-    set_power::<W>(&mut scratch.a, a.first, d.both);
+    set_power::<W>(&mut scratch.a, a.bits.first, d.both);
     let lowest = Bits {
         first: d.x.first,
         n: 8,
@@ -225,7 +225,7 @@ fn put_new<const W: u32, S: Sink>(
     accumulated(s, &mut scratch.c, &scratch.a, &scratch.b)
 }
 
-// Sets `lc` to 256 to the power of the number that the lowest bits of an address spell.
+// Sets `lc` to 256 to the power of the number that the lowest bits of an address represent.
 fn set_power<const W: u32>(lc: &mut Lc, a: Wire, both: Wire)
     requires width { IsWidth W }
     requires within { a + 2 < 2 ^ 32 }

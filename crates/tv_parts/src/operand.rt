@@ -1,12 +1,14 @@
 //! The operand of an instruction.
-ghost use Rattle.std.specs.Prelude.{◌≡◌, ◌+◌, ◌-◌, ◌≤◌, ◌<◌, ◌^◌, false, length, IfOk, OnOk};
+ghost use Rattle.std.specs.Prelude.{◌≡◌, ◌+◌, ◌-◌, ◌≤◌, ◌<◌, ◌^◌, ◌++◌, false, length, max, IfOk};
+ghost use Rattle.std.specs.Prelude.{OnOk};
 ghost use Rattle.tv_bits.specs.Bits.{bits_of};
 ghost use Rattle.tv_core.specs.Combinations.{wire, scaled, top};
 ghost use Rattle.tv_core.specs.Giving.{GivesIn};
 ghost use Rattle.tv_core.specs.Sinks.{PutsIn, Grows, Room};
 ghost use Rattle.tv_core.specs.declared.field.TheConstants.{P};
-ghost use Rattle.tv_parts.specs.Operand.{operand_of, operand_values, OperandIsSound};
-ghost use Rattle.tv_parts.specs.Operand.{OperandIsComplete, OperandSizes, OperandCosts};
+ghost use Rattle.tv_parts.specs.Operand.{operand_of, operand_values, power_inverse, upper_of};
+ghost use Rattle.tv_parts.specs.Operand.{OperandIsSound, OperandIsComplete, OperandSizes};
+ghost use Rattle.tv_parts.specs.Operand.{OperandCosts};
 ghost use Rattle.tv_parts.specs.States.{OperandUnder};
 ghost use Rattle.tv_word.specs.Widths.{IsWidth};
 
@@ -14,7 +16,7 @@ use crate::accumulation::accumulated;
 use crate::records::OperandWires;
 use crate::tapes::set_terms;
 use tv_bits::{Bits, fill_bits, new_bits_by};
-use tv_core::{F, Put, Scratch, Sink, Values, Wire};
+use tv_core::{F, Lc, P, Put, Scratch, Sink, Values, Wire};
 
 /// Constrains the operand of an instruction, with its bits: the second word `tail` where the
 /// immediate bit `imm` is 1, else the register that this names. It makes `W + 1` wires and `W + 2`
@@ -63,6 +65,34 @@ fn bits_of_wire<const W: u32, S: Sink>(s: &mut S, scratch: &mut Scratch, word: W
     Ok(bits)
 }
 
+/// Appends `factor` times the number of the operand's bits from number `k` on, `k` being at most
+/// 32, as `k + 1` terms: the operand's wire less its `k` lowest bits, times `factor` and the
+/// inverse of 2^`k`.
+pub(crate) fn plus_upper(lc: &mut Lc, factor: F, a: &OperandWires, k: u32)
+    requires few { k ≤ 32 }
+    requires within { a.now.bits.first + k < 2 ^ 32 }
+    requires room { length lc.old + (k + 1) ≤ 128 }
+    ensures terms { lc.new ≡ lc.old ++ upper_of factor a.now k }
+    ensures top { top lc.new ≤ max (top lc.old) (max (a.now.word + 1) (a.now.bits.first + k)) }
+    ensures len { length lc.new ≡ length lc.old + (k + 1) }
+{
+    let coefficient = factor * power_inverse(k);
+    let low = Bits {
+        first: a.bits.first,
+        n: k,
+    };
+    lc.plus(coefficient, a.word);
+    low.plus_to(lc, -coefficient);
+}
+
+// The inverse of 2^`k`, which divides P - 1.
+fn power_inverse(k: u32) -> F
+    requires { k ≤ 32 }
+    ensures { result ≡ power_inverse k }
+{
+    F::of(P - ((P - 1) >> k))
+}
+
 /// Assigns the `W + 1` values of the wires that `put_operand` makes for an operand.
 pub fn fill_operand<const W: u32, V: Values>(v: &mut V, a: u32) -> Put<()>
     requires width { IsWidth W }
@@ -74,7 +104,7 @@ pub fn fill_operand<const W: u32, V: Values>(v: &mut V, a: u32) -> Put<()>
     fill_bits(v, F::from(a), W)
 }
 
-/// An assignment that meets the constraints has the operand and its bits.
+/// An assignment that satisfies the constraints has the operand and its bits.
 pub fn operand_is_sound()
     ensures { OperandIsSound }
 {}
@@ -84,7 +114,7 @@ pub fn operand_is_complete()
     ensures { OperandIsComplete }
 {}
 
-/// Says which wires `put_operand` answers, and that `fill_operand` assigns one number to each wire
+/// Says which wires `put_operand` returns, and that `fill_operand` assigns one number to each wire
 /// that it makes.
 pub fn operand_fills()
     ensures { OperandSizes }

@@ -12,35 +12,35 @@ ghost use Rattle.tv_numbers.specs.Tables.{behind_pc, target, pcs};
 ghost use Rattle.tv_numbers.specs.Views.{flag_of};
 ghost use Rattle.tv_core.specs.Inverse.{inverse_of};
 ghost use Rattle.tv_core.specs.Giving.{GivesIn};
-ghost use Rattle.tv_parts.specs.States.{StateUnder};
+ghost use Rattle.tv_parts.specs.States.{StateUnder, OperandUnder};
 ghost use Rattle.tv_word.specs.Widths.{IsWidth};
 
 use crate::accumulation::accumulated;
 use crate::opcode_sums::opcode_wire;
-use crate::records::StateWires;
+use crate::operand::plus_upper;
+use crate::records::{OperandWires, StateWires};
 use crate::step_numbers::StepNumbers;
 use crate::tapes::{if_zero, inverse_where, set_terms};
-use tv_bits::{Bits, times_by};
+use tv_bits::times_by;
 use tv_core::{F, Lc, Put, Scratch, Sink, Values, Wire, give_values};
 use tv_isa::opcode::{AND, ANSWER, CJMP, CMOV, CNJMP, JMP, READ, STORE_B};
 use tv_step::TraceState;
 use tv_word::arithmetic::sum;
 
-/// Constrains the program counter after a step: `op` is the row of its opcode, and `a` the bits of
-/// its operand. It makes 4 wires and 4 constraints.
+/// Constrains the program counter after a step: `op` is the row of its opcode, and `a` its
+/// operand. It makes 4 wires and 4 constraints.
 pub fn put_pc<const W: u32, S: Sink>(
     s: &mut S,
     scratch: &mut Scratch,
     state: &StateWires,
     op: Wire,
-    a: &Bits,
+    a: &OperandWires,
 ) -> Put<Wire>
     requires width { IsWidth W }
     requires room { Room S.meaning s.old 4 4 }
     requires state_made { StateUnder (S.meaning.wires s.old) state.now }
     requires op_made { op + 29 ≤ S.meaning.wires s.old }
-    requires a_word { a.now.n ≡ W }
-    requires a_made { a.now.first + W ≤ S.meaning.wires s.old }
+    requires operand_made { OperandUnder W (S.meaning.wires s.old) a.now }
     ensures puts { PutsIn S.meaning s.old s.new (pc_of W state.now op a.now) result }
     ensures grows { IfOk result (λ _. Grows S.meaning s.old s.new 4 4) }
     ensures below { IfOk result (λ w. w < S.meaning.wires s.new) }
@@ -81,17 +81,16 @@ fn set_from_last<const W: u32>(lc: &mut Lc, pc: Wire)
 }
 
 // Sets `lc` to the place to which a jump goes less the place after the instruction.
-fn set_jump<const W: u32>(lc: &mut Lc, pc: Wire, answers: Wire, a: &Bits, wraps: Wire)
+fn set_jump<const W: u32>(lc: &mut Lc, pc: Wire, answers: Wire, a: &OperandWires, wraps: Wire)
     requires width { IsWidth W }
-    requires word { a.now.n ≡ W }
-    requires within { a.now.first + W < 2 ^ 32 }
+    requires within { a.now.bits.first + W < 2 ^ 32 }
     ensures terms { lc.new ≡ jump_in W pc answers a.now wraps }
     ensures top { top lc.new ≤ max (max (pc + 1) (answers + 1))
-        (max (a.now.first + W) (wraps + 1)) }
+        (max (max (a.now.word + 1) (a.now.bits.first + W)) (wraps + 1)) }
 {
     let size = F::from(W / 4);
     set_terms(lc, &[(-size, Wire(0)), (-F::ONE, pc), (size, answers)]);
-    a.above(W / 16 + 1).plus_to(lc, size);
+    plus_upper(lc, size, a, W / 16 + 1);
     lc.plus(F::of(1 << W), wraps);
 }
 

@@ -1,3 +1,4 @@
+//! Records of a step's wires.
 use tv_bits::{Bits, DoubleRow};
 use tv_core::Wire;
 
@@ -71,8 +72,6 @@ pub struct Sources {
     pub high: Wire,
     /// The top bit of the low half.
     pub top: Wire,
-    /// The operand.
-    pub operand: Wire,
     /// The byte of the data word at the operand's address.
     pub byte: Wire,
 }

@@ -9,7 +9,8 @@ ghost use Rattle.tv_parts.specs.Results.{parts_in, signs_in, result_of, tested_o
 ghost use Rattle.tv_parts.specs.Results.{sign_of};
 ghost use Rattle.tv_parts.specs.Results.{ResultsAreSound, ResultsAreComplete, ResultsSizes};
 ghost use Rattle.tv_parts.specs.Results.{ResultsCosts};
-ghost use Rattle.tv_parts.specs.States.{StateUnder, TapesUnder, SourcesUnder, ResultUnder};
+ghost use Rattle.tv_parts.specs.States.{StateUnder, OperandUnder, TapesUnder, SourcesUnder};
+ghost use Rattle.tv_parts.specs.States.{ResultUnder};
 ghost use Rattle.tv_parts.specs.Results.{low_part, high_part, moved_part, result_number};
 ghost use Rattle.tv_parts.specs.Results.{tested_number, results_values, place_bits};
 ghost use Rattle.tv_isa.specs.declared.opcode.TheConstants.{NOT, LOAD_B};
@@ -20,10 +21,11 @@ ghost use Rattle.tv_word.specs.Widths.{IsWidth};
 use crate::accumulation::accumulated;
 use crate::memory::byte_of;
 use crate::opcode_sums::{opcode_wire, plus_opcodes, set_opcodes};
-use crate::records::{ResultWires, Sources, StateWires, TapeWires};
+use crate::operand::plus_upper;
+use crate::records::{OperandWires, ResultWires, Sources, StateWires, TapeWires};
 use crate::step_numbers::StepNumbers;
 use crate::tapes::set_terms;
-use tv_bits::{Bits, times_by};
+use tv_bits::times_by;
 use tv_core::{F, Lc, Put, Scratch, Sink, Wire};
 use tv_isa::opcode::{
     ADD, AND, CMOV, CMPA, CMPAE, CMPE, CMPG, CMPGE, LOAD_B, LOAD_W, MOV, MULL, NOT, OR, SHL, SHR,
@@ -32,13 +34,13 @@ use tv_isa::opcode::{
 use tv_word::arithmetic::sign_bit;
 
 /// Constrains the result of a step, and the number whose test for 0 is its flag: `op` is the row of
-/// its opcode, and `a` the bits of its operand. It makes 5 wires and 8 constraints.
+/// its opcode, and `a` its operand. It makes 5 wires and 8 constraints.
 pub fn put_results<const W: u32, S: Sink>(
     s: &mut S,
     scratch: &mut Scratch,
     state: &StateWires,
     op: Wire,
-    a: &Bits,
+    a: &OperandWires,
     from: &Sources,
     tapes: &TapeWires,
 ) -> Put<ResultWires>
@@ -46,8 +48,7 @@ pub fn put_results<const W: u32, S: Sink>(
     requires room { Room S.meaning s.old 5 8 }
     requires state_made { StateUnder (S.meaning.wires s.old) state.now }
     requires op_made { op + 29 ≤ S.meaning.wires s.old }
-    requires a_word { a.now.n ≡ W }
-    requires a_made { a.now.first + W ≤ S.meaning.wires s.old }
+    requires operand_made { OperandUnder W (S.meaning.wires s.old) a.now }
     requires from_made { SourcesUnder (S.meaning.wires s.old) from.now }
     requires tapes_made { TapesUnder (S.meaning.wires s.old) tapes.now }
     ensures puts { PutsIn S.meaning s.old s.new (results_of W state.now op a.now from.now tapes.now)
@@ -55,7 +56,7 @@ pub fn put_results<const W: u32, S: Sink>(
     ensures grows { IfOk result (λ _. Grows S.meaning s.old s.new 5 8) }
     ensures below { IfOk result (λ made. ResultUnder (S.meaning.wires s.new) made) }
 {
-    let word = put_result::<W, S>(s, scratch, state, op, from, tapes)?;
+    let word = put_result::<W, S>(s, scratch, state, op, a, from, tapes)?;
     let tested = put_tested::<W, S>(s, scratch, op, a, from, word)?;
     Ok(ResultWires { word, tested })
 }
@@ -66,6 +67,7 @@ fn put_result<const W: u32, S: Sink>(
     scratch: &mut Scratch,
     state: &StateWires,
     op: Wire,
+    a: &OperandWires,
     from: &Sources,
     tapes: &TapeWires,
 ) -> Put<Wire>
@@ -73,10 +75,11 @@ fn put_result<const W: u32, S: Sink>(
     requires room { Room S.meaning s.old 4 4 }
     requires state_made { StateUnder (S.meaning.wires s.old) state.now }
     requires op_made { op + 29 ≤ S.meaning.wires s.old }
+    requires operand_made { OperandUnder W (S.meaning.wires s.old) a.now }
     requires from_made { SourcesUnder (S.meaning.wires s.old) from.now }
     requires tapes_made { TapesUnder (S.meaning.wires s.old) tapes.now }
-    ensures puts { PutsIn S.meaning s.old s.new (result_of W state.now op from.now tapes.now)
-        result }
+    ensures puts { PutsIn S.meaning s.old s.new (result_of W state.now op a.now from.now
+        tapes.now) result }
     ensures grows { IfOk result (λ _. Grows S.meaning s.old s.new 4 4) }
     ensures below { IfOk result (λ w. w < S.meaning.wires s.new) }
 {
@@ -99,7 +102,7 @@ fn put_result<const W: u32, S: Sink>(
     let high = times_by(s, &mut scratch.c, &scratch.a, &scratch.b)?;
     set_terms(&mut scratch.a, &[(minus, not)]);
     plus_opcodes(&mut scratch.a, F::ONE, op, &[MOV, CMOV]);
-    scratch.b.set_wire(from.operand);
+    scratch.b.set_wire(a.word);
     let moved = times_by(s, &mut scratch.c, &scratch.a, &scratch.b)?;
     scratch.a.set_wire(opcode_wire(op, LOAD_B));
     scratch.b.set_wire(from.byte);
@@ -142,15 +145,14 @@ fn put_tested<const W: u32, S: Sink>(
     s: &mut S,
     scratch: &mut Scratch,
     op: Wire,
-    a: &Bits,
+    a: &OperandWires,
     from: &Sources,
     word: Wire,
 ) -> Put<Wire>
     requires width { IsWidth W }
     requires room { Room S.meaning s.old 1 4 }
     requires op_made { op + 29 ≤ S.meaning.wires s.old }
-    requires a_word { a.now.n ≡ W }
-    requires a_made { a.now.first + W ≤ S.meaning.wires s.old }
+    requires operand_made { OperandUnder W (S.meaning.wires s.old) a.now }
     requires from_made { SourcesUnder (S.meaning.wires s.old) from.now }
     requires result_made { word < S.meaning.wires s.old }
     ensures puts { PutsIn S.meaning s.old s.new (tested_of W op a.now from.now word) result }
@@ -175,7 +177,7 @@ fn put_tested<const W: u32, S: Sink>(
     s.put(&scratch.a, &scratch.b, &scratch.c)?;
     set_opcodes(&mut scratch.a, op, &[SHL, SHR]);
     scratch.b.clear();
-    a.above(W / 16 + 3).plus_to(&mut scratch.b, minus);
+    plus_upper(&mut scratch.b, minus, a, W / 16 + 3);
     scratch.b.plus(F::ONE, y);
     s.put(&scratch.a, &scratch.b, &scratch.c)?;
     Ok(y)

@@ -1,8 +1,8 @@
-//! What the values of a step's wires are worked out from.
+//! What the values of a step's wires are computed from.
 use tv_isa::Instr;
 
-/// What the values of a step's wires are worked out from, beside the state before it. Each is
-/// worked out once.
+/// What the values of a step's wires are computed from, beside the state before it. Each is
+/// computed once.
 #[derive(Clone, Copy, PartialEq, Eq, Debug)]
 pub struct StepNumbers {
     /// The number of the primary tape's words.

@@ -6,7 +6,7 @@ ghost use Rattle.tv_core.specs.Giving.{GivesIn};
 ghost use Rattle.tv_core.specs.Inverse.{inverse_of};
 ghost use Rattle.tv_core.specs.Sinks.{PutsIn, Grows, Room};
 ghost use Rattle.tv_core.specs.declared.field.TheConstants.{P};
-ghost use Rattle.tv_parts.specs.States.{StateUnder, TapesUnder};
+ghost use Rattle.tv_parts.specs.States.{StateUnder, OperandUnder, TapesUnder};
 ghost use Rattle.tv_parts.specs.Tapes.{if_zero_of, left_in, primary_of, auxiliary_of};
 ghost use Rattle.tv_parts.specs.Tapes.{tapes_of};
 ghost use Rattle.tv_parts.specs.Tapes.{TapesAreSound, TapesAreComplete, TapesSizes, TapesCosts};
@@ -17,38 +17,39 @@ ghost use Rattle.tv_numbers.specs.Views.{flag_of};
 ghost use Rattle.tv_word.specs.Widths.{IsWidth};
 
 use crate::opcode_sums::opcode_wire;
-use crate::records::{StateWires, TapeWires};
+use crate::operand::plus_upper;
+use crate::records::{OperandWires, StateWires, TapeWires};
 use crate::step_numbers::StepNumbers;
-use tv_bits::{Bits, times_by};
+use tv_bits::times_by;
 use tv_core::{F, Lc, Put, Scratch, Sink, Values, Wire, give_values};
 use tv_isa::opcode::READ;
 use tv_step::TraceState;
 
 /// Constrains what a step does to the tapes: `n` is the number of the primary tape's words, `op`
-/// the row of its opcode, and `a` the bits of its operand. It makes 7 wires and 7 constraints.
+/// the row of its opcode, and `a` its operand. It makes 7 wires and 7 constraints.
 pub fn put_tapes<const W: u32, S: Sink>(
     s: &mut S,
     scratch: &mut Scratch,
     n: u32,
     state: &StateWires,
     op: Wire,
-    a: &Bits,
+    a: &OperandWires,
 ) -> Put<TapeWires>
     requires width { IsWidth W }
     requires room { Room S.meaning s.old 7 7 }
     requires state_made { StateUnder (S.meaning.wires s.old) state.now }
     requires op_made { op + 29 ≤ S.meaning.wires s.old }
-    requires a_word { a.now.n ≡ W }
-    requires a_made { a.now.first + W ≤ S.meaning.wires s.old }
+    requires operand_made { OperandUnder W (S.meaning.wires s.old) a.now }
     ensures puts { PutsIn S.meaning s.old s.new (tapes_of W n state.now op a.now) result }
     ensures grows { IfOk result (λ _. Grows S.meaning s.old s.new 7 7) }
     ensures below { IfOk result (λ made. TapesUnder (S.meaning.wires s.new) made) }
 {
-    a.above(1).fill(&mut scratch.a);
+    scratch.a.clear();
+    plus_upper(&mut scratch.a, F::ONE, a, 1);
     let read = [(F::ONE, opcode_wire(op, READ))];
     let reads = if_zero(s, &mut scratch.b, &mut scratch.c, &read, &scratch.a)?;
     scratch.a.set_wire(reads);
-    scratch.b.set_wire(a.first);
+    scratch.b.set_wire(a.bits.first);
     let aux = times_by(s, &mut scratch.c, &scratch.a, &scratch.b)?;
     let taken = primary(s, scratch, n, state.taken_of_primary, reads, aux)?;
     auxiliary(s, scratch, taken, aux, state.aux_ended)

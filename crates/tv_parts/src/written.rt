@@ -159,7 +159,7 @@ pub fn written_is_complete()
     ensures { WrittenIsComplete }
 {}
 
-/// Says which wires `put_written` answers, and that `fill_written` assigns one number to each wire
+/// Says which wires `put_written` returns, and that `fill_written` assigns one number to each wire
 /// that it makes.
 #[tactic(auto, using(crate::proofs::WrittenFills::written_sizes))]
 pub fn written_fills()

@@ -4,8 +4,8 @@ use Rattle.tv_block.proofs.StepLaws.{puts_whole, puts_some, next_under}
 use Rattle.tv_block.specs.Block.{block_of}
 use Rattle.tv_block.specs.Complete.{block_made}
 use Rattle.tv_block.specs.Places.{next_state, block_wires}
+use Rattle.tv_block.specs.Under.{BlockUnder}
 use Rattle.tv_parts.specs.States.{StateUnder}
-use Rattle.tv_block.specs.declared.records.Block.{Block}
 use Rattle.tv_core.proofs.Chain.{refused}
 use Rattle.tv_core.specs.Sinks.{PutsAll}
 use Rattle.tv_block.proofs.stepping.block.Goals as goal
@@ -24,10 +24,18 @@ returns-clause-puts g c =
     ∙ (ap (λ k. block_wires g.row.W c.args.state.now c.args.time k) (sym c.wires.ensures) ∙ sym c.block_wires.ensures) in
     subst (λ b. PutsAll m c.args.s.now c.step.new.s circuit b) same (puts_whole m _ _ _ _ _ (c.in_ok-step.ensures.puts c.args.time))
 
-pub returns-clause-next_below : goal.returns-clause-next_below
-returns-clause-next_below g c =
+pub returns-clause-below : goal.returns-clause-below
+returns-clause-below g c =
     let m = g.S.Sink.meaning in
-    let at : c.wires.result + block_made g.row.W ≡ m.wires c.step.new.s = omega (arith, c.wires.ensures, c.in_ok-step.ensures.grows.wires) in
-    let next = next_state g.row.W c.wires.result in
-    let under : StateUnder (m.wires c.step.new.s) next = subst (λ k. StateUnder k next) at (next_under g.row.W c.requires.width c.wires.result) in
-    subst (λ state. StateUnder (m.wires c.step.new.s) state) (ap (λ (made : Block). made.next) (sym c.block_wires.ensures)) under
+    let first = c.wires.result in
+    let wires = m.wires c.step.new.s in
+    let at : first + block_made g.row.W ≡ wires = omega (arith, c.wires.ensures, c.in_ok-step.ensures.grows.wires) in
+    let next = next_state g.row.W first in
+    let made = block_wires g.row.W c.args.state.now c.args.time first in
+    let under : BlockUnder wires made = record {
+      next = subst (λ k. StateUnder k next) at (next_under g.row.W c.requires.width first);
+      spot = record { taken = omega (arith, at, c.requires.width); word = omega (arith, at, c.requires.width) };
+      answers = omega (arith, at, c.requires.width);
+      value = omega (arith, at, c.requires.width);
+    } in
+    subst (λ b. BlockUnder wires b) (sym c.block_wires.ensures) under

@@ -1,6 +1,5 @@
 use Rattle.std.proofs.Common.{◌+◌, ◌-◌, ◌/◌}
 use Rattle.tv_core.proofs.Chain.{puts_then, puts_then_refused, refused_then, puts_nothing, refused}
-use Rattle.tv_bits.proofs.SpelledNumbers.{scaled-bits-once}
 use Rattle.tv_parts.specs.Memory.{line_of}
 use Rattle.tv_parts.proofs.memory.put_line.Goals as goal
 
@@ -10,14 +9,10 @@ returns-in_err-located-clause-puts g c =
     let m = g.S.Sink.meaning in
     let p0 = rw (
       c.set_opcodes.ensures.terms,
-      c.plus_to.ensures.terms,
+      c.plus_upper.ensures.terms,
       c.set_terms.ensures.terms,
       c.plus_scaled.ensures.terms,
       c.clear.ensures,
-      c.above.ensures.first,
-      c.above.ensures.n,
-      c.requires.a_word,
-      scaled-bits-once (c.args.a.now.first + g.row.W / 16) (g.row.W - g.row.W / 16),
       c.neg-minus.ensures,
       c.neg.ensures,
       c.from.ensures,
@@ -31,14 +26,10 @@ returns-in_err-cell-clause-puts g c =
     let m = g.S.Sink.meaning in
     let p0 = rw (
       c.set_opcodes.ensures.terms,
-      c.plus_to.ensures.terms,
+      c.plus_upper.ensures.terms,
       c.set_terms.ensures.terms,
       c.plus_scaled.ensures.terms,
       c.clear.ensures,
-      c.above.ensures.first,
-      c.above.ensures.n,
-      c.requires.a_word,
-      scaled-bits-once (c.args.a.now.first + g.row.W / 16) (g.row.W - g.row.W / 16),
       c.neg-minus.ensures,
       c.neg.ensures,
       c.from.ensures,
@@ -61,14 +52,10 @@ returns-in_err-old-clause-puts g c =
     let m = g.S.Sink.meaning in
     let p0 = rw (
       c.set_opcodes.ensures.terms,
-      c.plus_to.ensures.terms,
+      c.plus_upper.ensures.terms,
       c.set_terms.ensures.terms,
       c.plus_scaled.ensures.terms,
       c.clear.ensures,
-      c.above.ensures.first,
-      c.above.ensures.n,
-      c.requires.a_word,
-      scaled-bits-once (c.args.a.now.first + g.row.W / 16) (g.row.W - g.row.W / 16),
       c.neg-minus.ensures,
       c.neg.ensures,
       c.from.ensures,
@@ -98,14 +85,10 @@ returns-clause-puts g c =
     let m = g.S.Sink.meaning in
     let p0 = rw (
       c.set_opcodes.ensures.terms,
-      c.plus_to.ensures.terms,
+      c.plus_upper.ensures.terms,
       c.set_terms.ensures.terms,
       c.plus_scaled.ensures.terms,
       c.clear.ensures,
-      c.above.ensures.first,
-      c.above.ensures.n,
-      c.requires.a_word,
-      scaled-bits-once (c.args.a.now.first + g.row.W / 16) (g.row.W - g.row.W / 16),
       c.neg-minus.ensures,
       c.neg.ensures,
       c.from.ensures,

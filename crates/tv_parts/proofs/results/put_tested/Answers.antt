@@ -1,5 +1,8 @@
+use Rattle.std.proofs.Common.{◌≡◌, ◌-◌, ◌++◌, ◌∙◌, ap₂}
 use Rattle.tv_core.proofs.Chain.{puts_then, puts_then_refused, refused_then, puts_nothing, refused}
-use Rattle.tv_parts.specs.Results.{tested_of}
+use Rattle.tv_core.specs.declared.field.TheConstants.{P}
+use Rattle.tv_parts.specs.Operand.{upper_of}
+use Rattle.tv_parts.specs.Results.{place_bits, tested_of}
 use Rattle.tv_parts.proofs.results.put_tested.Goals as goal
 
 pub returns-in_err-put-clause-puts : goal.returns-in_err-put-clause-puts
@@ -39,17 +42,9 @@ returns-in_err-put-4-clause-puts g c =
     let p0 = rw (c.set_opcodes.ensures.terms, c.set_terms.ensures.terms, c.clear.ensures, c.neg-minus.ensures) at c.in_ok-put.ensures.puts in
     let p1 = rw (c.set_opcodes-2.ensures.terms, c.set_terms-2.ensures.terms, c.clear.ensures, c.neg-minus.ensures) at c.in_ok-put-2.ensures.puts in
     let p2 = rw (c.set_wire.ensures.terms, c.opcode_wire.ensures, c.set_signs.ensures.terms, c.clear.ensures) at c.in_ok-put-3.ensures.puts in
-    let p3 = rw (
-      c.set_opcodes-3.ensures.terms,
-      c.plus.ensures.terms,
-      c.plus_to.ensures.terms,
-      c.clear-2.ensures,
-      c.above.ensures.first,
-      c.above.ensures.n,
-      c.requires.a_word,
-      c.clear.ensures,
-      c.neg-minus.ensures,
-    ) at c.in_err-put-4.ensures.puts in
+    let upper : c.plus_upper.new.lc ≡ upper_of (P - 1) c.args.a.now (place_bits g.row.W) =
+    c.plus_upper.ensures.terms ∙ ap₂ (λ x m. x ++ upper_of m c.args.a.now (place_bits g.row.W)) c.clear-2.ensures c.neg-minus.ensures in
+    let p3 = rw (c.set_opcodes-3.ensures.terms, c.plus.ensures.terms, upper, c.clear.ensures) at c.in_err-put-4.ensures.puts in
     refused m _ _ _ c.from_residual-in_err-put-4.result c.from_residual-in_err-put-4.ensures.1
     (puts_then_refused m _ _ _ _ _ _ _ p (puts_then_refused m _ _ _ _ _ _ _ p0
     (puts_then_refused m _ _ _ _ _ _ _ p1 (puts_then_refused m _ _ _ _ _ _ _ p2 (refused_then m _ _ _ _ _ p3)))))
@@ -62,16 +57,8 @@ returns-clause-puts g c =
     let p0 = rw (c.set_opcodes.ensures.terms, c.set_terms.ensures.terms, c.clear.ensures, c.neg-minus.ensures) at c.in_ok-put.ensures.puts in
     let p1 = rw (c.set_opcodes-2.ensures.terms, c.set_terms-2.ensures.terms, c.clear.ensures, c.neg-minus.ensures) at c.in_ok-put-2.ensures.puts in
     let p2 = rw (c.set_wire.ensures.terms, c.opcode_wire.ensures, c.set_signs.ensures.terms, c.clear.ensures) at c.in_ok-put-3.ensures.puts in
-    let p3 = rw (
-      c.set_opcodes-3.ensures.terms,
-      c.plus.ensures.terms,
-      c.plus_to.ensures.terms,
-      c.clear-2.ensures,
-      c.above.ensures.first,
-      c.above.ensures.n,
-      c.requires.a_word,
-      c.clear.ensures,
-      c.neg-minus.ensures,
-    ) at c.in_ok-put-4.ensures.puts in
+    let upper : c.plus_upper.new.lc ≡ upper_of (P - 1) c.args.a.now (place_bits g.row.W) =
+    c.plus_upper.ensures.terms ∙ ap₂ (λ x m. x ++ upper_of m c.args.a.now (place_bits g.row.W)) c.clear-2.ensures c.neg-minus.ensures in
+    let p3 = rw (c.set_opcodes-3.ensures.terms, c.plus.ensures.terms, upper, c.clear.ensures) at c.in_ok-put-4.ensures.puts in
     puts_then m _ _ _ _ _ _ _ p (puts_then m _ _ _ _ _ _ _ p0
     (puts_then m _ _ _ _ _ _ _ p1 (puts_then m _ _ _ _ _ _ _ p2 (puts_then m _ _ _ _ _ _ _ p3 (puts_nothing m _ _)))))
