@@ -119,7 +119,7 @@ join_more bit u l xs j p q within first second before k h =
     (place_more f xs (2 * j) p (omega arith) even before) k (omega arith)
 
 -- ---- one more switch of a last column, unless it is left out
--- a call that gives nothing is not refused
+-- a call that passes nothing is not refused
 no_refusal : {V : Type 0} (m : Giving V) (old new : V) (fault : SinkFault) → GivesSome m old new [] fault → ⊥
 no_refusal m old new fault p = let long = ap length p.at ∙ length-append p.front (p.refused ∷ p.back) in omega (arith, long)
 

@@ -196,7 +196,7 @@ module _ {S : Type 0} (m : Meaning S) (net : Net) (form : Form) where
                 (λ upper. level_of net (other form) k low >>= (λ lower. last_column_of net form (suc k) upper lower)) old in_upper new u result q
                 (puts_in_then m (level_of net (other form) k low) (λ lower. last_column_of net form (suc k) u lower) in_upper in_lower new l result r t)
 
-  -- the outputs of what was put are of wires that there are
+  -- the outputs of the emitted network are of wires that there are
   pub put_ends : (h : ℕ) (items : ItemsOf form) (old new : S) (e : EndsOf form) → HasItems form items h (m.wires old)
       → PutsAll m old new (level_of net form h items) e → HasEnds net form e (2 ^ suc h) (m.wires new)
   put_ends h items old new e has p =

@@ -208,7 +208,7 @@ network_next net h item next = level_next net Bound h item next
 abbrev pub level_bit : List ℕ → Net → Form → ℕ → ℕ → ℕ → Bool
 level_bit z net form h first j = slice_index z (bit_place net form h first j) == 1
 
--- what an assignment that meets what was put has: 0 or 1 at each switch, and of items v the outputs
+-- what an assignment that satisfies the constraints has: 0 or 1 at each switch, and of items v the outputs
 pub record IsLevel (z : List ℕ) (net : Net) (form : Form) (h first : ℕ) (v out : ℕ → PairNum) : Type 0 where
   pub bits : (j : ℕ) → j < switches net h → IsBit (slice_index z (bit_place net form h first j))
   pub outputs : (i : ℕ) → i < 2 ^ suc h → out i ≡ through net h (level_bit z net form h first) v i

@@ -1,4 +1,4 @@
--- What a network's generator reads: the bits and the pairs that are handed in, and the items of networks within it.
+-- What a network's generator reads: the bits and the pairs that are passed, and the items of networks within it.
 use Rattle.std.specs.Prelude.{ℕ, suc, ◌^◌, ◌<◌, Bool, true, false, List, get_or}
 use Rattle.tv_benes.specs.Through.{from, to_upper, to_lower}
 use Rattle.tv_benes.specs.declared.items.Items.{Items, Given, Half'}
@@ -17,7 +17,7 @@ abbrev pub half_item : {X : Type 0} → Bool → (ℕ → Bool) → (ℕ → X) 
 half_item true bit item = to_lower bit item
 half_item false bit item = to_upper bit item
 
--- item j of what was handed in, or of a network within others
+-- item j of the inputs, or of a network within others
 abbrev pub item_of : List Bool → Items → ℕ → PairNum
 item_of bits (Given pairs) j = pair_at pairs.now j
 item_of bits (Half' p outer place lower) j = half_item lower (from place (bit_at bits)) (item_of bits outer) j

@@ -53,14 +53,14 @@ switch_of Open x y = do
 unfoldable pub column_of : Form → ℕ → (ℕ → Pair) → Circuit (Unit {0})
 column_of form n item = times n (λ j. switch_of form (item (2 * j)) (item (2 * j + 1)))
 
--- the last column of a network of level h, over the outputs of two networks; it answers what its outputs are
+-- the last column of a network of level h, over the outputs of two networks; it returns its outputs
 unfoldable pub last_column_of : (net : Net) (form : Form) → ℕ → EndsOf (other form) → EndsOf (other form) → Circuit (EndsOf form)
 last_column_of net form h upper lower = do
   g ← here
   _ ← column_of form (2 ^ h - missing net) (last_pair net form upper lower)
   pure (last_ends net form g upper lower)
 
--- a network of level h on items, whose outermost level has this form; it answers what its outputs are
+-- a network of level h on items, whose outermost level has this form; it returns its outputs
 unfoldable pub level_of : (net : Net) (form : Form) → ℕ → ItemsOf form → Circuit (EndsOf form)
 level_of net form zero item = do
   f ← here
@@ -73,7 +73,7 @@ level_of net form (suc h) item = do
   lower ← level_of net (other form) h (to_lower_of form f item)
   last_column_of net form (suc h) upper lower
 
--- a network of level h on items; it answers where its outputs are
+-- a network of level h on items; it returns its outputs
 abbrev pub network_of : Net → ℕ → (ℕ → Pair) → Circuit Outputs
 network_of net h item = level_of net Bound h item
 
@@ -129,7 +129,7 @@ network_values net h bit item = level_values net Bound h bit item
 abbrev pub bit_in : List ℕ → Net → ℕ → ℕ → ℕ → Bool
 bit_in z net h first j = slice_index z (bit_place net Bound h first j) == 1
 
--- what an assignment that meets what was put has: 0 or 1 at each switch, and at the outputs what goes through
+-- what an assignment that satisfies the constraints has: 0 or 1 at each switch, and at the outputs what goes through
 pub record IsNetwork (z : List ℕ) (net : Net) (h first : ℕ) (item : ℕ → Pair) (last : Outputs) : Type 0 where
   pub bits : (j : ℕ) → j < switches net h → IsBit (slice_index z (bit_place net Bound h first j))
   pub outputs : (i : ℕ) → i < 2 ^ suc h → pair_value z (output last i) ≡ through net h (bit_in z net h first) (λ j. pair_value z (item j)) i
@@ -142,7 +142,7 @@ NetworkIsSound = (z : List ℕ) (net : Net) (next h : ℕ) (item : ℕ → Pair)
 abbrev pub AreValues : List ℕ → ℕ → (ℕ → Pair) → (ℕ → PairNum) → Type 0
 AreValues z h item v = (j : ℕ) → j < 2 ^ suc h → pair_value z (item j) ≡ v j
 
--- what an assignment that has the values for some bits has: it meets what was put, it has these bits at the
+-- what an assignment that has the values for some bits has: it satisfies the constraints, it has these bits at the
 -- switches, in order, and at the outputs what goes through by these bits of the numbers v
 pub record IsFilled (z : List ℕ) (net : Net) (h first : ℕ) (item : ℕ → Pair) (bit : ℕ → Bool) (v : ℕ → PairNum) : Type 0 where
   pub meets : Meets z (network_of net h item first).list

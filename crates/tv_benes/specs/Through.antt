@@ -27,7 +27,7 @@ abbrev pub from : ℕ → (ℕ → Bool) → ℕ → Bool
 from n bit j = bit (n + j)
 
 module _ {X : Type 0} where
-  -- what a switch gives first, its first item being x and its second y; what it gives second is `passed b y x`
+  -- a switch's first output, its first input being x and its second y; its second output is `passed b y x`
   abbrev pub passed : Bool → X → X → X
   passed b x y = if b then y else x
 
@@ -42,7 +42,7 @@ module _ {X : Type 0} where
   abbrev pub alternating : (ℕ → X) → (ℕ → X) → ℕ → X
   alternating first second i = if i % 2 == 0 then first (i / 2) else second (i / 2)
 
-  -- output i of the last column: switch j takes item j of what the upper and the lower network give
+  -- output i of the last column: switch j takes output j of the upper and of the lower network
   abbrev pub joined : (ℕ → Bool) → (ℕ → X) → (ℕ → X) → ℕ → X
   joined bit upper lower = alternating (λ j. passed (bit j) (upper j) (lower j)) (λ j. passed (bit j) (lower j) (upper j))
 
@@ -55,7 +55,7 @@ module _ {X : Type 0} where
       let s = switches net h in
       joined (last_bit net (from (n + 2 * s) bit)) (through net h (from n bit) (to_upper bit item)) (through net h (from (n + s) bit) (to_lower bit item))
 
--- item i of the last column of a network of level h + 1: what the two networks before it give, in turn, but for what
+-- item i of the last column of a network of level h + 1: outputs of the two networks before it, in turn, but for what
 -- passes
 abbrev pub last_item : {X : Type 0} → Net → ℕ → (ℕ → Bool) → (ℕ → X) → ℕ → X
 last_item net h bit item i =

@@ -1,3 +1,4 @@
+//! The columns of a network's switches, put into a sink.
 ghost use Rattle.std.specs.Prelude.{◌≡◌, ℕ, ◌+◌, ◌*◌, ◌<◌, ◌≤◌, length, IfOk};
 ghost use Rattle.tv_core.specs.Combinations.{top};
 ghost use Rattle.tv_core.specs.Sinks.{PutsIn, Grows, Room};

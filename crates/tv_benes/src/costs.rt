@@ -47,7 +47,7 @@ pub fn switch_terms(scratch: &mut Lc, x: &Pair, y: &Pair) -> u32
     3 + first + number_terms(scratch, x.second.terms(), y.second.terms())
 }
 
-// The same for one number of each item.
+// Like `switch_terms`, for one number of each item.
 fn number_terms(scratch: &mut Lc, x: &[(F, Wire)], y: &[(F, Wire)]) -> u32
     requires x_short { length x.now ≤ 64 }
     requires y_short { length y.now ≤ 64 }

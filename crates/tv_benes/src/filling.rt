@@ -12,10 +12,9 @@ use crate::items::{Items, bit, read, source};
 use crate::shape::{Form, Net, level_switches, long_missing, long_power};
 use tv_core::{F, PairNum, Put, Values, give_values};
 
-/// Gives the values of the wires that `network` makes, for the numbers of its inputs and the bits
+/// Assigns the values of the wires that `network` makes, for the numbers of its inputs and the bits
 /// of its switches in order, `k` being from 1 to 31; a bit or a pair that is not there counts as 0.
-/// It takes no memory: an item that comes to a switch is found among the inputs, in at most 2k
-/// steps.
+/// It takes no memory: the item at a switch is found among the inputs, in at most 2k steps.
 pub fn fill_network<V: Values>(v: &mut V, k: u32, inputs: &[PairNum], bits: &[bool]) -> Put<()>
     requires whole { V.giving.broken v.old ≡ false }
     requires some { 1 ≤ k }
@@ -27,8 +26,8 @@ pub fn fill_network<V: Values>(v: &mut V, k: u32, inputs: &[PairNum], bits: &[bo
     fill_routing_network(v, Net::Benes, k, inputs, bits)
 }
 
-/// Gives the values of the wires that `routing_network` makes for 2^k items, k from 1 to 31. A bit
-/// or an item that is missing counts as 0.
+/// Assigns the values of the wires that `routing_network` makes for 2^k items, k from 1 to 31. A
+/// bit or an item that is missing counts as 0.
 pub fn fill_routing_network<V: Values>(
     v: &mut V,
     net: Net,

@@ -1,4 +1,4 @@
-//! The items that come to the switches of a network, found among those handed in.
+//! The items at the switches of a network, found among its inputs.
 ghost use Rattle.std.specs.Prelude.{◌≡◌, suc, if◌then◌else◌, ◌+◌, ◌*◌, ◌<◌, ◌≤◌, ◌^◌};
 ghost use Rattle.tv_benes.specs.Items.{bit_at, pair_at, item_of, depth_of, ArePlaces};
 ghost use Rattle.tv_benes.specs.Through.{switches, from, last_bit, through};
@@ -6,8 +6,8 @@ ghost use Rattle.tv_benes.specs.Through.{switches, from, last_bit, through};
 use crate::shape::{Net, level_switches, long_power};
 use tv_core::{F, PairNum};
 
-// The items of a network: those handed in, or those of the upper or lower network within another,
-// told by that one's items, by the place where its bits begin, and by whether it is the lower one.
+// The items of a network: its inputs, or those of the upper or lower network within another, given
+// by that one's items, the place where its bits begin, and whether it is the lower one.
 #[derive(Clone, Copy)]
 pub(crate) enum Items<'a> {
     Given(&'a [PairNum]),
@@ -31,7 +31,7 @@ fn given(pairs: &[PairNum], at: u64) -> PairNum
     })
 }
 
-// Item `j`, found among what was handed in: one step for each network that it lies within.
+// Item `j`, found among the inputs: one step for each network that it lies within.
 pub(crate) fn read(items: &Items<'_>, bits: &[bool], j: u64) -> PairNum
     requires near { (j + 1) * 2 ^ depth_of items.now ≤ 2 ^ 62 }
     requires places { ArePlaces items.now }

@@ -17,16 +17,16 @@ pub fn places_tell()
     ensures { PlacesTell }
 {}
 
-/// Where an assignment meets what a network put, it has 0 or 1 at each switch, and at the outputs
-/// the inputs sent through by these bits.
+/// Where an assignment satisfies the constraints of a network, it has 0 or 1 at each switch, and at
+/// the outputs the inputs sent through by these bits.
 #[tactic(auto, using(crate::proofs::NetworkLaws::network_sound))]
 pub fn network_is_sound()
     ensures { NetworkIsSound }
 {}
 
 /// Where an assignment has the values of a network for some bits and for the numbers of its inputs,
-/// it meets what the network put, it has these bits at the switches, in order, and at the outputs
-/// these numbers sent through by them.
+/// it satisfies the network's constraints, it has these bits at the switches, in order, and at the
+/// outputs these numbers sent through by them.
 pub fn network_is_complete()
     ensures { NetworkIsComplete }
 {}

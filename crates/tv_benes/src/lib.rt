@@ -1,8 +1,8 @@
 //! Permutation networks as constraints: 2^k pairs go in and come out in an order that the bits of
-//! the switches tell. Benes' network has all its switches; Waksman's lacks the first one of each
-//! last column. Contracts above cite `through`, which says what comes out at each place. In every
-//! assignment that meets what a network puts the bits are 0 or 1, and the outputs are the inputs
-//! sent through by them.
+//! the switches determine. Benes' network has all its switches; Waksman's lacks the first one of
+//! each last column. Contracts above cite `through`, which says what comes out at each place. In
+//! every assignment that satisfies a network's constraints the bits are 0 or 1, and the outputs are
+//! the inputs sent through by them.
 //!
 //! Both networks are one definition and one body. `network` is Benes'; `tv_waksman` has the other.
 #![tactic(auto)]

@@ -55,7 +55,7 @@ fn switch<S: Sink>(
     Ok(())
 }
 
-// The same, the second wire of each item being the one after its first.
+// Like `switch`, for items whose second wire is the one after the first.
 pub(crate) fn open_switch<S: Sink>(s: &mut S, scratch: &mut Scratch, x: Wire, y: Wire) -> Put<()>
     requires room { Room S.meaning s.old 3 3 }
     requires x_made { x + 1 < S.meaning.wires s.old }

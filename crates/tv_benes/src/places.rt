@@ -11,20 +11,20 @@ ghost use Rattle.tv_benes.specs.declared.shape.Form.TheVariants.{Bound, Open};
 use crate::shape::Net;
 use tv_core::{F, Lc, Pair, Wire};
 
-/// The items that go into a network, told by place: contracts see them as the function `pair`, for
-/// places below `count`. A network asks for each of them once.
+/// The items that go into a network, indexed by position: contracts see them as the function
+/// `pair`, for places below `count`. A network asks for each of them once.
 pub trait Inputs {
     ghost pair: { Self → ℕ → Pair };
 
     ghost count: { Self → ℕ };
 
-    /// The item at place `i`.
+    /// Returns the item at place `i`.
     fn at(&self, i: u32) -> Pair
         requires { i < count self.now }
         ensures { result ≡ pair self.now i };
 
-    /// Makes `item` the item at place `i`. A network fills the same two again for each switch: an
-    /// input that can tell its combinations without making new ones does so here.
+    /// Makes `item` the item at place `i`. A network reuses the same two pairs for each switch, so
+    /// an input that can write its combinations in place does so here.
     fn fill(&self, i: u32, item: &mut Pair)
         requires { i < count self.now }
         ensures { item.new ≡ pair self.now i }

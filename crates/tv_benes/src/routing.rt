@@ -13,11 +13,10 @@ use crate::items::{bit, last_bit};
 use crate::shape::{Form, Net, level_switches, long_power};
 use tv_core::{PairNum, Put, Values};
 
-/// Gives the values of the wires that `routing_network` makes, as `fill_routing_network` does, and
-/// moves the items to the places where they come out; a bit that is not there counts as 0. `spare`
-/// is room for as many items: what it holds doesn't matter, nor is it told what it holds after.
-/// After a refusal it isn't told where the items are. It takes time linear in the number of
-/// switches, and no memory.
+/// Assigns the values of the wires that `routing_network` makes, as `fill_routing_network` does,
+/// and moves the items to the places where they come out; a bit that is not there counts as 0.
+/// `spare` is scratch space for as many items; its contents afterwards are unspecified, and so are
+/// those of both after a refusal. It takes time linear in the number of switches, and no memory.
 pub fn route_items<V: Values>(
     v: &mut V,
     net: Net,
@@ -40,8 +39,8 @@ pub fn route_items<V: Values>(
     route_level(v, net, Form::Bound, k - 1, items, spare, bits, 0)
 }
 
-// The same for a network of level `h`, whose bits begin at `at`. The items pass to the halves of
-// the room and back, so that each network below has its items side by side.
+// Like `route_items`, for a network of level `h`, whose bits begin at `at`. The items pass to the
+// halves of the room and back, so that each network below has its items side by side.
 fn route_level<V: Values>(
     v: &mut V,
     net: Net,
@@ -94,7 +93,7 @@ fn route_two<V: Values>(v: &mut V, form: Form, items: &mut [PairNum], b: bool) -
     fill_switch(v, form, b, x, y)
 }
 
-// What a switch gives first, its bit being `b`, its first item `x` and its second `y`.
+// A switch's first output, its bit being `b`, its first input `x` and its second `y`.
 fn passed(b: bool, x: &PairNum, y: &PairNum) -> PairNum
     ensures { result ≡ passed b x.now y.now }
 {

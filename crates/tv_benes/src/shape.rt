@@ -17,7 +17,7 @@ pub enum Net {
 }
 
 impl Net {
-    /// How many switches a last column has fewer than a first one: 1 in Waksman's network.
+    /// Returns how many switches a last column has fewer than a first one: 1 in Waksman's network.
     pub fn missing(self) -> u32
         ensures { result ≡ missing self }
     {
@@ -58,7 +58,7 @@ impl Form {
     }
 }
 
-/// How many switches Benes' network for 2^`k` items has, `k` being from 1 to 31.
+/// Returns how many switches Benes' network for 2^`k` items has, `k` being from 1 to 31.
 pub fn switches(k: u32) -> u64
     requires some { 1 ≤ k }
     requires few { k ≤ 31 }
@@ -67,7 +67,7 @@ pub fn switches(k: u32) -> u64
     routing_switches(Net::Benes, k)
 }
 
-/// How many switches either network for 2^`k` items has, `k` being from 1 to 31.
+/// Returns how many switches either network for 2^`k` items has, `k` being from 1 to 31.
 pub fn routing_switches(net: Net, k: u32) -> u64
     requires some { 1 ≤ k }
     requires few { k ≤ 31 }
@@ -76,9 +76,9 @@ pub fn routing_switches(net: Net, k: u32) -> u64
     level_switches(net, k - 1)
 }
 
-/// How many wires either network for 2^`k` items makes, and how many constraints, `k` being from 1
-/// to 31: three a switch, and two more for a switch of a bound level. Levels are bound and open in
-/// turn, from the outermost on.
+/// Returns how many wires either network for 2^`k` items makes, and how many constraints, `k` being
+/// from 1 to 31: three a switch, and two more for a switch of a bound level. Levels are bound and
+/// open in turn, from the outermost on.
 pub fn network_wires(net: Net, k: u32) -> u64
     requires some { 1 ≤ k }
     requires few { k ≤ 31 }

@@ -47,7 +47,7 @@ run_in w net image n t z =
     >>= (λ aux. answering answer tape aux (end_of w t (start w image tape aux))))))
     else Err (WireCount (length z) (system_of w net image n t).wires)
 
--- what an extraction is refused for: what is due is refused for that, or memory was wanting
+-- what an extraction is refused for: what is due is refused for that, or memory ran out
 abbrev pub IsFaultOf : {A : Type 0} → Result A NotRun → ExtractFault → Type 0
 IsFaultOf due (NoRun why) = due ≡ Err why
 IsFaultOf due Memory = Unit {0}

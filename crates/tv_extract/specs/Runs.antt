@@ -14,8 +14,8 @@ use Rattle.tv_layout.specs.Systems.{system_of}
 use Rattle.tv_extract.specs.Extracting.{run_in}
 use Rattle.tv_extract.specs.declared.run.Run.{Run}
 
--- A run of an assignment: its answer stands at wire 1, its tape at the n wires behind it, and its auxiliary tape is
--- the words that the steps take; all are words, and on them the machine gives this answer at this step.
+-- A run of an assignment: its answer stands at wire 1, its tape at the n wires after it, and its auxiliary tape is the
+-- words that the steps take; all are words, and on them the machine answers so at this step.
 pub record IsRunOf (w : ℕ) (image : List ℕ) (n t : ℕ) (z : List ℕ) (run : Run) : Type 0 where
   pub answer : run.answer ≡ slice_index z 1
   pub many : length run.tape ≡ n

@@ -16,12 +16,12 @@ use tv_layout::{ANSWER, spot, tape_wire, wires};
 use tv_step::{End, Machine};
 use tv_word::Words;
 
-/// The run that an assignment has of the system of an image, a tape of `n` words and `t` steps.
-/// What is wrong is told in this order: the number of values (`WireCount`); the first public wire,
-/// or else the first word taken, in the order of steps, that is no word of `W` bits (`WideWire`);
-/// how the run on these words ends where it doesn't answer the word at wire 1 (`NotARun`). A
-/// satisfying assignment has none of these faults. Takes the time of the run and time linear in `n`
-/// and `t`, and memory for the words, twice, and for the machine.
+/// Returns the run that an assignment has of the system of an image, a tape of `n` words and `t`
+/// steps. What is wrong is reported in this order: the number of values (`WireCount`); the first
+/// public wire, or else the first word taken, in the order of steps, that is no word of `W` bits
+/// (`WideWire`); how the run on these words ends where it doesn't answer the word at wire 1
+/// (`NotARun`). A satisfying assignment has none of these faults. Takes the time of the run and
+/// time linear in `n` and `t`, and memory for the words, twice, and for the machine.
 ///
 /// The image fits in memory and has at most 131,072 words, `n` is at most 131,072, and `t` is from
 /// 1 to 262,144.

@@ -1,6 +1,7 @@
 //! The run that an assignment of a program's system has: its answer and its tape stand at the
-//! public wires, and the words that its steps take at the wires that they tell. Each satisfying
-//! assignment has one; another may have one too, or else it is said what is wrong first.
+//! public wires, and the words that its steps take at wires computed from the steps' positions.
+//! Each satisfying assignment has one; another may have one too, or the first thing wrong is
+//! reported.
 #![tactic(auto)]
 
 mod extracting;

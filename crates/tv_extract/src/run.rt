@@ -41,7 +41,7 @@ pub enum ExtractFault {
     /// The assignment has none.
     #[error("{0}")]
     NoRun(NotRun),
-    /// Memory was wanting.
+    /// Memory ran out.
     #[error("out of memory")]
     Memory,
 }

@@ -1,4 +1,4 @@
--- What a trace tells of a run's steps.
+-- What a trace has of a run's steps.
 use Rattle.std.proofs.Common.{◌≡◌, ℕ, ◌+◌, ◌-◌, ◌*◌, ◌<◌, ◌≤◌, ◌^◌, Bool, true, List, length, Option, Some, None, refl, sym, ap, ap₂, ◌∙◌, arith}
 use Rattle.std.proofs.lemmas.Bool.{ltb-true}
 use Rattle.std.specs.Prelude.{slice_index, slice_index_or, nat_lt, is_some, unwrap_or, if◌then◌else◌}
@@ -25,7 +25,7 @@ use Rattle.tv_word.specs.Widths.{IsWidth}
 use Rattle.tv_parts.specs.Traced.{traced_view}
 use Rattle.tv_fill.specs.Told.{no_state, state_at, old_at, takes_at, taken_at, data_at, told_values, StepInRange}
 
--- the word that is handed in
+-- the word that is passed
 handed_is : (old : ℕ) (word : Option ℕ) → unwrap_or word old ≡ handed old word
 handed_is old None = refl
 handed_is old (Some word) = refl

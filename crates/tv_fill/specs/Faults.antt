@@ -1,4 +1,4 @@
--- The faults below, as they are told here.
+-- The faults of the crates below, as faults of this one.
 use Rattle.tv_core.specs.declared.sink.SinkFault.{SinkFault}
 use Rattle.tv_core.specs.declared.sink.SinkFault.TheVariants as sinks
 use Rattle.tv_fill.specs.declared.fault.FillFault.{FillFault}

@@ -1,4 +1,4 @@
--- What is given for a run, and what comes of asking for it.
+-- The values for a run, and what a call that prepares or passes them does.
 use Rattle.std.specs.Prelude.{◌≡◌, ◌⊎◌, ℕ, ◌+◌, ◌-◌, ◌*◌, ◌^◌, ◌<◌, ◌≤◌, Bool, List, [], ◌∷◌, ◌++◌, length, replicate, slice_index, Result, Ok, Err}
 use Rattle.tv_benes.specs.Items.{bit_at}
 use Rattle.tv_benes.specs.declared.shape.Net.{Net}
@@ -24,7 +24,7 @@ use Rattle.tv_step.specs.declared.lines.TraceState.{TraceState}
 use Rattle.tv_step.specs.declared.tracing.TraceFault.TheVariants as traces
 use Rattle.tv_word.specs.Widths.{IsWidth}
 
--- a filling: the run's answer, and the values that it gives
+-- a filling: the run's answer, and the values that it assigns
 pub record Filled : Type 0 where
   pub answer : ℕ
   pub values : List ℕ
@@ -71,15 +71,15 @@ pub record IsFilling (w : ℕ) (net : Net) (image x aux : List ℕ) (t : ℕ) (f
   pub answer : Accepts w image x aux t filling.answer
   pub values : filling.values ≡ run_values w net image x aux t filling.answer
 
--- there are none: the run has no trace, since it ends so and answers nothing; or memory was wanting
+-- there are none: the run has no trace, since it ends so and answers nothing; or memory ran out
 abbrev pub IsUnfilled : ℕ → List ℕ → List ℕ → List ℕ → ℕ → FillFault → Type 0
 IsUnfilled w image x aux t (NoRun end) = IsRefused w image x aux t (traces.NoRun end)
 IsUnfilled w image x aux t Failed = ⊥
 IsUnfilled w image x aux t Memory = Unit {0}
 
 -- ---- to a taker
--- what a call that gives the values of a run did: it gave all; or the run answers nothing, and nothing was given; or
--- the taker refused one of them, and the count of the cause rose; or memory was wanting before the first
+-- what a call that passes on the values of a run did: it passed all; or the run answers nothing, and none was passed;
+-- or the taker refused one of them, and the count of the cause rose; or memory ran out before the first
 module _ {V : Type 0} (m : Giving V) (w : ℕ) (net : Net) (image x aux : List ℕ) (t : ℕ) where
   abbrev pub FillsIn : V → V → Result (Unit {0}) FillFault → Type 0
   FillsIn old new (Ok done) = (v : ℕ) × Accepts w image x aux t v × GivesAll m old new (run_values w net image x aux t v)

@@ -1,4 +1,4 @@
-//! Why the values of a run are not given.
+//! Why a run has no values, or not all were passed.
 ghost use Rattle.std.specs.Prelude.{◌≡◌};
 ghost use Rattle.tv_fill.specs.Faults.{trace_fault, taker_fault};
 ghost use Rattle.tv_fill.specs.declared.fault.FillFault.TheVariants.{Memory};
@@ -17,7 +17,7 @@ pub enum FillFault {
     /// What the values were written to failed.
     #[error("the writing failed")]
     Failed,
-    /// Memory was wanting.
+    /// Memory ran out.
     #[error("out of memory")]
     Memory,
 }

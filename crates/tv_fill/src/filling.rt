@@ -1,4 +1,4 @@
-//! The values of a run, made ready and given.
+//! The values of a run, prepared and then passed to a taker.
 ghost use Rattle.std.specs.Prelude.{◌≡◌, ◌*◌, ◌/◌, ◌^◌, ◌<◌, ◌≤◌, false, length, map, IfOk};
 ghost use Rattle.std.specs.Prelude.{IfErr, OnOk};
 ghost use Rattle.tv_core.specs.Giving.{GivesIn};
@@ -25,8 +25,8 @@ use tv_memory::{fill_memory, predecessors};
 use tv_route::{Settings, routing_settings};
 use tv_step::{Lines, States, Trace, trace};
 
-/// A run that answers, ready to give the values of its system's wires. Contracts see its answer and
-/// the list of the values.
+/// A run that answers, ready to assign the values of its system's wires. Contracts see its answer
+/// and the list of the values.
 #[derive(Drop)]
 pub struct Filling<'a, const W: u32> {
     answer: u32,
@@ -64,22 +64,22 @@ impl<'a, const W: u32> Model for Filling<'a, W> {
 }
 
 impl<'a, const W: u32> Filling<'a, W> {
-    /// What the run answers.
+    /// Returns what the run answers.
     pub fn answer(&self) -> u32
         ensures { result ≡ self.now.answer }
     {
         self.answer
     }
 
-    /// How many values there are: as many as the system has wires.
+    /// Returns how many values there are: as many as the system has wires.
     pub fn count(&self) -> u32
         ensures { result ≡ length self.now.values }
     {
         self.count
     }
 
-    /// Gives the values, in the order of the wires, and frees what was held for them. It takes time
-    /// linear in their number, and no memory.
+    /// Assigns the values, in the order of the wires, and frees what was held for them. It takes
+    /// time linear in their number, and no memory.
     pub fn give<V: Values>(self, v: &mut V) -> Put<()>
         requires whole { V.giving.broken v.old ≡ false }
         ensures gives { GivesIn V.giving v.old v.new self.entry.values result }
@@ -126,10 +126,10 @@ impl<'a, const W: u32> Filling<'a, W> {
 
 /// Runs the machine for at most `t` steps on an image and two tapes, and makes the values of the
 /// wires of its system over a network ready, where it answers. `NoRun` comes exactly where it
-/// doesn't, and tells how it ends. Beside the machine's own memory it takes at most 160 bytes for
-/// each of the 2^k lines of the system, and at most 100 bytes a line are held by what it answers,
-/// with the room that the items are moved in when the values are given; that borrows the image and
-/// the tapes. It takes the run's time twice, and then a time that grows as k times the lines.
+/// doesn't, with how it ends. Beside the machine's own memory it takes at most 160 bytes for each
+/// of the 2^k lines of the system. The returned `Filling` keeps at most 100 bytes per line, scratch
+/// space for `give` included, and borrows the image and the tapes. It takes the run's time twice,
+/// and then a time that grows as k times the lines.
 ///
 /// Words have `W` bits, 16 or 32, and the image fits in memory. It has at most 131,072 of them, and
 /// so has the primary tape; `t` is from 1 to 262,144.
@@ -196,11 +196,11 @@ fn settings_to_predecessors(
     routing_settings(alloc, net, &order)
 }
 
-/// Gives the values of the wires of a system over a network, for the run of at most `t` steps on an
-/// image and two tapes: those that satisfy it and extend the answer and the tape. `NoRun` comes
-/// exactly where the run answers nothing, and nothing is given then. `Failed` and `Memory` tell
-/// what `v` refused a value for; `Memory` comes also where there was none before the first value.
-/// It takes the memory that `prepare` takes, and has its limits.
+/// Assigns the values of the wires of a system over a network, for the run of at most `t` steps on
+/// an image and two tapes: those that satisfy it and extend the answer and the tape. `NoRun` comes
+/// exactly where the run answers nothing, and then no value is passed. `Failed` and `Memory` say
+/// why `v` refused a value; `Memory` comes also where memory ran out before the first value. It
+/// takes the memory that `prepare` takes, and has its limits.
 pub fn fill_system<const W: u32, V: Values>(
     alloc: Global,
     image: &[u32],

@@ -10,8 +10,8 @@ use tv_bits::fill_bits;
 use tv_core::{F, Put, Values, give_values, give_words};
 use tv_layout::STATE_WIRES;
 
-// Gives the values before those of the steps: 1, the answer, the tape's words, their bits, and the
-// first state, all of it 0.
+// Assigns the values before those of the steps: 1, the answer, the tape's words, their bits, and
+// the first state, all of it 0.
 pub(crate) fn fill_front<const W: u32, V: Values>(v: &mut V, answer: u32, tape: &[u32]) -> Put<()>
     requires width { IsWidth W }
     requires whole { V.giving.broken v.old ≡ false }
@@ -24,7 +24,7 @@ pub(crate) fn fill_front<const W: u32, V: Values>(v: &mut V, answer: u32, tape: 
     give_values(v, &[F::ZERO; STATE_WIRES as usize])
 }
 
-// Gives the bits of words.
+// Assigns the bits of words.
 fn fill_bits_of_words<const W: u32, V: Values>(v: &mut V, words: &[u32]) -> Put<()>
     requires width { IsWidth W }
     requires whole { V.giving.broken v.old ≡ false }

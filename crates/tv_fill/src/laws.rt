@@ -1,4 +1,4 @@
-//! What is proved of the values that are given, from their definition.
+//! What is proved of a run's values, from their definition.
 ghost use Rattle.tv_fill.specs.Laws.{FillingsSatisfy};
 
 /// The values for each run that answers satisfy its system, over both networks; they have the

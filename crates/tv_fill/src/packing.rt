@@ -78,7 +78,7 @@ fn push_lines(items: &mut Vec<PairNum>, lines: &[Line]) -> Result<(), AllocError
     Ok(())
 }
 
-// The items of so many lines of the null cell, the first at a time.
+// The items of `more` lines of the null cell, the first at a time.
 fn push_padding(items: &mut Vec<PairNum>, time: u32, more: u32) -> Result<(), AllocError>
     requires { time + more ≤ 2 ^ 20 }
     ensures { OnOk result (items.new.items ≡ items.old.items

@@ -44,7 +44,7 @@ impl<'a> Steps<'a> {
         }
     }
 
-    // Gives the values of step `i`, on a primary tape of `n` words. Its data word is the one that
+    // Assigns the values of step `i`, on a primary tape of `n` words. Its data word is the one that
     // it takes, or else the old of its third line.
     fn fill_step<const W: u32, V: Values>(&self, v: &mut V, n: u32, i: u32) -> Put<()>
         requires width { IsWidth W }
@@ -67,7 +67,7 @@ impl<'a> Steps<'a> {
         fill_traced_step::<W, V>(v, n, state, head, tail, word, taken.is_some())
     }
 
-    // Gives the values of the first `t` steps.
+    // Assigns the values of the first `t` steps.
     pub(crate) fn fill<const W: u32, V: Values>(&self, v: &mut V, n: u32, t: u32) -> Put<()>
         requires width { IsWidth W }
         requires short { n < 2 ^ 29 }

@@ -1,4 +1,4 @@
--- What a circuit of one step has to give. A system's laws stand on these records alone; that the circuit of tv_block gives
+-- What a system needs of a step's circuit. A system's laws stand on these records alone; that the circuit of tv_block has
 -- them is proved in Systems.
 use Rattle.std.specs.Prelude.{◌≡◌, ℕ, ◌+◌, ◌/◌, ◌^◌, ◌<◌, ◌≤◌, Bool, List, length, Option, Some, is_some}
 use Rattle.tv_block.specs.Block.{did, IsMachineStep}
@@ -18,7 +18,7 @@ use Rattle.tv_step.specs.State.{State}
 use Rattle.tv_step.specs.Trace.{step_lines}
 use Rattle.tv_layout.specs.Blocks.{BlockCircuit, BlockValues, values_for, view_of}
 
--- it makes so many wires, and three lines, whatever it is given
+-- it makes `made` wires, and three lines, whatever its inputs
 pub record BlockSizes (block : BlockCircuit) (made : ℕ) : Type 0 where
   pub next : (n : ℕ) (state : StateWires) (time next : ℕ) → (block n state time next).next ≡ next + made
   pub three : (n : ℕ) (state : StateWires) (time next : ℕ) → length (block n state time next).answer.lines ≡ 3
@@ -36,7 +36,7 @@ pub record IsSoundStep (w : ℕ) (z x : List ℕ) (time : ℕ) (state : StateWir
   pub machine : IsMachineStep w z x time state made
   pub cells : HasCells w (did z state made)
 
--- an assignment that meets what it puts, the state before being in range, has a step of the machine there
+-- an assignment that satisfies its constraints, the state before being in range, has a step of the machine there
 abbrev pub BlockIsSound : ℕ → BlockCircuit → Type 0
 BlockIsSound w block = (z x : List ℕ) (state : StateWires) (time next : ℕ) → length x < 2 ^ 29 → time + 2 < 2 ^ 32 → Assigns z
     → ViewInRange w (length x) (state_in z state) → Meets z (block (length x) state time next).list
@@ -56,14 +56,14 @@ pub record Given (w : ℕ) (values : BlockValues) (z x : List ℕ) (state : Stat
   pub may : MayTake w (state_in z state) st word
   pub has : HasFrom z next (values_for w values (length x) (state_in z state) time st word)
 
--- the lines are those of the machine's step, and the word is the one handed in
+-- the lines are those of the machine's step, and the word is the one that was passed
 pub record ShowsStep (w n time : ℕ) (st : State) (word : Option ℕ) (b : Did) : Type 0 where
   pub lines : lines_in b ≡ step_lines w n st time
   pub takes : b.takes ≡ is_some word
   pub same : (v : ℕ) → word ≡ Some v → b.word ≡ v
 
 -- The values are as many as wires and each below P for each state of the machine in range; and an assignment that is
--- given them meets what the block puts, and shows the step.
+-- given them satisfies the block's constraints, and shows the step.
 pub record BlockIsComplete (w : ℕ) (block : BlockCircuit) (made : ℕ) (values : BlockValues) : Type 0 where
   pub many : (n time : ℕ) (st : State) (ended : Bool) → n < 2 ^ 29 → InRange w st
       → length (values_for w values n (view_of n st ended) time st (word_taken w st)) ≡ made

@@ -40,7 +40,7 @@ least_some words n h = rw (ne_eqb words 0 h) refl
 least_none : (words n : ℕ) → words ≡ 0 → least_place words n ≡ n
 least_none words n h = rw (eq-eqb words 0 h) refl
 
--- a place behind the image's first line, of the tape or behind a step's first line, is another
+-- a place after the image's first line, of the tape or after a step's first line, is another
 not_least : (words n i : ℕ) → (words ≢ 0 → i ≢ 0) → (words ≡ 0 → i ≢ n) → i ≢ least_place words n
 not_least words n i a b same = elim (cases_eq words 0) [
   | inl none ↦ b none (same ∙ least_none words n none)

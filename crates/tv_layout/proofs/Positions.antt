@@ -18,7 +18,7 @@ use Rattle.tv_layout.specs.Places.{log_from, log_of, boot_count, line_count, tap
 use Rattle.tv_layout.specs.declared.places.TheConstants.{STATE_WIRES}
 use Rattle.tv_block.specs.declared.records.Reached.{Reached}
 
--- where the wires of the memory argument begin, each step making so many
+-- where the wires of the memory argument begin, each step making the same number
 abbrev pub memory_at : ℕ → ℕ → ℕ → ℕ → ℕ
 memory_at w made n t = first_at w n + t * made
 

@@ -33,7 +33,7 @@ not_both : (b : Bool) → b ≡ false → b ≡ true → ⊥
 not_both true e f = cc
 not_both false e f = cc
 
--- what a step comes to
+-- what a step leads to
 pub record Stepped (w : ℕ) (x : List ℕ) (st : State) (b : Did) : Type 0 where
   pub matches : Matches x b.after (state_after w 1 st)
   pub ended : (e : Bool) → b.now.ended ≡ flag_of e → b.after.ended ≡ flag_of (e || finds_end w st)

@@ -1,4 +1,4 @@
--- The circuit of tv_block gives what a system takes of a step.
+-- The circuit of tv_block has what a system needs of a step.
 use Rattle.std.proofs.Common.{ℕ, ◌-◌, length, sym, subst, arith}
 use Rattle.tv_block.proofs.BlockLaws.{step_in, block_sound}
 use Rattle.tv_block.proofs.MachineFills.{machine_step_met, machine_values_fit}

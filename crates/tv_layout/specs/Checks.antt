@@ -1,4 +1,4 @@
--- How the lines of a system are checked: each by a kind that its place tells.
+-- How the lines of a system are checked: each by its kind, which its position determines.
 use Rattle.std.specs.Prelude.{ℕ, ◌+◌, ◌-◌, ◌/◌, ◌%◌, ◌==◌, nat_lt, ◌&&◌, if◌then◌else◌, List, length}
 use Rattle.tv_core.specs.declared.limits.TheConstants.{CELL_BITS, TAPE_CELLS}
 use Rattle.tv_memory.specs.Checks.{Checks}
@@ -7,7 +7,7 @@ use Rattle.tv_memory.specs.declared.kinds.Kind.TheVariants.{Fresh, Least, Boot, 
 use Rattle.tv_layout.specs.Places.{line_count, log_of}
 
 -- the least line is of cell 0: that of the image's first word, or, where the image has none, the first of the steps,
--- behind those of the tape's n words
+-- after those of the tape's n words
 abbrev pub least_place : ℕ → ℕ → ℕ
 least_place words n = if words == 0 then n else 0
 
@@ -25,7 +25,7 @@ first_kind words step = if words == 0 && step == 0 then Least else Within CELL_B
 abbrev pub step_kind : ℕ → ℕ → ℕ → Kind
 step_kind k words j = if j % 3 == 0 then first_kind words (j / 3) else if j % 3 == 1 then Within k else Within CELL_BITS
 
--- line i of all 2 ^ k, of an image of so many words and a tape of n
+-- line i of all 2 ^ k, of an image of this many words and a tape of n
 abbrev pub line_kind : ℕ → ℕ → ℕ → ℕ → Kind
 line_kind k words n i =
     if nat_lt i words then boot_kind Fresh 0 i

@@ -38,7 +38,7 @@ zero_wire_of = do
   w ← fresh
   put (wire w) (constant 1) []
 
--- one for each wire of a state; the first of them is answered
+-- one for each wire of a state; the first of them is returned
 unfoldable pub zero_wires_of : Circuit ℕ
 zero_wires_of = do
   first ← here
@@ -125,6 +125,7 @@ module _ (block : BlockCircuit) where
   abbrev pub taken_of : ℕ → List ℕ → ℕ → ℕ → List ℕ → List ℕ
   taken_of w image n t z = map (slice_index z) (taken_wires w image n t z)
 
+  -- the circuit of a system, after its public wires
   unfoldable pub layout_of : ℕ → Net → List ℕ → ℕ → ℕ → Circuit (Unit {0})
   layout_of w net image n t = do
     _ ← words_of w tape_at n

@@ -23,11 +23,11 @@ use tv_core::{F, LineLc, Wire};
 use tv_lines::{Cell, CompactLine, Word};
 use tv_memory::{Kind, Lines};
 
-/// Line `i` of a program's system, in time order: those of the image, of the words of the primary
-/// tape, of the steps, and padding up to 2^k lines, where k is `log_of` of how many there are
-/// before it; `i` is below 2^k, and the rest is what `emit_system` takes. It takes the same time at
-/// each place, and no memory. Its combinations have at most 32 terms, of wires below the system's
-/// number of them, over either network. A `LineLc` is of some 8 KB.
+/// Returns line `i` of a program's system, in time order: the lines of the image, of the words of
+/// the primary tape, of the steps, and padding up to 2^k lines, where k is `log_of` of the number
+/// of lines before the padding. `i` is below 2^k; the other arguments are those of `emit_system`.
+/// Takes constant time and no memory. The combinations have at most 32 terms, of wires of the
+/// system, over either network. A `LineLc` has some 8 KB.
 pub fn line<const W: u32>(image: &[u32], n: u32, t: u32, i: u32) -> LineLc
     requires fits { WithinLimits W image.now n t }
     requires within { i < 2 ^ log_of (line_count image.now n t) }
@@ -38,7 +38,7 @@ pub fn line<const W: u32>(image: &[u32], n: u32, t: u32, i: u32) -> LineLc
     compact_line::<W>(image, n, t, i).lc()
 }
 
-// The same line in compact form.
+// Returns line `i` in compact form.
 fn compact_line<const W: u32>(image: &[u32], n: u32, t: u32, i: u32) -> CompactLine
     requires fits { WithinLimits W image.now n t }
     requires within { i < 2 ^ log_of (line_count image.now n t) }

@@ -9,8 +9,8 @@ use tv_core::Wire;
 use tv_core::limits::{STEPS, TAPE_WORDS};
 use tv_word::arithmetic::power;
 
-/// The least k of at least 1 with `count` at most 2^k: a system of `count` lines before padding has
-/// 2^k with it. `count` is at most 2^20, and so k at most 20.
+/// Returns the least k of at least 1 with `count` at most 2^k: a system of `count` lines before
+/// padding has 2^k with it. `count` is at most 2^20, and so k at most 20.
 pub fn log_of(count: u32) -> u32
     requires { count ≤ 2 ^ 20 }
     ensures is { result ≡ log_of count }
@@ -28,7 +28,8 @@ pub fn log_of(count: u32) -> u32
 /// The wire of the public answer.
 pub const ANSWER: Wire = Wire(1);
 
-/// The wire of word `i` of the primary tape, which follows the answer's; `i` is at most 2^30.
+/// Returns the wire of word `i` of the primary tape, which follows the answer's; `i` is at most
+/// 2^30.
 pub fn tape_wire(i: u32) -> Wire
     requires { i ≤ 2 ^ 30 }
     ensures { result ≡ tape_at + i }
@@ -36,8 +37,8 @@ pub fn tape_wire(i: u32) -> Wire
     ANSWER.offset(1 + i)
 }
 
-/// How many wires stand before the private ones of a system on a tape of `n` words, `n` being at
-/// most 2^30: the constant one, the answer's and the tape's.
+/// Returns how many wires stand before the private ones of a system on a tape of `n` words, `n`
+/// being at most 2^30: the constant one, the answer's and the tape's.
 pub fn public_wires(n: u32) -> u32
     requires { n ≤ 2 ^ 30 }
     ensures { result ≡ 2 + n }

@@ -10,10 +10,10 @@ use crate::places::step_at;
 use tv_benes::Net;
 use tv_block::{Spot, block_spot};
 
-/// Where a step of the system of an image, a primary tape of `n` words and `t` steps takes a word
-/// of the auxiliary tape; the step is below `t`. Both wires are below the system's number of them,
-/// over either network. It takes constant time. The image, `t` and the network say which system is
-/// meant; the wires depend on none of them.
+/// Returns where a step of the system of an image, a primary tape of `n` words and `t` steps takes
+/// a word of the auxiliary tape; the step is below `t`. Both wires are below the system's number of
+/// them, over either network. It takes constant time. The image, `t` and the network say which
+/// system is meant; the wires depend on none of them.
 pub fn spot<const W: u32>(image: &[u32], n: u32, t: u32, step: u32, net: Net) -> Spot
     requires fits { WithinLimits W image.now n t }
     requires within { step < t }

@@ -1,39 +1,78 @@
-//! Values of which one is altered: a constraint fails.
+//! Values of which one is altered, and a system of which a line is: a constraint fails.
+ghost use Rattle.std.specs.Prelude.{◌≤◌, length};
+ghost use Rattle.tv_step.specs.Range.{AreWords};
 
 use std::alloc::Global;
 use std::test::Fail;
 use tv_benes::Net;
-use tv_core::{F, ListValues, TestSink};
+use tv_core::{F, ListValues, Put, TestSink};
 use tv_fill::fill_system;
 use tv_layout::emit_system;
 
-// `answer 0`.
+// `answer 0`, and `answer 1`.
 const IMAGE: [u32; 2] = [0xfc00_0000, 0];
 
-// The first constraint that fails where a wire of the system of one step, whose tape has the word
-// 5, has this number in place of its own.
-fn first_failed(alloc: Global, wire: usize, number: u64) -> Result<Option<u32>, Fail> {
+const OTHER: [u32; 2] = [0xfc00_0000, 1];
+
+// The values of the run of `answer 0` in one step, on a tape that has the word 5.
+fn values_of_run(alloc: Global) -> Result<Vec<F>, Fail> {
     let mut values = ListValues::new(alloc);
     fill_system::<32, ListValues>(alloc, &IMAGE, &[5], &[], 1, Net::Benes, &mut values)?;
-    let mut z = Vec::from_slice(alloc, values.as_slice())?;
-    if wire < z.len() {
-        z[wire] = F::of(number);
-    }
-    let mut tests = TestSink::over(&z, 3);
-    emit_system::<32, TestSink>(&IMAGE, 1, 1, Net::Benes, &mut tests)?;
+    Ok(Vec::from_slice(alloc, values.as_slice())?)
+}
+
+// The first constraint of an image's system, for one step and a tape of one word, that fails.
+fn first_failed(image: &[u32], z: &[F]) -> Put<Option<u32>>
+    requires words { AreWords 32 image.now }
+    requires short { length image.now ≤ 2 }
+{
+    let mut tests = TestSink::over(z, 3);
+    emit_system::<32, TestSink>(image, 1, 1, Net::Benes, &mut tests)?;
     Ok(tests.first_failed())
 }
 
-// The tape's word has 32 bits and then their sum, constraint 32; the 20 wires of the first state,
-// from wire 35 on, have one constraint each, from 33 on; and after the 324 of the step the second
-// of two binds the answer.
+/// Wires, and the first constraint that fails where one has 1 less its value. The tape's word has
+/// 32 bits, at wires 3 to 34, and then their sum, constraint 32. The 20 wires of the first state,
+/// from wire 35 on, have one constraint each, from 33 on. After the 311 wires and 324 constraints
+/// of the step, the second of two constraints binds the answer. The network's wires begin at 366
+/// and have one constraint each, from 379 on. A switch of its first or last column has five: its
+/// bit, which is still one if it is altered, and the numbers that it passes. The last column begins
+/// at 430, after 20 wires of the first one and 22 of each network within.
+const ALTERED: [(&str, usize, u32); 11] = [
+    ("answer", 1, 378),
+    ("word of the tape", 2, 32),
+    ("first wire of the first state", 35, 33),
+    ("last wire of the first state", 54, 52),
+    ("bit of a switch", 366, 380),
+    ("cell behind a switch", 367, 380),
+    ("time and word behind a switch", 368, 381),
+    ("cell behind the network", 441, 454),
+    ("time and word behind the network", 442, 455),
+    ("next cell behind the network", 443, 456),
+    ("next time and word behind the network", 444, 457),
+];
+
 #[test]
 fn an_altered_wire_fails_its_constraint(rt: HostRuntime) -> Result<(), Fail> {
-    let alloc = rt.alloc();
-    assert_eq!(rt; first_failed(alloc, 2, 5)?, None);
-    assert_eq!(rt; first_failed(alloc, 2, 6)?, Some(32));
-    assert_eq!(rt; first_failed(alloc, 1, 1)?, Some(378));
-    assert_eq!(rt; first_failed(alloc, 35, 1)?, Some(33));
-    assert_eq!(rt; first_failed(alloc, 54, 1)?, Some(52));
+    let mut z = values_of_run(rt.alloc())?;
+    assert_eq!(rt; first_failed(&IMAGE, &z)?, None);
+    for (name, wire, failed) in ALTERED {
+        if wire < z.len() {
+            let kept = z[wire];
+            z[wire] = F::ONE - kept;
+            assert_eq!(rt; first_failed(&IMAGE, &z)?, Some(failed), "{name}");
+            z[wire] = kept;
+        }
+    }
+    Ok(())
+}
+
+// The step reads 0 where the other image has 1. So its second line is dishonest, and nothing but
+// the memory argument can find that: first, the switch that takes the image's two words.
+#[test]
+fn a_dishonest_line_fails(rt: HostRuntime) -> Result<(), Fail> {
+    let z = values_of_run(rt.alloc())?;
+    let failed = first_failed(&OTHER, &z)?.unwrap_or(0);
+    assert!(rt; 379 <= failed && failed < 384, "{failed}");
     Ok(())
 }

@@ -24,7 +24,7 @@ const NARROW: [u32; 2] = [0xfc00, 0];
 ///     terms:       2 · 20 + Z + 6 + (18 + 25 + 24 + 18) + columns
 ///                  + 2 + 137 + 25 + 137
 ///
-/// with R = 311, S = 324, Z = 1889 at 32 bits and R = 212, S = 225, Z = 1327 at 16, no word being
+/// with R = 311, S = 324, Z = 1758 at 32 bits and R = 212, S = 225, Z = 1270 at 16, no word being
 /// on the tape. The columns after the first have 22 · 16 terms, and over Waksman's network
 /// 22 · 13 + 1.
 ///
@@ -35,8 +35,8 @@ const NARROW: [u32; 2] = [0xfc00, 0];
 /// before is 0, and 4 · 31 + 8 + 3 + 1 + 1, 4 · 3 + 8 + 2 + 2 + 1 and 4 · 31 + 8 + 3 + 1 + 1 of the
 /// step's lines; in the second of them 2^32 times the cell's constant cancels.
 const SIZES: [(Net, [u64; 3], [u64; 3]); 2] = [
-    (Net::Benes, [485, 505, 2673], [386, 406, 2111]),
-    (Net::Waksman, [474, 494, 2608], [375, 395, 2046]),
+    (Net::Benes, [485, 505, 2542], [386, 406, 2054]),
+    (Net::Waksman, [474, 494, 2477], [375, 395, 1989]),
 ];
 
 // What a system's sizes are said to be, and what a sink counts.

@@ -53,6 +53,7 @@ line_value z line = record { cell = value line.cell z; time = value line.time z;
 abbrev pub joined : Combination → Combination → Combination
 joined low high = low ++ scaled (2 ^ 32 % P) high
 
+-- a line as a pair of combinations
 abbrev pub pack : LineLc → Pair
 pack line = record { first = joined line.old line.cell; second = joined line.new line.time }
 

@@ -82,12 +82,12 @@ abbrev pub follows_values : ℕ → Line → Line → List ℕ
 follows_values m p l = bits_values (reach_between p l) m ++ excess_between p l ∷ []
 
 -- ---- the laws
--- in an assignment that meets what was put the line follows that of the item
+-- in an assignment that satisfies the constraints the line follows that of the item
 abbrev pub FollowsIsSound : Type 0
 FollowsIsSound = (z : List ℕ) (next m : ℕ) (line : LineLc) (item : Pair) (p l : Line) → m ≤ 31 → Assigns z
     → line_value z line ≡ l → pair_value z item ≡ packed_item p → InRange p → InRange l → Meets z (follows_of m line item next).list → Follows p l
 
--- where it does, and the reach has m bits, an assignment that has these values at the wires that were made meets what was put
+-- where it does, and the reach has m bits, an assignment that has these values at the wires that were made satisfies the constraints
 abbrev pub FollowsIsComplete : Type 0
 FollowsIsComplete = (z : List ℕ) (next m : ℕ) (line : LineLc) (item : Pair) (p l : Line) → m ≤ 31 → Assigns z
     → line_value z line ≡ l → pair_value z item ≡ packed_item p → InRange p → InRange l → Follows p l → reach_between p l < 2 ^ m
@@ -109,7 +109,8 @@ pub record FollowsCosts : Type 0 where
   pub terms : (m : ℕ) (line : LineLc) (u v next : ℕ) → 1 ≤ u → top line.cell ≤ u → top line.old ≤ u → top line.time ≤ v
       → terms_in (follows_of m line (record { first = wire u; second = wire v }) next).list ≡ follows_terms m line
 
--- what it puts is normal, whatever the line's combinations are, where all of them and the item's are of wires below the next
+-- what it emits is normal, whatever the line's combinations are, where all of them and the item's are of wires below the
+-- next
 abbrev pub FollowsIsNormal : Type 0
 FollowsIsNormal = (m : ℕ) (line : LineLc) (item : Pair) (next : ℕ) → 1 ≤ next → m ≤ 31 → top line.cell ≤ next → top line.time ≤ next → top line.old ≤ next
     → top item.first ≤ next → top item.second ≤ next → AreNormal (follows_of m line item next).list

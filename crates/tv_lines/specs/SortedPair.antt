@@ -28,10 +28,11 @@ cell_chunks = 3
 abbrev pub time_chunks : ℕ
 time_chunks = 2
 
+-- the number that some bits represent
 abbrev pub number : Bits → Combination
 number x = bits_combination x.first x.n
 
--- the number that its bits from place p on spell
+-- the number that its bits from place p on represent
 abbrev pub bits_from : Bits → ℕ → Combination
 bits_from x p = bits_combination (x.first + p) (x.n - p)
 
@@ -111,12 +112,12 @@ sorted_pair_values l m =
     cells_apart l m ∷ (zero_values (cells_apart l m) ++ (size_values (size l m) ++ products_values (factor_in l m) (cell_chunks + time_chunks)))
 
 -- ---- the laws
--- in an assignment that meets what was put for bits that spell two lines the second follows the first
+-- in an assignment that satisfies the constraints for bits that represent two lines the second follows the first
 abbrev pub SortedPairIsSound : Type 0
 SortedPairIsSound = (z : List ℕ) (next : ℕ) (before after : LineBits) (l m : Line) → HasWidths before → HasWidths after → Assigns z
     → SpellsLine z before l → SpellsLine z after m → Meets z (sorted_pair_of before after next).list → Follows l m
 
--- where it does, an assignment that has these values at the wires that were made meets what was put
+-- where it does, an assignment that has these values at the wires that were made satisfies the constraints
 abbrev pub SortedPairIsComplete : Type 0
 SortedPairIsComplete = (z : List ℕ) (next : ℕ) (before after : LineBits) (l m : Line) → HasWidths before → HasWidths after → Assigns z
     → SpellsLine z before l → SpellsLine z after m → Follows l m → HasFrom z next (sorted_pair_values l m) → Meets z (sorted_pair_of before after next).list
@@ -127,7 +128,7 @@ pub record SortedPairSizes : Type 0 where
   pub fills : (before after : LineBits) (l m : Line) → Fills (sorted_pair_of before after) (sorted_pair_values l m)
   pub in_field : (l m : Line) → InRange m → InField (sorted_pair_values l m)
 
--- an assignment meets what was put for a line exactly where its old is 0
+-- an assignment satisfies the constraints for a line exactly where its old is 0
 abbrev pub FirstLineIsSound : Type 0
 FirstLineIsSound = (z : List ℕ) (next : ℕ) (bits : LineBits) (l : Line) → HasWidths bits → Assigns z → SpellsLine z bits l
     → Meets z (first_line_of bits next).list → l.old ≡ 0

@@ -18,12 +18,12 @@ use Rattle.tv_lines.specs.Predecessor.{less_above}
 unfoldable pub boot_line_of : ℕ → Pair → Circuit (Unit {0})
 boot_line_of c item = put (less_above item.first (constant c)) (constant 1) []
 
--- in an assignment that meets what was put, a line of the next cell whose old word is 0 follows that of the item
+-- in an assignment that satisfies the constraints, a line of the next cell whose old word is 0 follows that of the item
 abbrev pub BootLineIsSound : Type 0
 BootLineIsSound = (z : List ℕ) (next c : ℕ) (item : Pair) (p l : Line) → c < 2 ^ 31 → Assigns z → pair_value z item ≡ packed_item p → InRange p
     → l.cell ≡ c + 1 → l.old ≡ 0 → Meets z (boot_line_of c item next).list → Follows p l
 
--- where the item is of that cell, an assignment meets what was put
+-- where the item is of that cell, an assignment satisfies the constraints
 abbrev pub BootLineIsComplete : Type 0
 BootLineIsComplete = (z : List ℕ) (next c : ℕ) (item : Pair) (p : Line) → c < 2 ^ 31 → Assigns z → pair_value z item ≡ packed_item p
     → p.cell ≡ c → Meets z (boot_line_of c item next).list
@@ -45,7 +45,7 @@ pub record BootLineSizes : Type 0 where
 unfoldable pub least_line_of : LineLc → Circuit (Unit {0})
 least_line_of line = put (normal line.old) (constant 1) []
 
--- an assignment meets what was put exactly where the old word is 0
+-- an assignment satisfies the constraints exactly where the old word is 0
 abbrev pub LeastLineIsSound : Type 0
 LeastLineIsSound = (z : List ℕ) (next : ℕ) (line : LineLc) → Assigns z → Meets z (least_line_of line next).list → (line_value z line).old ≡ 0
 

@@ -27,7 +27,7 @@ pub record AreMade (bits : LineBits) (wires : ℕ) : Type 0 where
 abbrev pub key_end : LineBits → ℕ
 key_end bits = max (bits.cell.first + bits.cell.n) (bits.time.first + bits.time.n)
 
--- the bits spell the four numbers of a line
+-- the bits represent the four numbers of a line
 pub record SpellsLine (z : List ℕ) (bits : LineBits) (line : Line) : Type 0 where
   pub cell : Spells z bits.cell.first cell_bits line.cell
   pub time : Spells z bits.time.first time_bits line.time
@@ -44,7 +44,7 @@ line_bits first second = record {
   new = record { first = second; n = 32 };
 }
 
--- new wires that spell the first number, and such that spell the second
+-- new wires that represent the first number, and such that represent the second
 unfoldable pub unpack_of : Pair → Circuit LineBits
 unpack_of pair = do
   first ← bits_of pair.first (32 + cell_bits)
@@ -56,17 +56,17 @@ abbrev pub unpack_values : PairNum → List ℕ
 unpack_values pair = bits_values pair.first (32 + cell_bits) ++ bits_values pair.second (32 + time_bits)
 
 -- ---- the laws
--- in an assignment that meets what was put the bits spell the line that the pair stands for
+-- in an assignment that satisfies the constraints the bits represent the line that the pair stands for
 abbrev pub UnpackIsSound : Type 0
 UnpackIsSound = (z : List ℕ) (next : ℕ) (pair : Pair) → Assigns z → Meets z (unpack_of pair next).list
     → SpellsLine z (unpack_of pair next).answer (unpacked (pair_value z pair))
 
--- where the pair packs a line in range, an assignment that has its bits at the wires that were made meets what was put
+-- where the pair packs a line in range, an assignment that has its bits at the wires that were made satisfies the constraints
 abbrev pub UnpackIsComplete : Type 0
 UnpackIsComplete = (z : List ℕ) (next : ℕ) (pair : Pair) (line : Line) → Assigns z → InRange line → pair_value z pair ≡ packed line
     → HasFrom z next (unpack_values (packed line)) → Meets z (unpack_of pair next).list
 
--- which wires are answered, and as many values as wires, each below P
+-- which wires are returned, and as many values as wires, each below P
 pub record UnpackSizes : Type 0 where
   pub answer : (pair : Pair) (next : ℕ) → (unpack_of pair next).answer ≡ line_bits next (next + 63)
   pub end : (pair : Pair) (next : ℕ) → (unpack_of pair next).next ≡ next + 115

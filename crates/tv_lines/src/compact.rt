@@ -1,3 +1,4 @@
+//! Compact lines of memory.
 ghost use Rattle.std.specs.Prelude.{◌≡◌, ◌+◌, ◌-◌, ◌^◌, ◌%◌, ◌≤◌, ◌++◌, [], length, max};
 ghost use Rattle.tv_core.specs.Combinations.{constant, scaled, top};
 ghost use Rattle.tv_core.specs.Normal.{normal, IsNormal};
@@ -11,8 +12,8 @@ use tv_core::{F, Lc, LineLc, Pair, Wire};
 // By how much the cell and the time stand above the words of a packed line.
 pub(crate) const SHIFT: u64 = 1 << 32;
 
-/// A line of memory in compact form: the parts of its combinations. It takes some bytes, where they
-/// take 8 KB.
+/// A line of memory in compact form: the parts of its combinations. It takes a few bytes, where
+/// they take 8 KB.
 #[derive(Clone, Copy, PartialEq, Eq, Debug)]
 pub struct CompactLine {
     /// The number of the cell.
@@ -28,7 +29,7 @@ pub struct CompactLine {
 /// The number of a cell. A number that is known is a multiple of the constant wire.
 #[derive(Clone, Copy, PartialEq, Eq, Debug)]
 pub enum Cell {
-    /// So many times a wire.
+    /// A multiple of a wire.
     Multiple(F, Wire),
     /// The cell after that one.
     After(F, Wire),

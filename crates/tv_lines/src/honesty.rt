@@ -1,3 +1,4 @@
+//! Laws of honest lines, without circuits.
 ghost use Rattle.tv_lines.specs.Ordered.{OrderedLinesAreHonest, SortedLinesAreOrdered};
 
 /// Lines in time order are honest where the same lines, in some other order, are in address order.

@@ -1,3 +1,4 @@
+//! Two lines that follow each other in address order.
 ghost use Rattle.std.specs.Prelude.{◌≡◌, ◌<◌, [], false, IfOk, OnOk};
 ghost use Rattle.tv_core.specs.Giving.{GivesIn};
 ghost use Rattle.tv_core.specs.Sinks.{PutsIn, Grows, Room};
@@ -104,7 +105,7 @@ pub fn first_line<S: Sink>(s: &mut S, line: &LineBits) -> Put<()>
     s.put(&line.old.lc(), &Lc::constant(F::ONE), &Lc::empty())
 }
 
-/// Gives the values of the wires that `sorted_pair` makes for these lines.
+/// Assigns the values of the wires that `sorted_pair` makes for these lines.
 pub fn fill_sorted_pair<V: Values>(v: &mut V, before: &LineNum, after: &LineNum) -> Put<()>
     requires { V.giving.broken v.old ≡ false }
     ensures gives { GivesIn V.giving v.old v.new
@@ -119,7 +120,7 @@ pub fn fill_sorted_pair<V: Values>(v: &mut V, before: &LineNum, after: &LineNum)
     fill_rises(v, before, after)
 }
 
-// Gives the bits of `size` less 1, and `size`.
+// Assigns the bits of `size` less 1, and `size`.
 fn fill_size<V: Values>(v: &mut V, size: F) -> Put<()>
     requires { V.giving.broken v.old ≡ false }
     ensures gives { GivesIn V.giving v.old v.new (size_values size) result }
@@ -129,7 +130,7 @@ fn fill_size<V: Values>(v: &mut V, size: F) -> Put<()>
     v.give(size)
 }
 
-/// Gives nothing, since `first_line` makes no wire.
+/// Assigns nothing, since `first_line` makes no wire.
 pub fn fill_first_line<V: Values>(v: &mut V, _line: &LineNum) -> Put<()>
     requires { V.giving.broken v.old ≡ false }
     ensures gives { GivesIn V.giving v.old v.new [] result }
@@ -138,30 +139,32 @@ pub fn fill_first_line<V: Values>(v: &mut V, _line: &LineNum) -> Put<()>
     Ok(())
 }
 
-/// In an assignment that meets what `sorted_pair` put for bits that spell two lines, the second
-/// follows the first.
+/// In an assignment that satisfies the constraints of `sorted_pair` for bits that represent two
+/// lines, the second follows the first.
 pub fn sorted_pair_is_sound()
     ensures { SortedPairIsSound }
 {}
 
 /// Where the second line follows the first, an assignment that has the values that
-/// `fill_sorted_pair` gives meets what `sorted_pair` put.
+/// `fill_sorted_pair` assigns satisfies the constraints of `sorted_pair`.
 pub fn sorted_pair_is_complete()
     ensures { SortedPairIsComplete }
 {}
 
-/// `fill_sorted_pair` gives as many values as `sorted_pair` makes wires, and for lines in range
+/// `fill_sorted_pair` assigns as many values as `sorted_pair` makes wires, and for lines in range
 /// each is below P.
 pub fn sorted_pair_fills()
     ensures { SortedPairSizes }
 {}
 
-/// In an assignment that meets what `first_line` put for bits that spell a line, its old word is 0.
+/// In an assignment that satisfies the constraints of `first_line` for bits that represent a line,
+/// its old word is 0.
 pub fn first_line_is_sound()
     ensures { FirstLineIsSound }
 {}
 
-/// An assignment in which bits spell a line with an old word of 0 meets what `first_line` put.
+/// An assignment in which bits represent a line with an old word of 0 satisfies the constraints of
+/// `first_line`.
 pub fn first_line_is_complete()
     ensures { FirstLineIsComplete }
 {}

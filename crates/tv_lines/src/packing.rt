@@ -1,3 +1,4 @@
+//! Lines packed into pairs of combinations and of numbers.
 ghost use Rattle.std.specs.Prelude.{◌≡◌, ◌+◌, ◌*◌, ◌/◌, ◌%◌, ◌^◌, ◌<◌, ◌≤◌, length, max};
 ghost use Rattle.tv_core.specs.Combinations.{top};
 ghost use Rattle.tv_lines.specs.Packing.{joined, line_of, pack, packed, unpacked, PackIsRight};
@@ -5,8 +6,8 @@ ghost use Rattle.tv_lines.specs.Packing.{packed_item, ItemIsRight, PackIsOneToOn
 
 use tv_core::{F, Lc, Line, LineLc, LineNum, Pair, PairNum};
 
-/// A line as two combinations: the old word and 2^32 times the cell; the new word and 2^32 times
-/// the time. The line has at most 32 terms in each combination, and the pair at most 64.
+/// Returns a line as two combinations: the old word and 2^32 times the cell; the new word and 2^32
+/// times the time. The line has at most 32 terms in each combination, and the pair at most 64.
 pub fn pack(line: &LineLc) -> Pair
     requires cell_short { length line.now.cell ≤ 32 }
     requires time_short { length line.now.time ≤ 32 }
@@ -37,7 +38,7 @@ fn joined(low: &Lc, high: &Lc) -> Lc
     lc
 }
 
-/// The numbers of a packed line, which is in range: a cell below 2^31, a time below 2^20.
+/// Returns the numbers of a packed line, which is in range: a cell below 2^31, a time below 2^20.
 pub fn pack_line(line: &Line) -> PairNum
     requires cell { line.now.cell < 2 ^ 31 }
     requires time { line.now.time < 2 ^ 20 }
@@ -84,7 +85,7 @@ fn joined_words(low: u32, high: u32) -> F
     F::of(u64::from(high) << 32 | u64::from(low))
 }
 
-/// The numbers of the line that a pair stands for.
+/// Returns the numbers of the line that a pair stands for.
 pub fn unpack_line(pair: &PairNum) -> LineNum
     ensures { line_of result ≡ unpacked pair.now }
 {
@@ -107,7 +108,7 @@ fn split_words(number: F) -> (F, F)
     (F::from(low), F::from(high))
 }
 
-// The same as words.
+// Like `split_words`, as words.
 fn words(number: F) -> (u32, u32)
     ensures low { result.0 ≡ number % 2 ^ 32 }
     ensures high { result.1 ≡ number / 2 ^ 32 }

@@ -183,7 +183,7 @@ fn excess_between(before: &Line, after: &Line) -> u64
     }
 }
 
-/// In an assignment that meets the constraints of `follows`, the line follows that of the item:
+/// In an assignment that satisfies the constraints of `follows`, the line follows that of the item:
 /// its cell is above, or its time in the same cell, and its old word is the other's new word where
 /// the cells are the same, and else 0.
 pub fn follows_is_sound()

@@ -1,3 +1,4 @@
+//! That the key of one line is above that of another, by prefixes.
 ghost use Rattle.std.specs.Prelude.{◌≡◌, ◌+◌, ◌-◌, ◌≤◌, ◌<◌, ◌^◌, [], ◌∷◌, ◌++◌, false, length};
 ghost use Rattle.std.specs.Prelude.{max, IfOk, OnOk};
 ghost use Rattle.tv_bits.specs.Order.{first_difference, prefix_difference};
@@ -119,7 +120,7 @@ fn plus_key(lc: &mut Lc, apart: Wire, before: &Bits, after: &Bits, from: u32)
     plus_less(lc, before, after, from);
 }
 
-// Appends what the bits from place `from` on spell, of `after` less of `before`.
+// Appends what the bits from place `from` on represent, of `after` less of `before`.
 fn plus_less(lc: &mut Lc, before: &Bits, after: &Bits, from: u32)
     requires before_long { from ≤ before.now.n }
     requires after_long { from ≤ after.now.n }
@@ -137,7 +138,7 @@ fn plus_less(lc: &mut Lc, before: &Bits, after: &Bits, from: u32)
     before.above(from).plus_to(lc, -F::ONE);
 }
 
-// Gives the values of the wires that `rises` makes.
+// Assigns the values of the wires that `rises` makes.
 pub(crate) fn fill_rises<V: Values>(v: &mut V, before: &LineNum, after: &LineNum) -> Put<()>
     requires { V.giving.broken v.old ≡ false }
     ensures gives { GivesIn V.giving v.old v.new

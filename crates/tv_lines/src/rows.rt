@@ -1,3 +1,4 @@
+//! The bits of a line of memory.
 use tv_bits::Bits;
 
 /// The bits of a line's four numbers: 31 of its cell, 20 of its time, 32 of each word.

@@ -1,3 +1,4 @@
+//! Packed lines expanded to bits.
 ghost use Rattle.std.specs.Prelude.{◌≡◌, ◌+◌, ◌≤◌, ◌<◌, ◌^◌, false, IfOk, OnOk};
 ghost use Rattle.tv_core.specs.Combinations.{top};
 ghost use Rattle.tv_core.specs.Giving.{GivesIn};
@@ -14,9 +15,9 @@ use tv_core::{Pair, PairNum, Put, Scratch, Sink, Values, Wire};
 // The bits of a word, which stand below those of the cell or of the time.
 const WORD_BITS: u32 = 32;
 
-/// The bits of the line that a pair packs; so its cell is held below 2^31, its time below 2^20 and
-/// its words below 2^32. It makes 115 wires and 117 constraints, of 462 terms beside those of the
-/// pair.
+/// Emits the constraints of the bits of the line that a pair packs, and returns the bits. So its
+/// cell is below 2^31, its time below 2^20 and its words below 2^32. It makes 115 wires and 117
+/// constraints, of 462 terms beside those of the pair.
 pub fn unpack<S: Sink>(s: &mut S, pair: &Pair) -> Put<LineBits>
     requires room { Room S.meaning s.old 115 117 }
     requires first_made { top pair.now.first ≤ S.meaning.wires s.old }
@@ -32,8 +33,8 @@ pub fn unpack<S: Sink>(s: &mut S, pair: &Pair) -> Put<LineBits>
     Ok(line_bits(first.first, second.first))
 }
 
-/// The bits of a line that stand in two rows: from wire `first` on those of the old word and then
-/// of the cell, and from wire `second` on those of the new word and then of the time.
+/// Returns the bits of a line that stand in two rows: from wire `first` on those of the old word
+/// and then of the cell, and from wire `second` on those of the new word and then of the time.
 pub fn line_bits(first: Wire, second: Wire) -> LineBits
     requires first_within { first + 63 < 2 ^ 32 }
     requires second_within { second + 52 < 2 ^ 32 }
@@ -59,7 +60,7 @@ pub fn line_bits(first: Wire, second: Wire) -> LineBits
     }
 }
 
-/// Gives the values of the wires that `unpack` makes: the lowest 63 bits of the first number and
+/// Assigns the values of the wires that `unpack` makes: the lowest 63 bits of the first number and
 /// the lowest 52 of the second, lowest first.
 pub fn fill_unpack<V: Values>(v: &mut V, pair: &PairNum) -> Put<()>
     requires { V.giving.broken v.old ≡ false }
@@ -70,18 +71,19 @@ pub fn fill_unpack<V: Values>(v: &mut V, pair: &PairNum) -> Put<()>
     fill_bits(v, pair.second, WORD_BITS + TIME_BITS)
 }
 
-/// In an assignment that meets what `unpack` put, the bits spell the line that the pair stands for.
+/// In an assignment that satisfies the constraints of `unpack`, the bits represent the line that
+/// the pair stands for.
 pub fn unpack_is_sound()
     ensures { UnpackIsSound }
 {}
 
-/// Where the pair packs a line in range, an assignment that has the values that `fill_unpack` gives
-/// meets what `unpack` put.
+/// Where the pair packs a line in range, an assignment that has the values that `fill_unpack`
+/// assigns satisfies the constraints of `unpack`.
 pub fn unpack_is_complete()
     ensures { UnpackIsComplete }
 {}
 
-/// `fill_unpack` gives as many values as `unpack` makes wires, each below P.
+/// `fill_unpack` assigns as many values as `unpack` makes wires, each below P.
 pub fn unpack_fills()
     ensures { UnpackSizes }
 {}

@@ -1,4 +1,4 @@
--- Lines in order by cell: a sort gives them, and there is one such list.
+-- Lines in order by cell: a sort makes them, and there is one such list.
 use Rattle.std.proofs.Common.{◌≡◌, ℕ, suc, ◌<◌, ◌≤◌, Bool, true, false, List, [], ◌∷◌, length, map, get_or, refl, sym, ◌∙◌, ap, ap₂, arith, inl, inr, rules}
 use Rattle.std.proofs.lemmas.Bool.{cases_order, lt-ltb, le-ltb, eq-eqb}
 use Rattle.std.proofs.lemmas.List.Sorted.{IsPermutation-refl, IsPermutation-cons, IsPermutation-trans, IsPermutation-insert, IsPermutation-map}
@@ -34,7 +34,7 @@ less x y h = rw (lt-ltb x y h) refl
 same : (x : ℕ) → nat_cmp x x ≡ Equal
 same x = rw (le-ltb x x (omega arith), eq-eqb x x refl) refl
 
--- where neither of two comes first, their first numbers are the same, and neither comes first by what is behind
+-- where neither of two comes first, their first numbers are the same, and neither comes first by what follows
 record Tie (x y : ℕ) (o p : Ordering) : Type 0 where
   first : x ≡ y
   left : is_lt o ≡ false

@@ -39,6 +39,7 @@ abbrev pub by_cell : List Line → List Line
 by_cell [] = []
 by_cell (l ∷ rest) = put_in l (by_cell rest)
 
+-- lines in the order that is asked for: of their times, in which they are, or by cell
 abbrev pub ordered : By → List Line → List Line
 ordered Time lines = lines
 ordered Cell lines = by_cell lines
@@ -49,6 +50,7 @@ abbrev pub line_text : Line → List ℕ
 line_text line =
     decimal line.time ++ codes " " ++ decimal line.cell ++ codes " " ++ decimal line.old ++ codes " " ++ decimal line.new ++ codes "\n"
 
+-- the text of lines, in the order in which they are
 abbrev pub text_of : List Line → List ℕ
 text_of lines = flat_map line_text lines
 

@@ -10,8 +10,8 @@ use std::alloc::{AllocError, Global};
 use tv_core::F;
 use tv_layout::line;
 
-/// The text of the lines that an assignment has of the system of an image, a primary tape of `n`
-/// words and `t` steps: those of the words of the image and the tape, and of the steps up to
+/// Returns the text of the lines that an assignment has of the system of an image, a primary tape
+/// of `n` words and `t` steps: those of the words of the image and the tape, and of the steps up to
 /// `step`. Each line is its time, its cell, its old and its new word in decimal, apart by one
 /// space, and a line feed. The assignment need not satisfy the system, and a wire past its end
 /// counts as 0; the numbers are those of the field. Takes 32 bytes a line beside the text.
@@ -37,7 +37,7 @@ pub fn listing<const W: u32>(
     text_by(alloc, by, rows)
 }
 
-// The first lines that an assignment has, so many.
+// The first lines that an assignment has.
 fn rows<const W: u32>(
     alloc: Global,
     image: &[u32],

@@ -1,11 +1,11 @@
-//! Lines in numbers, and the orders in which they are told.
+//! Lines in numbers, and the orders in which they are listed.
 ghost use Rattle.std.specs.Prelude.{◌≡◌};
 ghost use Rattle.tv_listing.specs.Row.{row_line};
 ghost use Rattle.tv_lines.specs.Packing.{line_value};
 
 use tv_core::{F, Line, LineLc};
 
-/// The order in which lines are told.
+/// The order in which lines are listed.
 #[derive(Clone, Copy, PartialEq, Eq, Debug)]
 pub enum By {
     /// As they follow each other in time.
@@ -24,7 +24,7 @@ pub(crate) struct Row {
 }
 
 impl Row {
-    /// The line that an assignment has.
+    /// Returns the line that an assignment has.
     pub(crate) fn valued(line: &LineLc, z: &[F]) -> Row
         ensures { row_line result ≡ line_value z.now line.now }
     {
@@ -36,7 +36,7 @@ impl Row {
         }
     }
 
-    /// A line of a trace.
+    /// Returns a line of a trace.
     pub(crate) fn of(line: &Line) -> Row
         ensures { row_line result ≡ line.now }
     {

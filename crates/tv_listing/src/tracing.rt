@@ -12,7 +12,7 @@ use tv_core::Line;
 use tv_core::limits::TAPE_CELLS;
 use tv_step::Trace;
 
-/// The text that `listing` gives, of the lines of a trace: of those that write the words of an
+/// Returns the text of `listing`, for the lines of a trace: of those that write the words of an
 /// image and of a primary tape, and of the run's steps up to `step`. It takes memory for the text
 /// and for the lines, and is refused only where that runs out.
 pub fn trace_text(

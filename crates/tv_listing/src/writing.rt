@@ -7,7 +7,7 @@ use crate::row::{By, Row};
 use itoa::Buffer;
 use std::alloc::{AllocError, Global};
 
-/// The text of lines in an order.
+/// Returns the text of lines in an order.
 pub(crate) fn text_by(alloc: Global, by: By, mut rows: Vec<Row>) -> Result<Vec<u8>, AllocError>
     ensures { IfOk result (λ text. text.items ≡ text_by by (map row_line rows.items)) }
 {
@@ -47,7 +47,7 @@ fn push_row(text: &mut Vec<u8>, row: &Row) -> Result<(), AllocError>
     push_number(text, row.new, b'\n')
 }
 
-// Adds a number and the byte behind it.
+// Adds a number and the byte after it.
 fn push_number(text: &mut Vec<u8>, number: u64, end: u8) -> Result<(), AllocError>
     ensures { OnOk result (text.new.items ≡ text.old.items ++ (decimal number ++ end ∷ [])) }
 {

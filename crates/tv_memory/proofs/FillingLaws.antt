@@ -1,4 +1,4 @@
--- What a network gives of items, and the values of the checks.
+-- The values of a network over items, and of the checks.
 use Rattle.std.proofs.Common.{◌≡◌, ℕ, zero, suc, ◌<◌, ◌≤◌, List, ◌++◌, Result, refl, sym, ◌∙◌, ap, ap₂, arith}
 use Rattle.tv_benes.proofs.Permuting.{places-at}
 use Rattle.tv_benes.specs.Items.{pair_at}
@@ -44,7 +44,7 @@ check_same kind p l m cell time old = ap₂ (λ (c t : ℕ). check_values kind p
     left_out (Boot c) p l n = refl
     left_out (Within k) p l n = refl
 
--- ---- what was given of a list, by another spelling of the list
+-- ---- what was passed of a list, the list being written in another way
 module _ {V : Type 0} (m : Giving V) (xs ys : List ℕ) (old new : V) (same : xs ≡ ys) where
   pub given_all : GivesAll m old new xs → GivesAll m old new ys
   given_all p = rw same at p

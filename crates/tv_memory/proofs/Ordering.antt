@@ -59,7 +59,7 @@ module _ (lines : List Line) (few : length lines ≤ 2 ^ 20) (from : LinesFrom 0
   abbrev sorted : List Line
   sorted = map (λ k. number_in lines (k % 2 ^ 20)) (rising (map key lines))
 
-  -- the keys tell the places
+  -- the keys determine the places
   places_of_keys : map (λ k. k % 2 ^ 20) (map key lines) ≡ places (length lines) (λ i. i)
   unfolding places each_below
   places_of_keys =
@@ -70,7 +70,7 @@ module _ (lines : List Line) (few : length lines ≤ 2 ^ 20) (from : LinesFrom 0
   permuted = subst (λ ps. IsPermutation ps (address_order lines)) places_of_keys
       (IsPermutation-map (λ k. k % 2 ^ 20) (map key lines) (rising (map key lines)) (rising_moves (map key lines)))
 
-  -- the lines that they tell are the lines
+  -- the lines that they determine are the lines
   lines_of_keys : map (λ k. number_in lines (k % 2 ^ 20)) (map key lines) ≡ lines
   lines_of_keys =
       map_map key (λ k. number_in lines (k % 2 ^ 20)) lines ∙ sym (each_place (λ l. number_in lines (key l % 2 ^ 20)) zero_line lines)
@@ -85,7 +85,7 @@ module _ (lines : List Line) (few : length lines ≤ 2 ^ 20) (from : LinesFrom 0
   moved = subst (λ ls. IsPermutation ls sorted) lines_of_keys
       (IsPermutation-map (λ k. number_in lines (k % 2 ^ 20)) (map key lines) (rising (map key lines)) (rising_moves (map key lines)))
 
-  -- the line that a key tells has it
+  -- the line that a key determines has it
   keeps : All (λ k. key (number_in lines (k % 2 ^ 20)) ≡ k) (rising (map key lines))
   keeps = All-permutation (λ k. key (number_in lines (k % 2 ^ 20)) ≡ k) (map key lines) (rising (map key lines)) (rising_moves (map key lines))
       (All-from_get_or (λ k. key (number_in lines (k % 2 ^ 20)) ≡ k) (map key lines) 0 (λ i h.

@@ -1,4 +1,4 @@
--- Numbers in rising order: a sort gives them, and there is one such list.
+-- Numbers in rising order: a sort makes them, and there is one such list.
 use Rattle.std.proofs.Common.{◌≡◌, ◌≢◌, ◌⊎◌, ℕ, zero, suc, ◌+◌, ◌<◌, ◌≤◌, ◌==◌, nat_le, Bool, true, false, if◌then◌else◌, List, [], ◌∷◌, length, get_or}
 use Rattle.std.proofs.Common.{sum_by, IsPermutation, refl, sym, ◌∙◌, ap, ap₂, arith, inl, inr}
 use Rattle.std.specs.List.Sorted.{IsNonDecreasing}

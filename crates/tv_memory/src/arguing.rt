@@ -91,14 +91,15 @@ fn check<S: Sink>(
     }
 }
 
-/// Lines at the times 0, 1, 2, .. that are of their kinds are honest in every assignment that meets
-/// the constraints of `memory`, whatever it has at the wires of the network and of the checks.
+/// Lines at the times 0, 1, 2, .. that are of their kinds are honest in every assignment that
+/// satisfies the constraints of `memory`, whatever it has at the wires of the network and of the
+/// checks.
 pub fn memory_is_sound()
     ensures { (net : Net) → ArgumentIsSound (memory_of net) }
 {}
 
 /// For honest lines at the times 0, 1, 2, .. that are of their kinds and near their predecessors
-/// there are values, as many as wires and each below P, with which an assignment meets the
+/// there are values, as many as wires and each below P, with which an assignment satisfies the
 /// constraints of `memory`.
 pub fn memory_is_complete()
     ensures { (net : Net) → ArgumentIsComplete (memory_of net) (memory_values net)

@@ -1,4 +1,4 @@
-//! The memory argument: constraints that hold a list of lines, given in time order, to be honest.
+//! The memory argument: constraints that hold a list of lines, in time order, to be honest.
 //!
 //! A permutation network brings to each line, at its own place, the item of its predecessor in
 //! address order, and the line is checked against it there: its cell is above, or its time in the
@@ -6,8 +6,8 @@
 //! network. How a line is checked is known from its place: its `Kind`.
 //!
 //! `memory` keeps no list and takes no memory. Contracts above cite the two records of
-//! `specs/Argument.antt`, which say what any argument about memory has to give; that this one does
-//! is proved for both networks.
+//! `specs/Argument.antt`, which say what a system needs of any argument about memory; that this one
+//! has it is proved for both networks.
 #![tactic(auto)]
 
 mod arguing;

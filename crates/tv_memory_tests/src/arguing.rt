@@ -82,16 +82,21 @@ fn honest_lines_meet_it(rt: HostRuntime) -> Result<(), Fail> {
     Ok(())
 }
 
-// Each wire of the argument is pinned: with another value at any of them, as at a switch or at a
-// bit of a reach, a constraint fails.
+// The wires of two old words that no constraint reads: that of line 1, a boot line, and that of
+// line 7, which is padding. Both are 0 by the kind of the line.
+const UNREAD: [usize; 2] = [5, 23];
+
+// Each other wire is pinned, be it a line's, a switch's bit, a number behind a switch or a bit of a
+// reach: with another value there, and the rest as it was, a constraint fails.
 #[test]
 fn an_altered_value_fails(rt: HostRuntime) -> Result<(), Fail> {
     let values = assignment(rt.alloc(), Net::Waksman, &honest(), &PREDECESSORS)?;
     let mut z = Vec::from_slice(rt.alloc(), values.as_slice())?;
-    for i in FIRST as usize..z.len() {
+    for i in 1..z.len() {
         let kept = z[i];
         z[i] = F::ONE - kept;
-        assert!(rt; held(&z, Net::Waksman)? < 217, "{i}");
+        let fails = held(&z, Net::Waksman)? < 217;
+        assert_eq!(rt; fails, !UNREAD.contains(&i), "{i}");
         z[i] = kept;
     }
     Ok(())

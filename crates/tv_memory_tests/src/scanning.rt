@@ -20,7 +20,7 @@ fn constants(line: &Line) -> LineLc
     }
 }
 
-// The scan of the last line behind the three before it.
+// The scan of the last line after the three before it.
 fn put<S: Sink>(s: &mut S, lines: &[Line; 4]) -> Put<()>
     requires { Room S.meaning s.old 9 10 }
 {

@@ -23,7 +23,7 @@ fn routed(alloc: Global, net: Net, k: u32, p: &[u32]) -> Result<Vec<u32>, Fail>
     sent(alloc, net, k, settings.as_slice())
 }
 
-// Sees that the items come out as a permutation of 2^`k` places tells, over both networks.
+// Sees that the items come out as a permutation of 2^`k` places says, over both networks.
 fn is_reached(rt: &impl Abort, alloc: Global, k: u32, p: &[u32]) -> Result<(), Fail>
     requires some { 1 ≤ k }
     requires few { k ≤ 20 }

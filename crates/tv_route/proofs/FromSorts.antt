@@ -1,4 +1,4 @@
--- A rearrangement of 0, 1, .. n - 1, as a sort gives it, is a permutation.
+-- A rearrangement of 0, 1, .. n - 1, as after a sort, is a permutation.
 use Rattle.std.proofs.Common.{◌≡◌, ◌≢◌, ◌⊎◌, ℕ, ◌<◌, ◌≤◌, ◌==◌, Bool, true, false, List, length, get_or, All, IsPermutation, inl, inr, refl, sym, ◌∙◌, subst}
 use Rattle.std.proofs.Common.{arith, eq-eqb}
 use Rattle.std.specs.Prelude.{slice_index}

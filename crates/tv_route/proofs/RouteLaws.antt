@@ -277,7 +277,7 @@ last_is Benes n nth bit d p j h up there is =
     let input : 2 * (j + 0) ≡ 2 * j = omega arith in
     there j ∙ is j (omega arith) ∙ ap (λ k. d (slice_index p k)) input
 
--- the last column gives each output its input
+-- the last column sends each input to its output
 last_column : {X : Type 0} (c : Bool) (u l : X) (x y : X) → u ≡ (if c then y else x) → l ≡ (if c then x else y) → (passed c u l ≡ x) × (passed c l u ≡ y)
 last_column true u l x y p q = (q, p)
 last_column false u l x y p q = (p, q)

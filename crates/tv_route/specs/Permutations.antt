@@ -2,7 +2,7 @@
 use Rattle.std.specs.Prelude.{◌≡◌, ℕ, ◌<◌, ◌≤◌, ◌^◌, List, length, slice_index, IsPermutation}
 use Rattle.tv_benes.specs.Through.{places}
 
--- p has each number below m once: p is a permutation of them, and `back` tells where each stands
+-- p has each number below m once: p is a permutation of them, and `back` says where each stands
 pub record Permutes (m : ℕ) (p : List ℕ) : Type 0 where
   pub as_long : length p ≡ m
   pub below : (i : ℕ) → i < m → slice_index p i < m
@@ -18,6 +18,6 @@ pub record IsRoutable (p : List ℕ) : Type 0 where
   pub few : k ≤ 31
   pub permutes : Permutes (2 ^ k) p
 
--- the numbers 0, 1, .. n - 1 in another order, as a sort gives them, are a permutation
+-- the numbers 0, 1, .. n - 1 in another order, as after a sort, are a permutation
 abbrev pub RearrangedIsPermutation : Type 0
 RearrangedIsPermutation = (n : ℕ) (p : List ℕ) → IsPermutation (places n (λ i. i)) p → Permutes n p

@@ -9,7 +9,7 @@ pub fn route_is_right()
     ensures { RouteIsRight }
 {}
 
-/// The numbers below a bound in another order, as a sort gives them, are a permutation.
+/// The numbers below a bound in another order, as after a sort, are a permutation.
 pub fn rearranged_is_a_permutation()
     ensures { RearrangedIsPermutation }
 {}

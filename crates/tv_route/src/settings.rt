@@ -27,7 +27,7 @@ impl Model for Settings {
 }
 
 impl Settings {
-    /// The bits, in the order of the switches.
+    /// Returns the bits, in the order of the switches.
     pub fn as_slice(&self) -> &[bool]
         ensures { result.now ≡ self.now }
     {
@@ -35,10 +35,10 @@ impl Settings {
     }
 }
 
-/// Settings of Benes' network for which output i is the input at place `p[i]`, for a permutation
-/// `p` of the numbers below 2^k, k being from 1 to 31. It takes time linear in the number of
-/// switches; and at its peak a byte of memory for each switch, which the settings keep, and 8
-/// bytes for each item. It is refused only where memory runs out.
+/// Returns settings of Benes' network for which output i is the input at place `p[i]`, for a
+/// permutation `p` of the numbers below 2^k, k from 1 to 31. Takes time linear in the number of
+/// switches, and at its peak one byte for each switch, which the settings keep, and 8 bytes for
+/// each item. Fails only where memory runs out.
 pub fn route(alloc: Global, p: &[u32]) -> Result<Settings, AllocError>
     requires { IsRoutable p.now }
     ensures { IfOk result (λ settings. settings ≡ route_of Benes p.now) }
@@ -46,7 +46,7 @@ pub fn route(alloc: Global, p: &[u32]) -> Result<Settings, AllocError>
     routing_settings(alloc, Net::Benes, p)
 }
 
-/// The same for Waksman's network.
+/// Like `route`, for Waksman's network.
 pub fn route_w(alloc: Global, p: &[u32]) -> Result<Settings, AllocError>
     requires { IsRoutable p.now }
     ensures { IfOk result (λ settings. settings ≡ route_of Waksman p.now) }
@@ -54,7 +54,7 @@ pub fn route_w(alloc: Global, p: &[u32]) -> Result<Settings, AllocError>
     routing_settings(alloc, Net::Waksman, p)
 }
 
-/// The same for either network.
+/// Like `route`, for either network.
 pub fn routing_settings(alloc: Global, net: Net, p: &[u32]) -> Result<Settings, AllocError>
     requires { IsRoutable p.now }
     ensures { IfOk result (λ settings. settings ≡ route_of net p.now) }

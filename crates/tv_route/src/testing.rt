@@ -4,8 +4,8 @@ ghost use Rattle.tv_route.specs.Permutations.{Permutes};
 
 use std::alloc::{AllocError, Global};
 
-/// Whether `p` is a permutation of the numbers below its length. Takes linear time and a byte for
-/// each number, and is refused only where memory runs out.
+/// Returns whether `p` is a permutation of the numbers below its length. Takes linear time and a
+/// byte for each number, and is refused only where memory runs out.
 pub fn is_permutation(alloc: Global, p: &[u32]) -> Result<bool, AllocError>
     ensures { IfOk result (λ is. IsTrue is ↔ Permutes (length p.now) p.now) }
 {

@@ -11,12 +11,12 @@ use Rattle.tv_core.specs.declared.lines.PairNum.{PairNum}
 abbrev pub ThroughWIsPermutation : Type 0
 ThroughWIsPermutation = (h : ℕ) (bit : ℕ → Bool) (item : ℕ → PairNum) → IsPermutation (places (2 ^ suc h) item) (places (2 ^ suc h) (through Waksman h bit item))
 
--- an assignment that meets what was put has 0 or 1 at each switch, and at the outputs what goes through
+-- an assignment that satisfies the constraints has 0 or 1 at each switch, and at the outputs what goes through
 abbrev pub NetworkWIsSound : Type 0
 NetworkWIsSound = (z : List ℕ) (next h : ℕ) (item : ℕ → Pair) → Assigns z → Meets z (network_of Waksman h item next).list
     → IsNetwork z Waksman h next item (network_of Waksman h item next).answer
 
--- an assignment that has the values for some bits meets what was put, has these bits at the switches, in order, and at
+-- an assignment that has the values for some bits satisfies the constraints, has these bits at the switches, in order, and at
 -- the outputs what goes through by them, whatever numbers are the values of the items
 abbrev pub NetworkWIsComplete : Type 0
 NetworkWIsComplete = (z : List ℕ) (next h : ℕ) (item : ℕ → Pair) (bit : ℕ → Bool) (v : ℕ → PairNum) → Assigns z

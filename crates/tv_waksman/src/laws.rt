@@ -11,17 +11,17 @@ pub fn through_w_is_a_permutation()
     through_is_a_permutation();
 }
 
-/// Where an assignment meets what `network_w` put, it has 0 or 1 at each switch, and at the outputs
-/// the inputs sent through by these bits.
+/// Where an assignment satisfies the constraints of `network_w`, it has 0 or 1 at each switch, and
+/// at the outputs the inputs sent through by these bits.
 pub fn network_w_is_sound()
     ensures { NetworkWIsSound }
 {
     network_is_sound();
 }
 
-/// Where an assignment has the values that `fill_network_w` gives for some bits, it meets what
-/// `network_w` put, it has these bits at the switches, in order, and at the outputs the inputs sent
-/// through by them.
+/// Where an assignment has the values that `fill_network_w` assigns for some bits, it satisfies the
+/// constraints of `network_w`, and it has these bits at the switches, in order, and at the outputs
+/// the inputs sent through by them.
 pub fn network_w_is_complete()
     ensures { NetworkWIsComplete }
 {

@@ -12,7 +12,7 @@ ghost use Rattle.tv_core.specs.Sinks.{PutsIn, Grows, Room};
 use tv_benes::{Inputs, Net, Outputs, fill_routing_network, routing_network, routing_switches};
 use tv_core::{PairNum, Put, Sink, Values};
 
-/// How many switches Waksman's network for 2^`k` items has, `k` being from 1 to 31.
+/// Returns how many switches Waksman's network for 2^`k` items has, `k` being from 1 to 31.
 pub fn switches_w(k: u32) -> u64
     requires some { 1 ≤ k }
     requires few { k ≤ 31 }
@@ -40,8 +40,8 @@ pub fn network_w<S: Sink, I: Inputs>(s: &mut S, k: u32, inputs: &I) -> Put<Outpu
     routing_network(s, Net::Waksman, k, inputs)
 }
 
-/// Gives the values of the wires that `network_w` makes, for the numbers of its inputs and the bits
-/// of its switches in order; a bit or a pair that is not there counts as 0.
+/// Assigns the values of the wires that `network_w` makes, for the numbers of its inputs and the
+/// bits of its switches in order; a bit or a pair that is not there counts as 0.
 pub fn fill_network_w<V: Values>(v: &mut V, k: u32, inputs: &[PairNum], bits: &[bool]) -> Put<()>
     requires whole { V.giving.broken v.old ≡ false }
     requires some { 1 ≤ k }
