@@ -6,7 +6,7 @@ use Rattle.std.proofs.lemmas.Bool.Decides.{nat_tests}
 use Rattle.std.proofs.Math.ListN.{drop_of_length-le}
 use Rattle.tv_check.specs.Verdict.{first_difference}
 
--- the place found behind the front that was compared
+-- the place found after the front that was compared
 abbrev pub behind : ℕ → Option ℕ → Option ℕ
 behind at place = option_map (λ k. at + k) place
 

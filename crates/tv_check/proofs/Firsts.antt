@@ -10,7 +10,7 @@ use Rattle.tv_core.specs.Meanings.{holds, first_failure}
 use Rattle.tv_check.specs.Verdict.{first_difference}
 use Rattle.tv_check.specs.Meaning.{DifferFirst}
 
--- ---- the first of a list: here, or one place behind one of the rest
+-- ---- the first of a list: here, or one place after one of the rest
 
 none_behind : (test : Bool) (rest : Option ℕ) → cond test (option_map suc rest) (Some 0) ≡ None → (test ≡ true) × (rest ≡ None)
 none_behind true None e = (refl, refl)
@@ -66,7 +66,7 @@ fails_at z (c ∷ cs) at e =
           rw later.3 (rest.0, rest.1, rest.2, (eqb-true _ _ later.1, rest.3))
     ]
 
--- the first constraint that fails is told
+-- the first constraint that fails is reported
 pub failing_of : (z : List ℕ) (constraints : List Constraint) (at : ℕ) (failing : Constraint) → slice_get constraints at ≡ Some failing → ¬ (Holds failing z) →
     AllByRecursion (λ constraint. Holds constraint z) (take at constraints) → first_failure z 0 constraints ≡ Some at
 failing_of z [] at failing there fails before = cc
@@ -108,7 +108,7 @@ differ (x ∷ xs) (y ∷ ys) at e =
           rw later.3 (record { before = fronts; there = rest.there })
     ]
 
--- the first place where two lists differ is told
+-- the first place where two lists differ is reported
 pub difference_of : (xs ys : List ℕ) (at : ℕ) → DifferFirst xs ys at → first_difference xs ys ≡ Some at
 difference_of [] [] at differ = absurd (differ.there refl)
 difference_of [] (y ∷ ys) zero differ = refl

@@ -37,7 +37,7 @@ pub verdict_of-refuses : (file z x : List ℕ) (why : ReadRefusal) → Refuses w
 unfolding verdict_of
 verdict_of-refuses file z x why refuses = refuses_first why _ _ refuses
 
--- the first that fails is the first whatever is behind it
+-- the first that fails is the first whatever is after it
 fails_still : (z : List ℕ) (at k : ℕ) (done rest : List Constraint) → first_failure z at done ≡ Some k → first_failure z at (done ++ rest) ≡ Some k
 fails_still z at k [] rest is = absurd cc
 fails_still z at k (c ∷ cs) rest is = by_test (holds z c) (fails_still z (at + 1) k cs rest) is
@@ -56,7 +56,7 @@ by_first true None (Some k) all has wants still other = rw (still k refl) refl
 by_first true (Some k) first all has wants still other = refl
 by_first false public first all has wants still other = refl
 
--- a no stays, whatever constraints are behind those that were tried
+-- a no stays, whatever constraints are after those that were tried
 pub judge-stays : (header : Header) (z x : List ℕ) (done rest : List Constraint) → judge (system_with header done) z x ≢ Yes →
     judge (system_with header (done ++ rest)) z x ≡ judge (system_with header done) z x
 judge-stays header z x done rest other =
@@ -82,7 +82,7 @@ read_holds None file z x reached header verdict all same decides is =
     read_ends None file z x reached header all.0 verdict all.1 same (is ∙ sym (judge-failure header z x all.0 None decides all.2))
 read_holds (Some why) file z x reached header verdict refuses same decides is = verdict_of-refuses file z x why refuses
 
--- and on those that were tried, where the verdict is the same whatever was passed behind them
+-- and on those that were tried, where the verdict is the same whatever was passed after them
 pub read_passes : (stopped : Option ReadRefusal) (file z x : List ℕ) (reached : Reached) (header : Header) (done : List Constraint) (verdict : Verdict) →
     MatchOption stopped ((rest : List Constraint) × IsAll reached file (done ++ rest)) (λ why. Refuses why (system_of file)) → reached.header ≡ header →
     ((rest : List Constraint) → verdict ≡ judge (system_with header (done ++ rest)) z x) →

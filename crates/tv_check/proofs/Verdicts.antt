@@ -1,4 +1,4 @@
--- What a verdict tells of the system, the assignment and the public numbers.
+-- What a verdict says of the system, the assignment and the public numbers.
 use Rattle.std.proofs.Common.{◌≡◌, ◌≢◌, ◌↔◌, ℕ, suc, ◌+◌, ◌<◌, ◌≤◌, ◌==◌, Bool, true, false, cond, List, [], ◌∷◌, length, take, drop, Option, Some, None, All}
 use Rattle.std.proofs.Common.{refl, sym, ap, ◌∙◌, length-take, arith}
 use Rattle.std.specs.Prelude.{slice_get}
@@ -34,7 +34,7 @@ begins_back x (v ∷ vs) m n is one len values =
 abbrev chosen : Bool → Option ℕ → Option ℕ → ℕ → ℕ → Verdict
 chosen test public failing has wants = cond test (public_verdict public (constraint_verdict failing)) (WireCount has wants)
 
--- what was chosen tells of what came first
+-- what was chosen says which came first
 abbrev Chose : Bool → Option ℕ → Option ℕ → ℕ → ℕ → Verdict → Type 0
 Chose test public failing has wants Yes = (test ≡ true) × (public ≡ None) × (failing ≡ None)
 Chose test public failing has wants (WireCount h w) = (test ≡ false) × (has ≡ h) × (wants ≡ w)

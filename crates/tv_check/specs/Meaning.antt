@@ -1,4 +1,4 @@
--- What a verdict tells, in the words of constraint systems.
+-- What a verdict says, in the words of constraint systems.
 use Rattle.std.specs.Prelude.{◌≡◌, ◌≢◌, ℕ, ◌+◌, List, ◌∷◌, length, take, All, Some, slice_get}
 use Rattle.tv_core.specs.Constraints.{System, Constraint, Holds, Sat, Extends}
 use Rattle.tv_check.specs.declared.verdict.Verdict.{Verdict}
@@ -16,10 +16,10 @@ pub record FailsFirst (system : System) (z : List ℕ) (at : ℕ) : Type 0 where
   pub there : slice_get system.constraints at ≡ Some failing
   pub fails : ¬ (Holds failing z)
 
--- What a verdict tells of a system, an assignment and public numbers: the assignment satisfies the system
--- and extends the numbers; or there are not as many values as wires; or there are, and this is the first
--- place where the constant 1 and the public numbers differ from the values of the public wires; or they
--- agree, and this is the first constraint that doesn't hold.
+-- What a verdict says of a system, an assignment and public numbers: the assignment satisfies the system and extends
+-- the numbers; or there are not as many values as wires; or there are, and this is the first place where the constant 1
+-- and the public numbers differ from the values of the public wires; or they agree, and this is the first constraint
+-- that doesn't hold.
 abbrev pub Tells : Verdict → System → List ℕ → List ℕ → Type 0
 Tells Yes s z x = Sat s z × Extends s z x
 Tells (WireCount has wants) s z x = (length z ≡ has) × (s.wires ≡ wants) × (has ≢ wants)

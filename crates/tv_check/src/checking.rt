@@ -1,3 +1,4 @@
+//! The verdict on an assignment, by the system in a file.
 ghost use Rattle.std.specs.Prelude.{◌≡◌, Ok, Err, MatchOption};
 ghost use Rattle.tv_container.specs.Reading.{Looks, Gives, IsMissing, Known};
 ghost use Rattle.tv_container.specs.declared.why.ReadRefusal.{ReadRefusal};
@@ -11,13 +12,14 @@ use tv_core::F;
 use tv_files::Files;
 use tv_r1cs_read::SystemReader;
 
-/// The verdict on an assignment, `values`, and public numbers, by the system in a file: first on
-/// the number of values, then on the public wires, then on each constraint.
+/// Returns the verdict on an assignment, `values`, and public numbers, by the system in a file:
+/// first on the number of values, then on the public wires, then on each constraint.
 ///
 /// The file is read to its end whatever the verdict: `Ok` comes exactly for a file that holds a
-/// system, and `Bad` tells the first fault of another one. `Fault` comes only where a read failed,
-/// and a missing name is such a fault. Takes one pass and no memory; each term is one product up to
-/// the first constraint that doesn't hold, and none behind it or where no constraint decides.
+/// system, and `Bad` reports the first fault of another one. `Fault` comes only where a read
+/// failed, and a missing name is such a fault. Takes one pass and no memory; up to the first
+/// constraint that doesn't hold each term costs one product; after it, or where no constraint
+/// decides, none.
 pub fn check<D: Files>(
     alloc: Global,
     files: &mut D,

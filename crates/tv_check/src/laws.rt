@@ -15,7 +15,7 @@ pub fn systems_have_room()
     ensures { (file : List ℕ) → IfOk (system_of file) HasRoom }
 {}
 
-/// Each verdict comes exactly where what it tells is so.
+/// Each verdict comes exactly where what it says is so.
 pub fn verdicts_tell()
     ensures yes { (system : System) (z x : List ℕ) → HasRoom system → All (λ v. v < P) z
         → (judge system z x ≡ Yes) ↔ Tells Yes system z x }

@@ -1,6 +1,6 @@
 //! The verdict on a constraint system, an assignment and public numbers, straight from the system's
-//! file: `check` reads it to its end, one row at a time, and answers as `verdict_of` the whole file
-//! says, or the file's first fault.
+//! file: `check` reads it to its end, one row at a time, and returns the verdict that `verdict_of`
+//! the whole file is, or the file's first fault.
 #![tactic(auto)]
 
 mod checking;

@@ -29,7 +29,7 @@ fn wrong_public(publics: &[F], values: &[F]) -> Option<u64>
     }
 }
 
-/// The verdict on a system of these counts, as if it had no constraint.
+/// Returns the verdict on a system of these counts, as if it had no constraint.
 pub(crate) fn public_verdict(counts: &Counts, values: &[F], publics: &[F]) -> Verdict
     requires { 1 + counts.now.outputs + counts.now.inputs ≤ counts.now.wires }
     ensures { result ≡ judge (record {

@@ -12,15 +12,16 @@ use Rattle.tv_container.specs.Taking.{PassesOn, Took}
 use Rattle.tv_container.specs.declared.pending.Pending.{Pending}
 use Rattle.tv_container.specs.Faults.{sink_fault}
 use Rattle.tv_container.specs.Writing.{Adds, OnlyAppends, Passes}
-use Rattle.tv_container.specs.Written.{HasCause}
-use Rattle.tv_container.proofs.Written.{is_cause}
+use Rattle.tv_container.specs.Written.{Caused, HasCause, HasCauseFrom, faults_in, wants_in}
+use Rattle.tv_core.specs.Sinks.{IsCause}
 use Rattle.tv_core.specs.declared.sink.SinkFault.{SinkFault}
 use Rattle.tv_core.specs.declared.sink.SinkFault.TheVariants as sink
 use Rattle.tv_files.proofs.Cases.{OnErr-map, OnOk-map}
 use Rattle.tv_files.proofs.NamedFiles.{with_more-none, told-with_more-with_more, with_more-none_before}
 use Rattle.tv_files.specs.Calls.{Appends}
-use Rattle.tv_files.specs.Outside.{Outside, Names, SameCounts, with_more}
+use Rattle.tv_files.specs.Outside.{Outside, Names, RanOut, SameCounts, with_more}
 use Rattle.tv_files.specs.declared.calls.FileRefusal.{FileRefusal}
+use Rattle.tv_files.specs.declared.calls.FileRefusal.TheVariants as file
 use Rattle.tv_word.specs.Counts.{Rose}
 
 -- the first of the bytes that are held, and the others, moved to the front
@@ -77,6 +78,12 @@ all_held outside name bytes held same = record {
   cause = search rules;
 }
 
+-- a refused call is the cause of the fault that is made of it
+pub is_cause : (old new : Outside) (why : FileRefusal) (result : Result (Unit {0}) FileRefusal) → result ≡ Err why →
+    (result ≡ Err file.Failed → Rose old.write_faults new.write_faults) → (result ≡ Err file.Memory → RanOut old new) → Caused (sink_fault why) old new
+is_cause old new file.Failed result refused failed memory = failed refused
+is_cause old new file.Memory result refused failed memory = memory refused
+
 -- a first part was appended, and the rest is held; or that was refused
 pub call_passes : (old new : Outside) (name bytes front held : List ℕ) (written : Result (Unit {0}) FileRefusal) (outcome : Result (Unit {0}) SinkFault) →
     Appends old new name front written → bytes ≡ front ++ held
@@ -95,7 +102,7 @@ call_passes old new name bytes front held (Err why) (Err fault) call split is =
       done = tt;
       refused = (min some.0 (length front), rw (split, take_front some.0 front held) some.1);
       only = record { more = take some.0 front; contents = some.1; said = call.said; later = call.later; there = call.there };
-      cause = is_cause _ _ old new why (Err why) fault refl is call.failed call.memory;
+      cause = rw is (is_cause old new why (Err why) refl call.failed call.memory);
     }
 
 -- bytes added, and then bytes added
@@ -140,11 +147,21 @@ counts_then p q = record {
   absent = q.absent ∙ p.absent;
 }
 
+-- counts that stayed, and then memory ran out
+pub ran_out_since : {old mid new : Outside} → SameCounts old mid → RanOut mid new → RanOut old new
+ran_out_since {old} {mid} {new} p q = record {
+  wants = subst (λ n. Rose n new.wants) p.wants q.wants;
+  read_faults = q.read_faults ∙ p.read_faults;
+  write_faults = q.write_faults ∙ p.write_faults;
+  say_faults = q.say_faults ∙ p.say_faults;
+  absent = q.absent ∙ p.absent;
+}
+
 -- what called bytes to be refused is the cause after calls that left the counts
 pub cause_then : (old mid new : Outside) (outcome : Result (Unit {0}) SinkFault) → SameCounts old mid → HasCause mid new outcome → HasCause old new outcome
 cause_then old mid new (Ok unit) p same = counts_then p same
 cause_then old mid new (Err sink.Failed) p rose = subst (λ n. Rose n new.write_faults) p.write_faults rose
-cause_then old mid new (Err sink.Memory) p rose = subst (λ n. Rose n new.wants) p.wants rose
+cause_then old mid new (Err sink.Memory) p ran_out = ran_out_since p ran_out
 
 -- bytes are passed on, and then others
 passes_then : (old mid new : Outside) (name held first second between after : List ℕ) (outcome : Result (Unit {0}) SinkFault) →
@@ -192,6 +209,48 @@ passes_cut old new name held first second between after fault p =
 pub unrefused : (outcome : Result (Unit {0}) SinkFault) → is_err outcome ≡ false → outcome ≡ Ok tt
 unrefused (Ok unit) none = refl
 unrefused (Err fault) none = cc
+
+-- with no call between, an outcome has its cause; and so it has after calls that follow others
+pub cause_here : (outcome : Result (Unit {0}) SinkFault) (outside : Outside) → HasCauseFrom outcome outside outside outcome
+cause_here (Ok unit) outside = counts_stay outside
+cause_here (Err fault) outside = (refl, refl)
+
+pub cause_from_then : (before between after : Result (Unit {0}) SinkFault) (old mid new : Outside) → HasCauseFrom before old mid between
+    → HasCauseFrom between mid new after → HasCauseFrom before old new after
+cause_from_then (Ok unit) (Ok done) after old mid new p q = cause_then old mid new after p q
+cause_from_then (Ok unit) (Err fault) after old mid new p (is, same) = rw (is, same) p
+cause_from_then (Err fault) between after old mid new (is, same) q = let last = rw is at q in (last.0, last.1 ∙ same)
+
+-- where nothing was refused by now, nothing was before, and no count changed
+pub quiet_from : (before after : Result (Unit {0}) SinkFault) (old new : Outside) → HasCauseFrom before old new after → is_err after ≡ false
+    → (is_err before ≡ false) × SameCounts old new
+quiet_from (Ok unit) (Ok done) old new same none = (refl, same)
+quiet_from (Ok unit) (Err fault) old new cause none = cc
+quiet_from (Err fault) after old new (is, same) none = let some : is_err {T = Unit {0}} (Err fault) ≡ false = rw is at none in cc
+
+-- the first refusal is one fault of its kind, however what writes has its outcome
+pub cause_seen : {S : Type 0} (outcome : S → Result (Unit {0}) SinkFault) (old new : S) (fault : SinkFault) → is_err (outcome old) ≡ false
+    → outcome new ≡ Err fault → IsCause fault (λ s. faults_in (outcome s)) (λ s. wants_in (outcome s)) old new
+cause_seen outcome old new sink.Failed none is = rw (unrefused (outcome old) none, is) (omega arith)
+cause_seen outcome old new sink.Memory none is = rw (unrefused (outcome old) none, is) (omega arith)
+
+-- and a fault of that kind has its cause outside
+caused_by : (after : Result (Unit {0}) SinkFault) (fault : SinkFault) (old new : Outside) → HasCause old new after
+    → IsCause fault faults_in wants_in (Ok tt) after → Caused fault old new
+caused_by (Err sink.Failed) sink.Failed old new cause rose = cause
+caused_by (Err sink.Memory) sink.Memory old new cause rose = cause
+caused_by (Err sink.Failed) sink.Memory old new cause rose = absurd (omega (arith, rose))
+caused_by (Err sink.Memory) sink.Failed old new cause rose = absurd (omega (arith, rose))
+caused_by (Ok unit) sink.Failed old new cause rose = absurd (omega (arith, rose))
+caused_by (Ok unit) sink.Memory old new cause rose = absurd (omega (arith, rose))
+
+pub caused_seen : {S : Type 0} (outcome : S → Result (Unit {0}) SinkFault) (seen : S → Outside) (old new : S) (fault : SinkFault)
+    → is_err (outcome old) ≡ false → HasCauseFrom (outcome old) (seen old) (seen new) (outcome new)
+    → IsCause fault (λ s. faults_in (outcome s)) (λ s. wants_in (outcome s)) old new → Caused fault (seen old) (seen new)
+caused_seen outcome seen old new sink.Failed none cause rose =
+    let first = unrefused (outcome old) none in caused_by (outcome new) sink.Failed (seen old) (seen new) (rw first at cause) (rw first at rose)
+caused_seen outcome seen old new sink.Memory none cause rose =
+    let first = unrefused (outcome old) none in caused_by (outcome new) sink.Memory (seen old) (seen new) (rw first at cause) (rw first at rose)
 
 -- bytes are taken, and then others
 pub took_then : {name : List ℕ} {old mid new : Outside} {before between after : Pending} {first second : List ℕ} →
@@ -244,7 +303,7 @@ lost_more refused = record {
 }
 
 module _ {X : Type 0} (f : X → List ℕ) (xs : List X) (i : ℕ) (d : X) where
-  -- the bytes of one more of the items of a list stand behind those of the others
+  -- the bytes of one more of the items of a list stand after those of the others
   pub each_more : (bytes : List ℕ) → i < length xs → bytes ≡ f (get_or xs i d) → flat_map f (take (i + 1) xs) ≡ flat_map f (take i xs) ++ bytes
   each_more bytes h is =
       let x = get_or xs i d in

@@ -25,7 +25,7 @@ pub record At (file : List ℕ) (at : ℕ) (bytes : List ℕ) : Type 0 where
 pub at_start : (file : List ℕ) → At file 0 file
 at_start file = record { front = []; back = []; place = refl; whole = sym (append-nil file) }
 
--- the first of them, and those behind it
+-- the first of them, and those after it
 pub at_first : (file : List ℕ) (at : ℕ) (first rest : List ℕ) → At file at (first ++ rest) → At file at first
 at_first file at first rest a = record {
   front = a.front;
@@ -46,7 +46,7 @@ at_rest file at size next first rest a is there = record {
 pub at_within : (file : List ℕ) (at : ℕ) (bytes : List ℕ) → At file at bytes → at + length bytes ≤ length file
 at_within file at bytes a = omega (arith, a.place, ap length a.whole, length-append a.front (bytes ++ a.back), length-append bytes a.back)
 
--- the number that is read there is the one that they spell
+-- the number that is read there is the one that they represent
 number_at : (file : List ℕ) (at size : ℕ) (bytes : List ℕ) → At file at bytes → length bytes ≡ size → number file size at ≡ spelled bytes
 number_at file at size bytes a is =
     ap spelled (

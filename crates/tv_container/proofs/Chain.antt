@@ -20,11 +20,11 @@ pub refuses_first : {A B : Type 0} (why : ReadRefusal) (first : Result A places.
     → Refuses why (first >>= next)
 refuses_first why first next refuses = record { bad = λ at what e. rw (refuses.bad at what e) refl }
 
--- what is wrong is told
+-- what is wrong is reported
 pub refuses_wrong : {A : Type 0} (at : ℕ) (why : ReadWhy) (answer : Result A places.Fault) → answer ≡ wrong at why → Refuses (Bad at why) answer
 refuses_wrong at why answer is = record { bad = λ there what e. cc }
 
--- a refusal that tells nothing of what is wrong is one of any answer
+-- a refusal that says nothing of what is wrong is one of any answer
 pub refuses_any : {A B : Type 0} (why : ReadRefusal) (value : A) (answer : Result B places.Fault) → Refuses why (Ok value) → Refuses why answer
 refuses_any why value answer refuses = record { bad = λ at what e. let none : Ok value ≡ wrong at what = refuses.bad at what e in cc }
 

@@ -1,4 +1,4 @@
--- Pieces of a file, and a read that gives one.
+-- Pieces of a file, and a read that returns one.
 use Rattle.std.proofs.Common.{◌≡◌, ℕ, ◌+◌, ◌-◌, ◌^◌, ◌<◌, ◌≤◌, nat_le, nat_eq, ⊎_elim, List, ◌++◌, length, take, drop, Option, Some, None, Ok, arith, ap}
 use Rattle.std.proofs.Common.{refl, sym, ◌∙◌}
 use Rattle.std.proofs.lemmas.List.{take-append-le, take-take, drop-take, drop-drop, length-take, length-take-le, length-drop}
@@ -27,7 +27,7 @@ read_gives start old new name file at into count reads same told = by_contents o
     by_contents None e = let none : None ≡ Some file = rw e at known in cc
     by_contents (Some files) e = reads.bytes files e file (rw e at known)
 
--- the next piece goes behind what is held
+-- the next piece goes after what is held
 pub piece_grows : (front into rest file : List ℕ) (at held count : ℕ) → length front ≡ held → count ≤ length into →
     front ≡ take held (drop at file) → take count into ≡ take count (drop (at + held) file) →
     take (held + count) (front ++ (into ++ rest)) ≡ take (held + count) (drop at file)
@@ -57,7 +57,7 @@ bytes_held buffer file held from at size room piece holds =
     ∙ ap (λ left. take size left) (drop-drop (at - from) from file)
     ∙ ap (λ p. take size (drop p file)) there
 
--- and so are the numbers that they spell
+-- and so are the numbers that they represent
 pub number_held : (buffer file : List ℕ) (held from at size : ℕ) → held ≤ length buffer →
     IsPiece (record { at = from; bytes = take held buffer }) file → Holds (record { at = from; bytes = take held buffer }) at size →
     spelled (take size (drop (at - from) buffer)) ≡ number file size at
@@ -99,7 +99,7 @@ is_piece buffer file held at place room same is = record {
   same = same ∙ ap (λ p. take held (drop p file)) (sym is) ∙ ap (λ n. take n (drop at file)) (sym (length-take-le held buffer room));
 }
 
--- the file has the bytes at a place exactly where so many were read there
+-- the file has the bytes at a place exactly where this many were read there
 pub there_if_read : (buffer file : List ℕ) (at size held : ℕ) → held ≤ length buffer → take held buffer ≡ take held (drop at file) →
     (held < size → length file ≤ at + held) → 0 < size → at + size ≤ 2 ^ 64 - 1 → nat_le (at + size) (places file) ≡ nat_le size held
 there_if_read buffer file at size held room same end some small =
@@ -109,7 +109,7 @@ there_if_read buffer file at size held room same end some small =
     (λ (enough : size ≤ held). let within : at + size ≤ length file = omega arith in grind (arith, nat_tests))
     (cases_lt held size)
 
--- a read gives nothing exactly where the file has no byte there
+-- a read returns nothing exactly where the file has no byte there
 pub ends_if_none : (file into : List ℕ) (at count : ℕ) → Gives file at count into → 0 < length into → nat_le (length file) at ≡ nat_eq count 0
 ends_if_none file into at count gives some =
     ⊎_elim

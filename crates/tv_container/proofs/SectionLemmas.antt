@@ -1,4 +1,4 @@
--- Sections, one behind the others.
+-- Sections, one after the others.
 use Rattle.std.proofs.Common.{◌≡◌, ℕ, zero, suc, ◌+◌, ◌≤◌, ◌<◌, List, [], ◌∷◌, ◌++◌, length, Bool, true, false, cond, eqb, Option, Some, None, Result, Ok}
 use Rattle.std.proofs.Common.{Err, refl, ◌∙◌, add-one, nat_lt, nat_le, not, ◌==◌, arith}
 use Rattle.std.proofs.lemmas.Bool.Decides.{nat_tests}
@@ -15,7 +15,7 @@ use Rattle.tv_container.specs.Reading.{Refuses}
 use Rattle.tv_container.specs.Sections.{section_of, stands_already, section_at, sections_in, sections_from, sections_of}
 use Rattle.tv_container.proofs.Chain.{made, refuses_first}
 
--- the first section of a type among sections and one behind them
+-- the first section of a type among sections and one after them
 pub section_of-append : (kind : ℕ) (sections : List Section) (section : Section) →
     section_of kind (sections ++ section ∷ []) ≡ option_or (section_of kind sections) (section_of kind (section ∷ []))
 section_of-append kind [] section = refl
@@ -66,13 +66,13 @@ pub sections_from-refuses : (singles n more at : ℕ) (file : List ℕ) (section
 unfolding sections_from
 sections_from-refuses singles n more at file sections why one refuses = rw (one, add-one) (refuses_first why _ _ refuses)
 
--- behind the last section the file ends
+-- after the last section the file ends
 pub sections_from-end : (singles n at : ℕ) (file : List ℕ) (sections : List Section) → n ≡ 0 → at ≡ length file →
     sections_from singles file n at sections ≡ Ok sections
 unfolding sections_from
 sections_from-end singles n at file sections none end = rw none (grind (arith, nat_tests))
 
--- a byte behind the last section is told
+-- a byte after the last section is reported
 pub sections_from-trailing : (singles n at : ℕ) (file : List ℕ) (sections : List Section) → n ≡ 0 → at < length file →
     sections_from singles file n at sections ≡ wrong at Trailing
 unfolding sections_from
@@ -132,7 +132,7 @@ AllFit-push file sections section fit more = record {
     by_look_up kind found None is true e = let here : Some section ≡ Some found = rw is at e in let one : section ≡ found = cc in rw (← one) more
     by_look_up kind found None is false e = let none : None ≡ Some found = rw is at e in cc
 
--- the sections behind those that fit, fit
+-- the sections after those that fit, fit
 sections_from-fit : (singles n at : ℕ) (file : List ℕ) (sections list : List Section) → AllFit file sections →
     sections_from singles file n at sections ≡ Ok list → AllFit file list
 unfolding sections_from

@@ -1,30 +1,15 @@
 -- What was created and then appended to is one file that was streamed.
 use Rattle.std.proofs.Common.{◌≡◌, ◌⊎◌, ℕ, List, [], Option, Some, None, option_map, take, Result, Ok, Err, inl, inr, ap, refl, sym, ◌∙◌, arith}
 use Rattle.std.specs.Prelude.{OnOk, OnErr}
-use Rattle.tv_container.proofs.Buffers.{appends_then, cause_then, counts_then}
-use Rattle.tv_container.specs.Faults.{sink_fault}
+use Rattle.tv_container.proofs.Buffers.{appends_then, cause_then, counts_then, is_cause}
 use Rattle.tv_container.specs.Writing.{OnlyAppends}
 use Rattle.tv_container.specs.Written.{Caused, HasCause, HasNow, HasFront, IsStreamed, NotCreated}
-use Rattle.tv_core.specs.Sinks.{IsCause}
 use Rattle.tv_core.specs.declared.sink.SinkFault.{SinkFault}
-use Rattle.tv_core.specs.declared.sink.SinkFault.TheVariants as sink
 use Rattle.tv_files.proofs.NamedFiles.{with_bytes-here}
 use Rattle.tv_files.proofs.Written.{written_grows}
 use Rattle.tv_files.specs.Calls.{Creates}
 use Rattle.tv_files.specs.Outside.{Names, Outside, OnlyWrites, SameCounts, with_bytes}
 use Rattle.tv_files.specs.Whole.{HasBytes, HasPart}
-use Rattle.tv_files.specs.declared.calls.FileRefusal.{FileRefusal}
-use Rattle.tv_files.specs.declared.calls.FileRefusal.TheVariants as file
-
--- a count that rose in what writes rose outside, however that is seen
-pub caused_seen : {S : Type 0} (seen : S → Outside) (old new : S) (fault : SinkFault) → IsCause fault (λ s. (seen s).write_faults) (λ s. (seen s).wants) old new
-    → Caused fault (seen old) (seen new)
-caused_seen seen old new sink.Failed rose = rose
-caused_seen seen old new sink.Memory rose = rose
-
-by_refusal : (old new : Outside) (name : List ℕ) (why : FileRefusal) → Creates old new name (Err why) → Caused (sink_fault why) old new
-by_refusal old new name file.Failed creates = creates.failed refl
-by_refusal old new name file.Memory creates = creates.memory refl
 
 -- it wasn't created
 pub not_created : (old new : Outside) (name bytes : List ℕ) (fault : SinkFault) → NotCreated old new name fault → IsStreamed old new name bytes (Err fault)
@@ -33,7 +18,7 @@ not_created old new name bytes fault none =
     rw is (record {
       whole = tt;
       part = elim none.call.refused [ inl same ↦ inl same | inr empty ↦ inr (0, empty) ];
-      cause = by_refusal old new name none.why none.call;
+      cause = is_cause old new none.why (Err none.why) refl none.call.failed none.call.memory;
       only = record { said = none.call.said; absent = λ files told. none.call.absent; later = none.call.later };
     })
 

@@ -1,26 +1,19 @@
 -- Bytes that are written to a file a piece at a time, and what of them it has.
-use Rattle.std.proofs.Common.{◌≡◌, ℕ, ◌+◌, ◌≤◌, min, List, ◌++◌, length, take, Option, Some, None, option_map, Result, Err, cond, append_assoc, ap, refl, sym}
+use Rattle.std.proofs.Common.{◌≡◌, ℕ, ◌+◌, ◌≤◌, min, List, ◌++◌, length, take, Option, Some, None, option_map, cond, append_assoc, ap, refl, sym}
 use Rattle.std.proofs.Common.{◌∙◌, arith}
 use Rattle.std.proofs.lemmas.List.{take-append-le, take_min}
 use Rattle.std.proofs.Math.Seq.{take-append-add, take-append_seam}
 use Rattle.std.proofs.lemmas.Slice.Eq.{bytes_eq-Decides}
-use Rattle.tv_container.specs.Faults.{sink_fault}
 use Rattle.tv_container.specs.Writing.{Adds, Passes}
-use Rattle.tv_core.specs.Sinks.{IsCause}
-use Rattle.tv_core.specs.declared.sink.SinkFault.{SinkFault}
-use Rattle.tv_core.specs.declared.sink.SinkFault.TheVariants as sink
 use Rattle.tv_files.specs.Outside.{Outside, Names, with_more}
-use Rattle.tv_files.specs.declared.calls.FileRefusal.{FileRefusal}
-use Rattle.tv_files.specs.declared.calls.FileRefusal.TheVariants as file
-use Rattle.tv_word.specs.Counts.{Rose}
-use Rattle.tv_container.specs.Written.{HasBut, HasCause, HasFront}
+use Rattle.tv_container.specs.Written.{HasBut, HasFront}
 
--- bytes that are added to a name stand behind those that it had
+-- bytes that are added to a name stand after those that it had
 with_more-here : (name more : List ℕ) (files : Names) → with_more name more files name ≡ option_map (λ held. held ++ more) (files name)
 with_more-here name more files =
     ap (λ same. cond same (option_map (λ held. held ++ more) (files name)) (files name)) ((bytes_eq-Decides name name).1 refl)
 
--- contents that are told after bytes were added to a name were told before
+-- contents that are known after bytes were added to a name were known before
 told_before : (old new : Outside) (name more : List ℕ) (files : Names) → Adds old new name more → new.contents ≡ Some files →
     (before : Names) × (old.contents ≡ Some before) × (files name ≡ option_map (λ held. held ++ more) (before name))
 told_before old new name more files adds told = by_contents old.contents refl
@@ -60,19 +53,6 @@ has_front old new name held bytes more has added = λ files told.
       before.2 ∙ ap (option_map (λ front. front ++ take added.0 (held ++ more))) had.1
           ∙ ap Some (sym (take-append-add had.0 (held ++ more) added.0) ∙ ap (take (length had.0 + added.0)) whole),
     )
-
--- a refused call is the cause of the fault that is made of it
-pub is_cause : {S : Type 0} (faults wants : S → ℕ) (old new : S) (why : FileRefusal) (result : Result (Unit {0}) FileRefusal) (fault : SinkFault) →
-    result ≡ Err why → fault ≡ sink_fault why → (result ≡ Err file.Failed → Rose (faults old) (faults new)) →
-    (result ≡ Err file.Memory → Rose (wants old) (wants new)) → IsCause fault faults wants old new
-is_cause faults wants old new file.Failed result fault refused is failed memory = rw is (failed refused)
-is_cause faults wants old new file.Memory result fault refused is failed memory = rw is (memory refused)
-
--- the cause of a fault is that of what writes, however it sees the outside
-pub cause_seen : {S : Type 0} (seen : S → Outside) (old new : S) (fault : SinkFault) → HasCause (seen old) (seen new) (Err fault)
-    → IsCause fault (λ s. (seen s).write_faults) (λ s. (seen s).wants) old new
-cause_seen seen old new sink.Failed rose = rose
-cause_seen seen old new sink.Memory rose = rose
 
 -- what a name has of bytes is a first part of bytes that begin with them
 pub but_front : (outside : Outside) (name held bytes rest whole : List ℕ) → HasBut outside name held bytes → whole ≡ bytes ++ rest → HasFront outside name whole

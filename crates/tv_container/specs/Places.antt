@@ -21,11 +21,11 @@ wrong at why = Err (record { at = at; why = why })
 abbrev pub unless : Bool → ℕ → ReadWhy → Result (Unit {0}) Fault
 unless test at why = if test then wrong at why else Ok tt
 
--- the number that the bytes of a file at a place spell, so many of them, the lowest first
+-- the number in n bytes of a file from a place on, the lowest first
 abbrev pub number : List ℕ → ℕ → ℕ → ℕ
 number file size at = spelled (take size (drop at file))
 
--- how many bytes of a file are told by their places: all of them, but for one that is longer than any place
+-- how many bytes of a file have a place below the bound of places: all, unless the file is longer than that
 abbrev pub places : List ℕ → ℕ
 places file = min (length file) (2 ^ 64 - 1)
 

@@ -1,36 +1,35 @@
--- What reading a file may answer and do, over any files.
+-- What reading a file may return and do, over any files.
 use Rattle.std.specs.Prelude.{◌≡◌, ◌≢◌, ◌⊎◌, ℕ, ◌+◌, ◌≤◌, List, length, take, drop, Option, Some, None, Result, Ok, OnOk, MatchResult, option_and_then}
-use Rattle.tv_files.specs.Outside.{Names, Outside, OnlyReads, MissesOnly}
+use Rattle.tv_files.specs.Outside.{Names, Outside, OnlyReads, MissesOnly, RanOut}
 use Rattle.tv_container.specs.Places.{Fault, wrong}
 use Rattle.tv_container.specs.declared.why.ReadRefusal.{ReadRefusal}
 use Rattle.tv_container.specs.declared.why.ReadRefusal.TheVariants as refusal
 use Rattle.tv_container.specs.declared.why.ReadWhy.{ReadWhy}
 use Rattle.tv_word.specs.Counts.{Rose}
 
--- the bytes that a name stands for, where contents are told and the name is there
+-- the bytes that a name stands for, where contents are known and the name is there
 unfoldable pub bytes_of : Outside → List ℕ → Option (List ℕ)
 bytes_of outside name = option_and_then (λ files. files name) outside.contents
 
--- where contents are told and the name is there, this is so of its bytes
+-- where contents are known and the name is there, this is so of its bytes
 abbrev pub Known : Outside → List ℕ → (List ℕ → Type 0) → Type 0
 Known outside name So = (file : List ℕ) → bytes_of outside name ≡ Some file → So file
 
--- contents are told, and the name isn't there
+-- contents are known, and the name isn't there
 pub record IsMissing (outside : Outside) (name : List ℕ) : Type 0 where
   pub files : Names
   pub told : outside.contents ≡ Some files
   pub none : files name ≡ None
 
--- what a refusal leaves: all, where it tells what is wrong; a fault is a fault of a read; and where memory
--- ran out all is as before, or the files wanted it
+-- what a refusal leaves: all, where it says what is wrong; a fault is a fault of a read; and where memory
+-- ran out all is as before, or the files ran out of it, which leaves every other count
 abbrev pub Leaves : ReadRefusal → Outside → Outside → Type 0
 Leaves (refusal.Bad at what) old new = new ≡ old
 Leaves refusal.Fault old new = Rose old.read_faults new.read_faults
-Leaves refusal.Memory old new = (new ≡ old) ⊎ Rose old.wants new.wants
+Leaves refusal.Memory old new = (new ≡ old) ⊎ RanOut old new
 
--- reading stopped with this refusal, from the outside before it to the outside after it: files and
--- words said stay and no count falls, `absent` changes only where this name isn't there, and no fault is
--- passed over
+-- reading stopped with this refusal, from the outside before it to the outside after it: files and printed words stay
+-- and no count falls, `absent` changes only where this name isn't there, and no fault is passed over
 pub record Stopped (old new : Outside) (name : List ℕ) (why : ReadRefusal) : Type 0 where
   pub only : OnlyReads old new
   pub there : MissesOnly old new name
@@ -40,11 +39,11 @@ pub record Stopped (old new : Outside) (name : List ℕ) (why : ReadRefusal) : T
 abbrev pub Looks : {A : Type 0} → Outside → Outside → List ℕ → Result A ReadRefusal → Type 0
 Looks old new name result = MatchResult result (λ _. new ≡ old) (λ why. Stopped old new name why)
 
--- a refusal that tells what is wrong tells what the definition does
+-- a refusal that says what is wrong says what the definition does
 pub record Refuses {A : Type 0} (why : ReadRefusal) (answer : Result A Fault) : Type 0 where
   pub bad : (at : ℕ) (what : ReadWhy) → why ≡ refusal.Bad at what → answer ≡ wrong at what
 
--- a reader gives what the definition does, as `view` sees it, unless a read failed or memory ran out
+-- a reader returns what the definition does, as `view` sees it, unless a read failed or memory ran out
 abbrev pub GivesBy : {Y A : Type 0} → Result Y ReadRefusal → (Y → A) → Result A Fault → Type 0
 GivesBy result view answer = MatchResult result (λ value. answer ≡ Ok (view value)) (λ why. Refuses why answer)
 
@@ -65,7 +64,7 @@ pub record Piece : Type 0 where
 pub record IsPiece (piece : Piece) (file : List ℕ) : Type 0 where
   pub same : piece.bytes ≡ take (length piece.bytes) (drop piece.at file)
 
--- the piece has the bytes at a place, so many
+-- the piece has `size` bytes from a place on
 pub record Holds (piece : Piece) (at size : ℕ) : Type 0 where
   pub from : piece.at ≤ at
   pub to : at + size ≤ piece.at + length piece.bytes

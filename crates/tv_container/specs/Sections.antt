@@ -13,8 +13,8 @@ section_of kind (section ∷ sections) = if section.kind == kind then Some secti
 abbrev pub stands_already : ℕ → ℕ → List Section → Bool
 stands_already singles kind sections = nat_le 1 kind && nat_le kind singles && is_some (section_of kind sections)
 
--- The section at a place, behind those at hand: twelve bytes of header, the type and the size, and the
--- content. What doesn't fit is told at the header's place.
+-- The section at a place, after those at hand: twelve bytes of header, the type and the size, and the content. What
+-- doesn't fit is reported at the header's place.
 unfoldable pub section_at : ℕ → List ℕ → ℕ → List Section → Result Section Fault
 section_at singles file at sections = do
   _ ← fit 12 at (places file)
@@ -22,7 +22,7 @@ section_at singles file at sections = do
   _ ← unless (nat_lt (places file) (at + 12 + number file 8 (at + 4))) at Truncated
   Ok (record { kind = number file 4 at; at = at + 12; size = number file 8 (at + 4) })
 
--- the sections that stand behind those at hand, so many, from a place to the end of the file
+-- n sections that stand after those at hand, from a place to the end of the file
 unfoldable pub sections_from : ℕ → List ℕ → ℕ → ℕ → List Section → Result (List Section) Fault
 sections_from singles file zero at sections = if at == length file then Ok sections else wrong at Trailing
 sections_from singles file (suc n) at sections = do

@@ -1,3 +1,4 @@
+//! A file that couldn't be created.
 use tv_core::SinkFault;
 use tv_files::Files;
 

@@ -1,3 +1,4 @@
+//! A buffer of bytes that are still to be appended.
 ghost use Rattle.std.specs.Prelude.{◌≡◌, ◌≤◌, ◌<◌, ◌+◌, ◌*◌, [], ◌++◌, length, take, drop};
 ghost use Rattle.std.specs.Prelude.{IsTrue, ◌↔◌};
 ghost use Rattle.std.specs.List.{All};
@@ -13,7 +14,7 @@ const PIECE: usize = 4096;
 
 /// At most 8,192 bytes that are still to be appended to a file. Contracts see the list of them.
 ///
-/// What takes bytes stores the place behind them once: to load it again would wait for them.
+/// Each method stores the end of the bytes once: to load it again would wait for the store.
 #[derive(Drop)]
 pub struct Buffer {
     bytes: [u8; 2 * PIECE],
@@ -31,7 +32,7 @@ impl Model for Buffer {
 }
 
 impl Buffer {
-    /// No bytes.
+    /// Returns an empty buffer.
     pub fn new() -> Buffer
         ensures { result ≡ [] }
     {
@@ -41,7 +42,7 @@ impl Buffer {
         }
     }
 
-    /// Takes bytes behind those held.
+    /// Takes bytes after those held.
     #[inline]
     pub fn push(&mut self, more: &[u8])
         requires { length self.old + length more.now ≤ 8192 }

@@ -1,3 +1,4 @@
+//! The field of a file: its size of numbers and its prime.
 ghost use Rattle.std.specs.Prelude.{◌≡◌, ◌+◌, ◌≤◌, OnOk};
 ghost use Rattle.tv_container.specs.Field.{this_field};
 ghost use Rattle.tv_container.specs.Places.{places};

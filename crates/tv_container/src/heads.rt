@@ -1,3 +1,4 @@
+//! What both formats begin with: the front of a file, and the headers of sections.
 ghost use Rattle.std.specs.Prelude.{◌≡◌, ◌+◌, ◌≤◌, ◌++◌, length};
 ghost use Rattle.tv_container.specs.Bytes.{field_bytes, front_bytes, section_head};
 

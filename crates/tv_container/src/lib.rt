@@ -1,7 +1,7 @@
 //! Containers: files of a magic, a version and sections that stand in any order, as both formats of
 //! this project are. Contracts above cite `sections_of`, which cuts a whole file into its sections
-//! or tells its first fault, and `number`, which is what bytes at a place of a file spell; a
-//! `Window` gives them from a file of any size, a piece at a time.
+//! or reports its first fault, and `number`, the number in the bytes at a place of a file. A
+//! `Window` yields these from a file of any size, a piece at a time.
 #![tactic(auto)]
 
 mod begin;

@@ -1,3 +1,4 @@
+//! Bytes appended to a file in pieces, and the first refusal kept.
 ghost use Rattle.std.specs.Prelude.{◌≡◌, ◌≤◌, ◌<◌, [], ◌++◌, length, drop, Ok};
 ghost use Rattle.std.specs.List.{All};
 ghost use Rattle.tv_core.specs.declared.field.TheConstants.{P};
@@ -13,12 +14,12 @@ use tv_files::Files;
 /// What a writer keeps of a file: the bytes that are still to be appended, at most 8,192, and
 /// whether a call was refused. Each call appends 4,096 bytes, but for the last.
 ///
-/// A refusal isn't answered at once but kept, in `outcome`: from then on nothing is appended, and
+/// A refusal isn't returned at once but kept, in `outcome`: from then on nothing is appended, and
 /// what is taken is lost.
 #[derive(Drop)]
 pub struct Pending {
     buffer: Buffer,
-    /// Whether all calls were answered, or the first refusal.
+    /// Whether all calls succeeded, or the first refusal.
     pub outcome: Put<()>,
 }
 
@@ -77,7 +78,7 @@ impl Pending {
         }
     }
 
-    // Appends a piece where so many bytes are held.
+    // Appends a piece where a whole one is held.
     #[inline]
     fn make_room<D: Files>(&mut self, files: &mut D, name: &str)
         ensures took { Took name.now (D.seen files.old) self.old (D.seen files.new) self.new [] }

@@ -28,7 +28,7 @@ pub(crate) fn place_pair(bytes: &mut [u8], at: usize, short: u32, long: u64)
     place(bytes, at + 4, &long_bytes(long));
 }
 
-// Puts terms, and tells the place behind them.
+// Puts terms, and returns the place after them.
 #[inline]
 pub(crate) fn place_terms(bytes: &mut [u8], start: usize, terms: &[(F, Wire)]) -> usize
     requires { start + 12 * length terms.now ≤ length bytes.old }

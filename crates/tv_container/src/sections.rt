@@ -1,3 +1,4 @@
+//! The sections of a container, found by their headers.
 ghost use Rattle.std.specs.Prelude.{◌≡◌, ℕ, ◌+◌, ◌≤◌, ◌<◌, ◌^◌, true, nat_le, List, [], ◌∷◌, ◌++◌};
 ghost use Rattle.std.specs.Prelude.{length, Some, Ok, IfOk, IfErr, OnOk, ok_or};
 ghost use Rattle.tv_container.specs.Places.{places};
@@ -83,7 +84,7 @@ impl Found {
         }
     }
 
-    // These, and a section behind them.
+    // These, and a section after them.
     #[tactic(auto, using(crate::proofs::SectionLemmas::of_appended))]
     fn and(self, section: Section) -> Found
         ensures found { (sections : List Section) → self ≡ first_of sections →
@@ -167,7 +168,7 @@ fn section_count<D: Files>(
     Ok(window.word(8))
 }
 
-// Reads the sections from the twelfth byte on, so many.
+// Reads this many sections from the twelfth byte on.
 fn next_sections<D: Files>(
     files: &mut D,
     name: &str,
@@ -197,7 +198,7 @@ fn next_sections<D: Files>(
     Ok((found, at))
 }
 
-// Reads the section whose header stands at a place, behind those found.
+// Reads the section whose header stands at a place, after those found.
 #[tactic(auto, unfolding(crate::specs::Sections::section_at))]
 fn next_section<D: Files>(
     files: &mut D,
@@ -260,7 +261,8 @@ fn reaches_end<D: Files>(
     window.reach(files, name, end - 1, 1)
 }
 
-/// The section of a type, where it was found; where there is none it is missing at the file's end.
+/// Returns the section of a type, where it was found; where there is none it is missing at the
+/// file's end.
 pub fn wanted(section: Option<Section>, kind: u32, end: u64) -> Result<Section, ReadRefusal>
     ensures is { result ≡ ok_or section (ReadRefusal.Bad end (ReadWhy.Missing kind)) }
     ensures gives { (file : List ℕ) → end ≡ length file → (sections : List Section) →

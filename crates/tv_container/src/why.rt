@@ -1,3 +1,4 @@
+//! What can be wrong with a container.
 ghost use Rattle.std.specs.Prelude.{◌≡◌};
 ghost use Rattle.tv_container.specs.Refusals.{read_refusal};
 ghost use Rattle.tv_container.specs.declared.why.ReadRefusal.TheVariants.{Memory};
@@ -39,7 +40,7 @@ pub enum ReadWhy {
     /// A combination has more than 1,048,576 terms.
     #[error("{terms} terms")]
     TooWide { terms: u32 },
-    /// There are bytes behind the last section.
+    /// There are bytes after the last section.
     #[error("bytes after the end")]
     Trailing,
 }
@@ -53,7 +54,7 @@ pub enum ReadRefusal {
     /// A read failed.
     #[error("reading failed")]
     Fault,
-    /// Memory was wanting.
+    /// Memory ran out.
     #[error("out of memory")]
     Memory,
 }

@@ -1,3 +1,4 @@
+//! A window on a file: the piece of it that was read last.
 ghost use Rattle.std.specs.Prelude.{◌≡◌, ℕ, ◌+◌, ◌*◌, ◌≤◌, ◌<◌, ◌^◌, true, nat_le, Ok, IfOk, OnOk};
 ghost use Rattle.std.specs.Prelude.{MatchResult, ◌↔◌};
 ghost use Rattle.std.specs.Prelude.{List, [], length, take, drop};
@@ -48,7 +49,7 @@ impl Window {
         }
     }
 
-    /// The 32-bit number at a place that the window holds, the lowest byte first.
+    /// Returns the 32-bit number at a place that the window holds, the lowest byte first.
     #[inline(always)]
     pub fn word(&self, at: u64) -> u32
         requires { Holds self.now at 4 }
@@ -57,7 +58,7 @@ impl Window {
         word_at(&self.bytes, (at - self.at) as usize)
     }
 
-    /// The 64-bit number at a place that the window holds, the lowest byte first.
+    /// Returns the 64-bit number at a place that the window holds, the lowest byte first.
     #[inline(always)]
     pub fn long(&self, at: u64) -> u64
         requires { Holds self.now at 8 }
@@ -66,8 +67,8 @@ impl Window {
         long_at(&self.bytes, (at - self.at) as usize)
     }
 
-    /// How many whole terms of 12 bytes, the first of which it holds, the window holds from a place
-    /// to an end.
+    /// Returns how many whole terms of 12 bytes, the first of which it holds, the window holds from
+    /// a place to an end.
     pub fn whole_terms(&self, at: u64, end: u64) -> u32
         requires held { Holds self.now at 12 }
         requires within { at + 12 ≤ end }
@@ -80,7 +81,7 @@ impl Window {
         (held.min(end - at) / 12) as u32
     }
 
-    /// The bytes that the window holds from a place on, which it holds.
+    /// Returns the bytes that the window holds from a place on, which it holds.
     pub fn bytes_from(&self, at: u64) -> &[u8]
         requires { Holds self.now at 0 }
         ensures all { at + length result.now ≡ self.now.at + length self.now.bytes }
@@ -90,7 +91,7 @@ impl Window {
         &self.bytes[(at - self.at) as usize..self.held]
     }
 
-    /// Whether the window holds the bytes at a place, so many.
+    /// Returns whether the window holds this many bytes from a place on.
     #[inline(always)]
     pub fn holds(&self, at: u64, size: usize) -> bool
         ensures { (result ≡ true) ↔ Holds self.now at size }
@@ -100,8 +101,8 @@ impl Window {
             && size as u64 <= self.held as u64 - (at - self.at)
     }
 
-    /// Reads on to a place until the window holds so many bytes there, and tells whether the file
-    /// has them. A call asks for as many bytes as there is room for.
+    /// Reads on to a place until the window holds this many bytes there, and returns whether the
+    /// file has them. A call asks for as many bytes as there is room for.
     pub fn reach<D: Files>(
         &mut self,
         files: &mut D,
@@ -130,7 +131,8 @@ impl Window {
         Ok(self.held >= size)
     }
 
-    // Lets the bytes before a place go, and all of them where it isn't among them or right behind.
+    // Lets the bytes before a place go, and all of them where it is neither among them nor directly
+    // after them.
     fn go(&mut self, at: u64)
         ensures at { self.new.at ≡ at }
         ensures piece { (file : List ℕ) → IsPiece self.old file → IsPiece self.new file }
@@ -175,7 +177,7 @@ impl Window {
     }
 }
 
-// Reads on at a place, where so many bytes are held, until `size` are or the file ends, and answers
+// Reads on at a place, where some bytes are held, until `size` are or the file ends, and returns
 // how many are held then.
 fn fill<D: Files>(
     files: &mut D,
@@ -211,7 +213,7 @@ fn fill<D: Files>(
     Ok(held)
 }
 
-// The number that the eight bytes from a place on spell, the lowest first.
+// The number in the eight bytes from a place on, the lowest first.
 #[inline(always)]
 fn long_at(bytes: &[u8], at: usize) -> u64
     requires { at + 8 ≤ length bytes.now }

@@ -1,9 +1,9 @@
-//! What a listed failing call leaves, and in how many calls a whole file is written and read where
-//! memory is ample.
+//! What each call answers and leaves, listed or not, and in how many calls a whole file is written
+//! and read where memory is ample.
 
 use std::alloc::{AllocError, Global};
 use std::test::Fail;
-use tv_files::{Files, MemFiles, Slurp, slurp, write_file};
+use tv_files::{FileRefusal, Files, MemFiles, Slurp, slurp, write_file};
 
 /// Files of which one, `file`, has these bytes.
 pub fn files_of(alloc: Global, bytes: &[u8]) -> Result<MemFiles, AllocError> {
@@ -50,6 +50,78 @@ fn a_listed_call_fails_alone(rt: HostRuntime) -> Result<(), Fail> {
         );
         assert_eq!(rt; files.said_bytes(), said, "call {number}");
         assert_eq!(rt; files.calls(), 4, "call {number}");
+    }
+    Ok(())
+}
+
+#[derive(Clone, Copy, Debug)]
+enum Call {
+    Read,
+    Create,
+    Append,
+    Say,
+}
+
+// What a call on a name answers: a read from place 1 on, how many bytes it copied, and else 0.
+fn answer(files: &mut MemFiles, call: Call, name: &str) -> Result<usize, FileRefusal> {
+    match call {
+        Call::Read => return files.read(name, 1, &mut [0; 4]),
+        Call::Create => files.create(name)?,
+        Call::Append => files.append(name, b"abcde")?,
+        Call::Say => files.say(b"hello")?,
+    }
+    Ok(0)
+}
+
+const FAILED: Result<usize, FileRefusal> = Err(FileRefusal::Failed);
+
+// A call on a name, whether its number is listed, what it answers, and what the name then has and
+// what was said. Only `file` is there, and has `old`.
+const ANSWERS: [(
+    Call,
+    &str,
+    bool,
+    Result<usize, FileRefusal>,
+    Option<&[u8]>,
+    &[u8],
+); 14] = [
+    (Call::Read, "file", false, Ok(2), Some(b"old"), b""),
+    (Call::Read, "file", true, FAILED, Some(b"old"), b""),
+    (Call::Read, "none", false, FAILED, None, b""),
+    (Call::Read, "none", true, FAILED, None, b""),
+    (Call::Create, "file", false, Ok(0), Some(b""), b""),
+    (Call::Create, "file", true, FAILED, Some(b"old"), b""),
+    (Call::Create, "none", false, Ok(0), Some(b""), b""),
+    (Call::Create, "none", true, FAILED, None, b""),
+    (Call::Append, "file", false, Ok(0), Some(b"oldabcde"), b""),
+    (Call::Append, "file", true, FAILED, Some(b"oldab"), b""),
+    (Call::Append, "none", false, FAILED, None, b""),
+    (Call::Append, "none", true, FAILED, None, b""),
+    (Call::Say, "file", false, Ok(0), Some(b"old"), b"hello"),
+    (Call::Say, "file", true, FAILED, Some(b"old"), b"he"),
+];
+
+// Whether that call answers and leaves this.
+fn leaves(
+    alloc: Global,
+    call: Call,
+    name: &str,
+    listed: bool,
+    answered: Result<usize, FileRefusal>,
+    bytes: Option<&[u8]>,
+    said: &[u8],
+) -> Result<bool, AllocError> {
+    let mut files = files_of(alloc, b"old")?;
+    files.fail_at(if listed { 1 } else { 2 })?;
+    let found = answer(&mut files, call, name);
+    Ok(found == answered && files.bytes_of(name) == bytes && files.said_bytes() == said)
+}
+
+#[test]
+fn each_call_answers_for_itself(rt: HostRuntime) -> Result<(), Fail> {
+    for (call, name, listed, answered, bytes, said) in ANSWERS {
+        let left = leaves(rt.alloc(), call, name, listed, answered, bytes, said)?;
+        assert!(rt; left, "{call:?} {name} {listed}");
     }
     Ok(())
 }

@@ -1,5 +1,5 @@
 //! In which pieces both writers append, what each failing call of theirs leaves, and that each
-//! failing read of such a file is told.
+//! failing read of such a file is reported.
 
 use crate::assignments::write_values;
 use crate::calls::files_of;
@@ -19,7 +19,7 @@ enum Form {
     Assignment,
 }
 
-// Writes a file of so many constraints or values, of these at most 1018.
+// Writes a file of this many constraints or values, of these at most 1018.
 fn write(files: &mut MemFiles, form: Form, count: u16) -> Put<()> {
     match form {
         Form::System => write_multiples(files, count),
@@ -65,7 +65,7 @@ fn failing_writes_leave_a_first_part(
     Ok(())
 }
 
-// Lets each of the calls that read these bytes fail, and sees that it is told, and is the last.
+// Lets each of the calls that read these bytes fail, and sees that it is reported, and is the last.
 fn failing_reads_are_told(
     rt: &impl Abort,
     alloc: Global,

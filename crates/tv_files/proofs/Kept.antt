@@ -55,7 +55,7 @@ pub prefix_added : (name bytes : List ℕ) (due : Bool) (old new : Names) →
 prefix_added name bytes due old new (inl same) = (0, ap Some (same ∙ sym (with_more-none name old)))
 prefix_added name bytes due old new (inr half) = (length bytes / 2, ap Some half.1)
 
--- a name that was found isn't missing among the files told
+-- a name that was found isn't missing among the known files
 pub found_is_there : (name : List ℕ) (m : BTreeMap (String Global) (Vec ℕ Global)) (had : Vec ℕ Global) (files : Names) →
     get_by_text m name ≡ Some had → Some (names_in m) ≡ Some files → files name ≢ None
 found_is_there name m had files found told gone =

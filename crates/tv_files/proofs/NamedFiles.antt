@@ -33,7 +33,7 @@ with_more-with_bytes name bytes more files =
     ap (λ file. update bytes_eq (with_bytes name bytes files) name (option_map (λ held. held ++ more) file)) (with_bytes-here name bytes files)
     ∙ update-update name (Some bytes) (Some (bytes ++ more)) files
 
--- the same of files that may not be told
+-- the same of files that may not be known
 pub told-with_more-with_bytes : (name bytes more : List ℕ) (told : Option Names) →
     option_map (with_more name more) (option_map (with_bytes name bytes) told) ≡ option_map (with_bytes name (bytes ++ more)) told
 told-with_more-with_bytes name bytes more None = refl
@@ -64,7 +64,7 @@ with_more-with_more name first second files =
     both None = refl
     both (Some bytes) = ap Some (append_assoc bytes first second)
 
--- the same of files that may not be told
+-- the same of files that may not be known
 pub told-with_more-with_more : (name first second : List ℕ) (told : Option Names) →
     option_map (with_more name second) (option_map (with_more name first) told) ≡ option_map (with_more name (first ++ second)) told
 told-with_more-with_more name first second None = refl
@@ -76,7 +76,7 @@ with_more-absent name more files absent =
     ap (λ same. cond same (option_map (λ held. held ++ more) (files name)) (files name)) ((bytes_eq-Decides name name).1 refl)
     ∙ ap (option_map (λ held. held ++ more)) absent
 
--- and one that comes to be absent was
+-- and one that is absent after was so before
 pub with_more-none_before : (name more : List ℕ) (files : Names) → with_more name more files name ≡ None → files name ≡ None
 with_more-none_before name more files absent = by_file (files name) (sym here ∙ absent)
   where

@@ -9,7 +9,7 @@ use Rattle.tv_files.specs.Calls.{Reads, Gives}
 abbrev pub IsFront : List ℕ → List ℕ → Type 0
 IsFront front bytes = front ≡ take (length front) bytes
 
--- the next piece goes behind the front
+-- the next piece goes after the front
 pub front_grows : (front bytes into : List ℕ) (at count : ℕ) → at ≡ length front → IsFront front bytes → Gives bytes at count into →
     count ≤ length into → IsFront (front ++ take count into) bytes
 front_grows front bytes into at count here is_front gives fits =
@@ -23,7 +23,7 @@ pub front_ends : (front bytes into : List ℕ) (at : ℕ) → at ≡ length fron
 front_ends front bytes into at here is_front gives room =
     is_front ∙ take_all (length front) bytes (omega arith)
 
--- a name that was read is there, where contents are told
+-- a name that was read is there, where contents are known
 pub held_of_read : (old new : Outside) (name : List ℕ) (at : ℕ) (into : List ℕ) (count : ℕ) → Reads old new name at into (Ok count) →
     Told old (λ files. (bytes : List ℕ) × (files name ≡ Some bytes) × Gives bytes at count into)
 held_of_read old new name at into count reads files told = by_name (files name) refl

@@ -6,13 +6,13 @@ use Rattle.tv_files.specs.Outside.{Outside, with_bytes, with_more}
 use Rattle.tv_files.specs.Whole.{HasBytes, HasPart}
 use Rattle.tv_files.proofs.NamedFiles.{told-with_more-with_bytes}
 
--- the next piece goes behind what was written
+-- the next piece goes after what was written
 pub written_grows : (old now new : Outside) (name written piece : List ℕ) → HasBytes old now name written →
     new.contents ≡ option_map (with_more name piece) now.contents → HasBytes old new name (written ++ piece)
 written_grows old now new name written piece before added =
     added ∙ ap (option_map (with_more name piece)) before ∙ told-with_more-with_bytes name written piece old.contents
 
--- a front, and the first few bytes behind it, are a front
+-- a front, and the first few bytes after it, are a front
 take_front : (written piece rest : List ℕ) (n : ℕ) → take (length written + min n (length piece)) (written ++ (piece ++ rest)) ≡ written ++ take n piece
 take_front written piece rest n =
     let within : min n (length piece) ≤ length piece = omega arith in

@@ -1,6 +1,6 @@
 -- What each of the four calls may do, from the outside before it and after it.
 use Rattle.std.specs.Prelude.{◌≡◌, ℕ, ◌-◌, ◌≤◌, ◌⊎◌, List, [], ◌++◌, length, take, drop, Some, None, option_map, Result, Err, IfOk, OnOk, OnErr}
-use Rattle.tv_files.specs.Outside.{with_bytes, with_more, Outside, Told, MissesOnly, NoneFell, SameCounts}
+use Rattle.tv_files.specs.Outside.{with_bytes, with_more, Outside, Told, MissesOnly, NoneFell, RanOut, SameCounts}
 use Rattle.tv_files.specs.declared.calls.FileRefusal.{FileRefusal}
 use Rattle.tv_files.specs.declared.calls.FileRefusal.TheVariants.{Failed, Memory}
 use Rattle.tv_word.specs.Counts.{Rose}
@@ -23,7 +23,7 @@ pub record Reads (old new : Outside) (name : List ℕ) (at : ℕ) (into : List �
   pub counts : OnOk result (SameCounts old new)
   pub later : NoneFell old new
   pub failed : result ≡ Err Failed → Rose old.read_faults new.read_faults
-  pub memory : result ≡ Err Memory → Rose old.wants new.wants
+  pub memory : result ≡ Err Memory → RanOut old new
   pub missing : Told old (λ files.
       files name ≡ None → (result ≡ Err Failed) × Rose old.absent new.absent)
   pub there : MissesOnly old new name
@@ -38,7 +38,7 @@ pub record Creates (old new : Outside) (name : List ℕ)
   pub counts : OnOk result (SameCounts old new)
   pub later : NoneFell old new
   pub failed : result ≡ Err Failed → Rose old.write_faults new.write_faults
-  pub memory : result ≡ Err Memory → Rose old.wants new.wants
+  pub memory : result ≡ Err Memory → RanOut old new
   pub absent : new.absent ≡ old.absent
 
 -- bytes were added to a name, or after a refusal the first few of them
@@ -51,12 +51,12 @@ pub record Appends (old new : Outside) (name bytes : List ℕ)
   pub counts : OnOk result (SameCounts old new)
   pub later : NoneFell old new
   pub failed : result ≡ Err Failed → Rose old.write_faults new.write_faults
-  pub memory : result ≡ Err Memory → Rose old.wants new.wants
+  pub memory : result ≡ Err Memory → RanOut old new
   pub missing : Told old (λ files.
       files name ≡ None → (result ≡ Err Failed) × Rose old.absent new.absent)
   pub there : MissesOnly old new name
 
--- bytes were said, or after a refusal the first few of them
+-- bytes were printed, or after a refusal the first few of them
 pub record Says (old new : Outside) (bytes : List ℕ)
     (result : Result (Unit {0}) FileRefusal) : Type 0 where
   pub done : OnOk result (new.said ≡ option_map (λ said. said ++ bytes) old.said)
@@ -66,5 +66,5 @@ pub record Says (old new : Outside) (bytes : List ℕ)
   pub counts : OnOk result (SameCounts old new)
   pub later : NoneFell old new
   pub failed : result ≡ Err Failed → Rose old.say_faults new.say_faults
-  pub memory : result ≡ Err Memory → Rose old.wants new.wants
+  pub memory : result ≡ Err Memory → RanOut old new
   pub absent : new.absent ≡ old.absent

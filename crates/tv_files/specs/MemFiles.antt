@@ -1,4 +1,4 @@
--- Files in memory: what they tell, and what fails on demand.
+-- Files in memory: that their contents are known, and what fails on demand.
 use Rattle.std.specs.Prelude.{◌≡◌, ◌==◌, ℕ, ◌+◌, ◌-◌, ◌/◌, ◌^◌, min, List, [], length, take, Bool, true, false, if◌then◌else◌, Option, Some, None, option_map, Result, Ok, Err, Vec, String}
 use Rattle.std.specs.List.{list_any}
 use Rattle.std.specs.Global.{Global}
@@ -16,7 +16,7 @@ names_in map name = option_map (λ bytes. bytes.items) (get_by_text map name)
 abbrev pub names_of : MemFiles → Names
 names_of files = names_in files.names
 
--- the bytes said
+-- the bytes printed
 abbrev pub said_of : MemFiles → List ℕ
 said_of files = files.said.items
 
@@ -28,7 +28,7 @@ calls_of files = files.calls
 abbrev pub failing_of : MemFiles → List ℕ
 failing_of files = files.failing.items
 
--- what the files in memory tell: all
+-- the outside that files in memory are: all contents are known
 abbrev pub told_by : MemFiles → Outside
 told_by files = record {
   contents = Some (names_of files);
@@ -40,7 +40,7 @@ told_by files = record {
   absent = files.absent;
 }
 
--- no names, nothing said, and counts of 0
+-- no names, nothing printed, and counts of 0
 abbrev pub nothing : Outside
 nothing = record {
   contents = Some (λ _. None);
@@ -74,7 +74,7 @@ is_failed (Ok _) = false
 is_failed (Err Failed) = true
 is_failed (Err Memory) = false
 
--- memory was wanting in the call
+-- memory ran out in the call
 abbrev pub is_wanting : {T : Type 0} → Result T FileRefusal → Bool
 is_wanting (Ok _) = false
 is_wanting (Err Failed) = false
@@ -90,7 +90,7 @@ pub record Counted (old new : MemFiles) (read_fault write_fault say_fault want m
   pub wants : (told_by new).wants ≡ raised want (told_by old).wants
   pub absent : (told_by new).absent ≡ raised miss (told_by old).absent
 
--- what a read answers: a fault where the call is to fail or the name isn't there, and else all that fits
+-- what a read returns: a fault where the call is to fail or the name isn't there, and else all that fits
 abbrev pub read_answer : Bool → Option (List ℕ) → ℕ → ℕ → Result ℕ FileRefusal
 read_answer true _ at room = Err Failed
 read_answer false None at room = Err Failed

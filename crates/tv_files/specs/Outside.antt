@@ -1,7 +1,8 @@
--- The outside world as a value: which files there are, what was said, and the counts of what went wrong.
+-- The outside world as a value: which files there are, what was printed, and the counts of what went wrong.
 use Rattle.std.specs.Prelude.{◌≡◌, ℕ, ◌≤◌, ◌⊎◌, List, ◌++◌, Option, Some, None, option_map}
 use Rattle.std.specs.Map.{update}
 use Rattle.std.specs.Str.{bytes_eq}
+use Rattle.tv_word.specs.Counts.{Rose}
 
 -- the files that are there: from a name's bytes to the file's bytes
 abbrev pub Names : Type 0
@@ -11,11 +12,11 @@ Names = List ℕ → Option (List ℕ)
 abbrev pub with_bytes : List ℕ → List ℕ → Names → Names
 with_bytes name bytes files = update bytes_eq files name (Some bytes)
 
--- the files once these bytes stand behind those that the name had; a name that isn't there stays absent
+-- the files once these bytes stand after those that the name had; a name that isn't there stays absent
 abbrev pub with_more : List ℕ → List ℕ → Names → Names
 with_more name more files = update bytes_eq files name (option_map (λ bytes. bytes ++ more) (files name))
 
--- what is outside: contents and words said, where they are told, and the counts
+-- what is outside: contents and printed words, where they are known, and the counts
 pub record Outside : Type 0 where
   pub contents : Option Names
   pub said : Option (List ℕ)
@@ -25,7 +26,7 @@ pub record Outside : Type 0 where
   pub wants : ℕ
   pub absent : ℕ
 
--- where contents are told, this is so of them
+-- where contents are known, this is so of them
 abbrev pub Told : Outside → (Names → Type 0) → Type 0
 Told outside P = (files : Names) → outside.contents ≡ Some files → P files
 
@@ -49,14 +50,22 @@ pub record SameCounts (old new : Outside) : Type 0 where
   pub wants : new.wants ≡ old.wants
   pub absent : new.absent ≡ old.absent
 
+-- memory ran out: the count `wants` rose, and each other count is as before
+pub record RanOut (old new : Outside) : Type 0 where
+  pub wants : Rose old.wants new.wants
+  pub read_faults : new.read_faults ≡ old.read_faults
+  pub write_faults : new.write_faults ≡ old.write_faults
+  pub say_faults : new.say_faults ≡ old.say_faults
+  pub absent : new.absent ≡ old.absent
+
 -- what readers do to the outside: files and words said stay, and no count fell
 pub record OnlyReads (old new : Outside) : Type 0 where
   pub contents : new.contents ≡ old.contents
   pub said : new.said ≡ old.said
   pub later : NoneFell old new
 
--- what writers do to the outside, but for its files: words said stay, no count fell, and where contents
--- are told no name was missed
+-- what writers do to the outside, but for its files: printed words stay, no count fell, and where contents are known no
+-- name was missed
 pub record OnlyWrites (old new : Outside) : Type 0 where
   pub said : new.said ≡ old.said
   pub absent : Told old (λ _. new.absent ≡ old.absent)

@@ -10,16 +10,17 @@ pub enum FileRefusal {
     /// The outside failed: the call's own count of faults rose.
     #[error("the file operation failed")]
     Failed,
-    /// Memory was wanting: the count `wants` rose.
+    /// Memory ran out: the count `wants` rose, and no other count changed.
     #[error("out of memory")]
     Memory,
 }
 
-/// Named files and one stream of words said.
+/// Named files and one stream of printed words.
 ///
-/// What a value means is `seen`, an `Outside`: the files' contents and the bytes said, where they
-/// are told, and counts of faults, of wants of memory and of names that were absent. No count ever
-/// falls, `Ok` leaves all of them, and "rose" includes standing at 2^64 - 1.
+/// What a value means is `seen`, an `Outside`: the files' contents and the printed bytes, where
+/// they are known, and counts of faults, of allocation failures and of names that were absent. No
+/// count ever falls, `Ok` leaves all of them, `Memory` all but `wants`, and "rose" includes
+/// standing at 2^64 - 1.
 pub trait Files {
     ghost seen: { Self → Outside };
 

@@ -13,13 +13,13 @@ use crate::parts::{add, copy_from, next_is_due, put, raise};
 use std::alloc::{AllocError, Global};
 use std::collections::BTreeMap;
 
-/// Files kept in memory, which tell all and can fail on demand.
+/// Files kept in memory, whose contents are known, and which can fail on demand.
 ///
 /// The four calls of `Files` are counted, from 1 on. A call fails exactly where its number was
-/// given to `fail_at`, or where a name to be read or appended to isn't there. A call that was given
-/// to `fail_at` and appends to a name that is there, or says something, adds the first half of the
-/// bytes, rounded down, or nothing where memory for them is refused; any other call that fails
-/// changes nothing. All counters stay at their last value.
+/// passed to `fail_at`, or where a name to be read or appended to isn't there. A call that was
+/// passed to `fail_at` and appends to a name that is there, or prints something, adds the first
+/// half of the bytes, rounded down, or nothing where memory for them is refused; any other call
+/// that fails changes nothing. All counters stay at their last value.
 #[derive(Drop)]
 pub struct MemFiles {
     alloc: Global,

@@ -17,7 +17,7 @@ pub fn raise(count: &mut u64)
     *count = count.saturating_add(1);
 }
 
-/// Counts the call, and tells whether it is to fail.
+/// Counts the call, and returns whether it is to fail.
 pub fn next_is_due(calls: &mut u64, failing: &[u64]) -> bool
     ensures counted { calls.new ≡ one_more calls.old }
     ensures due { result ≡ is_listed (one_more calls.old) failing.now }

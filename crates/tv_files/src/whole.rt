@@ -1,6 +1,7 @@
 //! Whole files, over any `Files`: read into memory, or written from it.
 ghost use Rattle.std.specs.Prelude.{◌≡◌, ℕ, ◌≤◌, length, Some, None, IfOk, OnOk, OnErr};
-ghost use Rattle.tv_files.specs.Outside.{OnlyReads, OnlyWrites, SameCounts, Told, MissesOnly};
+ghost use Rattle.tv_files.specs.Outside.{OnlyReads, OnlyWrites, RanOut, SameCounts, Told};
+ghost use Rattle.tv_files.specs.Outside.{MissesOnly};
 ghost use Rattle.tv_files.specs.Whole.{IsLonger, HasBytes, HasPart, Leaves};
 ghost use Rattle.tv_word.specs.Counts.{Rose};
 
@@ -11,14 +12,14 @@ use std::alloc::Global;
 /// The most bytes that one call reads or appends.
 const PIECE: usize = 4096;
 
-/// Reads the whole file, by calls of at most 4,096 bytes, until one gives none or more than `most`
-/// bytes came.
+/// Reads the whole file, by calls of at most 4,096 bytes, until one returns none or more than
+/// `most` bytes came.
 ///
 /// `Ok` is the contents of the name, which are at most `most` bytes. `TooLong` comes exactly where
 /// the name has more than that: byte number `most + 1` was read. `Fault` comes only where the count
-/// of faults of reading rose, and a missing name is such a fault. `Memory` is want of memory, here
-/// or outside. Nothing outside is changed but the counts, and these only where it ends by `Fault`
-/// or `Memory`.
+/// of faults of reading rose, and a missing name is such a fault. `Memory` is an allocation
+/// failure, here or outside. Nothing outside is changed but the counts, and these only where it
+/// ends by `Fault` or `Memory`.
 pub fn slurp<D: Files>(
     alloc: Global,
     files: &mut D,
@@ -62,7 +63,7 @@ pub fn write_file<D: Files>(files: &mut D, name: &str, bytes: &[u8]) -> Result<(
     ensures failed { result ≡ Err FileRefusal.Failed →
         Rose (D.seen files.old).write_faults (D.seen files.new).write_faults }
     ensures memory { result ≡ Err FileRefusal.Memory
-        → Rose (D.seen files.old).wants (D.seen files.new).wants }
+        → RanOut (D.seen files.old) (D.seen files.new) }
     ensures only { OnlyWrites (D.seen files.old) (D.seen files.new) }
     ensures counts { OnOk result (SameCounts (D.seen files.old) (D.seen files.new)) }
 {

@@ -48,7 +48,7 @@ terms_at-more : (file : List ℕ) (wires end n at : ℕ) (term : ℕ × ℕ) →
 unfolding terms_at with_front
 terms_at-more file wires end n at term is = rw is refl
 
--- the next term goes behind those at hand
+-- the next term goes after those at hand
 pub goes_on : (answer : Result (Read Combination) Fault) (terms : List (ℕ × ℕ)) (file : List ℕ) (wires end n more at wire coefficient : ℕ) →
     IsAhead answer terms file wires end n at → n ≡ more + 1 → term_at file wires end at ≡ Ok (coefficient, wire) →
     IsAhead answer (terms ++ (wire, coefficient) ∷ []) file wires end more (at + 12)

@@ -20,7 +20,7 @@ use Rattle.tv_r1cs_read.specs.Steps.{Failed, Passed}
 use Rattle.tv_r1cs_read.specs.Survey.{survey_of}
 use Rattle.tv_container.proofs.Chain.{made, refuses_first}
 
--- the next one goes behind those that were read
+-- the next one goes after those that were read
 read_more : (done : List Constraint) (all before after : Result (List Constraint) Fault) (next : Constraint) → HasRead done all before →
     before ≡ (do
       others ← after
@@ -83,7 +83,7 @@ one_more file old new rows next place follows same count step = record {
   terms = count ∙ ap (λ n. n + terms_of next) place.terms ∙ sym (sum_by_push terms_of rows next);
 }
 
--- a constraint of so many terms is given
+-- a constraint of n terms is returned
 pub terms_rise : (header : Header) (at left n : ℕ) → IsWithin header at left → 0 < left →
     terms_given header (at + 12 + 12 * n) (left - 1) ≡ terms_given header at left + n
 terms_rise header at left n is some = omega (arith, is.ahead, is.counted)

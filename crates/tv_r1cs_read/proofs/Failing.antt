@@ -11,7 +11,7 @@ use Rattle.tv_r1cs_read.specs.Progress.{Reached}
 use Rattle.tv_r1cs_read.specs.R1cs.{system_of}
 use Rattle.tv_r1cs_read.specs.Steps.{Failed, Fewer, WentOver}
 
--- behind constraints that hold the first that fails is the first of the others
+-- after constraints that hold, the first that fails is the first of the others
 pub behind_all : (z : List ℕ) (at : ℕ) (done more : List Constraint) → first_failure z at done ≡ None →
     first_failure z at (done ++ more) ≡ first_failure z (at + length done) more
 behind_all z at [] more none = ap (λ n. first_failure z n more) (sym (add-zero at))
@@ -51,7 +51,7 @@ pub over_one : (z : List ℕ) (old new : Reached) (file : List ℕ) (rows : List
 over_one z old new file rows constraint test place next is left =
     over_more z old old new file rows constraint test (over_none z old file rows place) (rw append-nil next) is left
 
--- others were tried behind those that hold
+-- others were tried after those that hold
 pub over_over : (z : List ℕ) (first old new : Reached) (file : List ℕ) (rows : List Constraint) (test : Bool) →
     (over : WentOver true z first old file rows) → WentOver test z old new file (rows ++ over.more) → WentOver test z first new file rows
 over_over z first old new file rows test over later = record {

@@ -33,7 +33,7 @@ adds answer file wires end z first k next n more at sum wire coefficient summed 
       ∙ ap (λ s. first + s) (sym (sum_by_push (λ (t : ℕ × ℕ). t.1 * slice_index z t.0) summed.terms (wire, coefficient)));
 }
 
--- one term that a window holds, and one behind others
+-- one term that a window holds, and one after others
 pub adds_one : (piece : Piece) (bounds : Bounds) (z : List ℕ) (at old wire coefficient : ℕ) →
     ((file : List ℕ) → IsPiece piece file → term_at file bounds.wires bounds.end at ≡ Ok (coefficient, wire)) →
     Adds piece bounds z at 1 1 old (old + coefficient * slice_index z wire)
@@ -103,7 +103,7 @@ same_test a b c d there back = by_test (a == b) refl
     by_test true e = sym (eq-eqb c d (there (eqb-true a b e)))
     by_test false e = sym (ne_eqb c d (λ same. eqb-false a b e (back same)))
 
--- what a product leaves of a number comes to it again exactly where the product is added
+-- what a product leaves of a number makes it again exactly where the product is added
 product_added : (rest x y s whole : ℕ) → rest + x * y ≡ whole → ((rest + s) % P == whole % P) ≡ (x * y % P == s % P)
 product_added rest x y s whole is =
     same_test _ _ _ _

@@ -65,7 +65,7 @@ record AreRead : Type 0 where
   cut_by_one : system_of (take 167 worked) ≡ wrong 124 Truncated
   -- only three bytes
   cut_to_three : system_of (take 3 worked) ≡ wrong 0 Truncated
-  -- a byte behind the last section
+  -- a byte after the last section
   one_more : system_of (worked ++ 0 ∷ []) ≡ wrong 168 Trailing
   -- another first byte
   bad_magic : system_of (changed 0 (0 ∷ []) worked) ≡ wrong 0 BadMagic

@@ -3,7 +3,7 @@ use Rattle.std.specs.Prelude.{ℕ, ◌+◌, ◌-◌, ◌≤◌, ◌<◌}
 use Rattle.tv_container.specs.Reading.{Holds, Piece}
 use Rattle.tv_r1cs_read.specs.declared.held.Held.{Held}
 
--- the window holds the bytes from a place up to another, none of them behind an end, and no more than a window may
+-- the window holds the bytes from a place up to another, none of them after an end, and no more than a window may
 pub record IsHeld (piece : Piece) (end : ℕ) (held : Held) : Type 0 where
   pub before : held.from ≤ held.to
   pub within : held.to ≤ end

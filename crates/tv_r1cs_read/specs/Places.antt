@@ -1,4 +1,4 @@
--- The place in a system's file that reading has come to, by the constraints that it has given.
+-- The place in a system's file that reading has reached, by the constraints that it has returned.
 use Rattle.std.specs.Prelude.{◌≡◌, ℕ, List, ◌++◌, Result, Ok}
 use Rattle.tv_core.specs.Constraints.{Constraint, System}
 use Rattle.tv_core.specs.Meanings.{terms_in}
@@ -12,13 +12,13 @@ use Rattle.tv_r1cs_read.specs.Survey.{survey_of}
 abbrev pub system_with : Header → List Constraint → System
 system_with header list = record { wires = header.wires; outputs = header.outputs; inputs = header.inputs; constraints = list }
 
--- all constraints are those that were read, and behind them those that are ahead
+-- all constraints are those that were read, and after them those that are ahead
 pub record HasRead (done : List Constraint) (all left : Result (List Constraint) Fault) : Type 0 where
   pub same : all ≡ (do
     others ← left
     Ok (done ++ others))
 
--- Reading has given these constraints of the file, in order: they are the system's first, and all others, or the
+-- Reading has returned these constraints of the file, in order: they are the system's first, and all others, or the
 -- file's first fault, are ahead.
 pub record IsAt (reached : Reached) (file : List ℕ) (rows : List Constraint) : Type 0 where
   pub follows : Follows reached file
@@ -26,7 +26,7 @@ pub record IsAt (reached : Reached) (file : List ℕ) (rows : List Constraint) :
   pub read : HasRead rows (constraints_from file reached.header.wires reached.header.rows reached.header.constraints reached.header.rows.at) (ahead reached file)
   pub terms : reached.terms ≡ terms_in rows
 
--- reading has given all constraints: the file holds this system, and these are its counts
+-- reading has returned all constraints: the file holds this system, and these are its counts
 pub record IsAll (reached : Reached) (file : List ℕ) (rows : List Constraint) : Type 0 where
   pub place : IsAt reached file rows
   pub system : system_of file ≡ Ok (system_with reached.header rows)

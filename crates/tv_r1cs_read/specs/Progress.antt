@@ -8,8 +8,8 @@ use Rattle.tv_container.specs.Places.{Fault, places}
 use Rattle.tv_container.specs.Reading.{Piece, IsPiece}
 use Rattle.tv_r1cs_read.specs.R1cs.{HasRoom, constraints_from}
 
--- what is known of the file: its header, and the piece of it that was read last; the place of the next
--- constraint, how many are left, and how many terms those had that were given; and whether reading stopped
+-- what is known of the file: its header, and the piece of it that was read last; the place of the next constraint, how
+-- many are left, and how many terms those had that were returned; and whether reading stopped
 pub record Reached : Type 0 where
   pub header : Header
   pub piece : Piece
@@ -18,11 +18,12 @@ pub record Reached : Type 0 where
   pub terms : ℕ
   pub stopped : Option ReadRefusal
 
--- how many terms the constraints had that were given: twelve bytes are of each term, and twelve of each constraint's counts
+-- how many terms the constraints had that were returned: twelve bytes are of each term, and twelve of each constraint's
+-- counts
 abbrev pub terms_given : (header : Header) (at left : ℕ) → ℕ
 terms_given header at left = (at - header.rows.at) / 12 - (header.constraints - left)
 
--- the next constraint's place is in section 2, whose places are below 2^64, and behind the constraints that were given
+-- the next constraint's place is in section 2, whose places are below 2^64, and after the constraints that were returned
 pub record IsWithin (header : Header) (at left : ℕ) : Type 0 where
   pub within : at ≤ header.rows.at + header.rows.size
   pub ends : header.rows.at + header.rows.size < 2 ^ 64
@@ -47,7 +48,7 @@ pub record Follows (reached : Reached) (file : List ℕ) : Type 0 where
 abbrev pub ahead : Reached → List ℕ → Result (List Constraint) Fault
 ahead reached file = constraints_from file reached.header.wires reached.header.rows reached.left reached.at
 
--- what the system counts, and the terms of the rows given
+-- what the system counts, and the terms of the rows that were returned
 abbrev pub counts_of : Reached → Counts
 counts_of reached = record {
   wires = reached.header.wires;

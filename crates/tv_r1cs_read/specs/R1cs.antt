@@ -45,7 +45,7 @@ header_of file = do
   sections ← sections_of 3 0x73633172 1 file
   header_in file sections
 
--- a value read at a place of the file, and the place behind it
+-- a value read at a place of the file, and the place after it
 pub record Read (A : Type 0) : Type 0 where
   pub value : A
   pub next : ℕ
@@ -59,7 +59,7 @@ term_at file wires end at = do
   _ ← unless (not (nat_lt (number file 8 (at + 4)) P)) (at + 4) NotCanonical
   Ok (number file 8 (at + 4), number file 4 at)
 
--- the terms at a place, so many
+-- n terms from a place on
 unfoldable pub terms_at : List ℕ → ℕ → ℕ → ℕ → ℕ → Result (Read Combination) Fault
 terms_at file wires end zero at = Ok (record { value = []; next = at })
 terms_at file wires end (suc n) at = do
@@ -74,7 +74,7 @@ count_at file end at = do
   _ ← unless (nat_lt 1048576 (number file 4 at)) at (TooWide (number file 4 at))
   Ok (number file 4 at)
 
--- a combination: its terms, behind their count
+-- a combination: its terms, after their count
 unfoldable pub combination_at : List ℕ → ℕ → ℕ → ℕ → Result (Read Combination) Fault
 combination_at file wires end at = do
   count ← count_at file end at
@@ -88,7 +88,7 @@ constraint_at file wires end at = do
   c ← combination_at file wires end b.next
   Ok (record { value = record { a = a.value; b = b.value; c = c.value }; next = c.next })
 
--- the constraints from a place to the end of section 2, so many
+-- n constraints, from a place to the end of section 2
 unfoldable pub constraints_from : List ℕ → ℕ → Section → ℕ → ℕ → Result (List Constraint) Fault
 constraints_from file wires rows zero at =
     if at == rows.at + rows.size then Ok [] else wrong rows.at (BadCount rows.size (at - rows.at))

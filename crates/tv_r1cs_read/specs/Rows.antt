@@ -6,7 +6,7 @@ use Rattle.tv_r1cs_read.specs.declared.rows.Row.{Row}
 use Rattle.tv_container.specs.Places.{Fault, ◌>>=◌}
 use Rattle.tv_r1cs_read.specs.R1cs.{Read, terms_at}
 
--- the combination that terms make: wires before coefficients there, behind them here
+-- the combination that terms make: wires before coefficients there, after them here
 abbrev pub combination_of : List (ℕ × ℕ) → Combination
 combination_of terms = map (λ t. (t.1, t.0)) terms
 
@@ -14,7 +14,7 @@ combination_of terms = map (λ t. (t.1, t.0)) terms
 abbrev pub constraint_of : Row → Constraint
 constraint_of row = record { a = combination_of row.a; b = combination_of row.b; c = combination_of row.c }
 
--- what was read, and the place behind it
+-- what was read, and the place after it
 abbrev pub combination_read : List (ℕ × ℕ) → ℕ → Read Combination
 combination_read terms next = record { value = combination_of terms; next = next }
 
@@ -25,7 +25,7 @@ constraint_read row next = record { value = constraint_of row; next = next }
 abbrev pub terms_in : Row → ℕ
 terms_in row = length row.a + length row.b + length row.c
 
--- each wire of a row is one of a system with so many wires
+-- each wire of a row is one of a system with this many wires
 pub record IsOver (wires : ℕ) (row : Row) : Type 0 where
   pub a : All (λ t. t.0 < wires) row.a
   pub b : All (λ t. t.0 < wires) row.b
@@ -37,6 +37,6 @@ with_front front others = do
   read ← others
   Ok (record { value = front ++ read.value; next = read.next })
 
--- a combination is these terms and, of those at a place, so many
+-- a combination is these terms and n more, from a place on
 pub record IsAhead (answer : Result (Read Combination) Fault) (terms : List (ℕ × ℕ)) (file : List ℕ) (wires end n at : ℕ) : Type 0 where
   pub same : answer ≡ with_front (combination_of terms) (terms_at file wires end n at)

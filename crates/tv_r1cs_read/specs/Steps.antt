@@ -19,10 +19,11 @@ pub record Steps (before after : Outside) (name : List ℕ) (old new : Reached) 
   pub again : (why : ReadRefusal) → old.stopped ≡ Some why → (new ≡ old) × (after ≡ before)
   -- else all outside stays, or reading stops
   pub looks : old.stopped ≡ None → MatchOption new.stopped (after ≡ before) (λ why. Stopped before after name why)
-  -- behind these constraints of the file, the step gives what is next in it, or reading stops at the file's first fault
+  -- after these constraints of the file, the step returns what is next in it, or reading stops at the file's first
+  -- fault
   pub gives : (rows : List Constraint) → Known before name (λ file. IsAt old file rows → MatchOption new.stopped (Gives file rows) (λ why. Refuses why (system_of file)))
 
--- an answer is a refusal where reading has stopped, and tells why
+-- an answer is a refusal where reading has stopped, and says why
 abbrev pub Tells : {A : Type 0} → Result A ReadRefusal → Option ReadRefusal → Type 0
 Tells result stopped = MatchResult result (λ _. stopped ≡ None) (λ why. stopped ≡ Some why)
 
@@ -43,18 +44,18 @@ pub record WentOver (holds : Bool) (z : List ℕ) (old new : Reached) (file : Li
   pub count : new.left + length more ≡ old.left
   pub is : (at : ℕ) → first_failure z at more ≡ (if holds then None else Some (at + length more - 1))
 
--- so many were left, and fewer where one of those that were tried doesn't hold
+-- how many were left, and fewer where one of those that were tried doesn't hold
 abbrev pub Fewer : Bool → ℕ → ℕ → Type 0
 Fewer true old new = new ≤ old
 Fewer false old new = new < old
 
--- the constraints ahead hold up to one, behind so many, which doesn't, or all hold
+-- the constraint after this many more is the first that doesn't hold, or all hold
 abbrev pub Failed : Option ℕ → List ℕ → Reached → List ℕ → List Constraint → Type 0
 Failed (Some before) z reached file rows =
     (more : List Constraint) × IsAt reached file (rows ++ more) × (length more ≡ before + 1) × (first_failure z 0 more ≡ Some before)
 Failed None z reached file rows = (more : List Constraint) × IsAll reached file (rows ++ more) × (first_failure z 0 more ≡ None)
 
--- with those behind them these constraints are all
+-- with those after them these constraints are all
 abbrev pub Passed : Reached → List ℕ → List Constraint → Type 0
 Passed reached file rows = (more : List Constraint) × IsAll reached file (rows ++ more)
 

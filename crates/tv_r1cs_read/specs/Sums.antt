@@ -9,7 +9,7 @@ use Rattle.tv_r1cs_read.specs.declared.terms.Bounds.{Bounds}
 use Rattle.tv_r1cs_read.specs.R1cs.{Read}
 use Rattle.tv_r1cs_read.specs.Rows.{IsAhead}
 
--- of a combination's terms k were added to a first sum under an assignment, which gave this one, and the others, n of them,
+-- of a combination's terms k were added to a first sum under an assignment, which made this one, and the others, n of them,
 -- are at a place
 pub record IsSummed (answer : Result (Read Combination) Fault) (file : List ℕ) (wires end : ℕ) (z : List ℕ) (first k n at sum : ℕ) : Type 0 where
   pub terms : List (ℕ × ℕ)
@@ -17,28 +17,28 @@ pub record IsSummed (answer : Result (Read Combination) Fault) (file : List ℕ)
   pub ahead : IsAhead answer terms file wires end n at
   pub is : sum ≡ first + sum_by (λ t. t.1 * slice_index z t.0) terms
 
--- Of the terms at a place, so many, that a window holds, the first few are added: a combination whose terms come to a sum
--- before the place comes to another behind them.
+-- Of the terms from a place on that a window holds, the first few are added: a combination whose terms before the place
+-- have one sum has another sum after them.
 abbrev pub Adds : Piece → Bounds → List ℕ → (at count few old new : ℕ) → Type 0
 Adds piece bounds z at count few old new =
     (file : List ℕ) → IsPiece piece file → (answer : Result (Read Combination) Fault) → (first k n : ℕ) → count ≤ n →
     IsSummed answer file bounds.wires bounds.end z first k n at old → IsSummed answer file bounds.wires bounds.end z first (k + few) (n - few) (at + 12 * few) new
 
--- the combination that was read was added to a first sum, has so many terms, and ends before this place
+-- the combination that was read was added to a first sum, has n terms, and ends before this place
 pub record ComesTo (answer : Result (Read Combination) Fault) (z : List ℕ) (first sum n next : ℕ) : Type 0 where
   pub terms : Combination
   pub count : n ≡ length terms
   pub read : answer ≡ Ok (record { value = terms; next = next })
   pub is : sum ≡ first + sum_by (λ t. t.0 * slice_index z t.1) terms
 
--- the combination that was read has this value, so many terms, and ends before this place
+-- the combination that was read has this value and n terms, and ends before this place
 pub record IsValued (answer : Result (Read Combination) Fault) (z : List ℕ) (v n next : ℕ) : Type 0 where
   pub terms : Combination
   pub count : n ≡ length terms
   pub read : answer ≡ Ok (record { value = terms; next = next })
   pub is : v ≡ value terms z
 
--- the constraint that was read holds or not, has so many terms, and ends before this place
+-- the constraint that was read holds or not, has n terms, and ends before this place
 pub record IsTried (answer : Result (Read Constraint) Fault) (z : List ℕ) (test : Bool) (n next : ℕ) : Type 0 where
   pub constraint : Constraint
   pub count : n ≡ terms_of constraint

@@ -20,7 +20,7 @@ fn value_of(wire: u32, values: &[F]) -> F
     values[wire as usize]
 }
 
-/// Adds the value of the term at a place, and tells whether it is as it should be. Where `PASS`
+/// Adds the value of the term at a place, and returns whether it is as it should be. Where `PASS`
 /// there are no values: each counts as 0, and nothing is multiplied; else each wire has one.
 #[inline(always)]
 pub(crate) fn add_term<const PASS: bool>(
@@ -50,8 +50,8 @@ pub(crate) fn add_term<const PASS: bool>(
     true
 }
 
-/// Adds the values of the terms at a place, so many, up to the first that isn't as it should be,
-/// and answers how many were added; `PASS` is as for `add_term`.
+/// Adds the values of the terms from a place on, up to the first that isn't as it should be, and
+/// returns how many were added; `PASS` is as for `add_term`.
 #[inline(always)]
 pub(crate) fn add_terms<const PASS: bool>(
     window: &Window,
@@ -80,8 +80,8 @@ pub(crate) fn add_terms<const PASS: bool>(
     count
 }
 
-/// As `add_terms`, whatever values there are: none is added where some wires have one and others
-/// none. It isn't inlined, and has the sum by value: so its loops have all registers, and nothing
+/// Like `add_terms`, for any values: none is added where some wires have one and others none. It
+/// isn't inlined, and takes the sum by value, so that its loops have all registers, and nothing
 /// that they write can be what they read.
 #[inline(never)]
 pub(crate) fn add_far(

@@ -1,3 +1,4 @@
+//! The header of a system's file.
 ghost use Rattle.std.specs.Prelude.{◌≡◌, ℕ, ◌+◌, ◌≤◌, ◌<◌, ◌^◌, List, [], length, Ok};
 ghost use Rattle.std.specs.Prelude.{Err, IfOk, IfErr, OnOk};
 ghost use Rattle.tv_container.specs.Found.{first_of, AllEnd, AllFit};

@@ -19,7 +19,7 @@ pub(crate) struct Held {
     pub(crate) to: u64,
 }
 
-/// What the window holds from a place on, at most up to the end of section 2.
+/// Returns what the window holds from a place on, at most up to the end of section 2.
 #[inline(always)]
 pub(crate) fn held_from(window: &Window, bounds: &Bounds, at: u64) -> Held
     requires { at ≤ bounds.now.end }
@@ -37,7 +37,7 @@ pub(crate) fn held_from(window: &Window, bounds: &Bounds, at: u64) -> Held
 }
 
 impl Held {
-    /// Whether so many bytes are held.
+    /// Returns whether this many bytes are held.
     #[inline(always)]
     pub(crate) fn has(self, size: u64) -> bool
         requires { self.from ≤ self.to }
@@ -46,8 +46,8 @@ impl Held {
         self.to - self.from >= size
     }
 
-    /// How many terms the combination at the place has; `None` where the window doesn't hold all of
-    /// it.
+    /// Returns how many terms the combination at the place has; `None` where the window doesn't
+    /// hold all of it.
     #[inline(always)]
     pub(crate) fn terms(self, window: &Window) -> Option<u32>
         requires before { self.from ≤ self.to }
@@ -65,7 +65,7 @@ impl Held {
         self.has(4 + TERM_BYTES * u64::from(terms)).then_some(terms)
     }
 
-    /// What is held behind the combination at the place, of so many terms.
+    /// Returns what is held after the combination at the place, of this many terms.
     #[inline(always)]
     pub(crate) fn behind(self, terms: u32) -> Held
         requires { self.from + 4 + 12 * terms ≤ self.to }
@@ -78,7 +78,7 @@ impl Held {
         }
     }
 
-    /// Whether the window holds all of the two combinations at the place.
+    /// Returns whether the window holds all of the two combinations at the place.
     #[cold]
     #[inline(never)]
     pub(crate) fn has_two(self, window: &Window) -> bool

@@ -1,3 +1,4 @@
+//! How far reading of a system has come, and its constraints read or evaluated in turn.
 ghost use Rattle.std.specs.Prelude.{◌≡◌, ℕ, ◌+◌, ◌<◌, ◌≤◌, List, [], None, Err, IfOk, IfSome};
 ghost use Rattle.std.specs.Prelude.{IsNone, IsSome, MatchResult, length, true, false};
 ghost use Rattle.tv_files.specs.Outside.{Outside};
@@ -70,7 +71,7 @@ impl Progress {
         })
     }
 
-    /// What the system counts, and the terms of the rows given so far.
+    /// Returns what the system counts, and the terms of the rows given so far.
     pub(crate) fn counts(&self) -> Counts
         ensures { result ≡ counts_of self.now }
     {
@@ -83,7 +84,7 @@ impl Progress {
         }
     }
 
-    /// Reads the next constraint into `row`, and tells whether there was one. A refusal is
+    /// Reads the next constraint into `row`, and returns whether there was one. A refusal is
     /// repeated.
     pub(crate) fn next<D: Files>(
         &mut self,
@@ -128,8 +129,8 @@ impl Progress {
         self.stopped
     }
 
-    /// Tries the constraints ahead under an assignment, up to the first that doesn't hold, and
-    /// answers how many hold before it; `None` where all hold and where reading stopped.
+    /// Tests the constraints ahead under an assignment, up to the first that doesn't hold, and
+    /// returns how many hold before it; `None` where all hold or reading stopped.
     pub(crate) fn first_failure<D: Files>(
         &mut self,
         files: &mut D,
@@ -154,8 +155,8 @@ impl Progress {
         None
     }
 
-    // Tries the next constraint, and those behind it that the window holds, up to the first that
-    // doesn't hold, and tells whether all that were tried hold; `None` where reading stopped.
+    // Tries the next constraint, and those after it that the window holds, up to the first that
+    // doesn't hold, and returns whether all that were tried hold; `None` where reading stopped.
     fn try_some<D: Files>(&mut self, files: &mut D, name: &str, values: &[F]) -> Option<bool>
         requires on { self.old.stopped ≡ None }
         requires some { 0 < self.old.left }
@@ -201,7 +202,7 @@ impl Progress {
     }
 
     // Tries the constraints ahead that the window holds, up to the first that doesn't hold, and
-    // tells whether all that were tried hold. Where some wires have a value and others none it
+    // returns whether all that were tried hold. Where some wires have a value and others none it
     // tries none.
     fn try_window(&mut self, values: &[F]) -> bool
         requires { self.old.stopped ≡ None }
@@ -247,7 +248,7 @@ impl Progress {
         holds
     }
 
-    // Behind the last counted constraint: stops where section 2 has more bytes.
+    // After the last counted constraint: stops where section 2 has more bytes.
     #[cold]
     #[inline(never)]
     fn end(&mut self)

@@ -1,3 +1,4 @@
+//! A reader that borrows the files and yields a system's constraints in order.
 ghost use Rattle.std.specs.Prelude.{◌≡◌, ◌+◌, [], None, Err, IfOk, IfErr, IfSome, MatchResult};
 ghost use Rattle.tv_container.specs.Reading.{Looks, Stopped, Gives, Refuses, IsMissing, Known};
 ghost use Rattle.tv_container.specs.declared.why.ReadRefusal.{ReadRefusal};
@@ -15,7 +16,7 @@ use tv_container::ReadRefusal;
 use tv_core::{Counts, F};
 use tv_files::Files;
 
-/// Reads a system's constraints one after another from a file, which is lent to it.
+/// Reads a system's constraints one after another from a file, which it borrows.
 #[derive(Drop)]
 pub struct SystemReader<'a, D: Files> {
     pub(crate) files: &'a mut D,
@@ -36,7 +37,7 @@ pub struct Unread<'a, D: Files> {
 impl<'a, D: Files> SystemReader<'a, D> {
     /// Reads all of a system's file but its constraints.
     ///
-    /// A refusal gives the files back: `Bad` is the file's first fault before its constraints, and
+    /// A refusal returns the files: `Bad` is the file's first fault before its constraints, and
     /// `Fault` comes only where a read failed, as of a missing name. Takes no memory.
     pub fn begin(
         alloc: Global,
@@ -68,7 +69,8 @@ impl<'a, D: Files> SystemReader<'a, D> {
         }
     }
 
-    /// What the system counts, and the terms of the rows given so far: a refused row adds none.
+    /// Returns what the system counts, and the terms of the rows given so far: a refused row adds
+    /// none.
     pub fn counts(&self) -> Counts
         ensures { result ≡ counts_of self.now.progress }
     {
@@ -76,10 +78,10 @@ impl<'a, D: Files> SystemReader<'a, D> {
     }
 
     /// Reads the next constraint, each wire of which is below the system's `wires`, into `row`,
-    /// whose memory serves again, and tells whether there was one; there is none after the last.
+    /// whose memory is reused, and returns whether there was one; there is none after the last.
     ///
-    /// `Bad` tells the first fault ahead, `Fault` comes only where a read failed, and a refusal is
-    /// told again by each later call, which reads nothing.
+    /// `Bad` reports the first fault ahead, `Fault` comes only where a read failed, and each later
+    /// call repeats a refusal and reads nothing.
     #[inline(always)]
     pub fn next_into(&mut self, row: &mut Row) -> Result<bool, ReadRefusal>
         ensures same { self.new.files.ghost_name ≡ self.old.files.ghost_name }
@@ -95,9 +97,9 @@ impl<'a, D: Files> SystemReader<'a, D> {
         self.progress.next(self.files, self.name, row)
     }
 
-    /// Tries the constraints ahead under an assignment, where a wire past its end counts as 0, up
-    /// to the first that doesn't hold, straight from the file's bytes: how many hold before it, or
-    /// `None` where all hold and where reading stopped, which `stopped` tells apart. Takes no
+    /// Tests the constraints ahead under an assignment, straight from the file's bytes, up to the
+    /// first that doesn't hold; a wire past the assignment's end counts as 0. Returns how many hold
+    /// before that one, or `None` where all hold or reading stopped; `stopped` says which. Takes no
     /// memory; each term is one product.
     pub fn first_failure(&mut self, values: &[F]) -> Option<u64>
         ensures same { self.new.files.ghost_name ≡ self.old.files.ghost_name }
@@ -112,9 +114,9 @@ impl<'a, D: Files> SystemReader<'a, D> {
         self.progress.first_failure(self.files, self.name, values)
     }
 
-    /// Reads on to the end of the system, giving no constraint: each that is ahead is tested for
-    /// its form alone, and nothing is multiplied. `stopped` tells the first fault ahead, or a read
-    /// that failed. Takes no memory.
+    /// Reads on to the end of the system and returns no constraint: those ahead are checked for
+    /// their form alone. `stopped` then has the first fault ahead, or a read that failed. Takes no
+    /// memory.
     pub fn pass_rest(&mut self)
         ensures same { self.new.files.ghost_name ≡ self.old.files.ghost_name }
         ensures name { self.new.name.now ≡ self.old.name.now }
@@ -136,8 +138,8 @@ impl<'a, D: Files> SystemReader<'a, D> {
         self.progress.stopped()
     }
 
-    /// The next constraint, as a row of its own; `None` after the last. It refuses as `next_into`
-    /// does.
+    /// Returns the next constraint, as a row of its own; `None` after the last. It refuses as
+    /// `next_into` does.
     pub fn next(&mut self) -> Result<Option<Row>, ReadRefusal>
         ensures same { self.new.files.ghost_name ≡ self.old.files.ghost_name }
         ensures name { self.new.name.now ≡ self.old.name.now }
@@ -157,9 +159,9 @@ impl<'a, D: Files> SystemReader<'a, D> {
     }
 }
 
-/// Reads a system's file to its end, and answers what the system counts.
+/// Reads a system's file to its end, and returns what the system counts.
 ///
-/// `Ok` comes exactly for a file that holds a system, and `Bad` tells the first fault of another
+/// `Ok` comes exactly for a file that holds a system, and `Bad` reports the first fault of another
 /// one. `Fault` comes only where a read failed, and a missing name is such a fault. Takes one pass
 /// and no memory.
 #[tactic(auto, unfolding(crate::specs::Survey::survey_of))]

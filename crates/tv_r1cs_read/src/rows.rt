@@ -1,3 +1,4 @@
+//! Constraints as they are read: three combinations in vectors that are reused.
 ghost use Rattle.std.specs.Prelude.{◌≡◌, ℕ, ◌+◌, ◌*◌, ◌≤◌, ◌<◌, ◌^◌, List, [], ◌∷◌, ◌++◌, length};
 ghost use Rattle.std.specs.Prelude.{Ok, IfOk, IfSome, OnOk};
 ghost use Rattle.std.specs.Bool.{OnTrue};
@@ -40,7 +41,7 @@ impl Terms {
         }
     }
 
-    /// The terms in order.
+    /// Returns the terms in order.
     pub fn as_slice(&self) -> &[(u32, F)]
         ensures { result.now ≡ self.now }
     {
@@ -55,7 +56,7 @@ impl Terms {
         self.items.clear();
     }
 
-    // Puts a term behind the others.
+    // Puts a term after the others.
     #[inline(always)]
     fn push(&mut self, wire: u32, coefficient: F) -> Result<(), AllocFailed<(u32, F)>>
         ensures { OnOk result (self.new ≡ self.old ++ (wire, coefficient) ∷ []) }
@@ -78,7 +79,7 @@ pub struct Row {
 impl Row {
     ghost use Rattle.tv_r1cs_read.specs.Rows.{terms_in};
 
-    /// A row without terms; takes no memory.
+    /// Returns a row without terms; takes no memory.
     pub fn new(alloc: Global) -> Row
         ensures a { result.a ≡ [] }
         ensures b { result.b ≡ [] }
@@ -100,7 +101,7 @@ impl Row {
     }
 }
 
-// Reads the constraint at a place, and answers the place behind it.
+// Reads the constraint at a place, and returns the place after it.
 #[tactic(auto, unfolding(crate::specs::R1cs::constraint_at))]
 pub(crate) fn read_row<D: Files>(
     files: &mut D,
@@ -127,7 +128,7 @@ pub(crate) fn read_row<D: Files>(
     Ok(held.from)
 }
 
-// Reads the combination at a place, and answers what the window holds behind it.
+// Reads the combination at a place, and returns what the window holds after it.
 #[inline(always)]
 fn read_combination<D: Files>(
     files: &mut D,
@@ -153,8 +154,8 @@ fn read_combination<D: Files>(
     }
 }
 
-// Takes the combination at a place from the window, and answers what it holds behind it; `None`
-// where it doesn't hold all of it, or it isn't as it should be.
+// Takes the combination at a place from the window, and returns what the window holds after it;
+// `None` where the window doesn't hold all of it, or it isn't as it should be.
 #[inline(always)]
 fn held_combination(
     window: &Window,
@@ -182,8 +183,8 @@ fn held_combination(
     Ok(None)
 }
 
-// Takes the terms at a place, so many, from the window, which holds them, up to the first that
-// isn't as it should be, and tells whether all are.
+// Takes n terms from a place on, which the window holds, up to the first that isn't as it should
+// be, and returns whether all are.
 #[inline(always)]
 fn take_terms(
     window: &Window,
@@ -213,7 +214,7 @@ fn take_terms(
     Ok(true)
 }
 
-// Reads the combination at a place term by term, and answers what the window holds behind it.
+// Reads the combination at a place term by term, and returns what the window holds after it.
 #[cold]
 #[inline(never)]
 #[tactic(auto, unfolding(crate::specs::R1cs::combination_at))]

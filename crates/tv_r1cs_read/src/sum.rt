@@ -31,8 +31,8 @@ impl Sum {
         Sum { low: 0, carries: 0 }
     }
 
-    /// 2^128 - 1 less a product: what is added to it comes to 2^128 - 1 again, modulo P, where it
-    /// is the product.
+    /// 2^128 - 1 less a product: what is added to it makes 2^128 - 1 again, modulo P, where it is
+    /// the product.
     #[inline(always)]
     pub(crate) fn without(x: u64, y: u64) -> Sum
         ensures { result + x * y ≡ 2 ^ 128 - 1 }
@@ -56,7 +56,7 @@ impl Sum {
         self.carries += u64::from(carry);
     }
 
-    /// The sum modulo P.
+    /// Returns the sum modulo P.
     #[inline(always)]
     pub(crate) fn value(self) -> F
         requires { self < 2 ^ 151 }
@@ -65,7 +65,8 @@ impl Sum {
         F::of_wide(self.low, self.carries)
     }
 
-    /// A number that is the sum modulo P, and may be P or more: `F::of_wide` less its last step.
+    /// Returns a number that is the sum modulo P, and may be P or more: `F::of_wide` less its last
+    /// step.
     #[inline(always)]
     pub(crate) fn residue(self) -> u64
         requires { self < 2 ^ 151 }

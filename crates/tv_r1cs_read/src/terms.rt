@@ -22,9 +22,9 @@ pub(crate) struct Bounds {
     pub(crate) end: u64,
 }
 
-// Reads on to a place until the window holds so many bytes there; bytes that pass the end of
-// section 2 are `Truncated` at the place. What is at hand costs no call, for a count and a term
-// that are read take less time than one.
+// Reads on to a place until the window holds this many bytes there; bytes that pass the end of
+// section 2 are `Truncated` at the place. What is at hand costs no call: reading a count or a term
+// takes less time than a call.
 #[inline(always)]
 fn fit_below<D: Files>(
     files: &mut D,
@@ -124,8 +124,8 @@ pub(crate) fn read_term<D: Files>(
     Ok((wire, coefficient))
 }
 
-/// The term at a place, which the window holds: its wire, and its coefficient; `None` where one of
-/// them isn't as it should be.
+/// Returns the term at a place, which the window holds: its wire, and its coefficient; `None` where
+/// one of them isn't as it should be.
 #[inline(always)]
 pub(crate) fn held_term(window: &Window, bounds: &Bounds, at: u64) -> Option<(u32, F)>
     requires held { Holds window.now at 12 }

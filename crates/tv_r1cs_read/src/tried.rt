@@ -14,7 +14,7 @@ use tv_core::F;
 use tv_files::Files;
 
 /// A constraint that was read: whether it holds under an assignment, how many terms it has, and the
-/// place behind it.
+/// place after it.
 #[derive(Drop)]
 pub(crate) struct Tried {
     pub(crate) holds: bool,
@@ -23,7 +23,7 @@ pub(crate) struct Tried {
 }
 
 /// A combination that was read: its value under an assignment, how many terms it has, and the place
-/// behind it.
+/// after it.
 #[derive(Drop)]
 struct Valued {
     value: F,
@@ -72,7 +72,7 @@ fn value_at(wire: u32, values: &[F]) -> F
 }
 
 // Reads the combination at a place, and takes its value under an assignment. A term is read, and
-// then as many as the window holds behind it are summed at once, up to the first that isn't as it
+// then as many as the window holds after it are summed at once, up to the first that isn't as it
 // should be.
 #[tactic(auto, unfolding(crate::specs::R1cs::combination_at))]
 fn read_value<D: Files>(

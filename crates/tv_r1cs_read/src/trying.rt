@@ -19,7 +19,7 @@ use tv_core::F;
 const NARROW: u32 = 16;
 
 /// A combination that was added to a sum: the sum then, how many terms were added, and what the
-/// window holds behind them.
+/// window holds after them.
 #[derive(Drop)]
 struct Summed {
     sum: Sum,

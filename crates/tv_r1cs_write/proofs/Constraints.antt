@@ -15,9 +15,10 @@ use Rattle.tv_core.specs.declared.sink.SinkFault.{SinkFault}
 use Rattle.tv_r1cs_write.specs.Bytes.{head_bytes, rows_bytes, constraint_bytes}
 use Rattle.tv_r1cs_write.specs.Narrow.{AreShort, IsNarrow, IsOver}
 use Rattle.tv_r1cs_write.specs.Streams.{Progress, Stream, Stands, Tried, begun_bytes, stream_meaning}
-use Rattle.tv_container.proofs.Written.{cause_seen, has_more, has_front}
+use Rattle.tv_container.proofs.Buffers.{cause_seen, unrefused}
+use Rattle.tv_container.proofs.Written.{has_more, has_front}
 
--- the bytes of one more constraint stand behind those of the others
+-- the bytes of one more constraint stand after those of the others
 pub begun_bytes-more : (old new : Progress) (list : List Constraint) (row : Constraint) → new.counts ≡ old.counts → new.labels ≡ old.labels →
     begun_bytes old list ++ constraint_bytes row ≡ begun_bytes new (list ++ row ∷ [])
 begun_bytes-more old new list row counts labels =
@@ -51,7 +52,7 @@ stands_more old new list row stands is_narrow name progress passes = record {
       ap (λ (p : Progress). p.constraints) progress
       ∙ ap (λ n. n + 1) stands.counted
       ∙ sym (length-append list (row ∷ []));
-  whole = ap (λ (p : Progress). p.broken) progress ∙ stands.whole;
+  whole = ap (λ (p : Progress). is_err p.outcome) progress ∙ stands.whole;
   narrow = rw (ap (λ (p : Progress). p.wires) progress) (All-push (IsNarrow old.progress.wires) list row stands.narrow is_narrow);
   written = rw (
     name,
@@ -76,14 +77,16 @@ pub put_by : {S : Type 0} (seen : S → Stream) (old new : S) (row : Constraint)
     top row.a ≤ (seen old).progress.wires → top row.b ≤ (seen old).progress.wires → top row.c ≤ (seen old).progress.wires →
     PassesOn (seen old).outside (seen new).outside (seen old).name ((seen old).progress.held ++ constraint_bytes row) (seen new).progress.held outcome →
     AreShort row → (seen new).progress ≡ record
-    (seen old).progress { held = (seen new).progress.held; constraints = (seen old).progress.constraints + 1; broken = is_err outcome } →
-    (seen old).progress.broken ≡ false → PutsIn (stream_meaning seen) old new (put row.a row.b row.c) outcome
+    (seen old).progress { held = (seen new).progress.held; constraints = (seen old).progress.constraints + 1; outcome = outcome } →
+    is_err (seen old).progress.outcome ≡ false → PutsIn (stream_meaning seen) old new (put row.a row.b row.c) outcome
 unfolding put
 put_by seen old new row (Ok unit) borrow name a b c passes short is unbroken =
+    let first = unrefused (seen old).progress.outcome unbroken in
+    let answered = ap (λ (p : Progress). p.outcome) is in
     let same : (seen new).progress ≡ record (seen old).progress {
       held = (seen new).progress.held;
       constraints = (seen old).progress.constraints + 1;
-    } = rw unbroken is in
+    } = rw first is in
     record {
       answers = refl;
       stands = λ list s. stands_more (seen old) (seen new) list row s (narrow (seen old).progress.wires row short a b c) name same passes.done;
@@ -94,30 +97,32 @@ put_by seen old new row (Ok unit) borrow name a b c passes short is unbroken =
         counts = ap (λ (p : Progress). p.counts) is;
         labels = ap (λ (p : Progress). p.labels) is;
         outside = passes.only;
-        quiet = λ _. (unbroken, passes.cause);
+        cause = rw (first, answered) passes.cause;
       };
-      faults = passes.only.later.write_faults;
-      wants = passes.only.later.wants;
+      faults = rw (first, answered) (omega arith);
+      wants = rw (first, answered) (omega arith);
     }
 put_by seen old new row (Err fault) borrow name a b c passes short is unbroken =
     let counts = ap (λ (p : Progress). p.counts) is in
     let labels = ap (λ (p : Progress). p.labels) is in
+    let first = unrefused (seen old).progress.outcome unbroken in
+    let answered = ap (λ (p : Progress). p.outcome) is in
     record {
       front = [];
       refused = row;
       back = [];
       at = refl;
       tried = λ list s. tried_more (seen old) (seen new) list row s name counts labels passes.refused;
-      broken = ap (λ (p : Progress). p.broken) is;
+      broken = ap (λ (p : Progress). is_err p.outcome) is;
       keeps = record {
         borrow = borrow;
         name = name;
         counts = counts;
         labels = labels;
         outside = passes.only;
-        quiet = λ whole. let broken = ap (λ (p : Progress). p.broken) is in cc;
+        cause = rw (first, answered) passes.cause;
       };
-      cause = cause_seen (λ s. (seen s).outside) old new fault passes.cause;
-      faults = passes.only.later.write_faults;
-      wants = passes.only.later.wants;
+      cause = cause_seen (λ s. (seen s).progress.outcome) old new fault unbroken answered;
+      faults = rw first (omega arith);
+      wants = rw first (omega arith);
     }

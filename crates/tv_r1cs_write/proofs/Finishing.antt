@@ -10,7 +10,7 @@ use Rattle.tv_r1cs_write.specs.Streams.{Progress, Stream, Finishes, begun_bytes,
 use Rattle.tv_r1cs_write.proofs.Sizes.{length-label_bytes}
 use Rattle.tv_container.proofs.Written.{has_more, has_front}
 
--- what stands behind the constraints
+-- what stands after the constraints
 abbrev pub last_bytes : Progress → List ℕ → List ℕ
 last_bytes progress labels = section_head 3 (8 * progress.counts.wires) ++ label_bytes labels
 

@@ -1,6 +1,7 @@
 mod Constraints
 pub mod Files
 mod Finishing
+pub mod Others
 mod Rows
 pub mod Sizes
 pub mod Systems

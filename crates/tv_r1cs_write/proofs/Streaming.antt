@@ -1,6 +1,7 @@
 -- From what a sink that writes promises to what streaming a system is.
 use Rattle.std.proofs.Common.{◌≡◌, ◌+◌, ◌^◌, ◌<◌, ◌≤◌, ℕ, List, [], ◌∷◌, ◌++◌, length, Result, Ok, Err, inr, append_assoc, refl, sym, ap, ◌∙◌}
-use Rattle.tv_container.proofs.Streamed.{caused_seen, streamed_last, streamed_part}
+use Rattle.tv_container.proofs.Buffers.{caused_seen, quiet_from}
+use Rattle.tv_container.proofs.Streamed.{streamed_last, streamed_part}
 use Rattle.tv_container.specs.Written.{HasFront}
 use Rattle.tv_core.specs.Circuits.{Circuit}
 use Rattle.tv_core.specs.Constraints.{System}
@@ -41,7 +42,7 @@ module _ {S A : Type 0} (seen : S → Stream) (name : List ℕ) (old : Outside) 
   list : (circuit (seen sink).progress.wires).list ≡ system.constraints
   list = ap (λ n. (circuit n).list) first ∙ is.list
 
-  -- the bytes of the file are told by what every call keeps
+  -- the bytes of the file follow from what every call keeps
   bytes : (new : S) → KeepsFile (seen sink) (seen new)
       → finished_bytes (seen new).progress system.constraints (labels (seen new).progress.counts.wires) ≡ system_bytes system count (labels system.wires)
   bytes new keeps =
@@ -57,7 +58,7 @@ module _ {S A : Type 0} (seen : S → Stream) (name : List ℕ) (old : Outside) 
       let whole : tried ++ some.back ≡ system.constraints = append_assoc some.front (some.refused ∷ []) some.back ∙ sym some.at ∙ list in
       let front : HasFront (seen new).outside name (system_bytes system count (labels system.wires)) = rw (named, whole, bytes new some.keeps) at
       (files_are_fronts (seen new) tried some.back (labels (seen new).progress.counts.wires) (inr (some.tried [] is.stands))) in
-      let cause = caused_seen (λ s. (seen s).outside) sink new fault some.cause in
+      let cause = caused_seen (λ s. (seen s).progress.outcome) (λ s. (seen s).outside) sink new fault is.stands.whole some.keeps.cause some.cause in
       record {
         file = streamed_part old (seen sink).outside (seen new).outside name is.creates (rw is.named at some.keeps.outside)
             (system_bytes system count (labels system.wires)) fault front cause;
@@ -84,6 +85,6 @@ module _ {S A : Type 0} (seen : S → Stream) (name : List ℕ) (old : Outside) 
       }) each in
       record {
         file = streamed_last old (seen sink).outside (seen done).outside new name (system_bytes system count (labels system.wires)) result is.creates
-            (rw is.named at all.keeps.outside) (all.keeps.quiet stands.whole).1 (rw named at finishes.only) now front finishes.cause;
+            (rw is.named at all.keeps.outside) (quiet_from _ _ _ _ all.keeps.cause stands.whole).1 (rw named at finishes.only) now front finishes.cause;
         read = OnOk-map result (λ _. read) now;
       }

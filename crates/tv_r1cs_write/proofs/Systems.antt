@@ -56,13 +56,13 @@ length-counts_bytes counts labels =
       length-four_bytes counts.constraints,
     )
 
--- the content of a section stands behind its header
+-- the content of a section stands after its header
 content_at : (kind at : ℕ) (content rest file : List ℕ) → At file at (section_bytes kind content ++ rest) → At file (at + 12) content
 content_at kind at content rest file a =
     at_rest file at 12 (at + 12) (section_head kind (length content)) content (at_first file at (section_bytes kind content) rest a)
     (length-section_head kind (length content)) refl
 
--- three sections that were written are read: the contents of the first two stand where they are told
+-- three sections that were written are read: the contents of the first two stand where their headers say
 record AreRead (magic version : ℕ) (one two three file : List ℕ) : Type 0 where
   one_at : At file 24 one
   two_at : At file (24 + length one + 12) two

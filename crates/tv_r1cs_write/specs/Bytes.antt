@@ -1,6 +1,6 @@
 -- The bytes of a constraint system: the r1cs binary format, version 1, its sections in the order 1, 2, 3.
-use Rattle.std.specs.Prelude.{◌≡◌, ℕ, ◌+◌, ◌*◌, List, ◌++◌, length}
-use Rattle.std.specs.List.{flat_map, range_with_len}
+use Rattle.std.specs.Prelude.{◌≡◌, ℕ, ◌+◌, ◌*◌, ◌==◌, not, List, ◌++◌, length}
+use Rattle.std.specs.List.{filter, flat_map, list_any, range_with_len}
 use Rattle.tv_container.specs.Bytes.{eight_bytes, four_bytes, front_bytes, section_head, section_bytes, field_bytes, terms_bytes}
 use Rattle.tv_core.specs.Constraints.{Combination, Constraint, System}
 use Rattle.tv_core.specs.Meanings.{terms_in, system_counts}
@@ -18,8 +18,8 @@ constraint_bytes row = combination_bytes row.a ++ (combination_bytes row.b ++ co
 abbrev pub rows_bytes : List Constraint → List ℕ
 rows_bytes list = flat_map constraint_bytes list
 
--- what section 1 counts: wires, public outputs, public inputs and private inputs, of which there are said
--- to be none, labels, and constraints
+-- what section 1 counts: wires, public outputs, public inputs and private inputs, which are written as 0, labels, and
+-- constraints
 abbrev pub numbers_bytes : Counts → ℕ → List ℕ
 numbers_bytes counts labels =
     four_bytes counts.wires ++ (four_bytes counts.outputs ++ (four_bytes counts.inputs ++
@@ -42,9 +42,9 @@ head_bytes counts labels =
 abbrev pub label_bytes : List ℕ → List ℕ
 label_bytes labels = flat_map eight_bytes labels
 
--- the labels 0, 1, .. of so many wires
-abbrev pub own_label_bytes : ℕ → List ℕ
-own_label_bytes wires = label_bytes (range_with_len 0 wires)
+-- the numbers below another one, in order, but for those of a list
+unfoldable pub others : ℕ → List ℕ → List ℕ
+others count but = filter (λ n. not (list_any (λ m. m == n) but)) (range_with_len 0 count)
 
 -- a file of these counts: what stands before the constraints, the constraints, and the labels
 abbrev pub file_bytes : Counts → ℕ → List Constraint → List ℕ → List ℕ

@@ -19,7 +19,7 @@ pub record AreShort (row : Constraint) : Type 0 where
 abbrev pub IsOver : ℕ → Combination → Type 0
 IsOver wires x = All (λ t. t.1 < wires) x
 
--- a constraint that a system of so many wires can have
+-- a constraint that a system of this many wires can have
 pub record IsNarrow (wires : ℕ) (row : Constraint) : Type 0 where
   pub short : AreShort row
   pub a : IsOver wires row.a

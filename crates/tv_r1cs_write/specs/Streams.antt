@@ -1,30 +1,31 @@
 -- A sink that writes its constraints to a file as they come.
-use Rattle.std.specs.Prelude.{◌≡◌, refl, ℕ, ◌+◌, Bool, false, is_err, List, ◌++◌, length, Result, Ok, OnOk, OnErr}
+use Rattle.std.specs.Prelude.{◌≡◌, refl, ℕ, ◌+◌, false, is_err, List, ◌++◌, length, Result, Ok, OnOk, OnErr}
 use Rattle.std.proofs.Common.{◌∙◌}
 use Rattle.std.specs.Borrow.{GName}
 use Rattle.std.specs.List.{All}
-use Rattle.tv_container.proofs.Buffers.{nothing_appended, appends_then, counts_stay, counts_then}
+use Rattle.tv_container.proofs.Buffers.{nothing_appended, appends_then, cause_here, cause_from_then}
 use Rattle.tv_container.specs.Writing.{OnlyAppends}
 use Rattle.tv_core.specs.Constraints.{Constraint, System}
 use Rattle.tv_core.specs.Sinks.{Meaning}
 use Rattle.tv_core.specs.declared.lines.Counts.{Counts}
-use Rattle.tv_files.specs.Outside.{Outside, SameCounts}
+use Rattle.tv_files.specs.Outside.{Outside}
 use Rattle.tv_core.specs.declared.sink.SinkFault.{SinkFault}
 use Rattle.tv_r1cs_read.specs.R1cs.{system_of}
 use Rattle.tv_r1cs_write.specs.Bytes.{file_bytes, head_bytes, rows_bytes, system_bytes}
 use Rattle.tv_r1cs_write.specs.Narrow.{IsNarrow}
 use Rattle.tv_r1cs_write.specs.declared.stream.StreamSink.{StreamSink}
-use Rattle.tv_container.specs.Written.{HasBut, HasCause, HasFront, HasNow, IsStreamed}
+use Rattle.tv_container.specs.Written.{HasBut, HasCause, HasCauseFrom, HasFront, HasNow, IsStreamed, faults_in, wants_in}
 
--- how far writing has come: the counts and the number of labels that the file's head tells, the bytes that
--- are still to be appended, how many wires and constraints there are, and whether a refusal broke it
+-- how far writing has come: the counts and the number of labels that the file's head has, the bytes that
+-- are still to be appended, how many wires and constraints there are, and whether all was answered so far, or the
+-- refusal that broke it
 pub record Progress : Type 0 where
   pub counts : Counts
   pub labels : ℕ
   pub held : List ℕ
   pub wires : ℕ
   pub constraints : ℕ
-  pub broken : Bool
+  pub outcome : Result (Unit {0}) SinkFault
 
 -- all that stands before the constraints is held; there are the constant wire and one for each public number
 abbrev pub begun : Counts → ℕ → Progress
@@ -34,7 +35,7 @@ begun counts labels = record {
   held = head_bytes counts labels;
   wires = 1 + counts.outputs + counts.inputs;
   constraints = 0;
-  broken = false;
+  outcome = Ok tt;
 }
 
 -- a sink that writes: the outside, the borrow through which it is written, the file's name, and how far
@@ -57,7 +58,7 @@ stream seen sink = record {
     held = sink.pending.buffer;
     wires = sink.wires;
     constraints = sink.constraints;
-    broken = is_err sink.pending.outcome;
+    outcome = sink.pending.outcome;
   };
 }
 
@@ -65,39 +66,40 @@ stream seen sink = record {
 abbrev pub begun_bytes : Progress → List Constraint → List ℕ
 begun_bytes progress list = head_bytes progress.counts progress.labels ++ rows_bytes list
 
--- the list's constraints are of wires that were made, and the format can hold them; where contents are
--- told, the name has the first bytes of each file whose constraints begin with the list, and those that
--- are held come next
+-- the list's constraints are of wires that were made, and the format can hold them; where contents are known, the name
+-- has the first bytes of each file whose constraints begin with the list, and those that are held come next
 pub record Stands (stream : Stream) (list : List Constraint) : Type 0 where
   pub counted : stream.progress.constraints ≡ length list
-  pub whole : stream.progress.broken ≡ false
+  pub whole : is_err stream.progress.outcome ≡ false
   pub narrow : All (IsNarrow stream.progress.wires) list
   pub written : HasBut stream.outside stream.name stream.progress.held (begun_bytes stream.progress list)
 
--- after a refusal, where contents are told: the name has a first part of these bytes
+-- after a refusal, where contents are known: the name has a first part of these bytes
 pub record Tried (stream : Stream) (list : List Constraint) : Type 0 where
   pub written : HasFront stream.outside stream.name (begun_bytes stream.progress list)
 
--- what every call keeps: the file is the same, through the same borrow, its head tells the same counts, the
--- outside is as it was but for bytes appended to the file, and until a refusal breaks the sink no count changes
+-- what every call keeps: the file is the same, through the same borrow, its head has the same counts, the
+-- outside is as it was but for bytes appended to the file, no count changes until a refusal breaks the sink, and that
+-- refusal has its cause
 pub record KeepsFile (old new : Stream) : Type 0 where
   pub borrow : new.borrow ≡ old.borrow
   pub name : new.name ≡ old.name
   pub counts : new.progress.counts ≡ old.progress.counts
   pub labels : new.progress.labels ≡ old.progress.labels
   pub outside : OnlyAppends old.outside new.outside old.name
-  pub quiet : new.progress.broken ≡ false → (old.progress.broken ≡ false) × SameCounts old.outside new.outside
+  pub cause : HasCauseFrom old.progress.outcome old.outside new.outside new.progress.outcome
 
--- what such a sink means, however it is seen as a stream; its faults are those of writing
+-- what such a sink means, however it is seen as a stream; its faults are those of writing, of which it meets one at
+-- most
 abbrev pub stream_meaning : {S : Type 0} → (S → Stream) → Meaning S
 stream_meaning {S} seen = record {
   stands = λ sink list. Stands (seen sink) list;
   tried = λ sink list. Tried (seen sink) list;
   wires = λ sink. (seen sink).progress.wires;
   constraints = λ sink. (seen sink).progress.constraints;
-  broken = λ sink. (seen sink).progress.broken;
-  faults = λ sink. (seen sink).outside.write_faults;
-  wants = λ sink. (seen sink).outside.wants;
+  broken = λ sink. is_err (seen sink).progress.outcome;
+  faults = λ sink. faults_in (seen sink).progress.outcome;
+  wants = λ sink. wants_in (seen sink).progress.outcome;
   Keeps = λ old new. KeepsFile (seen old) (seen new);
   keeps_same = λ sink. record {
     borrow = refl;
@@ -105,7 +107,7 @@ stream_meaning {S} seen = record {
     counts = refl;
     labels = refl;
     outside = nothing_appended (seen sink).outside (seen sink).name;
-    quiet = λ whole. (whole, counts_stay (seen sink).outside);
+    cause = cause_here (seen sink).progress.outcome (seen sink).outside;
   };
   keeps_then = λ old mid new p q. record {
     borrow = q.borrow ∙ p.borrow;
@@ -113,7 +115,8 @@ stream_meaning {S} seen = record {
     counts = q.counts ∙ p.counts;
     labels = q.labels ∙ p.labels;
     outside = appends_then (seen old).outside (seen mid).outside (seen new).outside (seen old).name p.outside (rw p.name at q.outside);
-    quiet = λ whole. let late = q.quiet whole in let early = p.quiet late.0 in (early.0, counts_then early.1 late.1);
+    cause = cause_from_then (seen old).progress.outcome (seen mid).progress.outcome (seen new).progress.outcome
+        (seen old).outside (seen mid).outside (seen new).outside p.cause q.cause;
   };
 }
 
@@ -129,7 +132,8 @@ pub record Finishes (sink : Stream) (new : Outside) (labels : List ℕ) (result 
   pub only : OnlyAppends sink.outside new sink.name
   pub cause : HasCause sink.outside new result
 
--- what streaming a system, whose wires have these labels, to a file comes to; a whole file is read as the system again
+-- what a call did that streamed a system, whose wires have these labels, to a file; a whole file is read as the system
+-- again
 pub record IsSystemStreamed (old new : Outside) (name : List ℕ) (system : System) (count : ℕ) (labels : List ℕ) (result : Result (Unit {0}) SinkFault) : Type 0 where
   pub file : IsStreamed old new name (system_bytes system count labels) result
   pub read : OnOk result (system_of (system_bytes system count labels) ≡ Ok system)

@@ -2,7 +2,7 @@
 ghost use Rattle.tv_r1cs_write.specs.Laws.{FilesAreFronts, FilesAreOfSystems, FilesAreWhole};
 ghost use Rattle.tv_r1cs_write.specs.Laws.{SystemsComeBack};
 
-/// Where the counts told at the beginning are those of the list, a file is that of a system.
+/// Where the counts passed at the beginning are those of the list, the file is that of a system.
 #[tactic(auto, using(crate::proofs::Files::files_of_systems))]
 pub fn files_are_of_systems()
     ensures { FilesAreOfSystems }

@@ -1,9 +1,10 @@
 //! Constraints and labels, written behind what a file begins with.
-ghost use Rattle.std.specs.Prelude.{◌≡◌, ◌*◌, ◌^◌, ◌<◌, ◌++◌, [], length};
+ghost use Rattle.std.specs.Prelude.{◌≡◌, ◌*◌, ◌++◌, []};
+ghost use Rattle.std.specs.List.Sorted.{IsStrictlyIncreasing};
 ghost use Rattle.tv_container.specs.Bytes.{section_head};
 ghost use Rattle.tv_container.specs.Taking.{Took};
 ghost use Rattle.tv_r1cs_write.specs.Bytes.{combination_bytes, constraint_bytes, label_bytes};
-ghost use Rattle.tv_r1cs_write.specs.Bytes.{own_label_bytes};
+ghost use Rattle.tv_r1cs_write.specs.Bytes.{others};
 ghost use Rattle.tv_r1cs_write.specs.Narrow.{AreShort, IsShort};
 
 use tv_container::{Pending, long_bytes};
@@ -37,55 +38,38 @@ fn put_combination<D: Files>(pending: &mut Pending, files: &mut D, name: &str, l
     pending.put_terms(files, name, lc.terms());
 }
 
-// Writes section 3, with the labels 0, 1, .. of so many wires, and what is still held.
-pub(crate) fn write_own_labels<D: Files>(
-    pending: &mut Pending,
-    files: &mut D,
-    name: &str,
-    wires: u32,
-)
-    ensures took { Took name.now (D.seen files.old) pending.old (D.seen files.new) pending.new
-        (section_head 3 (8 * wires) ++ own_label_bytes wires) }
-    ensures none { pending.new.buffer ≡ [] }
-{
-    pending.put_pair(files, name, 3, 8 * u64::from(wires));
-    put_own_labels(pending, files, name, wires);
-    pending.flush(files, name);
-}
-
-// Writes section 3, with these labels, and what is still held.
+// Writes section 3, with this number of labels, which are the numbers below `count` but these, and
+// what is still held.
 pub(crate) fn write_labels<D: Files>(
     pending: &mut Pending,
     files: &mut D,
     name: &str,
-    labels: &[u32],
+    wires: u32,
+    count: u64,
+    but: &[u32],
 )
-    requires { length labels.now < 2 ^ 32 }
+    requires { IsStrictlyIncreasing but.now }
     ensures took { Took name.now (D.seen files.old) pending.old (D.seen files.new) pending.new
-        (section_head 3 (8 * length labels.now) ++ label_bytes labels.now) }
+        (section_head 3 (8 * wires) ++ label_bytes (others count but.now)) }
     ensures none { pending.new.buffer ≡ [] }
 {
-    pending.put_pair(files, name, 3, 8 * labels.len() as u64);
-    put_labels(pending, files, name, labels);
+    pending.put_pair(files, name, 3, 8 * u64::from(wires));
+    put_labels(pending, files, name, count, but);
     pending.flush(files, name);
 }
 
-// Writes the labels 0, 1, .. of so many wires.
-fn put_own_labels<D: Files>(pending: &mut Pending, files: &mut D, name: &str, wires: u32)
+// Writes the numbers below `count` as labels, but for these.
+fn put_labels<D: Files>(pending: &mut Pending, files: &mut D, name: &str, count: u64, but: &[u32])
+    requires { IsStrictlyIncreasing but.now }
     ensures { Took name.now (D.seen files.old) pending.old (D.seen files.new) pending.new
-        (own_label_bytes wires) }
+        (label_bytes (others count but.now)) }
 {
-    for label in 0..wires {
-        pending.put(files, name, &long_bytes(u64::from(label)));
-    }
-}
-
-// Writes labels.
-fn put_labels<D: Files>(pending: &mut Pending, files: &mut D, name: &str, labels: &[u32])
-    ensures { Took name.now (D.seen files.old) pending.old (D.seen files.new) pending.new
-        (label_bytes labels.now) }
-{
-    for label in labels {
-        pending.put(files, name, &long_bytes(u64::from(*label)));
+    let mut next = 0;
+    for label in 0..count {
+        if next < but.len() && u64::from(but[next]) == label {
+            next += 1;
+        } else {
+            pending.put(files, name, &long_bytes(label));
+        }
     }
 }

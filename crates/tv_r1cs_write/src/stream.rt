@@ -1,21 +1,23 @@
 //! The sink that writes to a file.
-ghost use Rattle.std.specs.Prelude.{◌≡◌, ◌+◌, ◌≤◌, ◌<◌, ◌^◌, [], false, length, Ok, IfOk, IfErr};
+ghost use Rattle.std.specs.Prelude.{◌≡◌, ◌+◌, ◌≤◌, ◌<◌, ◌^◌, [], false, is_err, length, Ok};
+ghost use Rattle.std.specs.Prelude.{IfOk, IfErr};
 ghost use Rattle.std.specs.List.{range_with_len};
+ghost use Rattle.std.specs.List.Sorted.{IsStrictlyIncreasing};
 ghost use Rattle.tv_files.specs.Calls.{Creates};
+ghost use Rattle.tv_r1cs_write.specs.Bytes.{others};
 ghost use Rattle.tv_r1cs_write.specs.Streams.{begun, stream, stream_meaning, Finishes, Stands};
 ghost use Rattle.tv_container.specs.Written.{NotCreated};
 
 use crate::head::head;
-use crate::parts::{put_row, write_labels, write_own_labels};
+use crate::parts::{put_row, write_labels};
 use tv_container::{NotBegun, Pending, sink_fault};
 use tv_core::{Counts, Lc, Put, Sink, Wire};
 use tv_files::Files;
 
-/// A sink that writes each constraint to an r1cs file, which is lent to it.
+/// A sink that writes each constraint to an r1cs file, which it borrows.
 ///
-/// It takes no memory: it holds at most 8,192 bytes, and appends them by 4,096.
-/// What the file begins with counts the constraints and their terms, so these are told before the
-/// first.
+/// It allocates nothing: it holds at most 8,192 bytes, and appends them by 4,096. The file's head
+/// counts the constraints and their terms, so both numbers are passed before the first constraint.
 #[derive(Drop)]
 pub struct StreamSink<'a, D: Files> {
     pub(crate) files: &'a mut D,
@@ -30,7 +32,7 @@ pub struct StreamSink<'a, D: Files> {
 impl<'a, D: Files> StreamSink<'a, D> {
     /// Creates the file of a system with these counts, whose wires have the labels 0, 1, ..
     ///
-    /// The next wire is the first behind the public ones. A refusal gives the files back; the name
+    /// The next wire is the first after the public ones. A refusal returns the files; the name
     /// is then as it was, or has no bytes.
     pub fn begin(
         files: &'a mut D,
@@ -54,8 +56,8 @@ impl<'a, D: Files> StreamSink<'a, D> {
         StreamSink::begin_labelled(files, name, counts, u64::from(counts.wires))
     }
 
-    /// Creates the file of a system with these counts, which tells this number of labels: that of a
-    /// greater system, of whose wires these are some. Otherwise as `begin`.
+    /// Like `begin`, but the head has this number of labels: the number of wires of the original
+    /// system.
     pub fn begin_labelled(
         files: &'a mut D,
         name: &'a str,
@@ -97,7 +99,7 @@ impl<'a, D: Files> StreamSink<'a, D> {
     ///
     /// After a refusal the file has a first part of these bytes.
     pub fn finish(self) -> Put<()>
-        requires whole { (stream D.seen self).progress.broken ≡ false }
+        requires whole { is_err (stream D.seen self).progress.outcome ≡ false }
         ensures { Finishes (stream D.seen self.entry) (D.seen self.exit.0.now)
             (range_with_len 0 self.entry.counts.wires) result }
     {
@@ -108,24 +110,29 @@ impl<'a, D: Files> StreamSink<'a, D> {
             counts,
             ..
         } = self;
-        write_own_labels(&mut pending, files, name, counts.wires);
+        let count = u64::from(counts.wires);
+        write_labels(&mut pending, files, name, counts.wires, count, &[]);
         pending.outcome
     }
 
-    /// Writes these labels, one for each wire, and what is still held. Otherwise as `finish`.
-    pub fn finish_labelled(self, labels: &[u32]) -> Put<()>
-        requires whole { (stream D.seen self).progress.broken ≡ false }
-        requires labels { length labels.now ≡ self.counts.wires }
-        ensures { Finishes (stream D.seen self.entry) (D.seen self.exit.0.now) labels.now
-            result }
+    /// Writes as labels the numbers below how many there are, but for those of a rising list, and
+    /// what is still held. Otherwise as `finish`.
+    pub fn finish_without(self, gone: &[u32]) -> Put<()>
+        requires whole { is_err (stream D.seen self).progress.outcome ≡ false }
+        requires rising { IsStrictlyIncreasing gone.now }
+        requires labels { length (others self.labels gone.now) ≡ self.counts.wires }
+        ensures { Finishes (stream D.seen self.entry) (D.seen self.exit.0.now)
+            (others self.entry.labels gone.now) result }
     {
         let StreamSink {
             files,
             name,
             mut pending,
+            counts,
+            labels,
             ..
         } = self;
-        write_labels(&mut pending, files, name, labels);
+        write_labels(&mut pending, files, name, counts.wires, labels, gone);
         pending.outcome
     }
 }

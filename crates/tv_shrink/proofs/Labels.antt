@@ -1,5 +1,5 @@
 -- The wires that are kept, and the place of each among them.
-use Rattle.std.proofs.Common.{◌≡◌, ◌≢◌, ℕ, zero, suc, ◌+◌, ◌<◌, ◌≤◌, Bool, not, List, [], ◌∷◌, ◌++◌, refl, sym, ◌∙◌, ap, ap₂, arith, ◌-◌, append-nil, eqb}
+use Rattle.std.proofs.Common.{◌≡◌, ◌≢◌, ℕ, zero, suc, ◌+◌, ◌<◌, ◌≤◌, Bool, not, List, [], ◌∷◌, ◌++◌, refl, sym, ◌∙◌, ap, ap₂, arith, ◌-◌, eqb}
 use Rattle.std.proofs.Common.{true, false, inl, inr, cond, map, length, get_or, take, eqb-true, eq-eqb, ne_eqb, one-add}
 use Rattle.std.specs.List.{AllByRecursion, filter, list_any, range_with_len}
 use Rattle.std.specs.Prelude.{slice_index}
@@ -7,6 +7,7 @@ use Rattle.std.proofs.lemmas.Bool.{cond_both, cases_Bool, eqb-false, or_left, or
 use Rattle.std.proofs.lemmas.List.Elements.{filter-append}
 use Rattle.std.proofs.lemmas.List.{ext_get_or, get_or-map, length-map}
 use Rattle.tv_core.proofs.BelowLaws.{range-append}
+use Rattle.tv_r1cs_write.proofs.Others.{Rising}
 use Rattle.tv_shrink.specs.Shrinking.{kept, place}
 
 place-here : (w x : ℕ) (xs : List ℕ) → eqb x w ≡ true → place w (x ∷ xs) ≡ 0
@@ -40,11 +41,6 @@ place_inside : (w : ℕ) (xs : List ℕ) → list_any (λ v. eqb v w) xs ≡ tru
 place_inside w [] h = absurd (let no : false ≡ true = h in cc)
 place_inside w (x ∷ xs) h = place_inside_step w x xs (eqb x w) refl (place_inside w xs) h
 
--- the wires rise from a number on
-abbrev pub Rising : ℕ → List ℕ → Type 0
-Rising least [] = Unit {0}
-Rising least (x ∷ xs) = (least ≤ x) × Rising (x + 1) xs
-
 Rising-lower : (least more : ℕ) (xs : List ℕ) → least ≤ more → Rising more xs → Rising least xs
 Rising-lower least more [] h r = tt
 Rising-lower least more (x ∷ xs) h r = (omega (arith, r.0), r.1)
@@ -56,17 +52,17 @@ Rising-filter p a (suc n) =
     (λ e. (omega arith, Rising-filter p (a + 1) n))
     (λ e. Rising-lower a (a + 1) (filter p (range_with_len (a + 1) n)) (omega arith) (Rising-filter p (a + 1) n))
 
-Rising-at : (least : ℕ) (xs : List ℕ) (k : ℕ) → Rising least xs → k < length xs → least ≤ get_or xs k 0
-Rising-at least [] k r h = absurd (omega arith)
-Rising-at least (x ∷ xs) zero r h = r.0
-Rising-at least (x ∷ xs) (suc k) r h = let behind = Rising-at (x + 1) xs k r.1 (omega arith) in omega (arith, r.0)
+pub Rising-at : (least : ℕ) (xs : List ℕ) (k d : ℕ) → Rising least xs → k < length xs → least ≤ get_or xs k d
+Rising-at least [] k d r h = absurd (omega arith)
+Rising-at least (x ∷ xs) zero d r h = r.0
+Rising-at least (x ∷ xs) (suc k) d r h = let behind = Rising-at (x + 1) xs k d r.1 (omega arith) in omega (arith, r.0)
 
 -- and the wire at a place has that place
 pub place-at : (least : ℕ) (xs : List ℕ) (k : ℕ) → Rising least xs → k < length xs → place (get_or xs k 0) xs ≡ k
 place-at least [] k r h = absurd (omega arith)
 place-at least (x ∷ xs) zero r h = place-here x x xs (eq-eqb x x refl)
 place-at least (x ∷ xs) (suc k) r h =
-    let above = Rising-at (x + 1) xs k r.1 (omega arith) in
+    let above = Rising-at (x + 1) xs k 0 r.1 (omega arith) in
     place-later (get_or xs k 0) x xs (ne_eqb x (get_or xs k 0) (λ e. absurd (omega arith))) ∙ ap suc (place-at (x + 1) xs k r.1 (omega arith))
 
 any_cond : (q : ℕ → Bool) (a : ℕ) (xs : List ℕ) (b : Bool) → list_any q xs ≡ true → list_any q (cond b (a ∷ xs) xs) ≡ true
@@ -140,7 +136,7 @@ unfolding kept
 front-kept wires publics gone h later = front_kept (λ w. not (get_or gone w false)) 0 publics wires h
     (λ w k. ap not (none_below publics w gone later (omega arith)))
 
--- how the labels are made
+-- the place of a wire that is kept is how many before it are
 first_of : (w n : ℕ) → range_with_len (0 + w) (1 + n) ≡ w ∷ range_with_len (w + 1) n
 first_of w n = let one : 1 + n ≡ suc n = omega arith in let same : 0 + w ≡ w = omega arith in ap₂ range_with_len same one
 
@@ -151,14 +147,7 @@ pub kept_is : (n : ℕ) (gone : List Bool) → kept n gone ≡ kept_below n gone
 unfolding kept
 kept_is n gone = refl
 
--- one wire more
-pub kept_more : (n : ℕ) (gone : List Bool) → kept_below (n + 1) gone ≡ kept_below n gone ++ cond (not (get_or gone n false)) (n ∷ []) []
-kept_more n gone =
-    ap (filter (λ w. not (get_or gone w false))) (range-append 0 n 1)
-    ∙ filter-append (λ w. not (get_or gone w false)) (range_with_len 0 n) (range_with_len (0 + n) 1)
-    ∙ ap (λ m. kept_below n gone ++ cond (not (get_or gone m false)) (m ∷ []) []) (omega arith)
-
--- a wire's place is behind those before it
+-- a wire's place is after those before it
 place-after : (w : ℕ) (xs ys : List ℕ) → AllByRecursion (λ v. v < w) xs → place w (xs ++ (w ∷ ys)) ≡ length xs
 place-after w [] ys h = place-here w w ys (eq-eqb w w refl)
 place-after w (x ∷ xs) ys h = place-later w x (xs ++ (w ∷ ys)) (ne_eqb x w (λ e. absurd (omega (arith, h.0)))) ∙ ap suc (place-after w xs ys h.1)
@@ -181,32 +170,3 @@ place_is wires w gone h stays =
     (filter (λ v. not (get_or gone v false)) (range_with_len (w + 1) (wires - w - 1)))) (ap not stays))
     ∙ place-after w (kept_below w gone) (filter (λ v. not (get_or gone v false)) (range_with_len (w + 1) (wires - w - 1)))
     (below_range (λ v. not (get_or gone v false)) 0 w w (omega arith))
-
-filter_short : (p : ℕ → Bool) (a n : ℕ) → length (filter p (range_with_len a n)) ≤ n
-filter_short p a zero = omega arith
-filter_short p a (suc n) =
-    let rest = filter_short p (a + 1) n in
-    cond_both (p a) (a ∷ filter p (range_with_len (a + 1) n)) (filter p (range_with_len (a + 1) n)) (λ xs. length xs ≤ suc n) (λ e. omega arith)
-    (λ e. omega arith)
-
-pub kept_short : (n : ℕ) (gone : List Bool) → length (kept_below n gone) ≤ n
-kept_short n gone = filter_short (λ w. not (get_or gone w false)) 0 n
-
-pub kept_one : (n : ℕ) (gone : List Bool) (labels : List ℕ) → labels ≡ kept_below n gone → get_or gone n false ≡ false
-    → labels ++ (n ∷ []) ≡ kept_below (n + 1) gone
-kept_one n gone labels is stays = ap (λ xs. xs ++ (n ∷ [])) is ∙ sym (kept_more n gone ∙ ap (λ b. kept_below n gone ++ cond (not b) (n ∷ []) []) stays)
-
-pub kept_none : (n : ℕ) (gone : List Bool) (labels : List ℕ) → labels ≡ kept_below n gone → get_or gone n false ≡ true → labels ≡ kept_below (n + 1) gone
-kept_none n gone labels is goes = is ∙ sym (kept_more n gone ∙ ap (λ b. kept_below n gone ++ cond (not b) (n ∷ []) []) goes ∙ append-nil (kept_below n gone))
-
-pub places_more : (f : ℕ → ℕ) (places : List ℕ) (n v k : ℕ) → length places ≡ n → ((u : ℕ) → u < n → get_or places u 0 ≡ f u) → k ≡ f n → v < n + 1
-    → get_or (places ++ (k ∷ [])) v 0 ≡ f v
-places_more f [] n v k each before is h = let first : v ≡ 0 = omega arith in let none : n ≡ 0 = omega arith in ap (λ u. get_or (k ∷ []) u 0) first ∙ is
-    ∙ ap f (none ∙ sym first)
-places_more f (x ∷ places) n zero k each before is h = before 0 (omega arith)
-places_more f (x ∷ places) n (suc v) k each before is h =
-    places_more (λ u. f (suc u)) places (n - 1) v k (omega arith) (λ u l. before (suc u) (omega arith)) (is ∙ ap f (omega arith)) (omega arith)
-
--- a wire's place is the same among the labels of more wires
-pub place_among : (few many w : ℕ) (gone : List Bool) → few ≤ many → w < few → get_or gone w false ≡ false → place w (kept few gone) ≡ place w (kept many gone)
-place_among few many w gone le h stays = place_is few w gone h stays ∙ sym (place_is many w gone (omega arith) stays)

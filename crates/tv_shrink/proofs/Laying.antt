@@ -12,7 +12,7 @@ use Rattle.tv_shrink.specs.declared.arena.Span.{Span}
 use Rattle.tv_shrink.proofs.Read.{each_at}
 use Rattle.tv_shrink.proofs.Spans.{inside_more, part_kept, push_each, row_appended, row_end, row_kept, rows_kept, same_row, set_each}
 
--- a part of the terms before or behind those that were put
+-- a part of the terms before or after those that were put
 part_clear : (xs put : Combination) (start i j : ℕ) → start ≤ length xs → i ≤ j → j ≤ length xs → (j ≤ start) ⊎ (start + length put ≤ i)
     → slice_range (laid start put xs) i j ≡ slice_range xs i j
 part_clear xs put start i j h below inside (inl before) =

@@ -1,4 +1,5 @@
 pub mod Constants
+pub mod Gone
 pub mod Labels
 pub mod Laying
 pub mod Linear
@@ -9,7 +10,6 @@ pub mod Passes
 pub mod Putting
 pub mod Read
 pub mod ReplacingLaws
-pub mod Room
 pub mod Settling
 pub mod Solutions
 pub mod Sorting

@@ -1,5 +1,5 @@
 -- What the functions on a constraint's combinations return.
-use Rattle.std.proofs.Common.{◌≡◌, ◌≢◌, ℕ, ◌+◌, ◌-◌, ◌*◌, ◌%◌, ◌<◌, ◌≤◌, Bool, not, ◌||◌, leb, ltb, length, [], ◌∷◌, ◌++◌, Some, None, refl, sym, ◌∙◌, ap}
+use Rattle.std.proofs.Common.{◌≡◌, ◌≢◌, ℕ, ◌+◌, ◌-◌, ◌*◌, ◌%◌, ◌<◌, ◌≤◌, Bool, not, ◌||◌, leb, length, [], ◌∷◌, ◌++◌, Some, None, refl, sym, ◌∙◌, ap}
 use Rattle.std.proofs.Common.{ap₂, arith, eqb, true, false, inl, inr, cond, mul-zero}
 use Rattle.std.proofs.lemmas.Bool.{cases_Bool, cond_both, le-leb, leb-true, or_left, or_right}
 use Rattle.std.proofs.lemmas.List.{length-append, length-map}

@@ -1,10 +1,13 @@
 -- The rows that wires may stand in.
-use Rattle.std.proofs.Common.{◌≡◌, ℕ, zero, suc, ◌+◌, ◌-◌, ◌<◌, ◌≤◌, Bool, List, [], ◌∷◌, ◌++◌, true, false, refl, sym, ◌∙◌, ap, ap₂, subst, arith, eqb}
-use Rattle.std.proofs.Common.{eq-eqb, ne_eqb, cond, inl, inr, map, length, get_or, set, replicate, reverse}
+use Rattle.std.proofs.Common.{◌≡◌, ℕ, zero, suc, ◌+◌, ◌-◌, ◌%◌, ◌<◌, ◌≤◌, Bool, List, [], ◌∷◌, ◌++◌, true, false, refl, sym, ◌∙◌, ap, ap₂, subst, arith, eqb}
+use Rattle.std.proofs.Common.{eq-eqb, ne_eqb, cond, inl, inr, map, length, length-set, get_or, set, reverse}
 use Rattle.std.specs.List.{AllByRecursion, list_any}
+use Rattle.std.specs.Prelude.{slice_index}
 use Rattle.std.proofs.lemmas.Bool.{cond_both, cases_eq, or_left, or_right}
-use Rattle.std.proofs.lemmas.List.{get_or-map, get_or-reverse, get_or-set_other, get_or-set_same, length-map, length-reverse, map-set, reverse-append}
-use Rattle.tv_shrink.specs.Occurring.{rows_from, with_row, AreLinked, LeadBack}
+use Rattle.std.proofs.lemmas.List.{get_or-map, get_or-reverse, get_or-set_other, get_or-set_same, length-map, length-reverse, reverse-append}
+use Rattle.std.proofs.lemmas.Nat.{mod_below}
+use Rattle.tv_shrink.specs.Occurring.{rows_from, rows_of, with_row, AreLinked, LeadBack}
+use Rattle.tv_shrink.proofs.Passes.{same_default}
 use Rattle.tv_shrink.specs.declared.occurrences.Entry.{Entry}
 
 -- a wire that has no entry
@@ -66,10 +69,6 @@ rows_from-at entries heads number entry some inside linked at =
     ∙ sym (get_or-reverse entries (length entries - number) entry low)
     ∙ ap (λ n. get_or (reverse entries) (n - number) entry) (sym same))
 
-pub no_rows : (n : ℕ) → map (rows_from (reverse [])) (replicate n 0) ≡ replicate n []
-no_rows zero = refl
-no_rows (suc n) = ap (λ rows. [] ∷ rows) (no_rows n)
-
 -- one more entry
 pub reverse_push : (entries : List Entry) (entry : Entry) → reverse (entries ++ entry ∷ []) ≡ entry ∷ reverse entries
 reverse_push entries entry = reverse-append entries (entry ∷ [])
@@ -78,55 +77,102 @@ heads_more : (n m : ℕ) (heads : List ℕ) → n ≤ m → AllByRecursion (λ h
 heads_more n m [] h k = tt
 heads_more n m (head ∷ heads) h k = (omega (arith, k.0), heads_more n m heads h k.1)
 
-heads_set : (n number : ℕ) (heads : List ℕ) (wire : ℕ) → number ≤ n → AllByRecursion (λ head. head ≤ n) heads
-    → AllByRecursion (λ head. head ≤ n) (set heads wire number)
-heads_set n number [] wire h k = tt
+heads_set : (n number : ℕ) (heads : List ℕ) (place : ℕ) → number ≤ n → AllByRecursion (λ head. head ≤ n) heads
+    → AllByRecursion (λ head. head ≤ n) (set heads place number)
+heads_set n number [] place h k = tt
 heads_set n number (head ∷ heads) zero h k = (h, k.1)
-heads_set n number (head ∷ heads) (suc wire) h k = (k.0, heads_set n number heads wire h k.1)
+heads_set n number (head ∷ heads) (suc place) h k = (k.0, heads_set n number heads place h k.1)
 
-pub linked_set : (entries : List Entry) (heads : List ℕ) (wire number : ℕ) → number ≤ length entries → AreLinked entries heads
-    → AreLinked entries (set heads wire number)
-linked_set entries heads wire number h linked = record { back = linked.back; within = heads_set (length entries) number heads wire h linked.within }
+pub linked_set : (entries : List Entry) (heads : List ℕ) (place number : ℕ) → number ≤ length entries → AreLinked entries heads
+    → AreLinked entries (set heads place number)
+linked_set entries heads place number h linked = record {
+  some = omega (arith, linked.some, length-set heads place number);
+  back = linked.back;
+  within = heads_set (length entries) number heads place h linked.within;
+}
 
 pub linked_push : (entries more : List Entry) (heads : List ℕ) (entry : Entry) → more ≡ entries ++ entry ∷ [] → length more ≡ length entries + 1
     → entry.next ≤ length entries → AreLinked entries heads → AreLinked more heads
 linked_push entries more heads entry is each h linked = record {
+  some = linked.some;
   back = subst LeadBack (sym (ap reverse is ∙ reverse_push entries entry)) (omega (arith, length-reverse entries), linked.back);
   within = heads_more (length entries) (length more) heads (omega arith) linked.within;
 }
 
-rows_pushed : (entries : List Entry) (entry : Entry) (heads : List ℕ) → AllByRecursion (λ head. head ≤ length entries) heads
-    → map (rows_from (reverse (entries ++ entry ∷ []))) heads ≡ map (rows_from (reverse entries)) heads
-rows_pushed entries entry [] h = refl
-rows_pushed entries entry (head ∷ heads) h =
-    let same : length (reverse entries) ≡ length entries = length-reverse entries in
-    ap₂ (λ rows lists. rows ∷ lists)
-    (ap (λ es. rows_from es head) (reverse_push entries entry) ∙ rows_from-before entry (reverse entries) head (omega (arith, h.0)))
-    (rows_pushed entries entry heads h.1)
+-- a list begins at one of the entries that there are, or at none
+head_within : (n : ℕ) (heads : List ℕ) (place : ℕ) → AllByRecursion (λ head. head ≤ n) heads → get_or heads place 0 ≤ n
+head_within n [] place h = omega arith
+head_within n (first ∷ heads) zero h = h.0
+head_within n (first ∷ heads) (suc place) h = head_within n heads place h.1
 
--- a wire's rows with one more before them
-module _ (entries more : List Entry) (heads : List ℕ) (wire row head : ℕ) (linked : AreLinked entries heads)
-    (is : more ≡ entries ++ record { row = row; next = head } ∷ []) (below : head ≤ length entries) where
-  pub rows_more : map (rows_from (reverse more)) heads ≡ map (rows_from (reverse entries)) heads
-  rows_more = ap (λ es. map (rows_from (reverse es)) heads) is ∙ rows_pushed entries (record { row = row; next = head }) heads linked.within
+pub head_inside : (entries : List Entry) (heads : List ℕ) (place head : ℕ) → AreLinked entries heads → place < length heads → head ≡ get_or heads place head →
+    (head ≤ length entries) × (head ≡ slice_index heads place)
+head_inside entries heads place head linked inside at =
+    let is : head ≡ slice_index heads place = at ∙ same_default heads place head 0 inside in
+    (omega (arith, is, head_within (length entries) heads place linked.within), is)
 
-  pub rows_added : (number : ℕ) → number ≡ length entries + 1
-      → map (rows_from (reverse more)) (set heads wire number) ≡ set (map (rows_from (reverse entries)) heads) wire (row ∷ rows_from (reverse entries) head)
-  rows_added number each =
+-- the rows of a wire, by entries and heads
+abbrev pub rows_in : List Entry → List ℕ → ℕ → List ℕ
+rows_in entries heads w = rows_from (reverse entries) (slice_index heads (w % length heads))
+
+pub rows_seen : (entries : List Entry) (heads : List ℕ) (lists : List (List ℕ)) (w : ℕ) → map (rows_from (reverse entries)) heads ≡ lists → 0 < length heads
+    → rows_of lists w ≡ rows_in entries heads w
+rows_seen entries heads lists w is some =
+    let f = rows_from (reverse entries) in
+    ap (λ xs. rows_of xs w) (sym is) ∙ ap (λ n. get_or (map f heads) (w % n) []) (length-map heads f)
+    ∙ get_or-map f heads (w % length heads) 0 [] (mod_below w (length heads) some)
+
+-- the lists once there is one more entry
+module _ (entries more : List Entry) (heads : List ℕ) (row head : ℕ) (linked : AreLinked entries heads)
+    (is : more ≡ entries ++ record { row = row; next = head } ∷ []) where
+  from_before : (number : ℕ) → number ≤ length entries → rows_from (reverse more) number ≡ rows_from (reverse entries) number
+  from_before number h =
+      ap (λ es. rows_from (reverse es) number) is
+      ∙ ap (λ es. rows_from es number) (reverse_push entries (record { row = row; next = head }))
+      ∙ rows_from-before (record { row = row; next = head }) (reverse entries) number (omega (arith, length-reverse entries))
+
+  from_new : (number : ℕ) → number ≡ length entries + 1 → rows_from (reverse more) number ≡ row ∷ rows_from (reverse entries) head
+  from_new number each =
       let same : length (reverse entries) ≡ length entries = length-reverse entries in
       let last : number ≡ suc (length (reverse entries)) = omega arith in
-      map-set (rows_from (reverse more)) heads wire number
-      ∙ ap₂ (λ lists rows. set lists wire rows) rows_more
-      (ap (λ es. rows_from es number) (ap reverse is ∙ reverse_push entries (record { row = row; next = head }))
+      ap (λ es. rows_from es number) (ap reverse is ∙ reverse_push entries (record { row = row; next = head }))
       ∙ ap (rows_from (record { row = row; next = head } ∷ reverse entries)) last
-      ∙ rows_from-last (record { row = row; next = head }) (reverse entries))
+      ∙ rows_from-last (record { row = row; next = head }) (reverse entries)
 
--- the rows with one more have those before, and it
-pub any-with_row : (q : ℕ → Bool) (row : ℕ) (rows : List ℕ) → list_any q rows ≡ true → list_any q (with_row row rows) ≡ true
-any-with_row q row [] e = absurd (cc)
-any-with_row q row (first ∷ rows) e =
-    cond_both (eqb first row) (first ∷ rows) (row ∷ first ∷ rows) (λ xs. list_any q xs ≡ true) (λ _. e) (λ _. or_right (q row) (list_any q (first ∷ rows)) e)
+  -- of which none begins at it
+  pub rows_of-same : (w : ℕ) → rows_in more heads w ≡ rows_in entries heads w
+  rows_of-same w = from_before (slice_index heads (w % length heads)) (head_within (length entries) heads (w % length heads) linked.within)
 
+  -- or one does
+  module _ (place number : ℕ) (inside : place < length heads) (each : number ≡ length entries + 1) where
+    at_place : (w : ℕ) → w % length (set heads place number) ≡ w % length heads
+    at_place w = ap (λ n. w % n) (length-set heads place number)
+
+    pub rows_of-there : (w : ℕ) → w % length heads ≡ place → rows_in more (set heads place number) w ≡ row ∷ rows_from (reverse entries) head
+    rows_of-there w there =
+        ap (λ k. rows_from (reverse more) (slice_index (set heads place number) k)) (at_place w ∙ there)
+        ∙ ap (rows_from (reverse more)) (get_or-set_same heads place number 0 inside)
+        ∙ from_new number each
+
+    pub rows_of-apart : (w : ℕ) → (w % length heads ≡ place → ⊥) → rows_in more (set heads place number) w ≡ rows_in entries heads w
+    rows_of-apart w apart =
+        ap (λ k. rows_from (reverse more) (slice_index (set heads place number) k)) (at_place w)
+        ∙ ap (rows_from (reverse more)) (get_or-set_other heads place (w % length heads) number 0 apart)
+        ∙ rows_of-same w
+
+    pub rows_of-more : (q : ℕ → Bool) (w : ℕ) → head ≡ slice_index heads place → list_any q (rows_in entries heads w) ≡ true
+        → list_any q (rows_in more (set heads place number) w) ≡ true
+    rows_of-more q w is_head e =
+        elim (cases_eq (w % length heads) place) [
+          | inl there ↦
+              let before : rows_in entries heads w ≡ rows_from (reverse entries) head =
+              ap (λ k. rows_from (reverse entries) (slice_index heads k)) there ∙ ap (rows_from (reverse entries)) (sym is_head) in
+              ap (list_any q) (rows_of-there w there)
+              ∙ or_right (q row) (list_any q (rows_from (reverse entries) head)) (ap (list_any q) (sym before) ∙ e)
+          | inr apart ↦ ap (list_any q) (rows_of-apart w apart) ∙ e
+        ]
+
+-- the rows with one more have it
 pub with_row-has : (row : ℕ) (rows : List ℕ) → list_any (λ p. eqb p row) (with_row row rows) ≡ true
 with_row-has row [] = or_left (eqb row row) false (eq-eqb row row refl)
 with_row-has row (first ∷ rows) =
@@ -134,24 +180,7 @@ with_row-has row (first ∷ rows) =
     (λ same. or_left (eqb first row) (list_any (λ p. eqb p row) rows) same)
     (λ _. or_left (eqb row row) (list_any (λ p. eqb p row) (first ∷ rows)) (eq-eqb row row refl))
 
--- told of one wire
-pub told-more : (q : ℕ → Bool) (lists : List (List ℕ)) (v w row : ℕ) → v < length lists → list_any q (get_or lists w []) ≡ true
-    → list_any q (get_or (set lists v (with_row row (get_or lists v []))) w []) ≡ true
-told-more q lists v w row h e =
-    elim (cases_eq w v) [
-      | inl same ↦
-          ap (λ xs. list_any q xs) (ap (λ u. get_or (set lists v (with_row row (get_or lists v []))) u []) same
-          ∙ get_or-set_same lists v (with_row row (get_or lists v [])) [] h)
-          ∙ any-with_row q row (get_or lists v []) (ap (λ u. list_any q (get_or lists u [])) (sym same) ∙ e)
-      | inr apart ↦ ap (λ xs. list_any q xs) (get_or-set_other lists v w (with_row row (get_or lists v [])) [] apart) ∙ e
-    ]
-
-pub told-added : (lists : List (List ℕ)) (v row : ℕ) → v < length lists
-    → list_any (λ p. eqb p row) (get_or (set lists v (with_row row (get_or lists v []))) v []) ≡ true
-told-added lists v row h =
-    ap (λ xs. list_any (λ p. eqb p row) xs) (get_or-set_same lists v (with_row row (get_or lists v [])) [] h) ∙ with_row-has row (get_or lists v [])
-
--- whether an entry tells of a row
+-- whether an entry is of a row
 pub tells_none : (entries : List Entry) (number row : ℕ) → number ≡ 0
     → with_row row (rows_from (reverse entries) number) ≡ row ∷ rows_from (reverse entries) number
 tells_none entries number row e =
@@ -162,22 +191,7 @@ pub tells_row : (entries : List Entry) (number row : ℕ) (entry : Entry) (same 
     → entry ≡ get_or entries (number - 1) entry → same ≡ eqb entry.row row →
     with_row row (rows_from (reverse entries) number) ≡ cond same (rows_from (reverse entries) number) (row ∷ rows_from (reverse entries) number)
 tells_row entries number row entry same some inside back at is =
-    let found = (rows_from-at entries [] number entry some inside (record { back = back; within = tt }) at).0 in
+    let found = (rows_from-at entries (0 ∷ []) number entry some inside (record { some = omega arith; back = back; within = (omega arith, tt) }) at).0 in
     ap (with_row row) found
     ∙ ap (λ b. cond b (entry.row ∷ rows_from (reverse entries) entry.next) (row ∷ entry.row ∷ rows_from (reverse entries) entry.next)) (sym is)
     ∙ ap (λ rows. cond same rows (row ∷ rows)) (sym found)
-
--- a wire's entry is one of those that there are
-within_at : (n : ℕ) (heads : List ℕ) (wire head : ℕ) → AllByRecursion (λ head. head ≤ n) heads → wire < length heads → head ≡ get_or heads wire head → head ≤ n
-within_at n [] wire head h inside at = absurd (omega arith)
-within_at n (first ∷ heads) zero head h inside at = omega (arith, h.0)
-within_at n (first ∷ heads) (suc wire) head h inside at = within_at n heads wire head h.1 (omega arith) at
-
-pub head_inside : (entries : List Entry) (heads : List ℕ) (lists : List (List ℕ)) (wire head : ℕ) → AreLinked entries heads
-    → map (rows_from (reverse entries)) heads ≡ lists → wire < length lists → head ≡ get_or heads wire head →
-    (head ≤ length entries) × (get_or lists wire [] ≡ rows_from (reverse entries) head)
-head_inside entries heads lists wire head linked is inside at =
-    let wide : wire < length heads = omega (arith, length-map heads (rows_from (reverse entries)), ap length is) in (
-      within_at (length entries) heads wire head linked.within wide at,
-      ap (λ xs. get_or xs wire []) (sym is) ∙ get_or-map (rows_from (reverse entries)) heads wire head [] wide ∙ ap (rows_from (reverse entries)) (sym at),
-    )

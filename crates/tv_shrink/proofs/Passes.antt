@@ -16,6 +16,7 @@ use Rattle.tv_core.specs.declared.field.TheConstants.{P}
 use Rattle.tv_core.specs.Constraints.{Combination, Constraint}
 use Rattle.tv_core.specs.Normal.{coefficient, normal, IsNormalFrom}
 use Rattle.tv_shrink.specs.Passing.{Pass, all_replaced, attempted, dropped, substituted, eliminated, linear_row, row_fits, treated, turn}
+use Rattle.tv_shrink.specs.Occurring.{rows_of}
 use Rattle.tv_shrink.specs.Replacing.{greater_from, greatest_from, has_wire, without, solved, replaced, replaced_in, fits}
 use Rattle.tv_shrink.specs.Tidy.{RowIsNormal, RowsAreNormal, Covers, pass_of, row_has}
 use Rattle.tv_shrink.proofs.Linear.{replaced-lacking}
@@ -349,26 +350,26 @@ same_default (x ∷ xs) (suc i) d e h = same_default xs i d e (omega arith)
 
 -- one turn of the loop that files a row
 module _ (publics : ℕ) (lists next : List (List ℕ)) (row k : ℕ) (t : ℕ × ℕ) (x : Combination) (h : k < length x) (at : t ≡ get_or x k t)
-    (added : (w : ℕ) → publics ≤ w → has_wire w (take k x) ≡ true → list_any (λ p. eqb p row) (get_or lists w []) ≡ true) where
-  pub filed-more : ((w i : ℕ) → list_any (λ p. eqb p i) (get_or lists w []) ≡ true → list_any (λ p. eqb p i) (get_or next w []) ≡ true)
-      → list_any (λ p. eqb p row) (get_or next t.1 []) ≡ true →
-      (w : ℕ) → publics ≤ w → has_wire w (take (k + 1) x) ≡ true → list_any (λ p. eqb p row) (get_or next w []) ≡ true
+    (added : (w : ℕ) → publics ≤ w → has_wire w (take k x) ≡ true → list_any (λ p. eqb p row) (rows_of lists w) ≡ true) where
+  pub filed-more : ((w i : ℕ) → list_any (λ p. eqb p i) (rows_of lists w) ≡ true → list_any (λ p. eqb p i) (rows_of next w) ≡ true)
+      → list_any (λ p. eqb p row) (rows_of next t.1) ≡ true →
+      (w : ℕ) → publics ≤ w → has_wire w (take (k + 1) x) ≡ true → list_any (λ p. eqb p row) (rows_of next w) ≡ true
   filed-more more here w above has =
       elim (or_cases (has_wire w (take k x)) (eqb t.1 w) (sym (has_next w k t x h at) ∙ has)) [
         | inl earlier ↦ more w row (added w above earlier)
-        | inr same ↦ subst (λ v. list_any (λ p. eqb p row) (get_or next v []) ≡ true) (eqb-true t.1 w same) here
+        | inr same ↦ subst (λ v. list_any (λ p. eqb p row) (rows_of next v) ≡ true) (eqb-true t.1 w same) here
       ]
 
   pub filed-none : t.1 < publics → next ≡ lists → (w : ℕ) → publics ≤ w → has_wire w (take (k + 1) x) ≡ true
-      → list_any (λ p. eqb p row) (get_or next w []) ≡ true
+      → list_any (λ p. eqb p row) (rows_of next w) ≡ true
   filed-none public is w above has =
-      subst (λ xs. list_any (λ p. eqb p row) (get_or xs w []) ≡ true) (sym is)
+      subst (λ xs. list_any (λ p. eqb p row) (rows_of xs w) ≡ true) (sym is)
       (elim (or_cases (has_wire w (take k x)) (eqb t.1 w) (sym (has_next w k t x h at) ∙ has)) [
         | inl earlier ↦ added w above earlier
         | inr here ↦ absurd (omega (arith, eqb-true t.1 w here))
       ])
 
--- what was put out, from the row that was looked at
+-- the terms that were put, from the row that was read
 pub form_there : (rows : List (Option Constraint)) (at : ℕ) (row : Option Constraint) (form : Combination) (b : Bool) → row ≡ get_or rows at None
     → linear_row row ≡ cond b (Some form) None → b ≡ true → linear_row (get_or rows at None) ≡ Some form
 form_there rows at row form b is says e =
@@ -455,18 +456,18 @@ covers-dropped publics at rows lists covers i w above has =
     ]
 
 pub covers-more : (publics : ℕ) (rows : List (Option Constraint)) (lists next : List (List ℕ)) → Covers publics rows lists →
-    ((v i : ℕ) → list_any (λ p. eqb p i) (get_or lists v []) ≡ true → list_any (λ p. eqb p i) (get_or next v []) ≡ true) → Covers publics rows next
+    ((v i : ℕ) → list_any (λ p. eqb p i) (rows_of lists v) ≡ true → list_any (λ p. eqb p i) (rows_of next v) ≡ true) → Covers publics rows next
 covers-more publics rows lists next covers more i w above has = more w i (covers i w above has)
 
 pub covers-replaced : (publics w at : ℕ) (r : Combination) (rows : List (Option Constraint)) (lists : List (List ℕ)) → has_wire w r ≡ false
     → Covers publics rows lists →
-    ((v : ℕ) → publics ≤ v → has_wire v r ≡ true → list_any (λ p. eqb p at) (get_or lists v []) ≡ true)
+    ((v : ℕ) → publics ≤ v → has_wire v r ≡ true → list_any (λ p. eqb p at) (rows_of lists v) ≡ true)
     → Covers publics (set rows at (option_map (replaced_in w r) (get_or rows at None))) lists
 covers-replaced publics w at r rows lists lacks covers added i v above has =
     elim (set_cases rows at i (option_map (replaced_in w r) (get_or rows at None))) [
       | inl own ↦ covers i v above (ap (row_has v) (sym own) ∙ has)
       | inr here ↦
-          subst (λ j. list_any (λ p. eqb p j) (get_or lists v []) ≡ true) (sym here.0)
+          subst (λ j. list_any (λ p. eqb p j) (rows_of lists v) ≡ true) (sym here.0)
           (elim (row_has_replaced v w r lacks (get_or rows at None)
           (ap (row_has v) (sym here.1) ∙ has)) [ inl own ↦ covers at v above own.0 | inr by ↦ added v above by.0 ])
     ]
@@ -474,7 +475,7 @@ covers-replaced publics w at r rows lists lacks covers added i v above has =
 -- all but the one at a place keep to their most terms where those that the wire may stand in do
 pub all-fit-there : (w at : ℕ) (r : Combination) (publics : ℕ) (rows : List (Option Constraint)) (lists : List (List ℕ)) → Covers publics rows lists
     → publics ≤ w →
-    ((i : ℕ) → list_any (λ p. eqb p i) (get_or lists w []) ≡ true → row_fits w r (get_or (set rows at None) i None) ≡ true)
+    ((i : ℕ) → list_any (λ p. eqb p i) (rows_of lists w) ≡ true → row_fits w r (get_or (set rows at None) i None) ≡ true)
     → list_all (row_fits w r) (set rows at None) ≡ true
 all-fit-there w at r publics rows lists covers above fit =
     list_all-from_AllPass (row_fits w r) (set rows at None) (All-from_get_or (λ row. row_fits w r row ≡ true) (set rows at None) None (λ i h.

@@ -158,7 +158,7 @@ wide_halted outside name fault.Fault found e = absurd e
 wide_halted outside name fault.Memory found e = halted outside outside name refusal.Memory
     (stopped_here outside name refusal.Memory (record { told = λ is. absurd (cc) }))
 
--- where reading has come to some constraints, they are the system's first
+-- where reading has returned some constraints, they are the system's first
 is_front : (reached : Reached) (file : List ℕ) (done : List Constraint) (system : System) → IsAt reached file done → system_of file ≡ Ok system
     → (others : List Constraint) × (system.constraints ≡ done ++ others)
 unfolding system_of

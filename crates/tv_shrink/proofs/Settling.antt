@@ -1,11 +1,11 @@
 -- What is left once a pass has run, its wires numbered anew.
-use Rattle.std.proofs.Common.{◌≡◌, ℕ, ◌+◌, ◌-◌, ◌++◌, ◌^◌, ◌<◌, ◌≤◌, Bool, not, ◌&&◌, List, [], ◌∷◌, Option, Some, None, refl, sym, ◌∙◌, ap, ap₂, subst}
-use Rattle.std.proofs.Common.{arith, true, false, inl, inr, cond, map, length, get_or, leb, leb-true, replicate}
-use Rattle.std.specs.List.{AllByRecursion, filter_map, fold, list_all, range_with_len}
+use Rattle.std.proofs.Common.{◌≡◌, ℕ, ◌+◌, ◌<◌, ◌≤◌, Bool, not, ◌&&◌, List, [], ◌∷◌, Option, Some, None, refl, sym, ◌∙◌, ap, ap₂, subst}
+use Rattle.std.proofs.Common.{arith, true, false, inl, inr, cond, eqb, map, length, get_or, leb, leb-true, replicate}
+use Rattle.std.specs.List.{AllByRecursion, filter_map, fold, list_all, list_any, range_with_len}
 use Rattle.std.specs.Option.{option_map}
-use Rattle.std.specs.Prelude.{slice_index}
+use Rattle.tv_r1cs_write.specs.Bytes.{others}
 use Rattle.std.proofs.lemmas.Bool.{or_cases, and_parts, not-true}
-use Rattle.std.proofs.lemmas.List.{length-map, length-replicate, length-take, replicate-append-replicate}
+use Rattle.std.proofs.lemmas.List.{length-map, length-replicate, length-take}
 use Rattle.std.proofs.lemmas.List.FromFn.{length-range_with_len}
 use Rattle.tv_core.specs.Constraints.{Combination, Constraint, System}
 use Rattle.tv_core.specs.declared.lines.Counts.{Counts}
@@ -14,13 +14,13 @@ use Rattle.tv_shrink.specs.Moving.{moved, moved_in, moved_rows}
 use Rattle.tv_core.specs.Normal.{normal_constraint}
 use Rattle.tv_shrink.specs.Passing.{Pass, all_replaced, attempted, begun, dropped, eliminated, passed, row_fits, substituted, treated, turn, linear_row}
 use Rattle.tv_shrink.specs.Replacing.{fits, greatest_from, has_wire, replaced, replaced_in, solved}
-use Rattle.tv_shrink.specs.Shrinking.{kept, left_over, place, renumbered, renumbered_in, shrink}
-use Rattle.tv_shrink.specs.Tidy.{AreWithin, pass_of, rows_top}
-use Rattle.tv_shrink.proofs.Labels.{front-kept, inside-kept, kept_is, kept_short}
+use Rattle.tv_shrink.specs.Shrinking.{kept, left_over, renumbered, renumbered_in, shrink}
+use Rattle.tv_shrink.specs.Tidy.{AreWithin, pass_of}
+use Rattle.tv_shrink.proofs.Labels.{front-kept, inside-kept}
 use Rattle.tv_shrink.proofs.Linear.{replaced-lacking}
 use Rattle.tv_core.proofs.NormalLaws.{Over, Over-weaker}
 use Rattle.tv_shrink.proofs.PassLaws.{RowsOver, Sound, Stays, rows_dropped, turns-sound}
-use Rattle.tv_shrink.proofs.Room.{kept_behind, roomy, rows_top_within, turns-roomy, within_top}
+use Rattle.tv_shrink.proofs.Gone.{kept_others, numbered}
 use Rattle.tv_shrink.proofs.Solutions.{none_gone}
 
 -- combinations of at most 128 terms
@@ -124,44 +124,33 @@ module _ (room publics : ℕ) (positive : 0 < publics) (rows : List (Option Cons
       short_end last.rows (short-turns publics (range_with_len 0 (length rows)) (pass_of rows (replicate room false))
       (over_start room rows within).1) room last.gone run-sound.over
 
-  -- with room for all wires the same is left
-  run-roomy : (wires : ℕ) → room ≤ wires → fold (turn publics) (pass_of rows (replicate wires false)) (range_with_len 0 (length rows))
-      ≡ roomy (replicate (wires - room) false) (fold (turn publics) (pass_of rows (replicate room false)) (range_with_len 0 (length rows)))
-  run-roomy wires h =
-      let more : replicate wires false ≡ replicate room false ++ replicate (wires - room) false = ap (λ n. replicate n false) (omega arith)
-      ∙ sym (replicate-append-replicate room (wires - room) false) in
-      ap (λ gone. fold (turn publics) (pass_of rows gone) (range_with_len 0 (length rows))) more
-      ∙ turns-roomy (replicate (wires - room) false) rows room publics positive (range_with_len 0 (length rows))
-      (pass_of rows (replicate room false)) start-sound
-
--- numbers by which the wires that stay get their places; the constraints are of the first wires
-module _ (wires room : ℕ) (gone : List Bool) (enough : room ≤ wires) (numbers : List ℕ)
-    (numbered : (w : ℕ) → w < room → get_or gone w false ≡ false → slice_index numbers w ≡ place w (kept wires gone)) where
-  moved-renumbered : (x : Combination) → Over (Stays room gone) x → moved numbers x ≡ renumbered (kept wires gone) x
+-- the wires that stay get their places
+module _ (wires : ℕ) (flags : List Bool) (gone : List ℕ) (same : (w : ℕ) → w < wires → get_or flags w false ≡ list_any (λ v. eqb v w) gone) where
+  moved-renumbered : (x : Combination) → Over (Stays wires flags) x → moved gone x ≡ renumbered (kept wires flags) x
   unfolding renumbered
   moved-renumbered [] h = refl
-  moved-renumbered (t ∷ x) h = ap₂ (λ w rest. (t.0, w) ∷ rest) (numbered t.1 h.0.0 h.0.1) (moved-renumbered x h.1)
+  moved-renumbered (t ∷ x) h = ap₂ (λ w rest. (t.0, w) ∷ rest) (numbered wires flags gone same t.1 h.0.0 h.0.1) (moved-renumbered x h.1)
 
-  pub rows-renumbered : (rows : List (Option Constraint)) → RowsOver (Stays room gone) rows
-      → moved_rows numbers rows ≡ map (option_map (renumbered_in (kept wires gone))) rows
+  pub rows-renumbered : (rows : List (Option Constraint)) → RowsOver (Stays wires flags) rows
+      → moved_rows gone rows ≡ map (option_map (renumbered_in (kept wires flags))) rows
   rows-renumbered [] h = refl
   rows-renumbered (None ∷ rows) h = ap (λ rest. None ∷ rest) (rows-renumbered rows h.1)
   rows-renumbered (Some c ∷ rows) h =
       ap₂ (λ row rest. Some row ∷ rest)
       (same_parts c (moved-renumbered c.a h.0.0) (moved-renumbered c.b h.0.1) (moved-renumbered c.c h.0.2)) (rows-renumbered rows h.1)
     where
-      same_parts : (c : Constraint) → moved numbers c.a ≡ renumbered (kept wires gone) c.a → moved numbers c.b ≡ renumbered (kept wires gone) c.b
-          → moved numbers c.c ≡ renumbered (kept wires gone) c.c → moved_in numbers c ≡ renumbered_in (kept wires gone) c
-      same_parts c p q r = ap₂ (λ x y. record { a = x; b = y; c = moved numbers c.c }) p q
-          ∙ ap (λ x. record { a = renumbered (kept wires gone) c.a; b = renumbered (kept wires gone) c.b; c = x }) r
+      same_parts : (c : Constraint) → moved gone c.a ≡ renumbered (kept wires flags) c.a → moved gone c.b ≡ renumbered (kept wires flags) c.b
+          → moved gone c.c ≡ renumbered (kept wires flags) c.c → moved_in gone c ≡ renumbered_in (kept wires flags) c
+      same_parts c p q r = ap₂ (λ x y. record { a = x; b = y; c = moved gone c.c }) p q
+          ∙ ap (λ x. record { a = renumbered (kept wires flags) c.a; b = renumbered (kept wires flags) c.b; c = x }) r
 
   -- the rows are of the wires that are kept
-  over-moved : (x : Combination) → Over (Stays room gone) x → Over (λ v. v < length (kept wires gone)) (moved numbers x)
+  over-moved : (x : Combination) → Over (Stays wires flags) x → Over (λ v. v < length (kept wires flags)) (moved gone x)
   over-moved [] h = tt
-  over-moved (t ∷ x) h = (omega (arith, numbered t.1 h.0.0 h.0.1, inside-kept wires gone t.1 (omega (arith, h.0.0)) h.0.1), over-moved x h.1)
+  over-moved (t ∷ x) h = (omega (arith, numbered wires flags gone same t.1 h.0.0 h.0.1, inside-kept wires flags t.1 h.0.0 h.0.1), over-moved x h.1)
 
-  pub within-moved : (rows : List (Option Constraint)) → RowsOver (Stays room gone) rows → AreWithin room rows
-      → AreWithin (length (kept wires gone)) (moved_rows numbers rows)
+  pub within-moved : (rows : List (Option Constraint)) → RowsOver (Stays wires flags) rows → AreWithin wires rows
+      → AreWithin (length (kept wires flags)) (moved_rows gone rows)
   within-moved [] h k = tt
   within-moved (None ∷ rows) h k = (tt, within-moved rows h.1 k.1)
   within-moved (Some c ∷ rows) h k = (
@@ -176,8 +165,8 @@ module _ (wires room : ℕ) (gone : List Bool) (enough : room ≤ wires) (number
     within-moved rows h.1 k.1,
   )
     where
-      short_moved : (x : Combination) → length x ≤ 128 → length (moved numbers x) ≤ 128
-      short_moved x s = let same : length (moved numbers x) ≡ length x = length-map x (λ (t : ℕ × ℕ). (t.0, slice_index numbers t.1)) in omega arith
+      short_moved : (x : Combination) → length x ≤ 128 → length (moved gone x) ≤ 128
+      short_moved x s = let same : length (moved gone x) ≡ length x = length-map x (λ (t : ℕ × ℕ). (t.0, length (others t.1 gone))) in omega arith
 
 -- the rows that are left
 pub left_rows : (f : Constraint → Constraint) (rows : List (Option Constraint))
@@ -193,22 +182,16 @@ enough_labels wires publics gone h later =
     let front = front-kept wires publics gone h later in
     omega (arith, ap length front, length-take publics (kept wires gone), length-range_with_len 0 publics)
 
-pub few_labels : (wires : ℕ) (gone : List Bool) → length (kept wires gone) ≤ wires
-few_labels wires gone = omega (arith, ap length (kept_is wires gone), kept_short wires gone)
-
--- the shrunk system, from a pass with room for the first wires
-shrink_is : (counts : Counts) (list : List Constraint) (room : ℕ) → room ≤ counts.wires → AreWithin room (start_rows list) → (last : Pass) →
-    last ≡ fold (turn (1 + counts.outputs + counts.inputs)) (pass_of (start_rows list) (replicate room false)) (range_with_len 0 (length (start_rows list))) →
+-- the shrunk system, from the pass
+shrink_is : (counts : Counts) (list : List Constraint) (last : Pass) →
+    last ≡ fold (turn (1 + counts.outputs + counts.inputs)) (pass_of (start_rows list) (replicate counts.wires false))
+    (range_with_len 0 (length (start_rows list))) →
     left_over (counted_system counts list) last.rows (kept counts.wires last.gone) ≡ shrink (counted_system counts list)
 unfolding shrink passed begun
-shrink_is counts list room enough within last ran =
+shrink_is counts list last ran =
     let publics = 1 + counts.outputs + counts.inputs in
-    let behind = replicate (counts.wires - room) false in
-    let whole = fold (turn publics) (pass_of (start_rows list) (replicate counts.wires false)) (range_with_len 0 (length (start_rows list))) in
-    let same : roomy behind last ≡ whole = ap (roomy behind) ran ∙ sym (run-roomy room publics (omega arith) (start_rows list) within counts.wires enough) in
-    ap (left_over (counted_system counts list) last.rows) (sym (kept_behind counts.wires (counts.wires - room) last.gone))
-    ∙ ap (λ (pass : Pass). left_over (counted_system counts list) pass.rows (kept counts.wires pass.gone))
-    (same ∙ ap (λ n. fold (turn publics) (pass_of (start_rows list) (replicate counts.wires false)) (range_with_len 0 n))
+    ap (λ (pass : Pass). left_over (counted_system counts list) pass.rows (kept counts.wires pass.gone))
+    (ran ∙ ap (λ n. fold (turn publics) (pass_of (start_rows list) (replicate counts.wires false)) (range_with_len 0 n))
     (length-map list (λ c. Some (normal_constraint c))))
 
 -- what is left, from its parts
@@ -228,58 +211,47 @@ left_is system rows labels = refl
 
 -- what is left, by what the calls gave
 module _ (counts : Counts) (rows : List (Option Constraint)) (ready : IsReady counts rows)
-    (publics : ℕ) (private : publics ≡ 1 + counts.outputs + counts.inputs) (left : List (Option Constraint)) (flags slice : List Bool)
-    (ran : pass_of left flags ≡ fold (turn publics) (pass_of rows (replicate (rows_top rows) false)) (range_with_len 0 (length rows)))
-    (lent : slice ≡ flags) where
-  pub enough_room : rows_top rows ≤ counts.wires
-  enough_room = rows_top_within counts.wires rows ready.within
-
+    (publics : ℕ) (private : publics ≡ 1 + counts.outputs + counts.inputs) (left : List (Option Constraint)) (flags : List Bool)
+    (ran : pass_of left flags ≡ fold (turn publics) (pass_of rows (replicate counts.wires false)) (range_with_len 0 (length rows))) where
   positive : 0 < publics
   positive = omega (arith, private)
 
-  within : AreWithin (rows_top rows) rows
-  within = within_top counts.wires (rows_top rows) rows (omega arith) ready.within
+  sound : Sound rows counts.wires publics (pass_of left flags)
+  sound = subst (Sound rows counts.wires publics) (sym ran) (run-sound counts.wires publics positive rows ready.within)
 
-  sound : Sound rows (rows_top rows) publics (pass_of left flags)
-  sound = subst (Sound rows (rows_top rows) publics) (sym ran) (run-sound (rows_top rows) publics positive rows within)
+  pub flags_each : length flags ≡ counts.wires
+  flags_each = sound.each
 
-  pub slice_each : length slice ≡ rows_top rows
-  slice_each = ap length lent ∙ sound.each
+  left_within : AreWithin counts.wires left
+  left_within = subst (λ (pass : Pass). AreWithin counts.wires pass.rows) (sym ran) (run-within counts.wires publics positive rows ready.within)
 
-  left_within : AreWithin (rows_top rows) left
-  left_within = subst (λ (pass : Pass). AreWithin (rows_top rows) pass.rows) (sym ran) (run-within (rows_top rows) publics positive rows within)
+  module _ (gone : List ℕ) (moved_on : List (Option Constraint)) (same : (w : ℕ) → w < counts.wires → get_or flags w false ≡ list_any (λ v. eqb v w) gone)
+      (lowered_on : moved_on ≡ moved_rows gone left) where
+    labels_are : kept counts.wires flags ≡ others counts.wires gone
+    labels_are = kept_others counts.wires flags gone same
 
-  module _ (labels numbers given : List ℕ) (moved_on : List (Option Constraint)) (labelled : labels ≡ kept counts.wires slice) (lend : given ≡ numbers)
-      (numbered : (w : ℕ) → w < length slice → get_or slice w false ≡ false → slice_index numbers w ≡ place w (kept counts.wires slice))
-      (renumbered_on : moved_on ≡ moved_rows given left) where
-    labels_are : labels ≡ kept counts.wires flags
-    labels_are = labelled ∙ ap (kept counts.wires) lent
+    pub labels_enough : 1 + counts.outputs + counts.inputs ≤ length (others counts.wires gone)
+    labels_enough =
+        omega (arith, private, ap length labels_are, enough_labels counts.wires publics flags (omega (arith, private, ready.room)) sound.private)
 
-    numbers_are : (w : ℕ) → w < rows_top rows → get_or flags w false ≡ false → slice_index given w ≡ place w (kept counts.wires flags)
-    numbers_are w h stays =
-        ap (λ xs. slice_index xs w) lend ∙ numbered w (omega (arith, slice_each)) (ap (λ xs. get_or xs w false) lent ∙ stays)
-        ∙ ap (λ g. place w (kept counts.wires g)) lent
-
-    pub labels_enough : 1 + counts.outputs + counts.inputs ≤ length labels
-    labels_enough = omega (arith, private, ap length labels_are, enough_labels counts.wires publics flags (omega (arith, private, ready.room)) sound.private)
-
-    pub labels_few : length labels < 2 ^ 32
-    labels_few = omega (arith, ap length labels_are, few_labels counts.wires flags, ready.fits)
-
-    pub rows_within : AreWithin (length labels) moved_on
+    pub rows_within : AreWithin (length (others counts.wires gone)) moved_on
     rows_within =
-        subst (λ xs. AreWithin (length xs) moved_on) (sym labels_are)
-        (subst (AreWithin (length (kept counts.wires flags))) (sym renumbered_on)
-        (within-moved counts.wires (rows_top rows) flags enough_room given numbers_are left sound.over left_within))
+        subst (λ xs. AreWithin (length xs) moved_on) labels_are
+        (subst (AreWithin (length (kept counts.wires flags))) (sym lowered_on) (within-moved counts.wires flags gone same left sound.over left_within))
 
     pub system_is : (list : List Constraint) → rows ≡ start_rows list →
         record {
-          system = record { wires = length labels; outputs = counts.outputs; inputs = counts.inputs; constraints = filter_map (λ row. row) moved_on };
-          labels = labels;
+          system = record {
+            wires = length (others counts.wires gone);
+            outputs = counts.outputs;
+            inputs = counts.inputs;
+            constraints = filter_map (λ row. row) moved_on;
+          };
+          labels = others counts.wires gone;
           wires = counts.wires;
         }
         ≡ shrink (counted_system counts list)
-    system_is list same =
+    system_is list start =
         ap₂ (λ xs rest. record {
           system = record {
             wires = length xs;
@@ -290,7 +262,7 @@ module _ (counts : Counts) (rows : List (Option Constraint)) (ready : IsReady co
           labels = xs;
           wires = counts.wires;
         })
-        labels_are (renumbered_on ∙ rows-renumbered counts.wires (rows_top rows) flags enough_room given numbers_are left sound.over)
+        (sym labels_are) (lowered_on ∙ rows-renumbered counts.wires flags gone same left sound.over)
         ∙ ap (λ cs. record {
           system = record { wires = length (kept counts.wires flags); outputs = counts.outputs; inputs = counts.inputs; constraints = cs };
           labels = kept counts.wires flags;
@@ -298,5 +270,5 @@ module _ (counts : Counts) (rows : List (Option Constraint)) (ready : IsReady co
         })
         (left_rows (renumbered_in (kept counts.wires flags)) left)
         ∙ left_is (counted_system counts list) left (kept counts.wires flags)
-        ∙ shrink_is counts list (rows_top rows) enough_room (subst (AreWithin (rows_top rows)) same within) (pass_of left flags)
-        (ran ∙ ap₂ (λ n rs. fold (turn n) (pass_of rs (replicate (rows_top rows) false)) (range_with_len 0 (length rs))) private same)
+        ∙ shrink_is counts list (pass_of left flags)
+        (ran ∙ ap₂ (λ n rs. fold (turn n) (pass_of rs (replicate counts.wires false)) (range_with_len 0 (length rs))) private start)

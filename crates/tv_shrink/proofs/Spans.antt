@@ -3,7 +3,8 @@ use Rattle.std.proofs.Common.{◌≡◌, ℕ, zero, suc, ◌+◌, ◌-◌, ◌<�
 use Rattle.std.proofs.Common.{length, get_or, set, take, drop}
 use Rattle.std.specs.List.{AllByRecursion}
 use Rattle.std.specs.Option.{option_map}
-use Rattle.std.specs.Prelude.{slice_index, slice_range}
+use Rattle.std.specs.Prelude.{slice_range}
+use Rattle.tv_r1cs_write.specs.Bytes.{others}
 use Rattle.std.proofs.Math.Seq.{drop-append_seam, take-add, take-append_seam}
 use Rattle.std.proofs.lemmas.List.{append_assoc, drop-append-le, drop-drop, length-append, length-drop, length-map, length-take, map-append, take-append-le}
 use Rattle.tv_core.specs.Constraints.{Combination, Constraint}
@@ -11,7 +12,7 @@ use Rattle.tv_shrink.specs.Moving.{moved, moved_in}
 use Rattle.tv_shrink.specs.Spans.{end_of, row_at, row_terms, span_of, AreInside}
 use Rattle.tv_shrink.specs.declared.arena.Span.{Span}
 
--- a part of a list that has more behind it
+-- a part of a list that has more after it
 pub part_kept : (xs more : Combination) (i j : ℕ) → i ≤ j → j ≤ length xs → slice_range (xs ++ more) i j ≡ slice_range xs i j
 part_kept xs more i j h k =
     let low : j - i ≤ length (drop i xs) = omega (arith, length-drop i xs) in
@@ -29,7 +30,7 @@ same_row a b c d e f p q r =
     let made : Combination → Combination → Combination → Constraint = λ x y z. record { a = x; b = y; c = z } in
     ap₂ (λ x y. made x y c) p q ∙ ap (made d e) r
 
--- a constraint's terms with more behind them
+-- a constraint's terms with more after them
 pub row_kept : (xs more : Combination) (span : Span) → end_of span ≤ length xs → row_at (xs ++ more) span ≡ row_at xs span
 row_kept xs more span inside =
     same_row _ _ _ _ _ _
@@ -55,7 +56,7 @@ row_appended xs row =
 pub row_end : (xs : Combination) (row : Constraint) → end_of (span_of (length xs) row) ≡ length (xs ++ row_terms row)
 row_end xs row = omega (arith, length-append xs (row.a ++ (row.b ++ row.c)), length-append row.a (row.b ++ row.c), length-append row.b row.c)
 
--- all constraints, with more terms behind theirs
+-- all constraints, with more terms after theirs
 pub rows_kept : (xs more : Combination) (spans : List (Option Span)) → AreInside (length xs) spans
     → map (option_map (row_at (xs ++ more))) spans ≡ map (option_map (row_at xs)) spans
 rows_kept xs more [] inside = refl
@@ -107,9 +108,9 @@ terms_there xs span =
     (part_split xs (span.start + span.a) (span.start + span.a + span.b) (end_of span) (omega arith) (omega arith))
 
 -- the terms of a constraint whose wires are numbered anew
-pub terms_moved : (numbers : List ℕ) (row : Constraint) → moved numbers (row_terms row) ≡ row_terms (moved_in numbers row)
-terms_moved numbers row =
-    let f : ℕ × ℕ → ℕ × ℕ = λ t. (t.0, slice_index numbers t.1) in
+pub terms_moved : (gone : List ℕ) (row : Constraint) → moved gone (row_terms row) ≡ row_terms (moved_in gone row)
+terms_moved gone row =
+    let f : ℕ × ℕ → ℕ × ℕ = λ t. (t.0, length (others t.1 gone)) in
     map-append f row.a (row.b ++ row.c) ∙ ap (λ ys. map f row.a ++ ys) (map-append f row.b row.c)
 
 -- where a constraint was appended, from what the calls gave
@@ -135,11 +136,11 @@ span_copied xs terms span start at inside =
     (part_size terms (span.start + span.a + span.b) span.c (omega arith))
 
 -- where a constraint lies whose wires are numbered anew
-pub span_moved : (numbers : List ℕ) (xs : Combination) (span : Span) → end_of span ≤ length xs → span ≡ span_of span.start (moved_in numbers (row_at xs span))
-span_moved numbers xs span inside =
+pub span_moved : (gone : List ℕ) (xs : Combination) (span : Span) → end_of span ≤ length xs → span ≡ span_of span.start (moved_in gone (row_at xs span))
+span_moved gone xs span inside =
     let made : ℕ → ℕ → ℕ → Span = λ x y z. record { start = span.start; a = x; b = y; c = z } in
-    let size : (i n : ℕ) → i + n ≤ length xs → n ≡ length (moved numbers (slice_range xs i (i + n))) =
-    λ i n h. part_size xs i n h ∙ sym (length-map {B = ℕ × ℕ} (slice_range xs i (i + n)) (λ (t : ℕ × ℕ). (t.0, slice_index numbers t.1))) in
+    let size : (i n : ℕ) → i + n ≤ length xs → n ≡ length (moved gone (slice_range xs i (i + n))) =
+    λ i n h. part_size xs i n h ∙ sym (length-map {B = ℕ × ℕ} (slice_range xs i (i + n)) (λ (t : ℕ × ℕ). (t.0, length (others t.1 gone)))) in
     ap₂ (λ x y. made x y span.c) (size span.start span.a (omega arith)) (size (span.start + span.a) span.b (omega arith))
-    ∙ ap (made (length (moved numbers (slice_range xs span.start (span.start + span.a))))
-    (length (moved numbers (slice_range xs (span.start + span.a) (span.start + span.a + span.b))))) (size (span.start + span.a + span.b) span.c (omega arith))
+    ∙ ap (made (length (moved gone (slice_range xs span.start (span.start + span.a))))
+    (length (moved gone (slice_range xs (span.start + span.a) (span.start + span.a + span.b))))) (size (span.start + span.a + span.b) span.c (omega arith))

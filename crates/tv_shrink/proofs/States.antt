@@ -1,5 +1,5 @@
 -- What the steps of a pass keep.
-use Rattle.std.proofs.Common.{◌≡◌, ℕ, zero, suc, arith, ◌∷◌, ◌<◌, ◌≤◌, ◌^◌, Bool, List, [], Option, None, Some, Result, Ok, Err, OnOk, refl, sym, ◌∙◌, ap}
+use Rattle.std.proofs.Common.{◌≡◌, ℕ, ◌∷◌, ◌<◌, ◌≤◌, ◌^◌, Bool, List, [], Option, None, Some, Result, Ok, Err, OnOk, refl, sym, ◌∙◌, ap}
 use Rattle.std.proofs.Common.{ap₂, subst, replicate, true, false, eqb, length, length-set, get_or, set}
 use Rattle.std.specs.Prelude.{OnErr}
 use Rattle.std.specs.List.{fold, list_all, list_any, range_with_len}
@@ -8,8 +8,9 @@ use Rattle.std.proofs.lemmas.Bool.{cond_both}
 use Rattle.std.proofs.lemmas.List.{length-map, set-get_or}
 use Rattle.tv_core.specs.Constraints.{Combination, Constraint}
 use Rattle.tv_shrink.specs.Passing.{Pass, all_replaced, attempted, dropped, eliminated, linear_row, row_fits, substituted, treated, turn}
+use Rattle.tv_shrink.specs.Occurring.{rows_of}
 use Rattle.tv_shrink.specs.Replacing.{greatest_from, has_wire, replaced_in, solved}
-use Rattle.tv_shrink.specs.Tidy.{pass_of, row_has, rows_top, IsKept, State}
+use Rattle.tv_shrink.specs.Tidy.{pass_of, row_has, IsKept, State}
 use Rattle.tv_shrink.proofs.Passes.{covers-more, covers-replaced, normal-at, normal-replaced_row, normal-set, row-lacking-same}
 
 -- a constraint without the wire
@@ -27,45 +28,34 @@ unchanged s w at r lacks =
     ap (λ rows. record { publics = s.publics; pass = record { rows = rows; gone = s.pass.gone } }) same
 
 -- once a wire is replaced in a constraint, or memory ran out, all are normal, and filed
-module _ (publics w at : ℕ) (r : Combination) (rows : List (Option Constraint)) (gone : List Bool) (lists next : List (List ℕ))
-    (kept : IsKept publics rows gone lists) (lacks : has_wire w r ≡ false) (each : length next ≡ length lists)
-    (more : (v i : ℕ) → list_any (λ p. eqb p i) (get_or lists v []) ≡ true → list_any (λ p. eqb p i) (get_or next v []) ≡ true)
-    (added : (v : ℕ) → publics ≤ v → has_wire v r ≡ true → list_any (λ p. eqb p at) (get_or next v []) ≡ true) where
-  kept_filed : IsKept publics rows gone next
-  kept_filed = record { normal = kept.normal; covers = covers-more publics rows lists next kept.covers more; each = kept.each ∙ sym each; few = kept.few }
+module _ (publics w at : ℕ) (r : Combination) (rows : List (Option Constraint)) (lists next : List (List ℕ))
+    (kept : IsKept publics rows lists) (lacks : has_wire w r ≡ false)
+    (more : (v i : ℕ) → list_any (λ p. eqb p i) (rows_of lists v) ≡ true → list_any (λ p. eqb p i) (rows_of next v) ≡ true)
+    (added : (v : ℕ) → publics ≤ v → has_wire v r ≡ true → list_any (λ p. eqb p at) (rows_of next v) ≡ true) where
+  kept_filed : IsKept publics rows next
+  kept_filed = record { normal = kept.normal; covers = covers-more publics rows lists next kept.covers more; few = kept.few }
 
-  kept_changed : IsKept publics (set rows at (option_map (replaced_in w r) (get_or rows at None))) gone next
+  kept_changed : IsKept publics (set rows at (option_map (replaced_in w r) (get_or rows at None))) next
   kept_changed =
       let row = option_map (replaced_in w r) (get_or rows at None) in
       record {
         normal = normal-set rows at row kept.normal (normal-replaced_row w r (get_or rows at None) (normal-at rows at kept.normal));
         covers = covers-replaced publics w at r rows next lacks kept_filed.covers added;
-        each = kept_filed.each;
         few = subst (λ n. n < 2 ^ 32) (sym (length-set rows at row)) kept.few;
       }
 
   pub kept_replaced : {T E : Type 0} (result : Result T E) (new : List (Option Constraint))
-      → OnOk result (new ≡ set rows at (option_map (replaced_in w r) (get_or rows at None))) → OnErr result (new ≡ rows) → IsKept publics new gone next
-  kept_replaced (Ok value) new is err = subst (λ xs. IsKept publics xs gone next) (sym is) kept_changed
-  kept_replaced (Err why) new is err = subst (λ xs. IsKept publics xs gone next) (sym err) kept_filed
+      → OnOk result (new ≡ set rows at (option_map (replaced_in w r) (get_or rows at None))) → OnErr result (new ≡ rows) → IsKept publics new next
+  kept_replaced (Ok value) new is err = subst (λ xs. IsKept publics xs next) (sym is) kept_changed
+  kept_replaced (Err why) new is err = subst (λ xs. IsKept publics xs next) (sym err) kept_filed
 
 -- and at the end the wire is gone
-pub substituted_is : (s : State) (w v : ℕ) (r : Combination) (publics : ℕ) (rows : List (Option Constraint)) (gone : List Bool) → publics ≡ s.publics
-    → rows ≡ all_replaced w r s.pass.rows → gone ≡ s.pass.gone → v ≡ w →
-    (let new : State = record { publics = publics; pass = record { rows = rows; gone = set gone v true } } in new)
+pub substituted_is : (s : State) (w : ℕ) (r : Combination) (publics : ℕ) (rows : List (Option Constraint)) (flags : List Bool) → publics ≡ s.publics
+    → rows ≡ all_replaced w r s.pass.rows → flags ≡ set s.pass.gone w true →
+    (let new : State = record { publics = publics; pass = record { rows = rows; gone = flags } } in new)
     ≡ record { publics = s.publics; pass = substituted w r s.pass }
 unfolding substituted
-substituted_is s w v r publics rows gone p q g e = rw (p, q, g, e) refl
-
--- a wire that stands in a constraint is one that there is room for
-listed_inside : (q : ℕ → Bool) (lists : List (List ℕ)) (w : ℕ) → list_any q (get_or lists w []) ≡ true → w < length lists
-listed_inside q [] w e = absurd (let no : false ≡ true = e in cc)
-listed_inside q (rows ∷ lists) zero e = omega arith
-listed_inside q (rows ∷ lists) (suc w) e = omega (arith, listed_inside q lists w e)
-
-pub kept_below : (publics : ℕ) (rows : List (Option Constraint)) (gone : List Bool) (lists : List (List ℕ)) → IsKept publics rows gone lists → (i w : ℕ)
-    → publics ≤ w → row_has w (get_or rows i None) ≡ true → w < length gone
-kept_below publics rows gone lists kept i w above has = omega (arith, kept.each, listed_inside (λ p. eqb p i) lists w (kept.covers i w above has))
+substituted_is s w r publics rows flags p q g = rw (p, q, g) refl
 
 -- the state with another pass
 pub staged : (s : State) (pass : Pass) → pass ≡ s.pass → s ≡ record { publics = s.publics; pass = pass }
@@ -110,15 +100,15 @@ turns_length publics [] pass = refl
 turns_length publics (i ∷ places) pass = turns_length publics places (turn publics pass i) ∙ turn_length publics i pass
 
 -- what a pass leaves that began with these constraints
-module _ (start end : State) (left : List (Option Constraint)) (flags : List Bool) (publics : ℕ) (rows : List (Option Constraint))
-    (begins : start ≡ record { publics = publics; pass = record { rows = rows; gone = replicate (rows_top rows) false } })
+module _ (start end : State) (left : List (Option Constraint)) (flags : List Bool) (publics wires : ℕ) (rows : List (Option Constraint))
+    (begins : start ≡ record { publics = publics; pass = record { rows = rows; gone = replicate wires false } })
     (runs : end ≡ record { publics = start.publics; pass = fold (turn start.publics) start.pass (range_with_len 0 (length start.pass.rows)) })
     (is : left ≡ end.pass.rows) (goes : flags ≡ end.pass.gone) where
-  pub ran : pass_of left flags ≡ fold (turn publics) (pass_of rows (replicate (rows_top rows) false)) (range_with_len 0 (length rows))
+  pub ran : pass_of left flags ≡ fold (turn publics) (pass_of rows (replicate wires false)) (range_with_len 0 (length rows))
   ran =
       ap₂ pass_of is goes
       ∙ ap (λ (s : State). s.pass) runs
       ∙ ap (λ (s : State). fold (turn s.publics) s.pass (range_with_len 0 (length s.pass.rows))) begins
 
   pub ran_length : length left ≡ length rows
-  ran_length = ap (λ (p : Pass). length p.rows) ran ∙ turns_length publics (range_with_len 0 (length rows)) (pass_of rows (replicate (rows_top rows) false))
+  ran_length = ap (λ (p : Pass). length p.rows) ran ∙ turns_length publics (range_with_len 0 (length rows)) (pass_of rows (replicate wires false))

@@ -6,7 +6,7 @@ use Rattle.tv_container.specs.declared.why.ReadRefusal.{ReadRefusal}
 use Rattle.tv_container.specs.declared.why.ReadRefusal.TheVariants as refusal
 use Rattle.tv_core.specs.Constraints.{Combination, Constraint, System}
 use Rattle.tv_core.specs.Meanings.{terms_in}
-use Rattle.tv_files.specs.Outside.{Outside, OnlyReads, MissesOnly}
+use Rattle.tv_files.specs.Outside.{Outside, OnlyReads, MissesOnly, RanOut}
 use Rattle.tv_r1cs_read.specs.R1cs.{system_of}
 use Rattle.tv_shrink.specs.declared.fault.ShrinkFault.{ShrinkFault}
 use Rattle.tv_shrink.specs.declared.fault.ShrinkFault.TheVariants as fault
@@ -35,7 +35,7 @@ unfoldable pub first_wide : List Constraint → Option ℕ
 first_wide [] = None
 first_wide (c ∷ list) = option_or (wide_in c) (first_wide list)
 
--- why reading a constraint was refused: for want of memory, or for this many terms
+-- why reading a constraint was refused: memory ran out, or it has this many terms
 abbrev pub IsTooWide : ShrinkFault → Option ℕ → Type 0
 IsTooWide (fault.Bad at why) found = ⊥
 IsTooWide (fault.Terms has) found = ⊥
@@ -88,13 +88,13 @@ Tells fault.Fault file = Unit {0}
 Tells fault.Memory file = Unit {0}
 
 -- what a refusal leaves: all, where it says what is wrong; a fault is a fault of a read; and where memory ran out
--- all is as before, or the files wanted it
+-- all is as before, or the files ran out of it, which leaves every other count
 abbrev pub Leaves : ShrinkFault → Outside → Outside → Type 0
 Leaves (fault.Bad at why) old new = new ≡ old
 Leaves (fault.Terms has) old new = new ≡ old
 Leaves (fault.Combination has) old new = new ≡ old
 Leaves fault.Fault old new = Rose old.read_faults new.read_faults
-Leaves fault.Memory old new = (new ≡ old) ⊎ Rose old.wants new.wants
+Leaves fault.Memory old new = (new ≡ old) ⊎ RanOut old new
 
 -- shrinking stopped with this refusal, from the outside before it to the outside after it: files and words said
 -- stay and no count falls, `absent` changes only where this name isn't there, and no fault is passed over

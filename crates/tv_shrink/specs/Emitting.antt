@@ -18,10 +18,10 @@ row_count (Some c) = 1
 abbrev pub rows_circuit : List (Option Constraint) → ℕ → Circuit (Unit {0})
 rows_circuit rows n = times n (λ i. row_circuit (slice_index_or rows i None))
 
--- one wire, of which nothing is told
+-- one wire, unconstrained
 abbrev pub one_wire : Circuit (Unit {0})
 one_wire = fresh >>= (λ _. pure tt)
 
--- so many wires
+-- this many wires
 abbrev pub wires_circuit : ℕ → Circuit (Unit {0})
 wires_circuit n = times n (λ _. one_wire)

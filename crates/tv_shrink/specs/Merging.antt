@@ -8,7 +8,7 @@ abbrev pub leaving_out : Option ℕ → Combination → Combination
 leaving_out None x = x
 leaving_out (Some w) x = without w x
 
--- the first wire of a combination; behind its end a number that no wire has
+-- the first wire of a combination; after its end a number that no wire has
 abbrev pub first_wire : Combination → ℕ
 first_wire [] = 2 ^ 32
 first_wire (t ∷ x) = t.1

@@ -1,5 +1,5 @@
--- The rows that wires may stand in, each told by an entry that leads to the wire's entry before it.
-use Rattle.std.specs.Prelude.{ℕ, suc, ◌≤◌, ◌==◌, List, [], ◌∷◌, length, reverse, if◌then◌else◌}
+-- The rows that wires may stand in, each in an entry that leads to the wire's entry before it.
+use Rattle.std.specs.Prelude.{ℕ, suc, ◌≤◌, ◌<◌, ◌==◌, ◌%◌, List, [], ◌∷◌, length, reverse, slice_index_or, if◌then◌else◌}
 use Rattle.std.specs.List.{AllByRecursion}
 use Rattle.tv_shrink.specs.declared.occurrences.Entry.{Entry}
 
@@ -14,12 +14,17 @@ rows_from [] number = []
 rows_from (entry ∷ before) number =
     if number == suc (length before) then entry.row ∷ rows_from before entry.next else rows_from before number
 
+-- the rows that a wire may stand in: those of the list whose place is the remainder of its number
+abbrev pub rows_of : List (List ℕ) → ℕ → List ℕ
+rows_of lists wire = slice_index_or lists (wire % length lists) []
+
 -- each entry leads to one before it, or to none; the entries stand last first
 abbrev pub LeadBack : List Entry → Type 0
 LeadBack [] = Unit {0}
 LeadBack (entry ∷ before) = (entry.next ≤ length before) × LeadBack before
 
--- so do the entries, and each wire has one of them, or none
+-- so do the entries; there are lists, and each begins at one of them, or at none
 pub record AreLinked (entries : List Entry) (heads : List ℕ) : Type 0 where
+  pub some : 0 < length heads
   pub back : LeadBack (reverse entries)
   pub within : AllByRecursion (λ head. head ≤ length entries) heads

@@ -1,6 +1,6 @@
 -- A combination in place of a wire.
-use Rattle.std.specs.Prelude.{ℕ, ◌-◌, ◌%◌, ◌==◌, nat_lt, nat_le, Bool, not, ◌||◌, ◌&&◌, max, [], ◌∷◌, ◌++◌, length, Option, None, Some, if◌then◌else◌}
-use Rattle.std.specs.List.{filter, list_any, list_all, sum_by}
+use Rattle.std.specs.Prelude.{ℕ, ◌-◌, ◌==◌, nat_lt, nat_le, Bool, not, ◌||◌, ◌&&◌, max, [], ◌∷◌, ◌++◌, length, Option, None, Some, if◌then◌else◌}
+use Rattle.std.specs.List.{filter, list_any, list_all}
 use Rattle.std.specs.Option.{option_or}
 use Rattle.tv_core.specs.Combinations.{scaled, less}
 use Rattle.tv_core.specs.Constraints.{Combination, Constraint}

@@ -5,7 +5,7 @@ use Rattle.std.specs.Option.{option_map}
 use Rattle.tv_core.specs.Constraints.{Combination, Constraint, System}
 use Rattle.tv_shrink.specs.Passing.{passed}
 
--- a shrunk system: each wire's label is the number that it had in the old one, which had so many wires
+-- a shrunk system: each wire's label is the number that it had in the old one, which had this many wires
 pub record Shrunken : Type 0 where
   pub system : System
   pub labels : List ℕ

@@ -4,7 +4,7 @@ use Rattle.std.specs.List.{AllByRecursion}
 use Rattle.tv_core.specs.Constraints.{Combination, Constraint}
 use Rattle.tv_shrink.specs.declared.arena.Span.{Span}
 
--- the place behind a constraint's terms
+-- the place after a constraint's terms
 abbrev pub end_of : Span → ℕ
 end_of span = span.start + span.a + span.b + span.c
 
@@ -48,10 +48,10 @@ pub record AreLaid (n : ℕ) (spans : List (Option Span)) : Type 0 where
   pub inside : AreInside n spans
   pub apart : AreApart spans
 
--- terms put in place of those from a place on; behind all others, where that is their end
+-- terms put in place of those from a place on; after all others, where that is their end
 abbrev pub laid : ℕ → Combination → Combination → Combination
 laid start put terms = take start terms ++ (put ++ drop (start + length put) terms)
 
--- so many terms from a place on are no others than those of a span, or lie behind all
+-- n terms from a place on are those of a span, or lie after all
 abbrev pub IsFree : ℕ → Span → ℕ → ℕ → Type 0
 IsFree count span start size = ((start ≡ span.start) × (start + size ≤ end_of span)) ⊎ (start ≡ count)

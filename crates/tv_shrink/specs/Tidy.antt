@@ -1,9 +1,9 @@
 -- What the rows of a pass keep to.
-use Rattle.std.specs.Prelude.{◌≡◌, ℕ, ◌^◌, ◌<◌, ◌≤◌, ◌==◌, Bool, false, true, ◌||◌, max, List, [], ◌∷◌, length, Option, None, Some, slice_index_or}
-use Rattle.std.specs.List.{AllByRecursion, list_any}
-use Rattle.tv_core.specs.Combinations.{top}
+use Rattle.std.specs.Prelude.{◌≡◌, ℕ, ◌^◌, ◌<◌, ◌≤◌, ◌==◌, Bool, false, true, ◌||◌, List, length, replicate, Option, None, Some, slice_index_or, slice_set}
+use Rattle.std.specs.List.{AllByRecursion, fold, list_any}
 use Rattle.tv_core.specs.Constraints.{Constraint}
 use Rattle.tv_core.specs.Normal.{IsNormalConstraint}
+use Rattle.tv_shrink.specs.Occurring.{rows_of}
 use Rattle.tv_shrink.specs.Passing.{Pass}
 use Rattle.tv_shrink.specs.Replacing.{has_wire}
 
@@ -33,19 +33,14 @@ RowIsNormal (Some row) = IsNormalConstraint row
 abbrev pub RowsAreNormal : List (Option Constraint) → Type 0
 RowsAreNormal rows = AllByRecursion RowIsNormal rows
 
--- one more than the greatest wire of a constraint that was not dropped, and of such constraints; 0 where there is none
-abbrev pub row_top : Option Constraint → ℕ
-row_top None = 0
-row_top (Some c) = max (top c.a) (max (top c.b) (top c.c))
-
-abbrev pub rows_top : List (Option Constraint) → ℕ
-rows_top [] = 0
-rows_top (row ∷ rows) = max (row_top row) (rows_top rows)
-
 -- whether a wire stands in the constraint at a place
 abbrev pub row_has : ℕ → Option Constraint → Bool
 row_has w None = false
 row_has w (Some c) = has_wire w c.a || (has_wire w c.b || has_wire w c.c)
+
+-- for each of so many wires whether it is one of these, which are gone
+abbrev pub marked : ℕ → List ℕ → List Bool
+marked wires gone = fold (λ flags w. slice_set flags w true) (replicate wires false) gone
 
 -- the state of a pass, from its parts
 abbrev pub pass_of : List (Option Constraint) → List Bool → Pass
@@ -56,14 +51,12 @@ pub record State : Type 0 where
   pub publics : ℕ
   pub pass : Pass
 
--- the lists of places, one for each wire, name each constraint that a private wire stands in
+-- the list of places of a private wire names each constraint that it stands in
 abbrev pub Covers : ℕ → List (Option Constraint) → List (List ℕ) → Type 0
-Covers publics rows lists =
-    (i w : ℕ) → publics ≤ w → row_has w (slice_index_or rows i None) ≡ true → list_any (λ p. p == i) (slice_index_or lists w []) ≡ true
+Covers publics rows lists = (i w : ℕ) → publics ≤ w → row_has w (slice_index_or rows i None) ≡ true → list_any (λ p. p == i) (rows_of lists w) ≡ true
 
--- the constraints are normal, fewer than 2 ^ 32, and for each wire it is known whether it is gone and where it may stand
-pub record IsKept (publics : ℕ) (rows : List (Option Constraint)) (gone : List Bool) (lists : List (List ℕ)) : Type 0 where
+-- the constraints are normal, fewer than 2 ^ 32, and for each private wire it is known where it may stand
+pub record IsKept (publics : ℕ) (rows : List (Option Constraint)) (lists : List (List ℕ)) : Type 0 where
   pub normal : RowsAreNormal rows
   pub covers : Covers publics rows lists
-  pub each : length gone ≡ length lists
   pub few : length rows < 2 ^ 32

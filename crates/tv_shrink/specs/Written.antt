@@ -6,7 +6,7 @@ use Rattle.tv_r1cs_write.specs.Bytes.{system_bytes}
 use Rattle.tv_r1cs_write.specs.Streams.{IsSystemStreamed}
 use Rattle.tv_shrink.specs.Shrinking.{Shrunken}
 
--- the bytes of the file: the system, with its labels, of which it tells as many as the old system had wires
+-- the bytes of the file: the system, with its labels, whose number in the head is that of the old system's wires
 abbrev pub shrunken_bytes : Shrunken → List ℕ
 shrunken_bytes shrunken = system_bytes shrunken.system shrunken.wires shrunken.labels
 

@@ -1,6 +1,6 @@
 //! Constraints whose terms lie one after another in a vector.
 
-ghost use Rattle.std.specs.Prelude.{◌≡◌, ◌+◌, ◌≤◌, ◌<◌, ◌++◌, true, length, None, slice_index};
+ghost use Rattle.std.specs.Prelude.{◌≡◌, ◌+◌, ◌≤◌, ◌<◌, ◌++◌, true, length, None};
 ghost use Rattle.std.specs.Prelude.{OnOk, OnErr, IfOk, IfErr};
 ghost use Rattle.tv_r1cs_read.specs.Rows.{combination_of};
 ghost use Rattle.tv_shrink.specs.Answers.{wide, IsTooWide};
@@ -11,6 +11,7 @@ ghost use Rattle.tv_shrink.specs.Spans.{end_of, laid, row_at, row_terms, span_of
 
 use crate::fault::ShrinkFault;
 use crate::normal::append_normal;
+use crate::numbers::Numbers;
 use crate::row::{Row, append_replaced};
 use std::alloc::AllocError;
 use tv_core::{F, TERMS, Wire};
@@ -163,24 +164,17 @@ pub(crate) fn append_terms(out: &mut Vec<(F, Wire)>, row: &Row<'_>) -> Result<()
     Ok(())
 }
 
-// The number at a wire's place, 0 where there is none.
-fn number_of(numbers: &[u32], wire: Wire) -> u32
-    ensures { result ≡ slice_index numbers.now wire }
-{
-    numbers.get(wire.0 as usize).copied().unwrap_or(0)
-}
-
-// Gives each wire the number at its place.
-fn renumber_terms(terms: &mut [(F, Wire)], numbers: &[u32])
+// Gives each wire its new number.
+fn renumber_terms(terms: &mut [(F, Wire)], numbers: &Numbers)
     ensures { terms.new ≡ moved numbers.now terms.old }
 {
     for term in terms.iter_mut() {
-        term.1 = Wire(number_of(numbers, term.1));
+        term.1 = Wire(numbers.get(term.1));
     }
 }
 
-/// Gives each wire of the terms of a constraint the number at its place.
-pub(crate) fn renumber_span(terms: &mut Vec<(F, Wire)>, span: &Span, numbers: &[u32])
+/// Gives each wire of the terms of a constraint its new number.
+pub(crate) fn renumber_span(terms: &mut Vec<(F, Wire)>, span: &Span, numbers: &Numbers)
     requires { end_of span.now ≤ length terms.old.items }
     ensures { terms.new.items ≡ laid span.now.start
         (row_terms (moved_in numbers.now (row_at terms.old.items span.now))) terms.old.items }

@@ -9,7 +9,7 @@ use crate::row::Row;
 use crate::rows::Rows;
 use tv_core::{F, Lc, Put, Scratch, Sink, Wire};
 
-/// Makes so many wires.
+/// Makes this many wires.
 pub(crate) fn make_wires<S: Sink>(s: &mut S, n: u32)
     requires room { Room S.meaning s.old n 0 }
     ensures puts { PutsAll S.meaning s.old s.new (wires_circuit n) tt }

@@ -13,7 +13,7 @@ pub enum ShrinkFault {
     /// The file's first fault, at this byte.
     #[error("byte {at}: {why}")]
     Bad { at: u64, why: ReadWhy },
-    /// The system has so many terms, more than 4,194,304.
+    /// The system has this many terms, more than 4,194,304.
     #[error("{has} terms")]
     Terms { has: u64 },
     /// This is how many terms the first combination has that, once made normal, has more than 128.

@@ -1,14 +1,14 @@
 //! In which rows each wire may stand.
 
-ghost use Rattle.std.specs.Prelude.{◌≡◌, ◌==◌, ◌≤◌, ◌<◌, [], ◌∷◌, ℕ, List, true, length};
-ghost use Rattle.std.specs.Prelude.{replicate, reverse, slice_index_or, slice_set, OnOk, OnErr};
+ghost use Rattle.std.specs.Prelude.{◌≡◌, ◌==◌, ◌≤◌, ◌<◌, ◌∷◌, ℕ, true, length};
+ghost use Rattle.std.specs.Prelude.{reverse, slice_index_or, slice_set, OnOk};
 ghost use Rattle.std.specs.Prelude.{IfOk};
 ghost use Rattle.std.specs.Prelude.{◌^◌, false, None, Ok, IfSome};
 ghost use Rattle.std.specs.Prelude.{if◌then◌else◌};
 ghost use Rattle.std.specs.List.{list_any};
 ghost use Rattle.tv_core.specs.Normal.{IsNormalFrom};
 ghost use Rattle.tv_shrink.specs.Passing.{row_fits};
-ghost use Rattle.tv_shrink.specs.Occurring.{rows_from, with_row, LeadBack};
+ghost use Rattle.tv_shrink.specs.Occurring.{rows_from, rows_of, with_row, LeadBack};
 ghost use Rattle.tv_shrink.specs.Replacing.{has_wire};
 ghost use Rattle.tv_shrink.specs.Tidy.{row_has, RowsAreNormal, Covers, RowIsNormal};
 
@@ -41,9 +41,10 @@ fn tells(entries: &[Entry], number: u32, row: u32) -> bool
 
 /// For each wire a list of rows that it may stand in, the one filed last first.
 ///
-/// An entry takes eight bytes, and a wire four. Entries of rows that a wire has left stay until
-/// `tidy` files all constraints anew, in memory beside that of before. There are fewer than 2^32
-/// entries; one more counts as want of memory.
+/// Wires whose numbers leave the same remainder share a list, so a wire below the number of lists
+/// shares its own with greater ones alone. An entry takes eight bytes, and a list four. Entries of
+/// rows that a wire has left stay until `tidy` files all constraints anew, in memory beside that of
+/// before. There are fewer than 2^32 entries; one more counts as an allocation failure.
 #[derive(Drop)]
 pub(crate) struct Occurrences {
     alloc: Global,
@@ -66,32 +67,30 @@ impl Model for Occurrences {
 }
 
 impl Occurrences {
-    // No rows, for `wires` wires.
-    fn new(alloc: Global, wires: usize) -> Result<Occurrences, AllocError>
-        ensures { IfOk result (λ lists. lists ≡ replicate wires []) }
+    // Lists without rows.
+    fn new(alloc: Global, lists: usize) -> Result<Occurrences, AllocError>
+        requires { 0 < lists }
     {
         Ok(Occurrences {
             alloc,
-            heads: Vec::from_elem(alloc, 0, wires)?,
+            heads: Vec::from_elem(alloc, 0, lists)?,
             entries: Vec::new(alloc),
             wanted: 0,
         })
     }
 
-    /// Lists, for the private ones of the first `wires` wires, the rows that each stands in.
+    /// Lists the rows that each private wire stands in, in this number of lists.
     pub(crate) fn of(
         alloc: Global,
-        wires: usize,
+        lists: usize,
         rows: &Rows,
         publics: u32,
     ) -> Result<Occurrences, AllocError>
-        requires inside { (i w : ℕ) → publics ≤ w
-            → row_has w (slice_index_or rows.now i None) ≡ true → w < wires }
+        requires some { 0 < lists }
         requires few { length rows.now < 2 ^ 32 }
-        ensures each { IfOk result (λ lists. length lists ≡ wires) }
         ensures covers { IfOk result (λ lists. Covers publics rows.now lists) }
     {
-        let mut lists = Occurrences::new(alloc, wires)?;
+        let mut lists = Occurrences::new(alloc, lists)?;
         for at in 0..rows.len() {
             lists.file_row(at as u32, &rows.get(at), publics)?;
         }
@@ -100,11 +99,10 @@ impl Occurrences {
 
     /// Puts the rows that a wire may stand in into `rows`, whose memory serves again.
     pub(crate) fn rows_of(&self, wire: u32, rows: &mut Vec<u32>) -> Result<(), AllocError>
-        requires { wire < length self.now }
-        ensures { OnOk result (rows.new.items ≡ slice_index_or self.now wire []) }
+        ensures { OnOk result (rows.new.items ≡ rows_of self.now wire) }
     {
         rows.clear();
-        let mut number = self.heads[wire as usize];
+        let mut number = self.heads[wire as usize % self.heads.len()];
         while number > 0 {
             let entry = self.entries[number as usize - 1];
             rows.push(entry.row)?;
@@ -123,18 +121,17 @@ impl Occurrences {
         wire: Wire,
         replacement: &[(F, Wire)],
     ) -> Result<Option<u32>, AllocError>
-        requires here { wire < length self.now }
         requires normal { RowsAreNormal rows.now }
         requires by { IsNormalFrom 0 replacement.now }
         ensures some { IfOk result (λ found. IfSome found (λ row.
             row_fits wire replacement.now
             (slice_index_or (slice_set rows.now but None) row None) ≡ false)) }
         ensures none { result ≡ Ok None → (i : ℕ)
-            → list_any (λ p. p == i) (slice_index_or self.now wire []) ≡ true
+            → list_any (λ p. p == i) (rows_of self.now wire) ≡ true
             → row_fits wire replacement.now
             (slice_index_or (slice_set rows.now but None) i None) ≡ true }
     {
-        let mut number = self.heads[wire.0 as usize];
+        let mut number = self.heads[wire.0 as usize % self.heads.len()];
         while number > 0 {
             let entry = self.entries[number as usize - 1];
             if !rows.other_fits(but, entry.row, scratch, wire, replacement)? {
@@ -145,14 +142,15 @@ impl Occurrences {
         Ok(None)
     }
 
-    /// Files that a wire may stand in a row.
+    /// Files that a wire may stand in a row, which comes first in its list.
     pub(crate) fn add(&mut self, wire: u32, row: u32) -> Result<(), AllocError>
-        requires { wire < length self.old }
-        ensures adds { OnOk result (self.new ≡ slice_set self.old wire
-            (with_row row (slice_index_or self.old wire []))) }
-        ensures err { OnErr result (self.new ≡ self.old) }
+        ensures adds { OnOk result (rows_of self.new wire
+            ≡ with_row row (rows_of self.old wire)) }
+        ensures more { (w i : ℕ) → list_any (λ p. p == i) (rows_of self.old w) ≡ true
+            → list_any (λ p. p == i) (rows_of self.new w) ≡ true }
     {
-        let next = self.heads[wire as usize];
+        let place = wire as usize % self.heads.len();
+        let next = self.heads[place];
         if tells(&self.entries, next, row) {
             return Ok(());
         }
@@ -160,7 +158,7 @@ impl Occurrences {
         let Ok(number) = u32::try_from(self.entries.len()) else {
             return Err(AllocError);
         };
-        self.heads[wire as usize] = number;
+        self.heads[place] = number;
         Ok(())
     }
 
@@ -172,13 +170,10 @@ impl Occurrences {
         terms: &[(F, Wire)],
         publics: u32,
     ) -> Result<(), AllocError>
-        requires { (w : ℕ) → publics ≤ w → has_wire w terms.now ≡ true → w < length self.old }
-        ensures each { length self.new ≡ length self.old }
-        ensures more { (w i : ℕ)
-            → list_any (λ p. p == i) (slice_index_or self.old w []) ≡ true
-            → list_any (λ p. p == i) (slice_index_or self.new w []) ≡ true }
+        ensures more { (w i : ℕ) → list_any (λ p. p == i) (rows_of self.old w) ≡ true
+            → list_any (λ p. p == i) (rows_of self.new w) ≡ true }
         ensures added { OnOk result ((w : ℕ) → publics ≤ w → has_wire w terms.now ≡ true
-            → list_any (λ p. p == row) (slice_index_or self.new w []) ≡ true) }
+            → list_any (λ p. p == row) (rows_of self.new w) ≡ true) }
     {
         for (_, wire) in terms {
             if wire.0 >= publics {
@@ -196,14 +191,10 @@ impl Occurrences {
         row: &Option<Row<'_>>,
         publics: u32,
     ) -> Result<(), AllocError>
-        requires inside { (w : ℕ) → publics ≤ w → row_has w row.now ≡ true
-            → w < length self.old }
-        ensures each { OnOk result (length self.new ≡ length self.old) }
-        ensures more { OnOk result ((w i : ℕ)
-            → list_any (λ p. p == i) (slice_index_or self.old w []) ≡ true
-            → list_any (λ p. p == i) (slice_index_or self.new w []) ≡ true) }
+        ensures more { OnOk result ((w i : ℕ) → list_any (λ p. p == i) (rows_of self.old w) ≡ true
+            → list_any (λ p. p == i) (rows_of self.new w) ≡ true) }
         ensures added { OnOk result ((w : ℕ) → publics ≤ w → row_has w row.now ≡ true
-            → list_any (λ p. p == at) (slice_index_or self.new w []) ≡ true) }
+            → list_any (λ p. p == at) (rows_of self.new w) ≡ true) }
     {
         let Some(row) = row else {
             return Ok(());
@@ -216,12 +207,11 @@ impl Occurrences {
     }
 
     /// Files all constraints anew, once half of the entries are more than there were when a whole
-    /// constraint was last filed, and than there are constraints, and wires.
+    /// constraint was last filed, and than there are constraints, and lists.
     pub(crate) fn tidy(&mut self, rows: &Rows, publics: u32) -> Result<(), AllocError>
         requires covers { Covers publics rows.now self.old }
         requires few { length rows.now < 2 ^ 32 }
-        ensures each { length self.new ≡ length self.old }
-        ensures covers { Covers publics rows.now self.new }
+        ensures { Covers publics rows.now self.new }
     {
         let wanted = self.wanted.max(rows.len()).max(self.heads.len());
         if self.entries.len() / 2 > wanted {

@@ -1,12 +1,12 @@
 //! One pass over the constraints of a system, in which private wires are replaced.
 
-ghost use Rattle.std.specs.Prelude.{◌≡◌, ◌≤◌, ◌<◌, ◌^◌, ℕ, true, false, length, replicate};
+ghost use Rattle.std.specs.Prelude.{◌≡◌, ◌≤◌, ◌<◌, ◌^◌, false, length, replicate};
 ghost use Rattle.std.specs.Prelude.{IfOk, OnOk};
 ghost use Rattle.std.specs.List.{fold, range_with_len};
 ghost use Rattle.tv_core.specs.Normal.{IsNormalFrom};
 ghost use Rattle.tv_shrink.specs.Passing.{attempted, dropped, turn};
 ghost use Rattle.tv_shrink.specs.Replacing.{has_wire};
-ghost use Rattle.tv_shrink.specs.Tidy.{rows_top, RowsAreNormal};
+ghost use Rattle.tv_shrink.specs.Tidy.{RowsAreNormal};
 
 use crate::row::solve;
 use crate::rows::Rows;
@@ -30,16 +30,21 @@ pub(crate) struct Pass {
 
 impl Pass {
     /// A pass over these constraints, none of which has had its turn.
-    pub(crate) fn begin(alloc: Global, rows: Rows, publics: u32) -> Result<Pass, AllocError>
+    pub(crate) fn begin(
+        alloc: Global,
+        rows: Rows,
+        publics: u32,
+        wires: u32,
+    ) -> Result<Pass, AllocError>
         requires normal { RowsAreNormal rows }
         requires few { length rows < 2 ^ 32 }
         ensures { IfOk result (λ pass. pass.state ≡ record {
           publics = publics;
-          pass = record { rows = rows; gone = replicate (rows_top rows) false };
+          pass = record { rows = rows; gone = replicate wires false };
         }) }
     {
         Ok(Pass {
-            state: State::begin(alloc, rows, publics)?,
+            state: State::begin(alloc, rows, publics, wires)?,
             named: Vec::new(alloc),
             form: Vec::new(alloc),
             solved: Vec::new(alloc),
@@ -52,11 +57,8 @@ impl Pass {
     fn eliminate(&mut self, at: usize, wire: Wire) -> Result<(), AllocError>
         requires within { at < length self.old.state.pass.rows }
         requires private { self.old.state.publics ≤ wire }
-        requires here { wire < length self.old.state.pass.gone }
         requires by { IsNormalFrom 0 self.old.solved.items }
         requires lacks { has_wire wire self.old.solved.items ≡ false }
-        requires below { (w : ℕ) → self.old.state.publics ≤ w
-            → has_wire w self.old.solved.items ≡ true → w < length self.old.state.pass.gone }
         ensures { OnOk result (self.new.state ≡ record {
           publics = self.old.state.publics;
           pass = attempted wire self.old.solved.items (dropped at self.old.state.pass)

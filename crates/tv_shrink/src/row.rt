@@ -1,13 +1,13 @@
 //! Constraints of normal combinations.
 
 ghost use Rattle.std.specs.Prelude.{◌≡◌, ◌<◌, ◌-◌, ◌++◌, OnOk, IfOk, Some, None, if◌then◌else◌};
-ghost use Rattle.tv_core.specs.Combinations.{scaled, top};
+ghost use Rattle.tv_core.specs.Combinations.{scaled};
 ghost use Rattle.tv_core.specs.Inverse.{inverse_of};
 ghost use Rattle.tv_core.specs.declared.field.TheConstants.{P};
 ghost use Rattle.tv_core.specs.Normal.{coefficient, normal, IsNormalFrom, IsNormalConstraint};
 ghost use Rattle.tv_shrink.specs.Replacing.{constant_in, fits, fits_in, has_wire};
 ghost use Rattle.tv_shrink.specs.Replacing.{linear_form, replaced, solved};
-ghost use Rattle.tv_shrink.specs.Tidy.{row_has, row_top, RowIsNormal};
+ghost use Rattle.tv_shrink.specs.Tidy.{row_has, RowIsNormal};
 
 use crate::merge::{Side, merge};
 use std::alloc::AllocError;
@@ -93,18 +93,6 @@ pub(crate) fn row_has(row: &Option<Row<'_>>, wire: Wire) -> bool
         return false;
     };
     has_wire(row.a, wire) || has_wire(row.b, wire) || has_wire(row.c, wire)
-}
-
-// One more than the greatest wire of a combination, which is that of its last term; 0 where it has
-// none.
-fn top(terms: &[(F, Wire)]) -> usize
-    requires { IsNormalFrom 0 terms.now }
-    ensures { result ≡ top terms.now }
-{
-    let Some((_, wire)) = terms.last() else {
-        return 0;
-    };
-    wire.0 as usize + 1
 }
 
 // Puts a multiple of one combination less another one into `out`.
@@ -203,14 +191,6 @@ fn fits(
 }
 
 impl Row<'_> {
-    /// One more than the greatest wire of the constraint; 0 where it has no terms.
-    pub(crate) fn top(&self) -> usize
-        requires { IsNormalConstraint self.now }
-        ensures { result ≡ row_top (Some self.now) }
-    {
-        top(self.a).max(top(self.b).max(top(self.c)))
-    }
-
     /// Puts what the constraint says is 0 into `out`, and returns whether it is linear.
     pub(crate) fn linear_form(&self, out: &mut Vec<(F, Wire)>) -> Result<bool, AllocError>
         requires { IsNormalConstraint self.now }

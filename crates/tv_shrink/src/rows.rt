@@ -10,12 +10,13 @@ ghost use Rattle.tv_core.specs.Normal.{normal_constraint, IsNormalFrom};
 ghost use Rattle.tv_shrink.specs.Passing.{row_fits};
 ghost use Rattle.tv_shrink.specs.Replacing.{replaced_in};
 ghost use Rattle.tv_shrink.specs.Spans.{row_at, IsInside};
-ghost use Rattle.tv_shrink.specs.Tidy.{rows_top, RowsAreNormal, RowIsNormal};
+ghost use Rattle.tv_shrink.specs.Tidy.{RowsAreNormal, RowIsNormal};
 
 use crate::arena::{
     Span, append_narrow, append_terms, lay, place_behind, put_replaced, renumber_span,
 };
 use crate::fault::ShrinkFault;
+use crate::numbers::Numbers;
 use crate::row::Row;
 use std::alloc::{AllocError, Global};
 use std::marker::Model;
@@ -24,9 +25,9 @@ use tv_core::{F, Wire};
 /// The constraints of a pass, each of normal combinations, or dropped.
 ///
 /// Their terms lie in one vector, those of no two in one place. New ones lie over those that the
-/// constraint had, or, where they are more, after all others; those that no constraint has any
-/// more stay until `tidy` leaves them out. A constraint's begin before place 2^32; one after that
-/// counts as want of memory.
+/// constraint had, or, where they are more, after all others; those that no constraint has any more
+/// stay until `tidy` leaves them out. A constraint's begin before place 2^32; one after that counts
+/// as an allocation failure.
 #[derive(Drop)]
 pub(crate) struct Rows {
     alloc: Global,
@@ -79,18 +80,9 @@ impl Rows {
         Some(span.row(&self.terms))
     }
 
-    /// One more than the greatest wire that stands in a constraint; 0 where there is none.
-    pub(crate) fn top(&self) -> usize
-        requires { RowsAreNormal self.now }
-        ensures { result ≡ rows_top self.now }
-    {
-        let mut top = 0;
-        for at in 0..self.len() {
-            if let Some(row) = self.get(at) {
-                top = top.max(row.top());
-            }
-        }
-        top
+    /// How many terms the constraints have, with those that none has any more.
+    pub(crate) fn terms(&self) -> usize {
+        self.terms.len()
     }
 
     /// Drops the constraint at a place.
@@ -222,8 +214,8 @@ impl Rows {
         Ok(())
     }
 
-    // Gives each wire of the constraint at a place, unless it was dropped, the number at its place.
-    fn renumber_row(&mut self, at: usize, numbers: &[u32])
+    // Gives each wire of the constraint at a place, unless it was dropped, its new number.
+    fn renumber_row(&mut self, at: usize, numbers: &Numbers)
         requires { at < length self.old }
         ensures { self.new ≡ slice_set self.old at
             (option_map (moved_in numbers.now) (slice_index_or self.old at None)) }
@@ -233,9 +225,9 @@ impl Rows {
         }
     }
 
-    /// Gives each wire of the constraints the number at its place. Costs no look at terms that no
-    /// constraint has any more.
-    pub(crate) fn renumber(&mut self, numbers: &[u32])
+    /// Gives each wire of the constraints its new number. Costs no look at terms that no constraint
+    /// has any more.
+    pub(crate) fn renumber(&mut self, numbers: &Numbers)
         ensures { self.new ≡ moved_rows numbers.now self.old }
     {
         for at in 0..self.len() {

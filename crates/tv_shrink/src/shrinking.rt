@@ -17,23 +17,24 @@ pub const MOST_TERMS: u64 = 4_194_304;
 /// Shrinks the system in a file: one pass over its constraints, in which each linear one that has a
 /// private wire is solved for its greatest and dropped, if all others keep to 128 terms.
 ///
-/// `Bad` tells the file's first fault; `Terms` comes for a system of more than 4,194,304 terms, and
-/// `Combination` for the first combination that has more than 128 once it is normal. `Fault` comes
-/// only where a read failed, and a missing name is such a fault.
+/// `Bad` reports the file's first fault; `Terms` comes for a system of more than 4,194,304 terms,
+/// and `Combination` for the first combination that has more than 128 once it is normal. `Fault`
+/// comes only where a read failed, and a missing name is such a fault.
 ///
 /// Reads the file twice: first to its end, for its first fault and its number of terms, which takes
 /// no memory; then up to the first combination that is too wide.
 ///
 /// Memory is taken for the constraints as the pass makes them, which may be longer than those that
 /// were read, up to 128 terms a combination: 16 bytes for a term, 12 for a constraint, 8 for each
-/// private wire of one; 9 for a wire up to the greatest that stands in a constraint, however many
-/// the file counts; and 4 for each wire that is kept, half of what its label takes in a file. What
-/// replacements leave behind is cleared away after the turn with which there may be more of it than
-/// of the rest, or than of constraints and wires.
+/// private wire of one, 4 for each wire that is replaced; and 8 for each term that was read, or for
+/// each wire where the file counts fewer. So memory is bounded by the terms, whatever their wires.
+/// What replacements leave over is cleared away after the turn with which there may be more of it
+/// than of the rest, or than of constraints and terms.
 ///
-/// A replacement costs as much as the constraints that it changes have terms. A turn that is given
-/// up costs as much as the constraints that it looks at, up to one that would have too many terms;
-/// the wire's next turn looks at that one first.
+/// A replacement costs as much as the constraints that it changes have terms, and a look at each
+/// constraint with a wire whose number differs from its number by a multiple of the lists. A turn
+/// that is given up costs as much as the constraints that it looks at, up to one that would have
+/// too many terms; the wire's next turn looks at that one first.
 pub fn shrink<D: Files>(alloc: Global, files: &mut D, name: &str) -> Result<Shrunk, ShrinkFault>
     ensures gives { Known (D.seen files.old) name.now (λ file. MatchResult result
         (λ shrunk. Shrinks shrunk file) (λ fault. Tells fault file)) }

@@ -4,30 +4,34 @@ ghost use Rattle.tv_core.specs.Constraints.{Constraint};
 ghost use Rattle.tv_shrink.specs.Answers.{counted_system, start_rows, IsReady};
 ghost use Rattle.tv_shrink.specs.Shrinking.{shrink};
 
-use crate::numbers::label;
+use crate::numbers::Numbers;
 use crate::pass::Pass;
 use crate::reading::NormalSystem;
 use crate::rows::Rows;
 use std::alloc::{AllocError, Global};
 use std::marker::Model;
+use tv_core::Wire;
 
 /// A system with fewer private wires, as `shrink` makes it of another one. Contracts see it as the
 /// shrunk system, the old number of each of its wires, and how many wires the old system had.
 ///
-/// Its memory is that of one number a wire and of its terms, and of as many more at most that
-/// replacements left behind.
+/// Its memory is that of its terms, of as many more at most that replacements left behind, and of
+/// one number for each wire that is gone.
 #[derive(Drop)]
 pub struct Shrunk {
     pub(crate) outputs: u32,
     pub(crate) inputs: u32,
     pub(crate) wires: u32,
-    pub(crate) labels: Vec<u32>,
+    pub(crate) kept: u32,
+    pub(crate) gone: Vec<u32>,
     pub(crate) rows: Rows,
 }
 
 impl Model for Shrunk {
-    ghost use Rattle.std.specs.Prelude.{◌+◌, ◌≤◌, ◌<◌, ◌^◌, length};
+    ghost use Rattle.std.specs.Prelude.{◌≡◌, ◌+◌, ◌≤◌, ◌<◌, ◌^◌, length};
     ghost use Rattle.std.specs.List.{filter_map};
+    ghost use Rattle.std.specs.List.Sorted.{IsStrictlyIncreasing};
+    ghost use Rattle.tv_r1cs_write.specs.Bytes.{others};
     ghost use Rattle.tv_shrink.specs.Shrinking.{Shrunken};
     ghost use Rattle.tv_shrink.specs.Tidy.{AreWithin};
 
@@ -35,18 +39,18 @@ impl Model for Shrunk {
 
     ghost view = { λ s. record {
       system = record {
-        wires = length s.labels.items;
+        wires = s.kept;
         outputs = s.outputs;
         inputs = s.inputs;
         constraints = filter_map (λ row. row) s.rows;
       };
-      labels = s.labels.items;
+      labels = others s.wires s.gone.items;
       wires = s.wires;
     } };
 
-    ghost invariant = { λ s. (1 + s.outputs + s.inputs ≤ length s.labels.items)
-        × (length s.labels.items < 2 ^ 32) × AreWithin (length s.labels.items) s.rows
-        × (length s.rows < 2 ^ 32) };
+    ghost invariant = { λ s. (1 + s.outputs + s.inputs ≤ s.kept)
+        × (s.kept ≡ length (others s.wires s.gone.items)) × IsStrictlyIncreasing s.gone.items
+        × AreWithin s.kept s.rows × (length s.rows < 2 ^ 32) };
 }
 
 /// What is left once the pass has run, its wires numbered anew.
@@ -57,16 +61,18 @@ pub(crate) fn settle(alloc: Global, system: NormalSystem) -> Result<Shrunk, Allo
 {
     let NormalSystem { rows, counts } = system;
     let publics = 1 + counts.outputs + counts.inputs;
-    let mut pass = Pass::begin(alloc, rows, publics)?;
+    let mut pass = Pass::begin(alloc, rows, publics, counts.wires)?;
     pass.run()?;
     let (mut rows, gone) = pass.state.into_parts();
-    let labels = label(alloc, &gone, counts.wires)?;
-    rows.renumber(&labels.numbers);
+    let table = rows.terms().min(counts.wires as usize) as u32;
+    let numbers = Numbers::of(alloc, gone, table)?;
+    rows.renumber(&numbers);
     Ok(Shrunk {
         outputs: counts.outputs,
         inputs: counts.inputs,
         wires: counts.wires,
-        labels: labels.labels,
+        kept: numbers.get(Wire(counts.wires)),
+        gone: numbers.into_gone(),
         rows,
     })
 }

@@ -1,13 +1,13 @@
 //! The state of a pass.
 
-ghost use Rattle.std.specs.Prelude.{◌≡◌, ◌≤◌, ◌<◌, ◌^◌, ℕ, true, false, length, replicate};
+ghost use Rattle.std.specs.Prelude.{◌≡◌, ◌+◌, ◌≤◌, ◌<◌, ◌^◌, ℕ, true, false, length, replicate};
 ghost use Rattle.std.specs.Prelude.{slice_index_or, slice_set, None, Some, IfOk, IfSome, OnOk};
 ghost use Rattle.std.specs.List.{list_all};
 ghost use Rattle.std.specs.Option.{option_map};
 ghost use Rattle.tv_core.specs.Normal.{IsNormalFrom};
 ghost use Rattle.tv_shrink.specs.Passing.{dropped, row_fits, substituted};
 ghost use Rattle.tv_shrink.specs.Replacing.{has_wire, replaced_in};
-ghost use Rattle.tv_shrink.specs.Tidy.{row_has, rows_top, RowsAreNormal, RowIsNormal};
+ghost use Rattle.tv_shrink.specs.Tidy.{marked, row_has, RowsAreNormal, RowIsNormal};
 
 use crate::occurrences::Occurrences;
 use crate::row::{Row, row_has};
@@ -19,44 +19,51 @@ use tv_core::{F, Wire};
 /// How far a pass has come: its constraints, in which of them each private wire may stand, and
 /// which wires were solved for.
 ///
-/// It has room for the wires up to the greatest that stands in a constraint at the start, and no
-/// more.
+/// Its memory is that of the terms, whatever their wires: at most one list of rows more than there
+/// are terms at the start, and four bytes for each wire that was solved for.
 #[derive(Drop)]
 pub(crate) struct State {
     publics: u32,
+    wires: u32,
     rows: Rows,
-    gone: Vec<bool>,
+    gone: Vec<u32>,
     occurrences: Occurrences,
 }
 
 impl Model for State {
-    ghost use Rattle.tv_shrink.specs.Tidy.{State as Seen, IsKept};
+    ghost use Rattle.tv_shrink.specs.Tidy.{State as Seen, IsKept, marked};
 
     ghost Value = { Seen };
 
     ghost view = { λ s. record {
       publics = s.publics;
-      pass = record { rows = s.rows; gone = s.gone.items };
+      pass = record { rows = s.rows; gone = marked s.wires s.gone.items };
     } };
 
-    ghost invariant = { λ s. IsKept s.publics s.rows s.gone.items s.occurrences };
+    ghost invariant = { λ s. IsKept s.publics s.rows s.occurrences };
 }
 
 impl State {
     /// The start of a pass over these constraints, before any has had its turn.
-    pub(crate) fn begin(alloc: Global, rows: Rows, publics: u32) -> Result<State, AllocError>
+    pub(crate) fn begin(
+        alloc: Global,
+        rows: Rows,
+        publics: u32,
+        wires: u32,
+    ) -> Result<State, AllocError>
         requires normal { RowsAreNormal rows }
         requires few { length rows < 2 ^ 32 }
         ensures { IfOk result (λ state. state ≡ record {
           publics = publics;
-          pass = record { rows = rows; gone = replicate (rows_top rows) false };
+          pass = record { rows = rows; gone = replicate wires false };
         }) }
     {
-        let room = rows.top();
+        let lists = lists_for(rows.terms(), wires);
         Ok(State {
             publics,
-            gone: Vec::from_elem(alloc, false, room)?,
-            occurrences: Occurrences::of(alloc, room, &rows, publics)?,
+            wires,
+            gone: Vec::new(alloc),
+            occurrences: Occurrences::of(alloc, lists, &rows, publics)?,
             rows,
         })
     }
@@ -80,8 +87,6 @@ impl State {
         requires { at < length self.now.pass.rows }
         ensures row { result ≡ slice_index_or self.now.pass.rows at None }
         ensures normal { RowIsNormal result }
-        ensures below { (w : ℕ) → self.now.publics ≤ w → row_has w result ≡ true
-            → w < length self.now.pass.gone }
     {
         self.rows.get(at)
     }
@@ -107,7 +112,6 @@ impl State {
         replacement: &[(F, Wire)],
     ) -> Result<bool, AllocError>
         requires private { self.old.publics ≤ wire }
-        requires here { wire < length self.old.pass.gone }
         requires by { IsNormalFrom 0 replacement.now }
         ensures same { self.new ≡ self.old }
         ensures fit { IfOk result (λ fit. fit
@@ -136,8 +140,6 @@ impl State {
         requires lacks { has_wire wire replacement.now ≡ false }
         requires fits { row_fits wire replacement.now
             (slice_index_or self.old.pass.rows at None) ≡ true }
-        requires below { (w : ℕ) → self.old.publics ≤ w → has_wire w replacement.now ≡ true
-            → w < length self.old.pass.gone }
         ensures { OnOk result (self.new ≡ record {
           publics = self.old.publics;
           pass = record {
@@ -167,12 +169,9 @@ impl State {
         replacement: &[(F, Wire)],
     ) -> Result<(), AllocError>
         requires private { self.old.publics ≤ wire }
-        requires here { wire < length self.old.pass.gone }
         requires by { IsNormalFrom 0 replacement.now }
         requires lacks { has_wire wire replacement.now ≡ false }
         requires fit { list_all (row_fits wire replacement.now) self.old.pass.rows ≡ true }
-        requires below { (w : ℕ) → self.old.publics ≤ w → has_wire w replacement.now ≡ true
-            → w < length self.old.pass.gone }
         ensures { OnOk result (self.new ≡ record {
           publics = self.old.publics;
           pass = substituted wire replacement.now self.old.pass;
@@ -182,7 +181,7 @@ impl State {
         for at in named.iter() {
             self.replace_at(*at, scratch, wire, replacement)?;
         }
-        self.gone[wire.0 as usize] = true;
+        self.gone.push(wire.0)?;
         Ok(())
     }
 
@@ -195,11 +194,19 @@ impl State {
         self.occurrences.tidy(&self.rows, self.publics)
     }
 
-    /// The constraints that are left, and for each wire that there is room for whether it is gone.
-    pub(crate) fn into_parts(self) -> (Rows, Vec<bool>)
+    /// The constraints that are left, and the wires that are gone, in any order.
+    pub(crate) fn into_parts(self) -> (Rows, Vec<u32>)
         ensures rows { result.0 ≡ self.pass.rows }
-        ensures gone { result.1.items ≡ self.pass.gone }
+        ensures gone { marked (length self.pass.gone) result.1.items ≡ self.pass.gone }
     {
         (self.rows, self.gone)
     }
+}
+
+// How many lists of rows a pass keeps: no more than there are terms or wires, but for one.
+fn lists_for(terms: usize, wires: u32) -> usize
+    ensures some { 0 < result }
+    ensures few { result ≤ terms + 1 }
+{
+    terms.min(wires as usize) + 1
 }

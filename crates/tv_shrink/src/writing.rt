@@ -57,16 +57,16 @@ fn count_rows(rows: &Rows, wires: u32) -> Tally
 }
 
 impl Shrunk {
-    /// Writes the system to an r1cs file, which tells as many labels as the old system had wires,
-    /// and as each wire's label its old number.
+    /// Writes the system to an r1cs file, whose head has the number of the old system's wires as
+    /// number of labels; each wire's label is its old number.
     ///
     /// After a refusal the name is as it was, or has a first part of the bytes. Takes no memory.
     pub fn write<D: Files>(&self, files: &mut D, name: &str) -> Result<(), SinkFault>
         ensures { Writes (D.seen files.old) (D.seen files.new) name.now self.now result }
     {
-        let tally = count_rows(&self.rows, self.labels.len() as u32);
+        let tally = count_rows(&self.rows, self.kept);
         let counts = Counts {
-            wires: self.labels.len() as u32,
+            wires: self.kept,
             outputs: self.outputs,
             inputs: self.inputs,
             constraints: tally.constraints,
@@ -80,6 +80,6 @@ impl Shrunk {
         };
         make_wires(&mut sink, private);
         put_rows(&mut sink, &self.rows)?;
-        sink.finish_labelled(&self.labels)
+        sink.finish_without(&self.gone)
     }
 }

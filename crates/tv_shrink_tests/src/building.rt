@@ -1,10 +1,10 @@
-//! Files of systems that are told by a rule.
+//! Files of systems that are made by a rule.
 
 use crate::systems::PRODUCT;
 use std::alloc::{AllocError, Global};
 
-// The front of a file of so many wires, so many of them public beside wire 0, so many constraints,
-// and so many terms, without labels.
+// The front of a file with these numbers of wires, of wires that are public beside wire 0, of
+// constraints and of terms, without labels.
 fn front(
     alloc: Global,
     wires: u32,
@@ -37,7 +37,7 @@ fn push_sum(bytes: &mut Vec<u8>, wires: &[u32]) -> Result<(), AllocError> {
     Ok(())
 }
 
-// The first so many wires.
+// The first `count` wires.
 fn first_wires(alloc: Global, count: u32) -> Result<Vec<u32>, AllocError> {
     let mut wires = Vec::new(alloc);
     for wire in 0..count {
@@ -46,8 +46,8 @@ fn first_wires(alloc: Global, count: u32) -> Result<Vec<u32>, AllocError> {
     Ok(wires)
 }
 
-/// A system of one constraint, wire 1 being public: each combination is the sum of these wires,
-/// which are so many in all.
+/// A system of one constraint, wire 1 being public: each combination is the sum of these wires, of
+/// which there are this many in all.
 pub(crate) fn single(
     alloc: Global,
     wires: u32,

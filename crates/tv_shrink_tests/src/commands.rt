@@ -1,4 +1,4 @@
-//! What the command `shrink` answers.
+//! What the command `shrink` prints and writes.
 
 use crate::building::{long, wide};
 use crate::systems::{SUM, SUM_SHRUNK, VALUES};

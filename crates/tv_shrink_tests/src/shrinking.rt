@@ -1,4 +1,4 @@
-//! Systems shrunk by hand, and which call's failure is answered.
+//! Systems shrunk by hand, and which call's failure is reported.
 
 use crate::building::{growing, single};
 use crate::systems::{PRODUCT, PUBLIC, SUM, SUM_SHRUNK};

@@ -40,7 +40,7 @@ values_at-residue : (file : List ℕ) (n at value : ℕ) → number file 8 at �
 unfolding values_at
 values_at-residue file n at value is above = rw is (grind (arith, nat_tests))
 
--- a value that is as it should be goes behind those that were read
+-- a value that is as it should be goes after those that were read
 goes_on : (answer : Result (List ℕ) Fault) (most : ℕ) (kept next file : List ℕ) (n more at value : ℕ) (ahead : IsAhead answer most kept file n at) →
     n ≡ more + 1 → number file 8 at ≡ value → value < P → next ≡ take most (ahead.front ++ value ∷ []) → IsAhead answer most next file more (at + 8)
 goes_on answer most kept next file n more at value ahead one is below keeps = record {

@@ -16,7 +16,7 @@ unfolding assignment_in
 filled file sections one two count known done one_is two_is field counts fit =
     rw (one_is, two_is, field, counts, fit) refl
 
--- a section 2 of another size is told
+-- a section 2 of another size is reported
 pub misfilled : (file : List ℕ) (sections : List Section) (one two : Section) (count : ℕ) (known : Unit {0}) (why : ReadRefusal) →
     wanted 1 file sections ≡ Ok one → wanted 2 file sections ≡ Ok two → this_field file 16 one ≡ Ok known →
     counted file one ≡ count → Refuses why (fills count two) → Refuses why (assignment_in file sections)

@@ -1,7 +1,8 @@
 -- From what a taker that writes promises to what streaming an assignment is.
 use Rattle.std.proofs.Common.{◌≡◌, ◌^◌, ◌<◌, ℕ, List, [], ◌∷◌, ◌++◌, length, Result, Ok, Err, inr, append_assoc, sym, ◌∙◌, refl}
 use Rattle.std.specs.Prelude.{OnOk}
-use Rattle.tv_container.proofs.Streamed.{caused_seen, streamed_last, streamed_part}
+use Rattle.tv_container.proofs.Buffers.{caused_seen, quiet_from}
+use Rattle.tv_container.proofs.Streamed.{streamed_last, streamed_part}
 use Rattle.tv_container.specs.Written.{HasFront, IsStreamed}
 use Rattle.tv_core.specs.Giving.{GivesAll, GivesSome}
 use Rattle.tv_core.specs.declared.sink.SinkFault.{SinkFault}
@@ -13,7 +14,7 @@ use Rattle.tv_wtns.specs.Bytes.{assignment_bytes, file_bytes}
 use Rattle.tv_wtns.specs.Takers.{Taker, Stands, Finishes, KeepsFile, taker_giving}
 use Rattle.tv_wtns.specs.Wtns.{assignment_of}
 
--- what streaming an assignment to a file comes to; a whole file is read as the assignment again
+-- what a call did that streamed an assignment to a file; a whole file is read as the assignment again
 pub record IsAssignmentStreamed (old new : Outside) (name values : List ℕ) (result : Result (Unit {0}) SinkFault) : Type 0 where
   pub file : IsStreamed old new name (assignment_bytes values) result
   pub read : OnOk result (assignment_of (assignment_bytes values) ≡ Ok values)
@@ -39,7 +40,7 @@ module _ {V : Type 0} (seen : V → Taker) (name : List ℕ) (old : Outside) (ta
       let list : tried ++ some.back ≡ values = append_assoc some.front (some.refused ∷ []) some.back ∙ sym some.at in
       let front : HasFront (seen new).outside name (assignment_bytes values) = rw (named, list, bytes new some.keeps) at
       (files_are_fronts (seen new) tried some.back (inr (some.tried [] is.stands))) in
-      let cause = caused_seen (λ v. (seen v).outside) taker new fault some.cause in
+      let cause = caused_seen (λ v. (seen v).progress.outcome) (λ v. (seen v).outside) taker new fault is.stands.whole some.keeps.cause some.cause in
       record {
         file = streamed_part old (seen taker).outside (seen new).outside name is.creates (rw is.named at some.keeps.outside)
             (assignment_bytes values) fault front cause;
@@ -56,6 +57,6 @@ module _ {V : Type 0} (seen : V → Taker) (name : List ℕ) (old : Outside) (ta
       let front = rw (named, bytes done all.keeps) at (finishes.part values stands) in
       record {
         file = streamed_last old (seen taker).outside (seen done).outside new name (assignment_bytes values) result is.creates
-            (rw is.named at all.keeps.outside) (all.keeps.quiet stands.whole).1 (rw named at finishes.only) now front finishes.cause;
+            (rw is.named at all.keeps.outside) (quiet_from _ _ _ _ all.keeps.cause stands.whole).1 (rw named at finishes.only) now front finishes.cause;
         read = OnOk-map result (λ _. come_back values is.few stands.canonical) now;
       }

@@ -15,8 +15,8 @@ AssignmentsComeBack = (values : List ℕ) → length values < 2 ^ 32 → All (λ
 abbrev pub FilesAreOfAssignments : Type 0
 FilesAreOfAssignments = (count : ℕ) (values : List ℕ) → count ≡ length values → file_bytes count values ≡ assignment_bytes values
 
--- what a file has of the values given, whether or not one was refused, is a first part of the file of each
--- list that begins with them
+-- what a file has of the values passed, whether or not one was refused, is a first part of the file of each list that
+-- begins with them
 abbrev pub FilesAreFronts : Type 0
 FilesAreFronts = (taker : Taker) (values more : List ℕ) → Stands taker values ⊎ Tried taker values →
     HasFront taker.outside taker.name (file_bytes taker.progress.count (values ++ more))

@@ -4,7 +4,7 @@ use Rattle.tv_word.specs.Word.{spelled}
 use Rattle.tv_container.specs.Places.{Fault, ◌>>=◌, number}
 use Rattle.tv_wtns.specs.Wtns.{values_at}
 
--- words of eight bytes spell the numbers that the file has from a place on
+-- words of eight bytes are those of the numbers that the file has from a place on
 pub record AreWords (words : List (List ℕ)) (file : List ℕ) (at : ℕ) : Type 0 where
   pub spell : (k : ℕ) (d : List ℕ) → k < length words → spelled (slice_index_or words k d) ≡ number file 8 (at + 8 * k)
 
@@ -14,7 +14,7 @@ with_front front others = do
   values ← others
   Ok (front ++ values)
 
--- an answer is some values and, of those at a place, so many; the first of the values are kept
+-- an answer is some values and n more, from a place on; the first of the values are kept
 pub record IsAhead (answer : Result (List ℕ) Fault) (most : ℕ) (kept file : List ℕ) (n at : ℕ) : Type 0 where
   pub front : List ℕ
   pub same : answer ≡ with_front front (values_at file n at)

@@ -9,7 +9,7 @@ use Rattle.tv_container.specs.declared.sections.Section.{Section}
 use Rattle.tv_container.specs.declared.why.ReadWhy.TheVariants.{BadCount, NotCanonical}
 use Rattle.tv_wtns.specs.declared.values.FirstValues.{FirstValues}
 
--- the values at a place, so many: eight bytes each, which spell a number below P
+-- n values from a place on: eight bytes each, a number below P
 unfoldable pub values_at : List ℕ → ℕ → ℕ → Result (List ℕ) Fault
 values_at file zero at = Ok []
 values_at file (suc n) at = do
@@ -21,7 +21,7 @@ values_at file (suc n) at = do
 abbrev pub counted : List ℕ → Section → ℕ
 counted file one = number file 4 (one.at + 12)
 
--- a section 2 is of the size that so many values have
+-- a section 2 has the size of n values
 abbrev pub fills : ℕ → Section → Result (Unit {0}) Fault
 fills count two = unless (not (two.size == 8 * count)) two.at (BadCount two.size (8 * count))
 
@@ -45,7 +45,7 @@ pub record Firsts : Type 0 where
   pub values : List ℕ
   pub count : ℕ
 
--- those of these values, of which so many at most are kept
+-- the first of these values, of which at most `most` are kept
 abbrev pub firsts_of : ℕ → List ℕ → Firsts
 firsts_of most z = record { values = take most z; count = length z }
 

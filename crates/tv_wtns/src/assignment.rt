@@ -33,10 +33,10 @@ pub(crate) const HEADER_BYTES: u64 = 16;
 
 /// Reads the assignment of a wtns file.
 ///
-/// `Ok` comes exactly for a file that holds an assignment, and `Bad` tells the first fault of
+/// `Ok` comes exactly for a file that holds an assignment, and `Bad` reports the first fault of
 /// another one. `Fault` comes only where a read failed, and a missing name is such a fault. It
-/// takes one pass, and memory for the values alone, as they come: a count without values behind it
-/// takes none.
+/// takes one pass, and memory for the values alone, as each is read: a count without values after
+/// it takes none.
 pub fn read_values<D: Files>(
     alloc: Global,
     files: &mut D,
@@ -54,8 +54,8 @@ pub fn read_values<D: Files>(
 
 /// Reads the first `most` values of the assignment of a wtns file, and counts them all.
 ///
-/// All values are judged: it answers `Ok` and is refused exactly where `read_values` is. It takes
-/// memory for the values alone that it keeps, as they come.
+/// All values are judged: it returns `Ok` and is refused exactly where `read_values` is. It takes
+/// memory for the values alone that it keeps, as each is read.
 #[tactic(auto, unfolding(crate::specs::Wtns::assignment_of))]
 pub fn read_first_values<D: Files>(
     alloc: Global,
@@ -122,7 +122,7 @@ fn read_count<D: Files>(
     Ok(window.word(one.at + 12))
 }
 
-// Section 2 is of the size that so many values have.
+// Section 2 has the size of `count` values.
 fn fills(count: u32, two: &Section) -> Result<(), ReadRefusal>
     ensures gives { Gives result (fills count two.now) }
     ensures size { OnOk result (two.now.size ≡ 8 * count) }

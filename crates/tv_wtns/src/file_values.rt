@@ -1,6 +1,6 @@
 //! A taker of values that writes them to a file.
 
-ghost use Rattle.std.specs.Prelude.{◌≡◌, [], false, Ok, IfOk, IfErr};
+ghost use Rattle.std.specs.Prelude.{◌≡◌, [], false, is_err, Ok, IfOk, IfErr};
 ghost use Rattle.tv_container.specs.Written.{NotCreated};
 ghost use Rattle.tv_files.specs.Calls.{Creates};
 ghost use Rattle.tv_wtns.specs.Bytes.{head_bytes};
@@ -11,10 +11,10 @@ use tv_container::{Buffer, NotBegun, Pending, long_bytes, short_bytes, sink_faul
 use tv_core::{F, Put, Values};
 use tv_files::Files;
 
-/// A taker that writes each value to a wtns file, which is lent to it.
+/// A taker that writes each value to a wtns file, which it borrows.
 ///
-/// It takes no memory: it holds at most 8,192 bytes, and appends them by 4,096.
-/// What the file begins with counts the values, so their number is told before the first.
+/// It allocates nothing: it holds at most 8,192 bytes, and appends them by 4,096. The file's head
+/// counts the values, so their number is passed before the first.
 #[derive(Drop)]
 pub struct FileValues<'a, D: Files> {
     pub(crate) files: &'a mut D,
@@ -24,9 +24,9 @@ pub struct FileValues<'a, D: Files> {
 }
 
 impl<'a, D: Files> FileValues<'a, D> {
-    /// Creates the file of an assignment of so many values.
+    /// Creates the file of an assignment of this many values.
     ///
-    /// A refusal gives the files back; the name is then as it was, or has no bytes.
+    /// A refusal returns the files; the name is then as it was, or has no bytes.
     pub fn begin(
         files: &'a mut D,
         name: &'a str,
@@ -61,7 +61,7 @@ impl<'a, D: Files> FileValues<'a, D> {
     ///
     /// After a refusal the file has a first part of these bytes.
     pub fn finish(self) -> Put<()>
-        requires whole { (taker_of D.seen self).progress.broken ≡ false }
+        requires whole { is_err (taker_of D.seen self).progress.outcome ≡ false }
         ensures { Finishes (taker_of D.seen self.entry) (D.seen self.exit.0.now) result }
     {
         let FileValues {

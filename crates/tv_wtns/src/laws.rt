@@ -8,7 +8,8 @@ pub fn assignments_come_back()
     ensures { AssignmentsComeBack }
 {}
 
-/// Where the count told at the beginning is that of the values, a file is that of an assignment.
+/// Where the count passed at the beginning is that of the values, the file is that of an
+/// assignment.
 #[tactic(auto, using(crate::proofs::Files::files_of_assignments))]
 pub fn files_are_of_assignments()
     ensures { FilesAreOfAssignments }

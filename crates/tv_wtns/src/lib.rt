@@ -1,5 +1,5 @@
 //! Assignments in wtns files. `read_values` reads one from a file of any size, with its sections in
-//! any order: its clause `gives` says that it answers `assignment_of` the whole file, the values in
+//! any order: its clause `gives` says that it returns `assignment_of` the whole file, the values in
 //! order, or the file's first fault. `read_first_values` keeps the first values alone, and judges
 //! and counts them all. `FileValues` writes one as its values come, and what was written is read.
 #![tactic(auto)]

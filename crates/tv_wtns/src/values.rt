@@ -27,7 +27,7 @@ pub struct FirstValues {
     pub count: u32,
 }
 
-// Reads the values at a place, so many, a piece of the file at a time; the first are kept.
+// Reads `count` values from a place on, a piece of the file at a time; the first are kept.
 pub(crate) fn read_all<D: Files>(
     alloc: Global,
     files: &mut D,
@@ -58,8 +58,8 @@ pub(crate) fn read_all<D: Files>(
     Ok(FirstValues { values, count })
 }
 
-// Takes the values that words spell, the first of which stands at a place: those behind the first
-// `most` are judged and not kept.
+// Takes the values in words of eight bytes, the first of which stands at a place: those after the
+// first `most` are judged and not kept.
 fn take_values(
     words: &[[u8; 8]],
     at: u64,
@@ -91,7 +91,7 @@ fn take_values(
     Ok(())
 }
 
-// The number that eight bytes spell, the lowest first.
+// The number in eight bytes, the lowest first.
 fn number_of(word: &[u8; 8]) -> u64
     ensures { result ≡ spelled word.now }
 {

@@ -1,12 +1,37 @@
-use Rattle.std.proofs.Common.{ap, ◌∙◌, arith}
-use Rattle.tv_container.proofs.Buffers.{took_none, each_took}
-use Rattle.tv_container.specs.Bytes.{eight_bytes}
+use Rattle.std.proofs.Common.{◌≡◌, ◌≢◌, ◌∙◌, ◌<◌, arith, get_or, length}
+use Rattle.tv_container.proofs.Buffers.{took_none, took_then}
+use Rattle.tv_r1cs_write.specs.Bytes.{others}
+use Rattle.tv_r1cs_write.proofs.Others.{absent, all_ahead, bytes_more, bytes_stay, passed, there, waiting}
 use Rattle.tv_r1cs_write.proofs.parts.put_labels.Goals as goal
+use Rattle.tv_r1cs_write.proofs.parts.put_labels.Goals.{then-next-but+then-from-label, else-next-but, else-next-but-via-then-next-but+else-from-label}
+use Rattle.tv_r1cs_write.proofs.parts.put_labels.Goals.{else-next-but-via-else-next-but}
 
 pub loop-label-init : goal.loop-label-init
-loop-label-init g c = took_none
+unfolding others
+loop-label-init g c = record { took = took_none; ahead = all_ahead c.args.but.now c.requires }
 
 pub loop-label-preserved : goal.loop-label-preserved
 loop-label-preserved g c =
-    each_took eight_bytes c.args.labels.now c.loop-label.label-index 0 (omega arith)
-    (c.long_bytes.ensures ∙ ap eight_bytes c.from.ensures) c.loop-label.invariant c.put.ensures
+    let n = c.loop-label.label in
+    let but = c.args.but.now in
+    let next = c.loop-label.next in
+    let ahead = c.loop-label.invariant.ahead in
+    let took = c.loop-label.invariant.took in
+    elim c.if-next-but.branch [
+      | then-next-but+then-from-label w ↦
+          let inside : next < length but = omega (arith, w.if-next-but.true) in
+          let same : get_or but next 0 ≡ n = omega (arith, w.from.ensures, w.if-from-label.true) in
+          rw (w.pending-is, w.files-is, w.next-is) record {
+            took = rw (bytes_stay n but (there n but next ahead inside same)) took;
+            ahead = passed n but next ahead inside same;
+          }
+      | else-next-but w ↦
+          let apart : next < length but → get_or but next 0 ≢ n = λ inside same. elim w.else-next-but.branch [
+            | else-next-but-via-then-next-but+else-from-label v ↦ absurd (v.if-from-label.false (v.from.ensures ∙ same))
+            | else-next-but-via-else-next-but v ↦ absurd (omega (arith, v.if-next-but.false))
+          ] in
+          rw (w.pending-is, w.files-is, w.next-is) record {
+            took = rw (bytes_more n but (absent n but next ahead apart)) (took_then took (rw w.long_bytes.ensures at w.put.ensures));
+            ahead = waiting n but next ahead apart;
+          }
+    ]

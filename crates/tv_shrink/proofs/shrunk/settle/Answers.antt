@@ -1,64 +1,71 @@
-use Rattle.std.proofs.Common.{◌+◌, ap, arith, length, refl}
+use Rattle.std.proofs.Common.{◌≡◌, ◌<◌, ◌+◌, ◌∙◌, ℕ, false, ap, ap₂, arith, eqb, get_or, length, refl, replicate, subst, sym}
+use Rattle.std.specs.List.{filter_map, fold, list_any, range_with_len}
 use Rattle.std.specs.Option.{option_map}
 use Rattle.std.proofs.lemmas.List.{length-map}
+use Rattle.tv_r1cs_write.specs.Bytes.{others}
 use Rattle.tv_shrink.specs.Moving.{moved_in}
-use Rattle.tv_shrink.proofs.Settling.{enough_room, labels_enough, labels_few, rows_within, slice_each, system_is}
+use Rattle.tv_shrink.specs.Passing.{turn}
+use Rattle.tv_shrink.specs.Tidy.{marked, pass_of, AreWithin}
+use Rattle.tv_shrink.proofs.Gone.{marks}
+use Rattle.tv_shrink.proofs.Settling.{flags_each, labels_enough, rows_within, system_is}
 use Rattle.tv_shrink.proofs.States.{ran, ran_length}
 use Rattle.tv_shrink.proofs.shrunk.settle.Goals as goal
+use Rattle.tv_shrink.proofs.shrunk.settle.Goals.{After-into_gone}
 
-pub label-requires : goal.label-requires
-label-requires c = omega (
-  arith,
-  slice_each c.args.system.counts c.args.system.rows c.requires
-      (1 + c.args.system.counts.outputs + c.args.system.counts.inputs) refl c.into_parts-rows.result.0 c.into_parts-rows.result.1.items c.deref.result.now
-      (ran c.in_ok-pass.pass.state c.run.new.self.state c.into_parts-rows.result.0 c.into_parts-rows.result.1.items
-      (1 + c.args.system.counts.outputs + c.args.system.counts.inputs) c.args.system.rows c.in_ok-pass.ensures c.in_ok-run.ensures
-      c.into_parts-rows.ensures.rows c.into_parts-rows.ensures.gone) c.deref.ensures.value,
-  enough_room c.args.system.counts c.args.system.rows c.requires
-      (1 + c.args.system.counts.outputs + c.args.system.counts.inputs) refl c.into_parts-rows.result.0 c.into_parts-rows.result.1.items c.deref.result.now
-      (ran c.in_ok-pass.pass.state c.run.new.self.state c.into_parts-rows.result.0 c.into_parts-rows.result.1.items
-      (1 + c.args.system.counts.outputs + c.args.system.counts.inputs) c.args.system.rows c.in_ok-pass.ensures c.in_ok-run.ensures
-      c.into_parts-rows.ensures.rows c.into_parts-rows.ensures.gone) c.deref.ensures.value,
-)
+abbrev publics_of : After-into_gone → ℕ
+publics_of c = 1 + c.args.system.counts.outputs + c.args.system.counts.inputs
+
+-- what the pass left
+runs : (c : After-into_gone) → pass_of c.into_parts-rows.result.0 c.run.new.self.state.pass.gone
+    ≡ fold (turn (publics_of c)) (pass_of c.args.system.rows (replicate c.args.system.counts.wires false)) (range_with_len 0 (length c.args.system.rows))
+runs c = ran c.in_ok-pass.pass.state c.run.new.self.state c.into_parts-rows.result.0 c.run.new.self.state.pass.gone (publics_of c)
+    c.args.system.counts.wires c.args.system.rows c.in_ok-pass.ensures c.in_ok-run.ensures c.into_parts-rows.ensures.rows refl
+
+-- the wires of the list are those that are gone
+listed : (c : After-into_gone) (w : ℕ) → w < c.args.system.counts.wires
+    → get_or c.run.new.self.state.pass.gone w false ≡ list_any (λ v. eqb v w) c.in_ok-numbers.numbers
+listed c w h =
+    let each = flags_each c.args.system.counts c.args.system.rows c.requires (publics_of c) refl c.into_parts-rows.result.0 c.run.new.self.state.pass.gone
+    (runs c) in
+    ap (λ xs. get_or xs w false) (sym c.into_parts-rows.ensures.gone ∙ ap (λ n. marked n c.into_parts-rows.result.1.items) each)
+    ∙ marks c.args.system.counts.wires c.into_parts-rows.result.1.items w h
+    ∙ sym (c.in_ok-numbers.ensures w)
 
 pub invariant_of-result : goal.invariant_of-result
 invariant_of-result c = (
-  labels_enough c.args.system.counts c.args.system.rows c.requires
-      (1 + c.args.system.counts.outputs + c.args.system.counts.inputs) refl c.into_parts-rows.result.0 c.into_parts-rows.result.1.items c.deref.result.now
-      (ran c.in_ok-pass.pass.state c.run.new.self.state c.into_parts-rows.result.0 c.into_parts-rows.result.1.items
-      (1 + c.args.system.counts.outputs + c.args.system.counts.inputs) c.args.system.rows c.in_ok-pass.ensures c.in_ok-run.ensures
-      c.into_parts-rows.ensures.rows c.into_parts-rows.ensures.gone) c.deref.ensures.value c.in_ok-labels.labels.labels.items
-      c.in_ok-labels.labels.numbers.items c.deref-2.result.now c.renumber.new.self c.in_ok-labels.ensures.labels c.deref-2.ensures.value
-      c.in_ok-labels.ensures.numbers c.renumber.ensures,
-  labels_few c.args.system.counts c.args.system.rows c.requires
-      (1 + c.args.system.counts.outputs + c.args.system.counts.inputs) refl c.into_parts-rows.result.0 c.into_parts-rows.result.1.items c.deref.result.now
-      (ran c.in_ok-pass.pass.state c.run.new.self.state c.into_parts-rows.result.0 c.into_parts-rows.result.1.items
-      (1 + c.args.system.counts.outputs + c.args.system.counts.inputs) c.args.system.rows c.in_ok-pass.ensures c.in_ok-run.ensures
-      c.into_parts-rows.ensures.rows c.into_parts-rows.ensures.gone) c.deref.ensures.value c.in_ok-labels.labels.labels.items
-      c.in_ok-labels.labels.numbers.items c.deref-2.result.now c.renumber.new.self c.in_ok-labels.ensures.labels c.deref-2.ensures.value
-      c.in_ok-labels.ensures.numbers c.renumber.ensures,
-  rows_within c.args.system.counts c.args.system.rows c.requires
-      (1 + c.args.system.counts.outputs + c.args.system.counts.inputs) refl c.into_parts-rows.result.0 c.into_parts-rows.result.1.items c.deref.result.now
-      (ran c.in_ok-pass.pass.state c.run.new.self.state c.into_parts-rows.result.0 c.into_parts-rows.result.1.items
-      (1 + c.args.system.counts.outputs + c.args.system.counts.inputs) c.args.system.rows c.in_ok-pass.ensures c.in_ok-run.ensures
-      c.into_parts-rows.ensures.rows c.into_parts-rows.ensures.gone) c.deref.ensures.value c.in_ok-labels.labels.labels.items
-      c.in_ok-labels.labels.numbers.items c.deref-2.result.now c.renumber.new.self c.in_ok-labels.ensures.labels c.deref-2.ensures.value
-      c.in_ok-labels.ensures.numbers c.renumber.ensures,
+  omega (
+    arith,
+    c.get.ensures,
+    labels_enough c.args.system.counts c.args.system.rows c.requires (publics_of c) refl c.into_parts-rows.result.0
+        c.run.new.self.state.pass.gone (runs c) c.in_ok-numbers.numbers c.renumber.new.self (listed c) c.renumber.ensures,
+  ),
+  c.get.ensures ∙ ap (λ xs. length (others c.args.system.counts.wires xs)) (sym c.into_gone.ensures.gone),
+  c.into_gone.ensures.rising,
+  subst (λ n. AreWithin n c.renumber.new.self) (sym c.get.ensures)
+      (rows_within c.args.system.counts c.args.system.rows c.requires (publics_of c) refl c.into_parts-rows.result.0 c.run.new.self.state.pass.gone (runs c)
+      c.in_ok-numbers.numbers c.renumber.new.self (listed c) c.renumber.ensures),
   omega (
     arith,
     ap length c.renumber.ensures,
-    length-map c.into_parts-rows.result.0 (option_map (moved_in c.deref-2.result.now)),
-    ran_length c.in_ok-pass.pass.state c.run.new.self.state c.into_parts-rows.result.0 c.into_parts-rows.result.1.items
-        (1 + c.args.system.counts.outputs + c.args.system.counts.inputs) c.args.system.rows c.in_ok-pass.ensures c.in_ok-run.ensures
-        c.into_parts-rows.ensures.rows c.into_parts-rows.ensures.gone,
+    length-map c.into_parts-rows.result.0 (option_map (moved_in c.in_ok-numbers.numbers)),
+    ran_length c.in_ok-pass.pass.state c.run.new.self.state c.into_parts-rows.result.0 c.run.new.self.state.pass.gone (publics_of c)
+        c.args.system.counts.wires c.args.system.rows c.in_ok-pass.ensures c.in_ok-run.ensures c.into_parts-rows.ensures.rows refl,
     c.requires.few,
   ),
 )
 
 pub returns : goal.returns
-returns c = system_is c.args.system.counts c.args.system.rows c.requires
-    (1 + c.args.system.counts.outputs + c.args.system.counts.inputs) refl c.into_parts-rows.result.0 c.into_parts-rows.result.1.items c.deref.result.now
-    (ran c.in_ok-pass.pass.state c.run.new.self.state c.into_parts-rows.result.0 c.into_parts-rows.result.1.items
-    (1 + c.args.system.counts.outputs + c.args.system.counts.inputs) c.args.system.rows c.in_ok-pass.ensures c.in_ok-run.ensures c.into_parts-rows.ensures.rows
-    c.into_parts-rows.ensures.gone) c.deref.ensures.value c.in_ok-labels.labels.labels.items c.in_ok-labels.labels.numbers.items c.deref-2.result.now
-    c.renumber.new.self c.in_ok-labels.ensures.labels c.deref-2.ensures.value c.in_ok-labels.ensures.numbers c.renumber.ensures
+returns c = λ list same.
+    let w = (goal.at.returns c).After-into_gone in
+    ap₂ (λ n labels. record {
+      system = record {
+        wires = n;
+        outputs = c.args.system.counts.outputs;
+        inputs = c.args.system.counts.inputs;
+        constraints = filter_map (λ row. row) c.renumber.new.self;
+      };
+      labels = labels;
+      wires = c.args.system.counts.wires;
+    }) c.get.ensures (ap (others c.args.system.counts.wires) c.into_gone.ensures.gone)
+    ∙ system_is c.args.system.counts c.args.system.rows c.requires (publics_of w) refl c.into_parts-rows.result.0 c.run.new.self.state.pass.gone (runs w)
+    c.in_ok-numbers.numbers c.renumber.new.self (listed w) c.renumber.ensures list same

@@ -7,7 +7,7 @@ use Rattle.tv_r1cs_read.specs.Steps.{Fewer, WentOver}
 use Rattle.tv_r1cs_read.specs.declared.progress.Progress.TheInside.{Inside}
 use Rattle.tv_r1cs_read.proofs.progress.Progress.try_rows.Given as goal
 
--- reading at this place, with so many constraints left
+-- reading at this place, with `left` constraints left
 abbrev pub reached : Inside → (at left : ℕ) → Reached
 reached p at left = record {
   header = p.header;

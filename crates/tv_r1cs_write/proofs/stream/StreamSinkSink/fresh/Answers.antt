@@ -1,5 +1,5 @@
 use Rattle.std.proofs.Common.{refl, append-nil, arith}
-use Rattle.tv_container.proofs.Buffers.{counts_stay, nothing_appended}
+use Rattle.tv_container.proofs.Buffers.{cause_here, nothing_appended}
 use Rattle.tv_core.specs.Circuits.{fresh}
 use Rattle.tv_r1cs_write.proofs.Constraints.{narrow_more}
 use Rattle.tv_r1cs_write.proofs.stream.StreamSinkSink.fresh.Goals as goal
@@ -23,7 +23,7 @@ returns-clause-puts g c =
         counts = refl;
         labels = refl;
         outside = nothing_appended (g.D.Files.seen sink.files.now) sink.name.now;
-        quiet = λ whole. (whole, counts_stay (g.D.Files.seen sink.files.now));
+        cause = cause_here sink.pending.outcome (g.D.Files.seen sink.files.now);
       };
       faults = omega arith;
       wants = omega arith;

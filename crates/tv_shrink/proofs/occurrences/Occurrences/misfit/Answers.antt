@@ -1,16 +1,29 @@
-use Rattle.std.proofs.Common.{◌≡◌, ◌∙◌, None, true, false, inl, inr, sym, ap, subst, arith, eqb, eqb-true, get_or, set, reverse}
+use Rattle.std.proofs.Common.{◌≡◌, ◌≤◌, ◌%◌, ◌∙◌, None, true, false, inl, inr, sym, ap, subst, arith, eqb, eqb-true, get_or, length, set, reverse}
 use Rattle.std.specs.List.{list_any}
 use Rattle.std.proofs.lemmas.Bool.{or_cases}
 use Rattle.tv_shrink.specs.Passing.{row_fits}
-use Rattle.tv_shrink.specs.Occurring.{rows_from}
-use Rattle.tv_shrink.proofs.Occurring.{head_inside, rows_from-at, rows_from-none}
+use Rattle.std.proofs.lemmas.Nat.{mod_below}
+use Rattle.tv_shrink.specs.Occurring.{rows_from, rows_of}
+use Rattle.tv_shrink.proofs.Occurring.{head_inside, rows_from-at, rows_from-none, rows_seen}
 use Rattle.tv_shrink.proofs.occurrences.Occurrences.misfit.Goals as goal
+use Rattle.tv_shrink.proofs.occurrences.Occurrences.misfit.Goals.{After-index-number}
+
+-- the list of the wire begins at this entry
+head : (c : After-index-number) → (c.index-number.result.now ≤ length c.self.inside.entries.items)
+    × (rows_from (reverse c.self.inside.entries.items) c.index-number.result.now ≡ rows_of c.args.self.now c.args.wire)
+head c =
+    let is = head_inside c.self.inside.entries.items c.self.inside.heads.items (c.wire.inside.0 % length c.self.inside.heads.items) c.index-number.result.now
+    c.self.invariant (mod_below c.wire.inside.0 (length c.self.inside.heads.items) c.self.invariant.some)
+    (subst (λ n. c.index-number.result.now ≡ get_or c.self.inside.heads.items (c.wire.inside.0 % n) c.index-number.result.now)
+    (omega (arith, c.len.ensures)) c.index-number.ensures) in (
+      is.0,
+      ap (rows_from (reverse c.self.inside.entries.items)) is.1
+          ∙ sym (rows_seen c.self.inside.entries.items c.self.inside.heads.items c.args.self.now c.wire.inside.0 c.self.view_is c.self.invariant.some)
+          ∙ ap (rows_of c.args.self.now) c.wire.view_is,
+    )
 
 pub loop-number-init : goal.loop-number-init
-loop-number-init c =
-    let head = head_inside c.self.inside.entries.items c.self.inside.heads.items c.args.self.now c.args.wire c.index-number.result.now c.self.invariant
-    c.self.view_is c.requires.here (c.index-number.ensures ∙ ap (λ w. get_or c.self.inside.heads.items w c.index-number.result.now) c.wire.view_is) in
-    record { inside = head.0; seen = λ i e. inr e }
+loop-number-init c = record { inside = (head (goal.at.loop-number-init c).After-index-number).0; seen = λ i e. inr e }
 
 pub loop-number-smaller : goal.loop-number-smaller
 loop-number-smaller c =
@@ -37,10 +50,8 @@ loop-number-preserved c =
 
 pub returns-clause-none : goal.returns-clause-none
 returns-clause-none c e i any =
-    let head = head_inside c.self.inside.entries.items c.self.inside.heads.items c.args.self.now c.args.wire c.index-number.result.now c.self.invariant
-    c.self.view_is c.requires.here (c.index-number.ensures ∙ ap (λ w. get_or c.self.inside.heads.items w c.index-number.result.now) c.wire.view_is) in
     let end : c.loop-number.number ≡ 0 = omega (arith, c.loop-number-test.false) in
-    elim (c.loop-number.invariant.seen i (sym (ap (list_any (λ p. eqb p i)) head.1) ∙ any)) [
+    elim (c.loop-number.invariant.seen i (ap (list_any (λ p. eqb p i)) (head (goal.at.returns-clause-none c).After-index-number).1 ∙ any)) [
       | inl fits ↦ fits
       | inr later ↦ absurd (let no : false ≡ true = sym
           (ap (list_any (λ p. eqb p i)) (ap (rows_from (reverse c.self.inside.entries.items)) end ∙ rows_from-none (reverse c.self.inside.entries.items)))

@@ -1,7 +1,8 @@
-use Rattle.std.proofs.Common.{◌≡◌, ◌<◌, ◌++◌, ◌∷◌, [], ◌∙◌, sym, ap, arith, append-nil, get_or, length, reverse}
-use Rattle.std.proofs.lemmas.List.{append_assoc, get_or-map, length-map}
+use Rattle.std.proofs.Common.{◌≡◌, ◌++◌, ◌∷◌, ◌%◌, [], ◌∙◌, sym, ap, arith, append-nil, get_or, length, reverse, subst}
+use Rattle.std.proofs.lemmas.List.{append_assoc}
+use Rattle.std.proofs.lemmas.Nat.{mod_below}
 use Rattle.tv_shrink.specs.Occurring.{rows_from}
-use Rattle.tv_shrink.proofs.Occurring.{rows_from-at, rows_from-none}
+use Rattle.tv_shrink.proofs.Occurring.{head_inside, rows_from-at, rows_from-none, rows_seen}
 use Rattle.tv_shrink.proofs.occurrences.Occurrences.rows_of.Goals as goal
 
 pub loop-number-smaller : goal.loop-number-smaller
@@ -25,12 +26,12 @@ loop-number-preserved c =
 pub returns : goal.returns
 returns c =
     let none : c.loop-number.number ≡ 0 = omega (arith, c.loop-number-test.false) in
-    let wide : c.args.wire < length c.self.inside.heads.items = omega
-    (arith, length-map c.self.inside.heads.items (rows_from (reverse c.self.inside.entries.items)), ap length c.self.view_is) in
+    let from = rows_from (reverse c.self.inside.entries.items) in
     sym (append-nil c.loop-number.rows.items)
-    ∙ ap (λ rows. c.loop-number.rows.items ++ rows)
-    (sym (ap (rows_from (reverse c.self.inside.entries.items)) none ∙ rows_from-none (reverse c.self.inside.entries.items)))
+    ∙ ap (λ rows. c.loop-number.rows.items ++ rows) (sym (ap from none ∙ rows_from-none (reverse c.self.inside.entries.items)))
     ∙ c.loop-number.invariant.so_far
-    ∙ ap (rows_from (reverse c.self.inside.entries.items)) c.index-number.ensures
-    ∙ sym (get_or-map (rows_from (reverse c.self.inside.entries.items)) c.self.inside.heads.items c.args.wire _ [] wide)
-    ∙ ap (λ lists. get_or lists c.args.wire []) c.self.view_is
+    ∙ ap from (head_inside c.self.inside.entries.items c.self.inside.heads.items (c.args.wire % length c.self.inside.heads.items) c.index-number.result.now
+    c.self.invariant (mod_below c.args.wire (length c.self.inside.heads.items) c.self.invariant.some)
+    (subst (λ n. c.index-number.result.now ≡ get_or c.self.inside.heads.items (c.args.wire % n) c.index-number.result.now)
+    (omega (arith, c.len.ensures)) c.index-number.ensures)).1
+    ∙ sym (rows_seen c.self.inside.entries.items c.self.inside.heads.items c.args.self.now c.args.wire c.self.view_is c.self.invariant.some)

@@ -1,8 +1,7 @@
-use Rattle.std.proofs.Common.{◌≡◌, ◌∙◌, None, true, false, ap, ap₂, arith, length, refl, set, sym}
+use Rattle.std.proofs.Common.{◌≡◌, ◌∙◌, None, true, false, ap, ap₂, refl, set, sym}
 use Rattle.std.specs.List.{list_all}
 use Rattle.std.proofs.lemmas.Result.{on_ok_weaker}
 use Rattle.tv_shrink.specs.Passing.{dropped, row_fits, substituted}
-use Rattle.tv_shrink.specs.Replacing.{has_wire}
 use Rattle.tv_shrink.specs.Tidy.{State}
 use Rattle.tv_shrink.proofs.Passes.{attempted-all, not-attempted}
 use Rattle.tv_shrink.proofs.States.{staged}
@@ -26,22 +25,9 @@ returns-then-not-branch c =
     c.others_fit.ensures.same ∙ staged c.args.self.now.state _
     (not-attempted c.args.wire c.args.at c.args.self.now.solved.items pass.rows pass.gone false (sym off) refl)
 
-pub substitute-requires-clause-here : goal.substitute-requires-clause-here
-unfolding dropped
-substitute-requires-clause-here c = omega (arith, ap (λ (s : State). length s.pass.gone) (removed c), c.requires.here)
-
 pub substitute-requires-clause-fit : goal.substitute-requires-clause-fit
 unfolding dropped
 substitute-requires-clause-fit c = ap₂ (λ r (s : State). list_all (row_fits c.args.wire r) s.pass.rows) c.deref-2.ensures.value (removed c) ∙ fits c
-
-pub substitute-requires-clause-below : goal.substitute-requires-clause-below
-unfolding dropped
-substitute-requires-clause-below c = λ w above has.
-    omega (
-      arith,
-      ap (λ (s : State). length s.pass.gone) (removed c),
-      c.requires.below w (omega (arith, ap (λ (s : State). s.publics) (removed c), above)) (ap (has_wire w) (sym c.deref-2.ensures.value) ∙ has),
-    )
 
 pub returns : goal.returns
 unfolding dropped substituted

@@ -1,11 +1,10 @@
-use Rattle.std.proofs.Common.{◌≡◌, ◌<◌, ◌≤◌, ◌-◌, ◌∙◌, ℕ, Some, None, true, ap, arith, get_or, length, subst, sym}
+use Rattle.std.proofs.Common.{◌≡◌, ◌<◌, ◌≤◌, ◌-◌, ◌∙◌, Some, None, true, ap, arith, get_or, length, subst, sym}
 use Rattle.std.proofs.lemmas.Result.{on_ok_weaker}
 use Rattle.tv_core.specs.Normal.{coefficient, IsNormalFrom}
 use Rattle.tv_shrink.specs.Passing.{attempted, dropped, linear_row}
 use Rattle.tv_shrink.specs.Replacing.{has_wire, solved}
-use Rattle.tv_shrink.specs.Tidy.{row_has}
-use Rattle.tv_shrink.proofs.Passes.{form_there, form_missing, form-normal, last_at, last-own, nil_of, solved-lacks, solved-normal, solved-wires, turn-empty}
-use Rattle.tv_shrink.proofs.Passes.{turn-private, turn-public, turn-unlinear, wire-there}
+use Rattle.tv_shrink.proofs.Passes.{form_there, form_missing, form-normal, last_at, last-own, nil_of, solved-lacks, solved-normal, turn-empty}
+use Rattle.tv_shrink.proofs.Passes.{turn-private, turn-public, turn-unlinear}
 use Rattle.tv_shrink.proofs.States.{staged}
 use Rattle.tv_shrink.proofs.pass.Pass.turn.Goals as goal
 use Rattle.tv_shrink.proofs.pass.Pass.turn.Goals.{After-wire, In_ok-solve}
@@ -31,11 +30,6 @@ own c = last-own c.index.result.now c.linear_form.new.out.items (form_is c) (som
 
 solution : (c : In_ok-solve) → c.solve.new.out.items ≡ solved c.index.result.now.1 c.linear_form.new.out.items
 solution c = c.in_ok-solve.ensures ∙ ap (solved c.index.result.now.1) c.deref.ensures.value
-
--- a wire of the constraint is one that there is room for
-there : (c : After-wire) → (w : ℕ) → c.args.self.now.state.publics ≤ w → row_has w (get_or c.args.self.now.state.pass.rows c.args.at None) ≡ true
-    → w < length c.args.self.now.state.pass.gone
-there c w above has = c.get.ensures.below w above (ap (row_has w) c.get.ensures.row ∙ has)
 
 pub returns-in_default : goal.returns-in_default
 returns-in_default c =
@@ -74,12 +68,6 @@ solve-requires-clause-apart c = (own (goal.at.solve-requires-clause-apart c).Aft
 pub solve-requires-clause-of : goal.solve-requires-clause-of
 solve-requires-clause-of c = (own (goal.at.solve-requires-clause-of c).After-wire).2 ∙ ap (coefficient c.index.result.now.1) (sym c.deref.ensures.value)
 
-pub eliminate-requires-clause-here : goal.eliminate-requires-clause-here
-eliminate-requires-clause-here c =
-    let w = (goal.at.eliminate-requires-clause-here c).After-wire in
-    there w c.index.result.now.1 (omega (arith, c.wire.view_is, c.publics.ensures, c.if-wire-publics.false))
-    (wire-there c.index.result.now.1 (get_or c.args.self.now.state.pass.rows c.args.at None) c.linear_form.new.out.items (says w) (own w).1)
-
 pub eliminate-requires-clause-by : goal.eliminate-requires-clause-by
 eliminate-requires-clause-by c = subst (IsNormalFrom 0) (sym (solution (goal.at.eliminate-requires-clause-by c).In_ok-solve))
     (solved-normal c.index.result.now.1 c.linear_form.new.out.items)
@@ -87,12 +75,6 @@ eliminate-requires-clause-by c = subst (IsNormalFrom 0) (sym (solution (goal.at.
 pub eliminate-requires-clause-lacks : goal.eliminate-requires-clause-lacks
 eliminate-requires-clause-lacks c = ap (has_wire c.index.result.now.1) (solution (goal.at.eliminate-requires-clause-lacks c).In_ok-solve)
     ∙ solved-lacks c.index.result.now.1 c.linear_form.new.out.items
-
-pub eliminate-requires-clause-below : goal.eliminate-requires-clause-below
-eliminate-requires-clause-below c = λ v above has.
-    let w = (goal.at.eliminate-requires-clause-below c).After-wire in
-    there w v above (solved-wires c.index.result.now.1 (get_or c.args.self.now.state.pass.rows c.args.at None) c.linear_form.new.out.items (says w) v
-    (ap (has_wire v) (sym (solution (goal.at.eliminate-requires-clause-below c).In_ok-solve)) ∙ has))
 
 pub returns : goal.returns
 returns c =

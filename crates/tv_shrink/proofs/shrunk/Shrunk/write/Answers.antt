@@ -1,4 +1,4 @@
-use Rattle.std.proofs.Common.{◌≡◌, ◌+◌, ◌-◌, ◌≤◌, ◌∙◌, ℕ, refl, rules, arith, ap, length}
+use Rattle.std.proofs.Common.{◌≡◌, ◌+◌, ◌-◌, ◌∙◌, ℕ, refl, sym, rules, arith, ap, ap₂, length}
 use Rattle.std.specs.List.{filter_map}
 use Rattle.std.proofs.lemmas.Result.{err_from_is_err_and}
 use Rattle.tv_container.proofs.Streamed.{not_created}
@@ -6,8 +6,9 @@ use Rattle.tv_core.proofs.Chain.{puts_then, puts_then_refused}
 use Rattle.tv_core.specs.Constraints.{System}
 use Rattle.tv_core.specs.Sinks.{PutsAll, PutsSome}
 use Rattle.tv_core.specs.declared.lines.Counts.{Counts}
+use Rattle.tv_r1cs_write.specs.Bytes.{others}
 use Rattle.tv_r1cs_write.proofs.Streaming.{IsBegun, streamed_all, streamed_some}
-use Rattle.tv_r1cs_write.specs.Streams.{begun, stream, stream_meaning}
+use Rattle.tv_r1cs_write.specs.Streams.{begun, stream, stream_meaning, Progress}
 use Rattle.tv_r1cs_write.specs.declared.stream.StreamSink.{StreamSink}
 use Rattle.tv_shrink.specs.Emitting.{rows_circuit, wires_circuit}
 use Rattle.tv_shrink.specs.Written.{shrunken_bytes}
@@ -19,7 +20,7 @@ use Rattle.tv_shrink.proofs.shrunk.Shrunk.write.Goals.{In-Ok}
 -- the system that is written, its counts, and how many private wires it has
 abbrev system_in : (g : given.Over) → In-Ok g → System
 system_in g c = record {
-  wires = length c.self.inside.labels.items;
+  wires = c.self.inside.kept;
   outputs = c.self.inside.outputs;
   inputs = c.self.inside.inputs;
   constraints = filter_map (λ row. row) c.self.inside.rows;
@@ -27,7 +28,7 @@ system_in g c = record {
 
 abbrev counts_in : (g : given.Over) → In-Ok g → Counts
 counts_in g c = record {
-  wires = c.len-2.result;
+  wires = c.self.inside.kept;
   outputs = c.self.inside.outputs;
   inputs = c.self.inside.inputs;
   constraints = c.count_rows-tally.result.constraints;
@@ -35,26 +36,24 @@ counts_in g c = record {
 }
 
 abbrev private_in : (g : given.Over) → In-Ok g → ℕ
-private_in g c = c.len-2.result - (1 + c.self.inside.outputs + c.self.inside.inputs)
+private_in g c = c.self.inside.kept - (1 + c.self.inside.outputs + c.self.inside.inputs)
 
 is_begun : (g : given.Over) (c : In-Ok g)
     → IsBegun {S = StreamSink g.row.D.Denot} (stream g.D.Files.seen) c.args.name.now (g.D.Files.seen c.args.files.now) c.in-Ok.sink
     (circuit_of (private_in g c) c.self.inside.rows) (system_in g c) (counts_in g c) c.self.inside.wires
 is_begun g c =
     let first : ℕ = 1 + c.self.inside.outputs + c.self.inside.inputs in
-    let wires : c.len-2.result ≡ length c.self.inside.labels.items = omega arith in
-    let publics : first ≤ c.len-2.result = omega (arith, c.self.invariant.0, wires) in
     record {
       creates = c.in-Ok.ensures.ok_creates;
       named = c.in-Ok.ensures.name;
       begins = c.in-Ok.ensures.begun ∙ ap (λ labels. begun (counts_in g c) labels) c.from-labels.ensures;
       stands = c.in-Ok.ensures.stands;
-      counted = rw (wires, c.count_rows-tally.ensures.constraints, c.count_rows-tally.ensures.terms) refl;
+      counted = rw (c.count_rows-tally.ensures.constraints, c.count_rows-tally.ensures.terms) refl;
       list = circuit_list (private_in g c) c.self.inside.rows first;
-      next = circuit_next (private_in g c) c.self.inside.rows first ∙ omega (arith, publics, wires);
+      next = circuit_next (private_in g c) c.self.inside.rows first ∙ omega (arith, c.self.invariant.0);
       publics = c.self.invariant.0;
-      wires_fit = omega (arith, wires, c.self.invariant.1);
-      constraints_fit = omega (arith, c.count_rows-tally.ensures.few, c.self.invariant.3);
+      wires_fit = omega arith;
+      constraints_fit = omega (arith, c.count_rows-tally.ensures.few, c.self.invariant.4);
     }
 
 pub returns-in-Err : goal.returns-in-Err
@@ -70,8 +69,11 @@ returns g c =
     let more : PutsAll (stream_meaning seen) c.make_wires.new.s c.put_rows.new.s (rows_circuit rows (length rows)) tt = c.in_ok-put_rows.ensures.puts in
     let puts = puts_then (stream_meaning seen) (wires_circuit (private_in g ok))
     (λ _. rows_circuit rows (length rows)) c.in-Ok.sink c.make_wires.new.s c.put_rows.new.s tt tt c.make_wires.ensures.puts more in
-    let written = streamed_all _ _ _ _ _ _ _ _ (λ _. c.self.inside.labels.items) (is_begun g ok) c.put_rows.new.s _ tt c.finish_labelled.result refl puts
-    (rw c.deref.ensures.value at c.finish_labelled.ensures) in
+    let labels : c.put_rows.new.s.labels ≡ c.self.inside.wires = puts.keeps.labels
+    ∙ ap (λ (p : Progress). p.labels) c.in-Ok.ensures.begun ∙ c.from-labels.ensures in
+    let written = streamed_all _ _ _ _ _ _ _ _ (λ _. others c.self.inside.wires c.self.inside.gone.items) (is_begun g ok)
+    c.put_rows.new.s _ tt c.finish_without.result (sym c.self.invariant.1) puts
+    (rw (ap₂ others labels c.deref.ensures.value) at c.finish_without.ensures) in
     rw (← c.self.view_is) (search (rules, written))
 
 pub returns-in_err-put_rows : goal.returns-in_err-put_rows
@@ -83,6 +85,6 @@ returns-in_err-put_rows g c =
     let more : PutsSome (stream_meaning seen) c.make_wires.new.s c.put_rows.new.s (rows_circuit rows (length rows)) fault = c.in_err-put_rows.ensures.puts in
     let some = puts_then_refused (stream_meaning seen) (wires_circuit (private_in g ok))
     (λ _. rows_circuit rows (length rows)) c.in-Ok.sink c.make_wires.new.s c.put_rows.new.s tt fault c.make_wires.ensures.puts more in
-    let written = streamed_some _ _ _ _ _ _ _ _ (λ _. c.self.inside.labels.items) (is_begun g ok) c.put_rows.new.s fault some in
+    let written = streamed_some _ _ _ _ _ _ _ _ (λ _. others c.self.inside.wires c.self.inside.gone.items) (is_begun g ok) c.put_rows.new.s fault some in
     let p = err_from_is_err_and c.from_residual.result c.from_residual.ensures.1 in
     rw (p.1, p.2, ← c.self.view_is) (search (rules, written))

@@ -11,8 +11,8 @@ returns-then-not-row_has c =
 
 pub invariant_of-self-2 : goal.invariant_of-self-2
 invariant_of-self-2 c =
-    kept_replaced c.self.inside.publics c.args.wire c.args.at c.args.replacement.now c.self.inside.rows c.self.inside.gone.items c.self.inside.occurrences
+    kept_replaced c.self.inside.publics c.args.wire c.args.at c.args.replacement.now c.self.inside.rows c.self.inside.occurrences
     c.file.new.self c.self.invariant c.requires.lacks
-    c.in_ok-file.ensures.each c.in_ok-file.ensures.more
+    c.in_ok-file.ensures.more
     c.in_ok-file.ensures.added
     c.replace.result c.replace.new.self c.replace.ensures.replaces c.replace.ensures.err

@@ -1,8 +1,10 @@
-use Rattle.std.proofs.Common.{◌≡◌, ◌≤◌, ◌∙◌, ℕ, None, [], true, ap, arith, eqb, get_or, length, length-set, refl, take}
+use Rattle.std.proofs.Common.{◌≡◌, ◌≤◌, ◌∙◌, ℕ, None, true, ap, ap₂, arith, eqb, get_or, length, length-set, refl, set, take}
 use Rattle.std.specs.List.{list_any}
 use Rattle.std.specs.Option.{option_map}
+use Rattle.tv_shrink.specs.Occurring.{rows_of}
 use Rattle.tv_shrink.specs.Replacing.{replaced_in}
-use Rattle.tv_shrink.specs.Tidy.{row_has, State}
+use Rattle.tv_shrink.specs.Tidy.{marked, row_has, State}
+use Rattle.tv_shrink.proofs.Gone.{marked_more}
 use Rattle.tv_shrink.proofs.Passes.{replaced-all, replaced-step, still_fit}
 use Rattle.tv_shrink.proofs.States.{substituted_is}
 use Rattle.tv_shrink.proofs.state.State.substitute.Goals as goal
@@ -34,12 +36,13 @@ returns c =
     let private : c.self.inside.publics ≤ c.args.wire = omega (arith, ap (λ (s : State). s.publics) c.self.view_is, c.requires.private) in
     let names : (i : ℕ) → row_has c.args.wire (get_or c.args.self.now.pass.rows i None) ≡ true → list_any (λ p. eqb p i) c.deref-at-items.result.now ≡ true =
     λ i has. ap (list_any (λ p. eqb p i)) (c.deref-at-items.ensures.value ∙ c.in_ok-rows_of.ensures
-    ∙ ap (λ w. get_or c.self.inside.occurrences w []) c.wire.view_is)
+    ∙ ap (rows_of c.self.inside.occurrences) c.wire.view_is)
     ∙ c.self.invariant.covers i c.args.wire private (ap (λ (s : State). row_has c.args.wire (get_or s.pass.rows i None)) c.self.view_is ∙ has) in
-    substituted_is c.args.self.now c.args.wire c.wire-2.inside.0 c.args.replacement.now c.self-2.inside.publics c.self-2.inside.rows c.self-2.inside.gone.items
+    substituted_is c.args.self.now c.args.wire c.args.replacement.now c.self-2.inside.publics c.self-2.inside.rows
+    (marked c.self-2.inside.wires c.push.new.self.items)
     (ap (λ (s : State). s.publics) c.self-2.view_is ∙ c.loop-at.invariant.publics)
     (ap (λ (s : State). s.pass.rows) c.self-2.view_is
     ∙ replaced-all c.args.wire c.args.replacement.now c.requires.lacks c.loop-at.self.pass.rows c.args.self.now.pass.rows c.deref-at-items.result.now
     c.loop-at.at-index (omega arith) c.loop-at.invariant.each names c.loop-at.invariant.so_far)
-    (ap (λ (s : State). s.pass.gone) c.self-2.view_is ∙ c.loop-at.invariant.gone)
-    c.wire-2.view_is
+    (ap (marked c.self-2.inside.wires) c.in_ok-push.ensures.items ∙ marked_more c.self-2.inside.wires c.self-2.inside.gone.items c.wire-2.inside.0
+    ∙ ap₂ (λ flags w. set flags w true) (ap (λ (s : State). s.pass.gone) c.self-2.view_is ∙ c.loop-at.invariant.gone) c.wire-2.view_is)

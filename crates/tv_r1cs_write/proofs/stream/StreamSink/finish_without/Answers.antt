@@ -1,8 +1,8 @@
 use Rattle.tv_container.proofs.Buffers.{unrefused}
 use Rattle.tv_r1cs_write.specs.Streams.{stream}
 use Rattle.tv_r1cs_write.proofs.Finishing.{finished_by}
-use Rattle.tv_r1cs_write.proofs.stream.StreamSink.finish_labelled.Goals as goal
+use Rattle.tv_r1cs_write.proofs.stream.StreamSink.finish_without.Goals as goal
 
 pub returns : goal.returns
 returns g c = finished_by (stream g.D.Files.seen c.args.self) _ _ _ _ c.requires.labels
-    (rw c.requires.labels at (c.write_labels.ensures.took.passes (unrefused _ c.requires.whole))) c.write_labels.ensures.none
+    (c.write_labels.ensures.took.passes (unrefused _ c.requires.whole)) c.write_labels.ensures.none

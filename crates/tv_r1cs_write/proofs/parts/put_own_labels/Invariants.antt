@@ -1,9 +1,0 @@
-use Rattle.std.proofs.Common.{take}
-use Rattle.std.specs.List.{range_with_len}
-use Rattle.tv_container.specs.Taking.{Took}
-use Rattle.tv_r1cs_write.specs.Bytes.{label_bytes}
-use Rattle.tv_r1cs_write.proofs.parts.put_own_labels.Given as goal
-
-abbrev pub invariant-loop-label : goal.invariant-loop-label
-invariant-loop-label g l = Took l.name (g.D.Files.seen l.fn.files) l.fn.pending (g.D.Files.seen l.files) l.pending
-    (label_bytes (take l.label (range_with_len 0 l.wires)))
