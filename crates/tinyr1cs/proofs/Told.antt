@@ -1,7 +1,7 @@
 -- What the counts tell of a call is what such a call may do.
-use Rattle.std.proofs.Common.{◌≡◌, ℕ, ◌≤◌, List, length, Result, Ok, Err, IfOk, OnOk, OnErr, refl, inl, arith}
+use Rattle.std.proofs.Common.{◌≡◌, ℕ, ◌≤◌, List, length, Result, Ok, Err, IfOk, OnOk, OnErr, refl, ap, inl, arith}
 use Rattle.std.specs.Result.{result_ok}
-use Rattle.tv_files.specs.Outside.{NoneFell, SameCounts}
+use Rattle.tv_files.specs.Outside.{NoneFell, RanOut, SameCounts}
 use Rattle.tv_files.specs.Calls.{Reads, Creates, Appends, Says}
 use Rattle.tv_files.specs.declared.calls.FileRefusal.{FileRefusal}
 use Rattle.tv_files.specs.declared.calls.FileRefusal.TheVariants.{Failed, Memory}
@@ -30,8 +30,14 @@ failed call (Ok value) old new is err = cc
 failed call (Err Memory) old new is err = cc
 
 wanted : {A : Type 0} (call : Call) (result : Result A FileRefusal) (old new : RefusalCounts) → new ≡ after call result old → result ≡ Err Memory
-    → Rose old.wants new.wants
-wanted call (Err Memory) old new is err = grind arith
+    → RanOut (told_by old) (told_by new)
+wanted call (Err Memory) old new is err = record {
+  wants = grind arith;
+  read_faults = ap (λ (counts : RefusalCounts). counts.read_faults) is;
+  write_faults = ap (λ (counts : RefusalCounts). counts.write_faults) is;
+  say_faults = ap (λ (counts : RefusalCounts). counts.say_faults) is;
+  absent = refl;
+}
 wanted call (Ok value) old new is err = cc
 wanted call (Err Failed) old new is err = cc
 

@@ -1,4 +1,4 @@
--- What the system's files tell: four counts, and nothing of contents or of what was said.
+-- What is known of the operating system's files: four counts, and nothing of contents or of printed words.
 use Rattle.std.specs.Prelude.{ℕ, ◌+◌, ◌-◌, ◌^◌, min, None, Result, Ok, Err}
 use Rattle.tv_files.specs.Outside.{Outside}
 use Rattle.tv_files.specs.declared.calls.FileRefusal.{FileRefusal}
@@ -7,7 +7,7 @@ use Rattle.tinyr1cs.specs.declared.counts.Call.{Call}
 use Rattle.tinyr1cs.specs.declared.counts.Call.TheVariants.{Reading, Writing, Saying}
 use Rattle.tinyr1cs.specs.declared.counts.RefusalCounts.{RefusalCounts}
 
--- the counts as what is told of the outside
+-- the counts as what is known of the outside
 abbrev pub told_by : RefusalCounts → Outside
 told_by counts = record {
   contents = None;
@@ -33,7 +33,7 @@ with_fault Reading counts = record counts { read_faults = one_more counts.read_f
 with_fault Writing counts = record counts { write_faults = one_more counts.write_faults }
 with_fault Saying counts = record counts { say_faults = one_more counts.say_faults }
 
--- the counts after a call of this kind that answered this: a refusal raises one of them
+-- the counts after a call of this kind that returned this: a refusal raises one of them
 abbrev pub after : {A : Type 0} → Call → Result A FileRefusal → RefusalCounts → RefusalCounts
 after call (Ok _) counts = counts
 after call (Err Failed) counts = with_fault call counts

@@ -1,4 +1,4 @@
-//! What the program says on standard error.
+//! What the program prints on standard error.
 ghost use Rattle.std.specs.Prelude.{◌≡◌, map, option_map, Some, string_bytes};
 ghost use Rattle.tinyr1cs.specs.Complaint.{text_of, complaint_text};
 
@@ -6,14 +6,14 @@ use crate::escaped::Escaped;
 use std::fmt;
 use tv_top::Status;
 
-/// Why a command said no line of its own.
+/// Why a command printed no line of its own.
 #[derive(Clone, Copy)]
 pub enum Complaint<'a> {
     /// A word of the command line isn't UTF-8.
     NotUtf8,
-    /// Memory was wanting.
+    /// Memory ran out.
     NoMemory,
-    /// A file call failed, on this name, which is said with its control characters escaped.
+    /// A file call failed, on this name, which is printed with its control characters escaped.
     FileFault(&'a str),
 }
 
@@ -30,8 +30,8 @@ impl fmt::Display for Complaint<'_> {
 }
 
 impl<'a> Complaint<'a> {
-    /// What a status leaves to be said: the name of the file that failed, which is `output` behind
-    /// the last word, or that memory was wanting.
+    /// Returns what is printed on standard error for a status: the name of the file that failed,
+    /// which is `output` after the last word, or that memory ran out.
     pub fn of(status: Status, words: &'a [String]) -> Option<Complaint<'a>>
         ensures { option_map text_of result ≡
             complaint_text (map string_bytes words.now) status }

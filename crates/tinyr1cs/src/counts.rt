@@ -17,7 +17,7 @@ pub struct RefusalCounts {
     pub write_faults: u64,
     /// Faults of `say`.
     pub say_faults: u64,
-    /// Wants of memory, in any call.
+    /// Allocation failures, in any call.
     pub wants: u64,
 }
 
@@ -45,8 +45,8 @@ impl RefusalCounts {
         }
     }
 
-    /// Counts what a call ended with, and turns an error into a refusal: want of memory raises
-    /// `wants`, any other error the count of faults of this kind of call.
+    /// Counts what a call ended with, and turns an error into a refusal: an allocation failure
+    /// raises `wants`, any other error the count of faults of this kind of call.
     pub fn settle<T>(&mut self, call: Call, outcome: io::Result<T>) -> Result<T, FileRefusal>
         ensures value { result_ok result ≡ result_ok outcome }
         ensures counts { self.new ≡ after call result self.old }

@@ -15,7 +15,7 @@ use tv_files::{FileRefusal, Files};
 
 /// The files of the system, by name, and its standard output.
 ///
-/// Contracts see its counts alone, and nothing of files or of what was said: each refusal raises
+/// Contracts see its counts alone, and nothing of files or of what was printed: each refusal raises
 /// one of them by 1, and nothing else does.
 #[derive(Drop)]
 pub struct DiskFiles<R: rt::Files + Drop> {
@@ -35,7 +35,7 @@ impl<R: rt::Files + Drop> Model for DiskFiles<R> {
 
 impl<R: rt::Files + Drop> DiskFiles<R> {
     /// Opens nothing yet, with all counts 0. Where `is_told`, standard error is a terminal, and
-    /// tells how much of a file is written.
+    /// shows how much of a file is written.
     pub fn new(alloc: Global, rt: R, is_told: bool) -> DiskFiles<R>
         ensures { result ≡ zeros }
     {
@@ -47,7 +47,7 @@ impl<R: rt::Files + Drop> DiskFiles<R> {
         }
     }
 
-    /// How many calls were refused so far, by cause.
+    /// Returns how many calls were refused so far, by cause.
     pub fn counts(&self) -> RefusalCounts
         ensures { result ≡ self.now }
     {
@@ -56,7 +56,7 @@ impl<R: rt::Files + Drop> DiskFiles<R> {
 }
 
 impl<R: rt::Files + Eprint + Drop> DiskFiles<R> {
-    /// Takes the line away that tells how much is written, where one stands.
+    /// Clears the line that shows how much is written, where one stands.
     pub fn clear(&mut self)
         ensures { self.new ≡ self.old }
     {
@@ -207,7 +207,7 @@ mod tests {
     }
 
     // A reading goes on with what the file has by now, where it was written to since, by another of
-    // its names too, and gives what is there where it begins anew.
+    // its names too, and returns what is there where it begins anew.
     #[test]
     fn reads_what_is_there_by_now(rt: HostRuntime) -> Result<(), Fail> {
         let alloc = rt.alloc();

@@ -33,7 +33,7 @@ fn write_shown<W: fmt::Write>(c: char, f: &mut fmt::Formatter<W>) -> fmt::Result
     f.write_char(digit(code % 16))
 }
 
-/// A number below 16 as a digit.
+/// Returns a number below 16 as a digit.
 fn digit(value: u32) -> char
     requires { value < 16 }
     ensures { result ≡ digit_char value }

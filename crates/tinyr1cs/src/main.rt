@@ -2,7 +2,7 @@
 //! files. What a command promises is `command`'s contract, over any files. Here stand the edge that
 //! isn't proved beyond its counts, `DiskFiles`, and the ends that come before a command: status 8
 //! where the folder that keeps closed streams' numbers from files can't be opened, 14 for a word
-//! that isn't UTF-8, and 9 for want of memory.
+//! that isn't UTF-8, and 9 for an allocation failure.
 #![tactic(auto)]
 
 ghost use Rattle.std.specs.Prelude.{◌≡◌};

@@ -17,7 +17,7 @@ struct Handles<F> {
     writer: Option<F>,
 }
 
-/// The files that are open, by name. A handle is opened where it is first wanted, and stays open.
+/// The files that are open, by name. A handle is opened at its first use, and stays open.
 #[derive(Drop)]
 pub struct OpenFiles<R: Files> {
     handles: BTreeMap<String, Handles<R::File>>,
@@ -33,7 +33,7 @@ impl<R: Files> OpenFiles<R> {
         }
     }
 
-    /// The handles of a name, both closed where it is a new one.
+    /// Returns the handles of a name, both closed where it is a new one.
     fn handles_of(&mut self, name: &str) -> Result<&mut Handles<R::File>, AllocError> {
         if let Some(handles) = self.handles.get_mut(name) {
             return Ok(handles);
@@ -46,7 +46,7 @@ impl<R: Files> OpenFiles<R> {
         Ok(self.handles.entry(name)?.or_insert(closed))
     }
 
-    /// Reads from place `at` on what the system gives at once.
+    /// Reads from place `at` on what the system returns in one call.
     pub fn read(&mut self, rt: &R, name: &str, at: u64, into: &mut [u8]) -> io::Result<usize>
         ensures { IfOk result (λ count. count ≤ length into.new) }
     {

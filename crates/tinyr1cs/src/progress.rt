@@ -1,22 +1,22 @@
-//! How much of a file is written, told on a terminal.
+//! How much of a file is written, shown on a terminal.
 use std::fmt;
 
-/// A line is told each time that this many bytes more were written.
+/// A line is shown each time that this many bytes more were written.
 const STEP: u64 = 64_000_000;
 
-/// Names of more bytes than this aren't told.
+/// Names of more bytes than this aren't shown.
 const LONGEST: usize = 40;
 
 /// Takes the line away: as many blanks as the longest line has, and a few more.
 const CLEARED: &str = "\r                                                                \r";
 
-/// What is written of a file, and how it is told: by one line on standard error, written over each
-/// `STEP` bytes and taken away at the end. A standard error that fails changes nothing.
+/// What is written of a file, shown by one line on standard error, which is overwritten each `STEP`
+/// bytes and cleared at the end. A standard error that fails changes nothing.
 #[derive(Clone, Copy)]
 pub struct Progress {
     /// How many bytes of the file were written.
     written: u64,
-    /// How many there are when they are told next; `None` where no line is to be told.
+    /// How many there are when the line is shown next; `None` where none is to be shown.
     due: Option<u64>,
     is_shown: bool,
 }
@@ -29,7 +29,7 @@ struct Line<'a> {
 }
 
 impl Progress {
-    /// Tells lines where `is_told`, which is to say that standard error is a terminal.
+    /// Shows lines where `is_told`: where standard error is a terminal.
     pub fn new(is_told: bool) -> Progress {
         Progress {
             written: 0,
@@ -52,7 +52,7 @@ impl Progress {
         }
     }
 
-    /// Tells how much is written, and sets when it is told next.
+    /// Shows how much is written, and sets when it is shown next.
     #[cold]
     fn tell(&mut self, err: &impl Eprint, name: &str) {
         self.due = Some(self.written.saturating_add(STEP));
@@ -72,7 +72,7 @@ impl Progress {
     }
 }
 
-/// A name that has a place in a line, or what stands for one that has none.
+/// Returns a name that has a place in a line, or what stands for one that has none.
 fn told_name(name: &str) -> &str {
     let is_plain = name.bytes().all(|byte| (0x20..0x7f).contains(&byte));
     if is_plain && name.len() <= LONGEST {

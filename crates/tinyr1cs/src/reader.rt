@@ -17,9 +17,9 @@ impl<F: Read + Seek> Reader<F> {
         Reader { file, place: 0 }
     }
 
-    /// Reads from place `at` on what the system gives at once: no bytes only at the file's end or
-    /// behind it, or where `into` is empty. It seeks only where the last read didn't end at the
-    /// place, so a pipe can be read from front to back.
+    /// Reads from place `at` on what the system returns in one call: no bytes only at the file's
+    /// end or after it, or where `into` is empty. It seeks only where the last read didn't end at
+    /// the place, so a pipe can be read from front to back.
     pub fn read_at(&mut self, at: u64, into: &mut [u8]) -> io::Result<usize>
         ensures { IfOk result (λ count. count ≤ length into.new) }
     {
@@ -31,9 +31,9 @@ impl<F: Read + Seek> Reader<F> {
         Ok(count)
     }
 
-    /// Goes to a place, or answers `false` for one behind the file's end that the system refuses:
-    /// it does so where no file of that file system can reach as far. A refusal of any other place
-    /// is an error.
+    /// Goes to a place, or returns `false` for one after the file's end that the system refuses: it
+    /// does so where no file of that file system can reach as far. A refusal of any other place is
+    /// an error.
     fn go(&mut self, at: u64) -> io::Result<bool> {
         match self.file.seek(SeekFrom::Start(at)) {
             Ok(place) => {

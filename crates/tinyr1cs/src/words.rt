@@ -1,4 +1,4 @@
-//! The words behind the program's name.
+//! The words after the program's name.
 use std::alloc::Global;
 use std::env::{Env, FillError};
 use std::{env, io};
@@ -29,7 +29,7 @@ impl<R: AllocGlobal> Alloc for AfterName<'_, R> {
     }
 }
 
-/// Copies the words. One that isn't UTF-8 is an error, and so is want of memory.
+/// Copies the words. One that isn't UTF-8 is an error, and so is an allocation failure.
 pub fn collect<R: Env + AllocGlobal>(rt: &R) -> io::Result<Vec<String>> {
     Ok(env::args(&AfterName(rt))?.collect(rt.alloc())?)
 }

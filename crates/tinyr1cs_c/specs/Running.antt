@@ -34,7 +34,7 @@ pub record Commands (words : List (List ℕ)) (count : ℕ) (old new : Outside) 
   pub shrink : OnShrink words old new status
   pub listing : OnListing words old new status
 
--- a command ran on the session's words and files; its line is what it said, and there are no words for the next one
+-- a command ran on the session's words and files; its line is what it printed, and there are no words for the next one
 pub record Ran (old new : Session) (status : Status) : Type 0 where
   pub command : Commands (words old) (length old.words.items) (outside old) (outside new) status
   pub words : words new ≡ []

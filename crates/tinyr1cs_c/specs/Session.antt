@@ -6,7 +6,7 @@ use Rattle.tinyr1cs_c.specs.declared.session.Session.{Session}
 use Rattle.tinyr1cs_c.specs.declared.answer.Answer.TheVariants.{Done, Memory, NotUtf8, Short, Absent}
 use Rattle.tinyr1cs_c.specs.Answer.{code_of}
 
--- all that is outside of a command: its files, what was said, and the counts
+-- all that is outside of a command: its files, what was printed, and the counts
 abbrev pub outside : Session → Outside
 outside session = told_by session.files
 
@@ -18,11 +18,11 @@ files session = names_of session.files
 abbrev pub words : Session → List (List ℕ)
 words session = map string_bytes session.words.items
 
--- what was said by the last command
+-- what was printed by the last command
 abbrev pub line : Session → List ℕ
 line session = drop session.line_at (said_of session.files)
 
--- no files, no words, and nothing said
+-- no files, no words, and nothing printed
 pub record IsNew (session : Session) : Type 0 where
   pub outside : outside session ≡ nothing
   pub words : words session ≡ []

@@ -1,4 +1,4 @@
-//! What the calls of the library answer, beside the statuses of the commands.
+//! What the calls of the library return, beside the statuses of the commands.
 ghost use Rattle.std.specs.Prelude.{◌≡◌};
 ghost use Rattle.tinyr1cs_c.specs.Answer.{code_of};
 
@@ -22,8 +22,8 @@ pub enum Answer {
 }
 
 impl Answer {
-    /// The number that C sees. Those of `Done`, `Memory` and `NotUtf8` are the program's exit
-    /// codes.
+    /// Returns the number that C sees. Those of `Done`, `Memory` and `NotUtf8` are the program's
+    /// exit codes.
     pub fn code(self) -> u32
         ensures { result ≡ code_of self }
     {

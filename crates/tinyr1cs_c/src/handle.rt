@@ -20,7 +20,7 @@ pub struct Handle {
 }
 
 impl Handle {
-    /// The handle of no session.
+    /// Returns the handle of no session.
     fn none(alloc: Global) -> Handle
         ensures { result.owner.held ≡ None }
     {

@@ -70,8 +70,8 @@ pub extern "C" fn tinyr1cs_c_word(alloc: Global, handle: &mut Handle, word: &[u8
     answer.code()
 }
 
-/// Runs the command of the words, as `command` does over the session's files, and answers its
-/// status's code. The next command has no words after it.
+/// Runs the command of the words, as `command` does over the session's files, and returns the code
+/// of its status. The next command has no words after it.
 #[unsafe(no_mangle)]
 pub extern "C" fn tinyr1cs_c_run(alloc: Global, handle: &mut Handle) -> u32
     ensures { OnSession handle.old.owner.held handle.new.owner.held result Runs }
@@ -110,7 +110,7 @@ pub extern "C" fn tinyr1cs_c_copy(
     answer.code()
 }
 
-/// Copies the line that the last command said, as `tinyr1cs_c_copy` copies a file from its first
+/// Copies the line that the last command printed, as `tinyr1cs_c_copy` copies a file from its first
 /// byte on; an empty one before the first command.
 #[unsafe(no_mangle)]
 #[tactic(auto, using(crate::proofs::Done::on_session))]

@@ -1,4 +1,4 @@
-//! The pointer behind which a session is kept, and what it owns.
+//! The pointer to a session, and what it owns.
 ghost use Rattle.std.specs.Prelude.{◌≡◌, Option, Some, None, IsTrue, is_some};
 ghost use Rattle.tinyr1cs_c.specs.declared.session.Session.{Session};
 ghost use Rattle.tinyr1cs_c.specs.Owner.{held_coded, owner_owns};
@@ -23,7 +23,7 @@ impl Model for Owner {
 }
 
 impl Owner {
-    /// The owner of no session.
+    /// Returns the owner of no session.
     pub fn none(alloc: Global) -> Owner
         ensures { result.held ≡ None }
     {
@@ -33,7 +33,7 @@ impl Owner {
         }
     }
 
-    /// The owner of the session of a box.
+    /// Returns the owner of the session of a box.
     pub fn of_parts(parts: Parts<Session, Global>) -> Owner
         ensures { result.held ≡ Some parts.value }
     {
@@ -44,7 +44,7 @@ impl Owner {
         }
     }
 
-    /// The box of the session that is owned.
+    /// Returns the box of the session that is owned.
     pub fn into_parts(self) -> Parts<Session, Global>
         requires { IsTrue (is_some self.held) }
         ensures { self.held ≡ Some result.value }

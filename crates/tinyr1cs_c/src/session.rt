@@ -9,7 +9,7 @@ use std::alloc::Global;
 use tv_files::MemFiles;
 use tv_top::{Status, command};
 
-/// Files in memory, the words of the next command, and where in all that was said the last line
+/// Files in memory, the words of the next command, and where in all that was printed the last line
 /// begins.
 #[derive(Drop)]
 pub struct Session {
@@ -19,7 +19,7 @@ pub struct Session {
 }
 
 impl Session {
-    /// No files, no words, and nothing said.
+    /// Returns a session without files or words, which has printed nothing.
     pub fn new(alloc: Global) -> Session
         ensures { IsNew result }
     {

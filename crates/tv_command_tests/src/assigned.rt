@@ -32,7 +32,7 @@ pub(crate) fn changed(
     Ok(bytes)
 }
 
-/// A witness file without its last value, so that so many are left.
+/// A witness file without its last value, so that `left` are left.
 pub(crate) fn shortened(alloc: Global, witness: &[u8], left: u32) -> Result<Vec<u8>, Fail> {
     let kept = witness
         .get(..witness.len().saturating_sub(8))

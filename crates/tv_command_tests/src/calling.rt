@@ -1,4 +1,4 @@
-//! Files in memory, and what commands answer over them.
+//! Files in memory, and what commands return over them.
 
 use std::alloc::Global;
 use std::process::Abort;
@@ -15,7 +15,7 @@ pub(crate) const WRITTEN: [&str; 6] = ["out", "system", "witness", "tape.out", "
 /// What asks whether the witness is one of the system and of the public numbers.
 pub(crate) const CHECK: &str = "check system witness public";
 
-/// What is said of words that are no command.
+/// What is printed for words that are no command.
 pub(crate) const USAGE: &str =
     "usage: asm, disasm, run, build, witness, check, extract, trial, shrink, listing\n";
 

@@ -1,4 +1,4 @@
-//! What `check` answers of files that are told byte by byte, right, malformed and cut.
+//! What `check` says of files that are written out byte by byte: right, malformed and cut.
 
 use crate::assigned::{changed, shortened};
 use crate::calling::{CHECK, says};

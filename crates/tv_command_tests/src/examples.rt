@@ -6,14 +6,14 @@ ghost use Rattle.tv_top.specs.Building.{net_word};
 ghost use Rattle.tv_top.specs.Disassembling.{width_word};
 ghost use Rattle.tv_top.specs.declared.programs.Width.TheVariants.{Bits16, Bits32};
 
-/// No further word tells Benes' network, `waksman` tells Waksman's, and another word none.
+/// No further word means Benes' network, `waksman` Waksman's, and another word none.
 pub fn a_word_tells_the_network()
     ensures none { net_word [] ≡ Some Benes }
     ensures waksman { net_word (codes "waksman" ∷ []) ≡ Some Waksman }
     ensures other { net_word (codes "Waksman" ∷ []) ≡ None }
 {}
 
-/// No further word tells words of 32 bits, `16` tells words of 16, and another word none.
+/// No further word means words of 32 bits, `16` words of 16, and another word none.
 pub fn a_word_tells_the_width()
     ensures none { width_word [] ≡ Some Bits32 }
     ensures sixteen { width_word (codes "16" ∷ []) ≡ Some Bits16 }

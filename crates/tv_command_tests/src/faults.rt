@@ -1,4 +1,4 @@
-//! A fault of each file call in turn: what the commands answer, and what the names hold then.
+//! A fault of each file call in turn: what the commands return, and what the names hold then.
 
 use crate::calling::{BEFORE, WRITTEN, call, files_of, filled};
 use crate::checks;
@@ -24,7 +24,7 @@ const READ: [&str; 9] = [
     "text", "tape", "aux", "filled", "answer", "image", "s", "w", "public",
 ];
 
-// Each command, and the words whose faults are told as one call after another fails.
+// Each command, and the words whose faults are reported as one call after another fails.
 const CALLS: [(&str, &[u64]); 10] = [
     (ASM, &[1, 2]),
     ("disasm image out", &[1, 2]),
@@ -62,7 +62,7 @@ fn are_kept(rt: &impl Abort, files: &MemFiles, whole: &MemFiles, words: &str, nu
 }
 
 // Sees what is left where the call with this number fails, given the files that these words leave
-// where none does; and tells the word of the fault.
+// where none does; and returns the word of the fault.
 fn fails(
     rt: &impl Abort,
     alloc: Global,
@@ -89,7 +89,7 @@ fn fails(
     Ok(word)
 }
 
-// Sees that each call in turn fails for these words, and that these words are told.
+// Sees that each call in turn fails for these words, and that these words are reported.
 fn all_fail(
     rt: &impl Abort,
     alloc: Global,
@@ -146,9 +146,9 @@ fn a_system_is_written_in_pieces(rt: HostRuntime) -> Result<(), Fail> {
     Ok(())
 }
 
-// How many calls a command makes: a file is read until a read gives nothing. The 1,025 instructions
-// of 9 bytes each in `long` are read in three pieces of 4,096 bytes at most and one of none, and
-// their image of 8,200 bytes is created and written in three.
+// How many calls a command makes: a file is read until a read returns nothing. The 1,025
+// instructions of 9 bytes each in `long` are read in three pieces of 4,096 bytes at most and one of
+// none, and their image of 8,200 bytes is created and written in three.
 const COUNTS: [(&str, u64); 4] = [
     (ASM, 4),
     ("asm long out", 4 + 1 + 3),
@@ -167,8 +167,8 @@ fn each_command_makes_this_many_calls(rt: HostRuntime) -> Result<(), Fail> {
     Ok(())
 }
 
-// A command, how many calls there are behind the one that fails, the word that is told, a name
-// with what it holds then, and what was said.
+// A command, how many calls there are after the one that fails, the word that is reported, a name
+// with what it holds then, and what was printed.
 type Row<'a> = (&'a str, u64, u64, &'a str, &'a [u8], &'a [u8]);
 
 const ROWS: [Row<'static>; 7] = [

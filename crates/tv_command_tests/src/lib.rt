@@ -1,6 +1,6 @@
 //! Tests of the commands: what `asm` and `disasm` write, rounds of `run`, `build`, `witness`,
 //! `check` and `extract` over one another's files, what `check` says of files by hand and of
-//! altered ones, what `listing` tells of them, what the commands refuse, what a fault of each file
+//! altered ones, what `listing` writes of them, what the commands refuse, what a fault of each file
 //! call of any command leaves, and what `trial` says. The files are in memory. They stand in a
 //! crate of their own, since a crate with tests is proved twice; nothing here is for callers.
 #![tactic(auto)]

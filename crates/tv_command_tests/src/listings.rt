@@ -80,7 +80,7 @@ const CASES: [Case<'static>; 8] = [
     },
 ];
 
-// Sees that the lines are written, and nothing is said.
+// Sees that the lines are written, and nothing is printed.
 fn lists(rt: &impl Abort, alloc: Global, case: Case<'_>) -> Result<(), Fail> {
     let Case {
         text,

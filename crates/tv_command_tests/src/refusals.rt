@@ -146,7 +146,7 @@ fn are_as_before(files: &MemFiles) -> bool {
             .all(|name| files.bytes_of(name) == Some(BEFORE))
 }
 
-// Sees that each of these commands is refused so, after at most so many file calls, and writes
+// Sees that each of these commands is refused so, after at most `calls` file calls, and writes
 // nothing.
 fn are_refused(rt: &impl Abort, alloc: Global, cases: &[Case<'_>], calls: u64) -> Result<(), Fail> {
     for (words, code, line) in cases {

@@ -18,8 +18,8 @@ struct Round<'a> {
     taken: &'a str,
 }
 
-// Sees that a run is told, and that it is built, filled, found right and extracted, over the
-// network that the last word tells.
+// Sees that a run is printed, and that it is built, filled, found right and extracted, over the
+// network that the last word names.
 fn goes_round(rt: &impl Abort, alloc: Global, round: Round<'_>, net: &str) -> Result<(), Fail> {
     let Round {
         text,
@@ -94,7 +94,7 @@ load.w r2, 8188
 load.w r3, 8192
 answer r2";
 
-// A jump behind the end of memory's instructions, from which the first is met again.
+// A jump after the end of memory's instructions, from which the first is met again.
 const WRAPS: &str = "cjmp 17\njmp 4294967288\nanswer 0";
 
 // The third instruction becomes `answer 0`.

@@ -5,7 +5,8 @@ use Rattle.std.specs.Prelude.{IfOk, IsErrAnd, MatchResult}
 use Rattle.tv_top.proofs.Common.{Names, Outside, OnlyWrites, Rose, Amount, Bad, Ending, Refused, Stopped, Finished, Finish, Quantity, Refusal, Stop, Fault}
 use Rattle.tv_top.proofs.Common.{Memory, Contents, Size, What, Status, words_of, MayStop, quantities_of, IsOfWords, ChangedAt, IsSaid, Answers, Content}
 use Rattle.tv_top.proofs.Common.{bytes_in, AreRead, files_with, IsCutAt, IsCutInWriting, Said, SaidPart, Ends, IsConcluded, Concludes, Writes, IsCut}
-use Rattle.tv_top.proofs.Common.{Completes, Does, ending_of, IsOneOf, IsFound, Finds, Leaves, IsQuiet, SameCounts, Named, Look, Outcome, Plan, Answer}
+use Rattle.tv_top.proofs.Common.{Completes, Does, ending_of, IsOneOf, IsFound, Finds, Leaves, IsQuiet, NoneFell, RanOut, SameCounts, Named, Look}
+use Rattle.tv_top.proofs.Common.{Outcome, Plan, Answer}
 use Rattle.tv_top.proofs.Common.{files_of, answer_of, ending_by, comes_by, writes_by, MayEnd, quantity_what, size_what, bad_status, refusal_status}
 use Rattle.tv_top.proofs.Common.{stop_status, finish_status, ending_status}
 use Rattle.tv_top.specs.declared.refusal.Bad.TheVariants as bad
@@ -16,7 +17,7 @@ use Rattle.tv_top.specs.declared.status.What.TheVariants.{Draws, Steps, TapeWord
 use Rattle.tv_check.specs.declared.verdict.Verdict.TheVariants as verdict
 use Rattle.tv_top.specs.declared.status.Status.TheVariants as status
 use Rattle.tv_step.specs.declared.end.End.TheVariants as end
-use Rattle.tv_container.proofs.Buffers.{counts_stay, counts_then}
+use Rattle.tv_container.proofs.Buffers.{counts_stay, counts_then, ran_out_since}
 use Rattle.tv_top.specs.Codes.{says}
 use Rattle.tv_top.proofs.Looking.{finds_comes, finds_wanting}
 
@@ -75,7 +76,7 @@ finish_good (finishes.Run (end.Silent steps)) = (refl, λ word e. cc)
 finish_good (finishes.Verdict verdict.Yes) = (refl, λ word e. cc)
 finish_good _ = (refl, λ word e. cc)
 
--- ---- want of memory
+-- ---- allocation failures
 
 abbrev is_memory : Status → Bool
 is_memory status.Memory = true
@@ -106,7 +107,7 @@ ending_memory (Stopped (Fault word)) e = cc
 ending_memory (Stopped Memory) e = refl
 
 memory_concluded : (ending : Ending) (words : ℕ) (old new : Outside) (result : Status) → IsConcluded ending words old new result → result ≡ status.Memory →
-    ((ending ≡ Stopped Memory) × (new.said ≡ old.said)) ⊎ Rose old.wants new.wants
+    ((ending ≡ Stopped Memory) × (new.said ≡ old.said)) ⊎ RanOut old new
 memory_concluded ending words old new result (inl answered) e = let is = ending_memory ending (sym answered.0 ∙ e) in inl (is, rw is at answered.1)
 memory_concluded ending words old new result (inr (inl fault)) e = cc
 memory_concluded ending words old new result (inr (inr memory)) e = inr memory.1
@@ -115,16 +116,34 @@ memory_concluded ending words old new result (inr (inr memory)) e = inr memory.1
 quiet_since : (old mid new : Outside) (result : Status) → SameCounts old mid → IsQuiet mid new result → IsQuiet old new result
 quiet_since old mid new result same (inl later) = inl (counts_then same later)
 quiet_since old mid new result same (inr (inl fault)) = inr (inl fault)
-quiet_since old mid new result same (inr (inr memory)) = inr (inr (memory.0, omega (arith, memory.1, same.wants)))
+quiet_since old mid new result same (inr (inr memory)) = inr (inr (memory.0, ran_out_since same memory.1))
 
--- ---- a limit on a quantity that words tell is of no file
+-- memory ran out, and then no fault was met
+ran_out_then : (old mid new : Outside) (result : Status) → RanOut old mid → NoneFell mid new → IsQuiet mid new result → result ≡ status.Memory → RanOut old new
+ran_out_then old mid new result ran_out later (inl same) e = record {
+  wants = omega (arith, ran_out.wants, later.wants);
+  read_faults = same.read_faults ∙ ran_out.read_faults;
+  write_faults = same.write_faults ∙ ran_out.write_faults;
+  say_faults = same.say_faults ∙ ran_out.say_faults;
+  absent = same.absent ∙ ran_out.absent;
+}
+ran_out_then old mid new result ran_out later (inr (inl fault)) e = let never = fault.1 in cc
+ran_out_then old mid new result ran_out later (inr (inr memory)) e = let again = memory.1 in record {
+  wants = omega (arith, ran_out.wants, later.wants);
+  read_faults = again.read_faults ∙ ran_out.read_faults;
+  write_faults = again.write_faults ∙ ran_out.write_faults;
+  say_faults = again.say_faults ∙ ran_out.say_faults;
+  absent = again.absent ∙ ran_out.absent;
+}
+
+-- ---- a limit on a quantity among the words is of no file
 
 -- no file is refused for this quantity
 abbrev IsNoSize : What → List Size → Type 0
 IsNoSize what [] = Unit {0}
 IsNoSize what (size ∷ sizes) = (what ≢ size_what size) × IsNoSize what sizes
 
--- no file is refused for a quantity that words tell
+-- no file is refused for a quantity among the words
 abbrev pub AreApart : List Amount → List Size → Type 0
 AreApart [] sizes = Unit {0}
 AreApart (amount ∷ amounts) sizes = IsNoSize (quantity_what amount.what) sizes × AreApart amounts sizes
@@ -190,14 +209,19 @@ said_since old mid new (Some bytes) same said = said ∙ ap (option_map (λ befo
 part_since : (old mid new : Outside) (says : Option (List ℕ)) → mid.said ≡ old.said → SaidPart mid new says → SaidPart old new says
 part_since old mid new says same part = (part.0, part.1, part.2, rw same at part.3)
 
-concluded_since : (ending : Ending) (words : ℕ) (old mid new : Outside) (result : Status) → mid.said ≡ old.said → old.say_faults ≤ mid.say_faults
-    → old.wants ≤ mid.wants →
+-- no count changed before something is said
+abbrev IsQuietBefore : Ending → Outside → Outside → Type 0
+IsQuietBefore ending old mid = (line : List ℕ) → says ending ≡ Some line → SameCounts old mid
+
+concluded_since : (ending : Ending) (words : ℕ) (old mid new : Outside) (result : Status) → mid.said ≡ old.said → IsQuietBefore ending old mid →
     IsConcluded ending words mid new result → IsConcluded ending words old new result
-concluded_since ending words old mid new result same faults wants (inl answered) = inl (answered.0, said_since old mid new (says ending) same answered.1)
-concluded_since ending words old mid new result same faults wants (inr (inl fault)) = inr
-    (inl (fault.0, omega (arith, fault.1), part_since old mid new (says ending) same fault.2))
-concluded_since ending words old mid new result same faults wants (inr (inr memory)) = inr
-    (inr (memory.0, omega (arith, memory.1), part_since old mid new (says ending) same memory.2))
+concluded_since ending words old mid new result same quiet (inl answered) = inl (answered.0, said_since old mid new (says ending) same answered.1)
+concluded_since ending words old mid new result same quiet (inr (inl fault)) =
+    let part = fault.2 in let counts = quiet part.0 part.2 in
+    inr (inl (fault.0, omega (arith, fault.1, counts.say_faults), part_since old mid new (says ending) same part))
+concluded_since ending words old mid new result same quiet (inr (inr memory)) =
+    let part = memory.2 in
+    inr (inr (memory.0, ran_out_since (quiet part.0 part.2) memory.1, part_since old mid new (says ending) same part))
 
 ends_answered : (answer : Answer) (words : ℕ) (files : Names) (old new : Outside) (result : Status) → new.contents ≡ files_with answer.writes (Some files) →
     AreRead answer.writes → IsConcluded answer.ending words old new result → Ends answer words files old new result
@@ -224,7 +248,7 @@ changed_whole names [] old = unchanged names old old refl
 changed_whole [] (c ∷ cs) old = refl
 changed_whole (n ∷ ns) (c ∷ cs) old = inr (bytes_in c, changed_whole ns cs _)
 
--- and the word that is told is one of a name that is written
+-- and the word that is reported is one of a name that is written
 changed_cut : (word : ℕ) (names : List Named) (contents : List Content) (old new : Option Names) → IsCutAt word (files_of names contents) old new
     → ChangedAt names old new × IsOneOf word (words_of names)
 changed_cut word names [] old new cut = absurd cut
@@ -250,7 +274,7 @@ answers_refused request words why old new result refused concludes = rw refused 
   quiet = concludes.quiet;
   wanting = λ e. elim (memory_concluded (Refused why) words old new result concludes.ended e) [
     | inl is ↦ let never = is.0 in cc
-    | inr rose ↦ inr rose
+    | inr ran_out ↦ inr ran_out
   ];
   said = (Refused why, refl, said_concluded (Refused why) words old new result concludes.ended);
   contents = concludes.contents;
@@ -298,6 +322,16 @@ found_changed names (Err stop) old = unchanged names old old refl
 same_counts : {old mid new : Outside} → mid ≡ old → SameCounts mid new → SameCounts old new
 same_counts is same = rw is at same
 
+-- counts that stayed, and then did not fall
+still_later : {old mid new : Outside} → SameCounts old mid → NoneFell mid new → NoneFell old new
+still_later same later = record {
+  read_faults = omega (arith, same.read_faults, later.read_faults);
+  write_faults = omega (arith, same.write_faults, later.write_faults);
+  say_faults = omega (arith, same.say_faults, later.say_faults);
+  wants = omega (arith, same.wants, later.wants);
+  absent = omega (arith, same.absent, later.absent);
+}
+
 -- what was found leaves all counts, but for a fault, or memory that the files wanted
 quiet_found : (found : Result Outcome Stop) (words : ℕ) (old mid after new : Outside) (result : Status) → Leaves found old mid → SameCounts mid after
     → Concludes (ending_by found) words after new result → IsQuiet old new result
@@ -306,8 +340,16 @@ quiet_found (Err (Contents b)) words old mid after new result is same concludes 
 quiet_found (Err (Fault word)) words old mid after new result is same concludes = inr
     (inl (word, (silent (Stopped (Fault word)) words after new result refl concludes.ended).0))
 quiet_found (Err Memory) words old mid after new result (inl is) same concludes = quiet_since old after new result (same_counts is same) concludes.quiet
-quiet_found (Err Memory) words old mid after new result (inr rose) same concludes =
-    inr (inr ((silent (Stopped Memory) words after new result refl concludes.ended).0, omega (arith, rose, same.wants, concludes.later.wants)))
+quiet_found (Err Memory) words old mid after new result (inr ran_out) same concludes =
+    let is = (silent (Stopped Memory) words after new result refl concludes.ended).0 in
+    inr (inr (is, ran_out_then old mid new result ran_out (still_later same concludes.later) (quiet_since mid after new result same concludes.quiet) is))
+
+-- and where something is said, it left all of them
+quiet_before : (found : Result Outcome Stop) (old mid after : Outside) → Leaves found old mid → SameCounts mid after → IsQuietBefore (ending_by found) old after
+quiet_before (Ok outcome) old mid after is same line said = same_counts is same
+quiet_before (Err (Contents b)) old mid after is same line said = same_counts is same
+quiet_before (Err (Fault word)) old mid after is same line said = cc
+quiet_before (Err Memory) old mid after is same line said = cc
 
 found_memory : (found : Result Outcome Stop) → ending_by found ≡ Stopped Memory → found ≡ Err Memory
 found_memory (Ok outcome) e = cc
@@ -319,8 +361,8 @@ answers_ended : (plan : Plan) (found : Result Outcome Stop) (words : ℕ) (old m
     Finds (λ (o : Outcome). o) (words_of plan.reads) plan.sizes plan.comes old mid found → Writes {X = Unit {0}} (writes_by plan.writes found) mid after (Ok tt)
     → Concludes (ending_by found) words after new result → Answers (Ok plan) words old new result
 answers_ended plan found words old mid after new result apart may finds writes concludes =
-    let concluded = concluded_since (ending_by found) words old after new result (writes.only.said ∙ finds.only.said) (omega arith)
-    (omega arith) concludes.ended in
+    let concluded = concluded_since (ending_by found) words old after new result (writes.only.said ∙ finds.only.said)
+    (quiet_before found old mid after finds.leaves writes.quiet) concludes.ended in
     let held : new.contents ≡ files_with (writes_by plan.writes found) old.contents = concludes.contents ∙ writes.ended.0
     ∙ ap (files_with (writes_by plan.writes found)) finds.only.contents in
     record {
@@ -339,18 +381,18 @@ answers_ended plan found words old mid after new result apart may finds writes c
       quiet = quiet_found found words old mid after new result finds.leaves writes.quiet concludes;
       wanting = λ e. elim (memory_concluded (ending_by found) words old new result concluded e) [
         | inl is ↦ inl (record { contents = held ∙ ap (λ f. files_with (writes_by plan.writes f) old.contents) (found_memory found is.0); said = is.1 })
-        | inr rose ↦ inr rose
+        | inr ran_out ↦ inr ran_out
       ];
       said = (ending_by found, found_ends plan found may finds.limits, said_concluded (ending_by found) words old new result concluded);
       contents = rw held (found_changed plan.writes found old.contents);
       later = search rules;
     }
 
--- a plan whose files were found, and writing was cut short at a word, by a fault or by want of memory
+-- a plan whose files were found, and writing was cut short at a word, by a fault or an allocation failure
 answers_cut : (plan : Plan) (outcome : Outcome) (words at : ℕ) (old mid new : Outside) (result : Status)
     → Finds (λ (o : Outcome). o) (words_of plan.reads) plan.sizes plan.comes old mid (Ok outcome) → OnlyWrites mid new →
     IsCutAt at (files_of plan.writes outcome.files) mid.contents new.contents → ((result ≡ status.FileFault at) × Rose mid.write_faults new.write_faults)
-    ⊎ ((result ≡ status.Memory) × Rose mid.wants new.wants) → Answers (Ok plan) words old new result
+    ⊎ ((result ≡ status.Memory) × RanOut mid new) → Answers (Ok plan) words old new result
 answers_cut plan outcome words at old mid new result finds only cut ended =
     let said : new.said ≡ old.said = only.said ∙ finds.only.said in
     let held : IsCutAt at (files_of plan.writes outcome.files) old.contents new.contents = rw finds.only.contents at cut in
@@ -377,13 +419,11 @@ answers_cut plan outcome words at old mid new result finds only cut ended =
       ];
       quiet = elim ended [
         | inl fault ↦ inr (inl (at, fault.0))
-        | inr memory ↦ inr
-            (inr (memory.0, let rose = memory.1 in omega (arith, rose, finds.only.later.wants)))
+        | inr memory ↦ inr (inr (memory.0, rw finds.leaves at memory.1))
       ];
       wanting = λ e. elim ended [
         | inl fault ↦ (let is = fault.0 in cc)
-        | inr memory ↦ inr
-            (let rose = memory.1 in omega (arith, rose, finds.only.later.wants))
+        | inr memory ↦ inr (rw finds.leaves at memory.1)
       ];
       said = elim ended [ inl fault ↦ (Stopped (Fault at), tt, inl (fault.0, said)) | inr memory ↦ (Stopped Memory, tt, inl (memory.0, said)) ];
       contents = (changed_cut at plan.writes outcome.files old.contents new.contents held).0;
@@ -414,10 +454,10 @@ answers_halted plan outcome (Fault at) words old mid after new result apart find
     let nothing = silent (Stopped (Fault at)) words after new result refl concludes.ended in
     answers_cut plan outcome words at old mid new result finds (only_since (Stopped (Fault at)) words mid after new result nothing.1 only concludes)
     (rw concludes.contents cut.0) (inl (nothing.0, omega (arith, cut.1, concludes.later.write_faults)))
-answers_halted plan outcome Memory words old mid after new result apart finds only (at, cut, rose) concludes =
+answers_halted plan outcome Memory words old mid after new result apart finds only (at, cut, ran_out) concludes =
     let nothing = silent (Stopped Memory) words after new result refl concludes.ended in
     answers_cut plan outcome words at old mid new result finds (only_since (Stopped Memory) words mid after new result nothing.1 only concludes)
-    (rw concludes.contents cut) (inr (nothing.0, omega (arith, rose, concludes.later.wants)))
+    (rw concludes.contents cut) (inr (nothing.0, ran_out_then mid after new result ran_out concludes.later concludes.quiet nothing.0))
 answers_halted plan outcome (Contents bad) words old mid after new result apart finds only cut concludes = absurd cut
 
 -- a plan was carried out, and the line of its end said
@@ -441,7 +481,7 @@ answers_done plan (Err stop) words old after new result apart (inr (outcome, mid
           (rw (memory, wanting.1) at concludes)
     ]
 
--- ---- what a command does, whose plan comes to this of what was found
+-- ---- what a command does, whose plan leads to this by what was found
 
 -- a look was refused, and `?` passes that on
 pub does_stopped : {X A : Type 0} (plan : Plan) (view : X → A) (ends : A → Outcome) (due : Names → Look A) (stop : Stop) (old new : Outside)
@@ -489,7 +529,7 @@ pub completes_wanting : (places : List Named) (outcome : Outcome) (outside : Out
 completes_wanting places outcome outside (Ok finish) is = absurd is
 completes_wanting places outcome outside (Err stop) is = completes_nothing places outcome (Err stop) outside is
 
--- an outcome may be told in other words
+-- an outcome may be written in another way
 pub completes_as : (places : List Named) (outcome other : Outcome) (old new : Outside) (result : Result Finish Stop) → outcome ≡ other
     → Completes places other old new result → Completes places outcome old new result
 completes_as places outcome other old new result is completes = rw is completes

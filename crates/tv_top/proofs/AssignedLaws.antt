@@ -1,4 +1,4 @@
--- What an assignment that was read comes to: a run, or why it has none.
+-- What is found of an assignment that was read: a run, or why it has none.
 use Rattle.std.proofs.Common.{◌≡◌, ◌<◌, ◌≤◌, ◌==◌, ℕ, max, Bool, true, false, List, length, Result, Ok, Err, inl, inr, refl, sym, ap, arith}
 use Rattle.std.proofs.lemmas.Bool.{eqb-true, eq-eqb, eqb-false, ne_eqb}
 use Rattle.std.proofs.lemmas.List.{take_all}
@@ -21,10 +21,10 @@ use Rattle.tv_top.specs.Containers.{firsts_in_witness, witness_bad, witness_in}
 use Rattle.tv_top.specs.Assigned.{Assigned, Kept, assigned_by, assigned_of, assigned_run, kept_of, kept_run, not_run, run_ends, HasAssigned}
 use Rattle.tv_top.proofs.Answering.{completes_nothing}
 use Rattle.tv_top.proofs.ContainerReads.{part_held}
-use Rattle.tv_top.proofs.Claiming.{Shows, if_ok, shows_input, shows_then, shows_made, shows_more}
+use Rattle.tv_top.proofs.Claiming.{IsHeld, if_ok, shows_input, shows_then, shows_made, shows_more}
 use Rattle.tv_top.proofs.ProgramLaws.{has_image, within_limits}
 
--- it ends as a run does, or tells that there is none
+-- it ends as a run does, or says that there is none
 pub ends_in : (kind : Finish → Bool) (run : Run → Outcome) → ((one : Run) → kind (run one).finish ≡ true) → ((why : NotRun) → kind (NotARun why) ≡ true)
     → (found : Result Run NotRun) → kind (run_ends run found).finish ≡ true
 ends_in kind run tells none (Ok one) = tells one
@@ -63,7 +63,7 @@ kept_ran net n t kept run is = by_count (kept.first.count == wires_of net n t ke
     by_count true e = rw e at is
     by_count false e = let never : Err (WireCount kept.first.count (wires_of net n t kept.program)) ≡ Ok run = rw e at is in cc
 
--- what a command comes to by what it writes of an assignment and its run, by all values and by those that are kept
+-- how a command ends by what it writes of an assignment and its run, by all values and by those that are kept
 abbrev pub ends_by_all : (Assigned → Run → Outcome) → Net → ℕ → ℕ → Assigned → Outcome
 ends_by_all f net n t assigned = run_ends (f assigned) (assigned_run net n t assigned)
 
@@ -126,7 +126,7 @@ assigned_fits n t files text witness assigned few some most (inl (program, holds
 assigned_fits n t files text witness assigned few some most (inr (bad, refused, e)) = cc
 
 pub assigned_shown : (net : Net) (files : Names) (text : List ℕ) (n t : ℕ) (witness : List ℕ) → n ≤ TAPE_WORDS → 0 < t → t ≤ STEPS
-    → Shows (assigned_of (name_at 1 text) (name_at 4 witness) files).gives (HasAssigned net files text n t witness)
+    → IsHeld (assigned_of (name_at 1 text) (name_at 4 witness) files).gives (HasAssigned net files text n t witness)
 unfolding assigned_of assigned_run program_system
 assigned_shown net files text n t witness few some most =
     shows_more _ _ _
@@ -141,4 +141,3 @@ assigned_shown net files text n t witness few some most =
       satisfying = if_ok held _ (λ assigned is sat. satisfying_have_runs (bits assigned.program.width) net assigned.program.words assigned.z n t
           (assigned_fits n t files text witness assigned few some most (rw is at has)) sat);
     })
-    (λ held has. has.holds)

@@ -19,4 +19,4 @@ builds words count old new result answers text first second system last net n t 
           (within_limits program n t (has_image (files text) program (rw is at holds)) few (omega arith) most));
       normal = if_ok held _ (λ program is. system_normal (bits program.width) net program.words n t
           (within_limits program n t (has_image (files text) program (rw is at holds)) few (omega arith) most));
-    }) (λ held has. has.holds))
+    }))

@@ -27,7 +27,7 @@ use Rattle.tv_top.specs.Plan.{Named, name_at, Look, ◌>>=◌, look_on, held_at,
 use Rattle.tv_top.specs.Tapes.{publics_in, tape_sizes}
 use Rattle.tv_top.proofs.ContainerReads.{part_held, read_of}
 use Rattle.tv_top.proofs.Looking.{finds_as}
-use Rattle.tv_top.proofs.Claiming.{Promises, Shows, comes, made_is, shows_input, shows_then}
+use Rattle.tv_top.proofs.Claiming.{Promises, IsHeld, comes, made_is, shows_input, shows_then}
 
 -- ---- reading the system twice, and as many values as wires, is reading each once and whole
 
@@ -47,7 +47,7 @@ check_twice system witness tape files = do
   x ← input tape (publics_in tape.word) files
   check_last system counts.wires first x files
 
--- the last of these, from what the system comes to once more
+-- the last of these, from what is found of the system once more
 abbrev counted : ℕ → Result Counts Stop → Result Verdict Stop → ℕ → Firsts → Look Verdict
 counted a counts again wires first =
     if first.count == wires then record { at = a; gives = again } else look_on a counts (λ counts. settled (Ok (WireCount first.count wires)))
@@ -58,7 +58,7 @@ by_count : (a : ℕ) (s : System) (z x : List ℕ) (same : Bool) → (length z =
 by_count a s z x true e = rw (take_all s.wires z (omega (arith, eqb-true (length z) s.wires e)), e) refl
 by_count a s z x false e = let last : max a 0 ≡ a = omega arith in rw (e, last) refl
 
--- each look at a part of what a file holds gives that part
+-- each look at a part of what a file holds finds that part
 by_parts : (a b c : ℕ) (s : Result System Stop) (z x : Result (List ℕ) Stop) (all : Result Counts Stop) (first : ℕ → Result Firsts Stop)
     (again : List ℕ → List ℕ → Result Verdict Stop) →
     all ≡ map_ok system_counts s → ((most : ℕ) → first most ≡ map_ok (firsts_of most) z) → ((z x : List ℕ) → again z x ≡ map_ok (λ s. judge s z x) s) →
@@ -113,26 +113,22 @@ finds_once system witness tape old new found finds =
 
 -- ---- verdicts
 
--- each verdict comes exactly where what it tells is so
+-- each verdict comes exactly where what it says is so
 judged_exactly : (s : System) (z x : List ℕ) (verdict : Verdict) → HasRoom s → All (λ v. v < P) z → (judge s z x ≡ verdict) ↔ Tells verdict s z x
 judged_exactly s z x Yes room below = yes_exactly s z x room below
 judged_exactly s z x other room below = no_exactly s z x other (λ e. cc)
 
 -- ---- the claim
 
-verdict_shown : (s : System) (z x : List ℕ) → HasRoom s → All (λ v. v < P) z → Shows (Ok (judge s z x)) (IsJudged s z x)
-verdict_shown s z x room below = record {
-  held = λ held e. record {
-    verdict = judge s z x;
-    is = sym (made_is (Ok (judge s z x)) held e);
-    tells = (judged_exactly s z x (judge s z x) room below).0 refl;
-  };
-  one = λ one other a b. a.is ∙ ap (λ verdict. Ok verdict)
-      (sym ((judged_exactly s z x a.verdict room below).1 a.tells) ∙ (judged_exactly s z x b.verdict room below).1 b.tells) ∙ sym b.is;
+verdict_shown : (s : System) (z x : List ℕ) → HasRoom s → All (λ v. v < P) z → IsHeld (Ok (judge s z x)) (IsJudged s z x)
+verdict_shown s z x room below held e = record {
+  verdict = judge s z x;
+  is = sym (made_is (Ok (judge s z x)) held e);
+  tells = λ other. judged_exactly s z x other room below;
 }
 
 all_shown : (system witness tape : List ℕ) (files : Names)
-    → Shows (check_of (name_at 1 system) (name_at 2 witness) (name_at 3 tape) files).gives (HasVerdict files system witness tape)
+    → IsHeld (check_of (name_at 1 system) (name_at 2 witness) (name_at 3 tape) files).gives (HasVerdict files system witness tape)
 unfolding check_of
 all_shown system witness tape files =
     shows_then (input (name_at 1 system) system_in files)

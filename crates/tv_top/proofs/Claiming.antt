@@ -4,7 +4,7 @@ use Rattle.std.specs.Prelude.{IfOk}
 use Rattle.std.proofs.lemmas.Bool.{le-ltb, false_from_ne_true}
 use Rattle.std.proofs.lemmas.Slice.Eq.{bytes_eq-Decides}
 use Rattle.std.specs.Str.{bytes_eq}
-use Rattle.tv_top.proofs.Common.{Names, Outside, Amount, Bad, Stop, Fault, Memory, Contents, Status, Answers, IsStopped, Holds, Then, status_by, Answered}
+use Rattle.tv_top.proofs.Common.{Names, Outside, Amount, Bad, Stop, Fault, Memory, Contents, Status, Answers, IsStopped, Holds, Then, Answered}
 use Rattle.tv_top.proofs.Common.{Comes, IsAnswered, Ends, Named, Plan, Look, Outcome, AreWithin, ◌>>=◌, held_at, input, made_of, comes_by, answer_by}
 use Rattle.tv_top.proofs.Common.{answer_of, same_in, same_of, limit_of, request_of}
 use Rattle.tv_top.specs.declared.status.Status.TheVariants as status
@@ -27,28 +27,14 @@ due_or_stopped plan words files old new result answers (inr (inr (inl wrote))) =
 due_or_stopped plan words files old new result answers (inr (inr (inr (inl said)))) = inr (stopped_by plan words old new result words answers said.0)
 due_or_stopped plan words files old new result answers (inr (inr (inr (inr wanting)))) = inr (inr wanting.0)
 
--- whatever a look gives, this is so of it
+-- whatever a look finds, this is so of it
 abbrev pub IsHeld : {A : Type 0} → Result A Stop → (Result A Bad → Type 0) → Type 0
 IsHeld {A} gives Held = (held : Result A Bad) → gives ≡ made_of held → Held held
-
--- it is so of one thing alone
-abbrev pub IsOne : {A : Type 0} → (Result A Bad → Type 0) → Type 0
-IsOne {A} Held = (one other : Result A Bad) → Held one → Held other → one ≡ other
-
--- it is so of what a look gives, and of one thing alone
-pub record Shows {A : Type 0} (gives : Result A Stop) (Held : Result A Bad → Type 0) : Type 0 where
-  pub held : IsHeld gives Held
-  pub one : IsOne Held
-
--- how a call ended, by what is so of what was found
-abbrev Ended : {A : Type 0} → List Named → (A → Outcome) → (Result A Bad → Type 0) → Names → Outside → Outside → Status → Type 0
-Ended {A} places ends Held files old new result =
-    Answered places ends Held files old new result ⊎ IsStopped places old new result
 
 ended_by : {A : Type 0} (plan : Plan) (ends : A → Outcome) (look : Look A) (gives : Result A Stop) (Held : Result A Bad → Type 0) (words : ℕ) (files : Names)
     (old new : Outside) (result : Status) → look.gives ≡ gives →
     Answers (Ok plan) words old new result → IsHeld gives Held → IsAnswered (answer_by plan.writes (comes_by ends look)) files old new result
-    → Ended plan.writes ends Held files old new result
+    → Comes plan.writes ends Held files old new result
 ended_by plan ends look (Ok x) Held words files old new result is answers holds answered = let due = rw is at answered in
     inl (record { held = Ok x; is = holds (Ok x) refl; status = due.status; contents = due.contents; read = due.read; said = due.said })
 ended_by plan ends look (Err (Contents bad)) Held words files old new result is answers holds answered = let due = rw is at answered in
@@ -56,13 +42,6 @@ ended_by plan ends look (Err (Contents bad)) Held words files old new result is 
 ended_by plan ends look (Err (Fault word)) Held words files old new result is answers holds answered = let due = rw is at answered in
     inr (stopped_by plan words old new result word answers due.status)
 ended_by plan ends look (Err Memory) Held words files old new result is answers holds answered = let due = rw is at answered in inr (inr due.status)
-
--- each answer comes exactly where it is due
-exactly : {A : Type 0} (places : List Named) (ends : A → Outcome) (Held : Result A Bad → Type 0) (files : Names) (old new : Outside) (result : Status)
-    → IsOne Held → Ended places ends Held files old new result →
-    (held : Result A Bad) → Held held → (result ≡ status_by ends held) ⊎ IsStopped places old new result
-exactly places ends Held files old new result one (inl answered) held has = inl (answered.status ∙ ap (status_by ends) (one answered.held held answered.is has))
-exactly places ends Held files old new result one (inr stopped) held has = inr stopped
 
 -- ---- looks
 
@@ -72,7 +51,7 @@ made_is (Ok x) (Err bad) e = cc
 made_is (Err bad) (Ok y) e = cc
 made_is (Err bad) (Err other) e = cc
 
--- a look that wasn't refused for contents doesn't come to contents
+-- a look that wasn't refused for contents isn't stopped by contents
 not_stopped : {B : Type 0} (held : Result B Bad) (stop : Stop) → Err stop ≡ made_of held → (bad : Bad) × (stop ≡ Contents bad) × (held ≡ Err bad)
 not_stopped (Ok y) stop e = cc
 not_stopped (Err bad) stop e = (bad, cc, refl)
@@ -89,46 +68,24 @@ held_then look (Ok x) f First Second is first second held e = let has = first (O
 held_then look (Err stop) f First Second is first second held e = let bad = not_stopped held stop (rw is at e) in
     inr (bad.0, first (Err bad.0) (ap Err bad.1), bad.2)
 
--- ---- files hold one thing
-
-one_holds : {A : Type 0} (read : List ℕ → Result A Bad) (file : Option (List ℕ)) → IsOne (Holds read file)
-one_holds read file one other a b = let there = a.there in let also = b.there in let same : a.bytes ≡ b.bytes = cc in sym a.reads ∙ ap read same ∙ b.reads
-
-one_then : {A B : Type 0} (First : Result A Bad → Type 0) (Second : A → Result B Bad → Type 0) → IsOne First → ((x : A) → First (Ok x) → IsOne (Second x))
-    → IsOne (Then First Second)
-one_then First Second first second one other (inl (x, is, on)) (inl (y, also, next)) = let e = first (Ok x) (Ok y) is also in let same : y ≡ x = cc in
-    second x is one other on (rw same at next)
-one_then First Second first second one other (inl (x, is, on)) (inr (bad, also, next)) = let e = first (Ok x) (Err bad) is also in cc
-one_then First Second first second one other (inr (bad, is, on)) (inl (y, also, next)) = let e = first (Err bad) (Ok y) is also in cc
-one_then First Second first second one other (inr (bad, is, on)) (inr (why, also, next)) = let e = first (Err bad) (Err why) is also in cc
-
--- ---- both
-
 -- what is read of a file is what it holds
 pub shows_input : {A : Type 0} (place : Named) (read : List ℕ → Result A Bad) (files : Names)
-    → Shows (input place read files).gives (Holds read (files place.name))
+    → IsHeld (input place read files).gives (Holds read (files place.name))
 unfolding input
-shows_input place read files = record { held = file_held place.word read (files place.name); one = one_holds read (files place.name) }
+shows_input place read files = file_held place.word read (files place.name)
 
-pub shows_then : {A B : Type 0} (look : Look A) (f : A → Look B) (First : Result A Bad → Type 0) (Second : A → Result B Bad → Type 0) → Shows look.gives First
-    → ((x : A) → First (Ok x) → Shows (f x).gives (Second x)) → Shows (look >>= f).gives (Then First Second)
-shows_then look f First Second first second =
-    record {
-      held = held_then look look.gives f First Second refl first.held (λ x is. (second x is).held);
-      one = one_then First Second first.one (λ x is. (second x is).one);
-    }
+pub shows_then : {A B : Type 0} (look : Look A) (f : A → Look B) (First : Result A Bad → Type 0) (Second : A → Result B Bad → Type 0) → IsHeld look.gives First
+    → ((x : A) → First (Ok x) → IsHeld (f x).gives (Second x)) → IsHeld (look >>= f).gives (Then First Second)
+shows_then look f First Second first second = held_then look look.gives f First Second refl first second
 
--- what is so of it tells more, and no more things
-pub shows_more : {A : Type 0} (gives : Result A Stop) (First Held : Result A Bad → Type 0) → Shows gives First
-    → ((held : Result A Bad) → First held → Held held) → ((held : Result A Bad) → Held held → First held) → Shows gives Held
-shows_more gives First Held first to from = record {
-  held = λ held e. to held (first.held held e);
-  one = λ one other a b. first.one one other (from one a) (from other b);
-}
+-- what is so of it implies more
+pub shows_more : {A : Type 0} (gives : Result A Stop) (First Held : Result A Bad → Type 0) → IsHeld gives First
+    → ((held : Result A Bad) → First held → Held held) → IsHeld gives Held
+shows_more gives First Held first to held e = to held (first held e)
 
 -- what is made of what files hold
-pub shows_made : {A : Type 0} (made : Result A Bad) → Shows (made_of made) (λ held. held ≡ made)
-shows_made made = record { held = λ held e. sym (made_is made held e); one = λ one other a b. a ∙ sym b }
+pub shows_made : {A : Type 0} (made : Result A Bad) → IsHeld (made_of made) (λ held. held ≡ made)
+shows_made made held e = sym (made_is made held e)
 
 -- ---- words that are granted
 
@@ -165,19 +122,18 @@ granted plan words count old new result has other within asked = rw (has, other_
 
 -- ---- any command
 
--- words that have the form of a plan, which isn't refused, come to what its look gives
+-- words that have the form of a plan, which isn't refused, end as its look finds
 pub comes : {A : Type 0} (plan : Plan) (ends : A → Outcome) (look : Names → Look A) (Held : Result A Bad → Type 0) (words : List (List ℕ)) (count : ℕ)
     (files : Names) (old new : Outside) (result : Status) →
     form words ≡ Some plan → AreOther plan.reads plan.writes → AreWithin plan.amounts → plan.comes ≡ (λ files. comes_by ends (look files))
     → old.contents ≡ Some files →
-    Answers (request_of (form words)) count old new result → Shows (look files).gives Held → Comes plan.writes ends Held files old new result
+    Answers (request_of (form words)) count old new result → IsHeld (look files).gives Held → Comes plan.writes ends Held files old new result
 comes plan ends look Held words count files old new result has other within is told asked shows =
     let answers = granted plan words count old new result has other within asked in
-    let ended : Ended plan.writes ends Held files old new result = elim (due_or_stopped plan count files old new result answers (answers.ends files told)) [
-      | inl answered ↦ ended_by plan ends (look files) (look files).gives Held count files old new result refl answers shows.held (rw is at answered)
+    elim (due_or_stopped plan count files old new result answers (answers.ends files told)) [
+      | inl answered ↦ ended_by plan ends (look files) (look files).gives Held count files old new result refl answers shows (rw is at answered)
       | inr stopped ↦ inr stopped
-    ] in
-    record { ended = ended; exactly = exactly plan.writes ends Held files old new result shows.one ended }
+    ]
 
 -- what a clause of a command says comes of what every call promises
 abbrev pub Promises : (List (List ℕ) → Outside → Outside → Status → Type 0) → Type 0

@@ -1,5 +1,5 @@
 -- The names that most proofs here cite, passed on from one place. Declares nothing.
-pub use Rattle.tv_files.specs.Outside.{Names, Outside, OnlyWrites, OnlyReads, MissesOnly, SameCounts}
+pub use Rattle.tv_files.specs.Outside.{Names, Outside, OnlyWrites, OnlyReads, MissesOnly, NoneFell, RanOut, SameCounts}
 pub use Rattle.tv_word.specs.Counts.{Rose}
 pub use Rattle.tv_top.specs.declared.amount.Amount.{Amount}
 pub use Rattle.tv_top.specs.declared.refusal.Bad.{Bad}

@@ -102,7 +102,7 @@ finds_read view place bad read old new result none gives looks missing =
       read_caused why old new stopped.leaves,
     )) (λ file there. read_told view place.word bad (read file) result (gives file there)) looks missing
 
--- what a container comes to that isn't refused
+-- what is found of a container that isn't refused
 pub read_of : {A : Type 0} (bad : Fault → Bad) (read : Result A Fault) (x : A) → container_result bad read ≡ Ok x → read ≡ Ok x
 read_of bad (Ok found) x is = cc
 read_of bad (Err fault) x is = cc

@@ -2,10 +2,10 @@
 use Rattle.std.proofs.Common.{ℕ, List, Ok}
 use Rattle.tv_top.proofs.Common.{Names, name_at, ◌>>=◌, input, settled, bits, program_in}
 use Rattle.tv_top.specs.Inputs.{primary_in, aux_in, inputs_of, HasInputs}
-use Rattle.tv_top.proofs.Claiming.{Shows, shows_input, shows_then, shows_made}
+use Rattle.tv_top.proofs.Claiming.{IsHeld, shows_input, shows_then, shows_made}
 
 pub inputs_shown : (text tape aux : List ℕ) (files : Names)
-    → Shows (inputs_of (name_at 1 text) (name_at 2 tape) (name_at 3 aux) files).gives (HasInputs files text tape aux)
+    → IsHeld (inputs_of (name_at 1 text) (name_at 2 tape) (name_at 3 aux) files).gives (HasInputs files text tape aux)
 unfolding inputs_of
 inputs_shown text tape aux files =
     shows_then (input (name_at 1 text) program_in files)

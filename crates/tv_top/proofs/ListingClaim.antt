@@ -21,4 +21,4 @@ lists words count old new result answers text first second witness order out by 
       satisfying = if_ok held _ (λ assigned is sat.
           satisfying_are_listed (bits assigned.program.width) Benes assigned.program.words assigned.z n t
           (assigned_fits n t files text witness assigned few some most (rw is at has.holds)) sat);
-    }) (λ held has. has.assigned))
+    }))

@@ -58,7 +58,7 @@ finds_stop view to some more few many due f old new stop one = record {
 
 -- ---- a look of several, each followed by `?`
 
--- the first that is refused is what all of them come to
+-- the first that is refused is what all of them find
 pub finds_short : {X A Y B : Type 0} {view : X → A} {to : Y → B} {some : List ℕ} {few : List Size} {due : Names → Look A} {old new : Outside} {stop : Stop}
     (more : List ℕ) (many : List Size) (f : Names → A → Look B) (found : Result Y Stop) →
     IsErrAnd found (λ e. e ≡ stop) → Finds view some few due old new (Err stop)
@@ -66,7 +66,7 @@ pub finds_short : {X A Y B : Type 0} {view : X → A} {to : Y → B} {some : Lis
 finds_short more many f (Ok y) same one = absurd same
 finds_short more many f (Err other) same one = rw same (finds_stop _ _ _ _ _ _ _ _ _ _ _ one)
 
--- after one that gives something is found what the others come to
+-- after one that finds something, what the others find
 pub finds_on : {X A Y B : Type 0} {view : X → A} {to : Y → B} {some more : List ℕ} {few many : List Size} {due : Names
     → Look A} {old mid new : Outside} {x : X} {found : Result Y Stop} (f : Names → A → Look B) →
     Finds view some few due old mid (Ok x) → Finds to more many (λ files. f files (view x)) mid new found
@@ -99,7 +99,7 @@ finds_still is = record {
   limits = λ what has most e. cc;
 }
 
--- a look that comes to the same
+-- a look that finds the same
 pub finds_as : {X A : Type 0} {view : X → A} {words : List ℕ} {sizes : List Size} {due other : Names → Look A} {old new : Outside} {found : Result X Stop}
     → ((files : Names) → due files ≡ other files) →
     Finds view words sizes other old new found → Finds view words sizes due old new found
@@ -143,7 +143,7 @@ leaves_made view held (Err (Contents why)) old new makes same = same
 leaves_made view held (Err (Fault word)) old new makes same = tt
 leaves_made view held (Err Memory) old new makes same = inl same
 
--- of a file that may have so many bytes what its bytes come to
+-- of a file that may have this many bytes, what is found of its bytes
 limited_is : {A : Type 0} (word : ℕ) (what : Size) (most : ℕ) (f : List ℕ → Result A Bad) (file : Option (List ℕ)) (bytes text : List ℕ) → text ≡ bytes
     → held_at word (within what most (λ bytes. Ok bytes)) file ≡ Ok bytes →
     held_at word (within what most f) file ≡ made_of (f text)
@@ -153,7 +153,7 @@ limited_is word what most f (Some held) bytes text is e =
     (λ read. made_of read ≡ Ok bytes → held_at word (within what most f) (Some held) ≡ made_of (f text))
     (λ fits e. let same : held ≡ text = cc in rw (fits, same) refl) (λ _ e. cc) e
 
--- what was made of a file of so many bytes
+-- what was made of a file of this many bytes
 pub made_found : {X Y A : Type 0} (view : X → A) (of_read : Y → List ℕ) (place : Named) (what : Size) (sizes : List Size) (most : ℕ) (f : List ℕ → Result A Bad)
     (read : Y) (text : List ℕ) (made : Result X Stop) (old new : Outside) →
     Finds of_read (place.word ∷ []) (what ∷ []) (input place (within what most (λ bytes. Ok bytes))) old new (Ok read) → text ≡ of_read read
@@ -221,7 +221,7 @@ finds_wanting view other words sizes due found old new (Ok y) is finds = absurd 
 finds_wanting view other words sizes due found old new (Err stop) is finds = rw is
     (record { told = λ _ _. tt; absent = finds.absent; only = finds.only; leaves = inl finds.leaves; caused = λ word e. cc; limits = λ what has most e. cc })
 
--- ---- what a command comes to by what was found
+-- ---- how a command ends by what was found
 
 told_comes : {X A : Type 0} (view : X → A) (f : A → Outcome) (due : Look A) (found : Result X Stop) → IsFound view due found
     → IsFound (λ (o : Outcome). o) (comes_by f due) (map_ok (λ x. f (view x)) found)

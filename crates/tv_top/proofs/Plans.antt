@@ -1,4 +1,4 @@
--- No file that a plan reads holds a quantity that its words tell.
+-- No file that a plan reads holds a quantity that is among its words.
 use Rattle.std.proofs.Common.{ℕ, [], ◌∷◌}
 use Rattle.tv_core.specs.declared.limits.TheConstants.{STEPS}
 use Rattle.tv_top.specs.declared.job.Job.{Job}

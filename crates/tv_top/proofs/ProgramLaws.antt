@@ -1,4 +1,4 @@
--- What holds of a program and of tapes that files hold, and of quantities that words tell.
+-- What holds of a program and of tapes that files hold, and of quantities among words.
 use Rattle.std.proofs.Common.{◌≡◌, ◌≤◌, ◌^◌, ℕ, ◌+◌, nat_le, List, [], ◌∷◌, length, Option, Some, None, option_map, Result, Ok, Err, inl, inr, refl, arith}
 use Rattle.std.specs.List.{find}
 use Rattle.std.specs.Option.{option_or}
@@ -27,7 +27,7 @@ pub is_width : (width : Width) → IsWidth (bits width)
 is_width Bits16 = inl refl
 is_width Bits32 = inr refl
 
--- what comes of a file that may have so many bytes comes of its bytes
+-- what is found of a file that may have this many bytes is found of its bytes
 pub within_ok : {A : Type 0} (what : Size) (most : ℕ) (read : List ℕ → Result A Bad) (bytes : List ℕ) (x : A) → within what most read bytes ≡ Ok x
     → read bytes ≡ Ok x
 within_ok what most read bytes x e =

@@ -1,4 +1,4 @@
--- The bytes that spell a word of 16 bits are the first of those that spell it in 32.
+-- The bytes of a word of 16 bits are the first of those that it has in 32.
 use Rattle.std.proofs.Common.{◌≡◌, ◌/◌, ℕ, take, refl}
 use Rattle.tv_word.specs.Word.{word_bytes}
 use Rattle.tv_top.proofs.Common.{Width, Bits16, Bits32, bits}

@@ -2,7 +2,7 @@
 use Rattle.std.proofs.Common.{◌≡◌, ℕ, List, [], ◌∷◌, option_map, Result, Ok, Err, inl, inr, refl, ap, ◌∙◌, arith, rules}
 use Rattle.std.specs.List.{range_with_len}
 use Rattle.std.specs.Prelude.{OnOk, MatchResult}
-use Rattle.tv_container.proofs.Buffers.{counts_then}
+use Rattle.tv_container.proofs.Buffers.{counts_then, ran_out_since}
 use Rattle.tv_container.proofs.Streamed.{not_created}
 use Rattle.tv_container.specs.Written.{IsStreamed, NotCreated}
 use Rattle.tv_core.specs.Constraints.{System}
@@ -49,7 +49,7 @@ writes_next {Y} w ws old mid new done result one rest =
     ended ws (Ok x) is = (is.0 ∙ ap (files_with ws) one.ended.0, (one.ended.1.0, is.1))
     ended ws (Err (Contents bad)) is = absurd is
     ended ws (Err (Fault at)) is = (inr (rw one.ended.0 at is.0), omega (arith, is.1, one.only.later.write_faults))
-    ended ws (Err Memory) cut = (cut.0, inr (rw one.ended.0 at cut.1), omega (arith, cut.2, one.only.later.wants))
+    ended ws (Err Memory) cut = (cut.0, inr (rw one.ended.0 at cut.1), ran_out_since one.quiet cut.2)
 
 -- or its writing was cut short, and the others are as they were
 pub writes_first : {X : Type 0} (w : Write) (ws : List Write) (old new : Outside) (stop : Stop) → Writes {X = X} (w ∷ []) old new (Err stop)

@@ -1,4 +1,4 @@
--- What a tape's text comes to is never want of memory.
+-- What is found of a tape's text is never an allocation failure.
 use Rattle.std.proofs.Common.{◌≡◌, ◌≢◌, ◌+◌, ℕ, Bool, true, false, nat_lt, List, [], ◌∷◌, Result, Ok, Err}
 use Rattle.tv_tape.specs.Tape.{◌>>=◌, given, items_of, numbers_of, tape_of}
 use Rattle.tv_tape.specs.declared.items.TapeFault.{TapeFault}

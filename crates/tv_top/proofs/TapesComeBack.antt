@@ -76,7 +76,7 @@ publics_come_back word width words small few =
 
 -- ---- runs
 
--- a step takes at most one word, and so many steps at most so many
+-- a step takes at most one word, and t steps at most t
 one_taken : (z : List ℕ) (spot : Spot) → length (taken_wire z spot) ≤ 1
 one_taken z spot = by_test (slice_index z spot.taken == 1) refl
   where

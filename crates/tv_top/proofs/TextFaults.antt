@@ -1,4 +1,4 @@
--- What a program text comes to is never want of memory.
+-- What is found of a program text is never an allocation failure.
 use Rattle.std.proofs.Common.{◌≢◌, ◌==◌, ◌+◌, ℕ, Bool, true, false, nat_le, List, [], ◌∷◌, ◌++◌, length, Result, Ok, Err}
 use Rattle.tv_asm.specs.Assembly.{assembled, at_line, image_of, line_words, with_line}
 use Rattle.tv_asm.specs.Labels.{address, is_defined}

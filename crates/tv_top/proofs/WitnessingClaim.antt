@@ -60,4 +60,4 @@ witnesses words count old new result answers text tape aux number name last net 
       inputs = has;
       witness = if_ok held _ (λ inputs is v step end. witness_is net t inputs v (inputs_are text tape aux files inputs (rw is at has)) (omega arith) most
           (accepted t inputs v step end));
-    }) (λ held has. has.inputs))
+    }))

@@ -1,6 +1,6 @@
 -- What every call of the command promises, by what its words ask for.
 use Rattle.std.specs.Prelude.{◌≡◌, ℕ, ◌⊎◌, List, [], ◌∷◌, map, Option, option_map, true, Result, Ok, Err}
-use Rattle.tv_files.specs.Outside.{Names, Outside, Told, NoneFell, with_bytes}
+use Rattle.tv_files.specs.Outside.{Names, Outside, Told, NoneFell, RanOut, with_bytes}
 use Rattle.tv_word.specs.Counts.{Rose}
 use Rattle.tv_top.specs.declared.refusal.Ending.{Ending}
 use Rattle.tv_top.specs.declared.refusal.Ending.TheVariants.{Refused, Stopped, Finished}
@@ -45,12 +45,12 @@ MayStop sizes (Contents (bad.Witness at why)) = Unit {0}
 MayStop sizes (Contents (bad.Image len)) = Unit {0}
 MayStop sizes (Contents (bad.Limit what has most)) = IsOneOf what sizes
 
--- the quantities that words tell
+-- the quantities among the words
 abbrev pub quantities_of : List Amount → List Quantity
 quantities_of amounts = map (λ (a : Amount). a.what) amounts
 
--- A refusal that comes of words alone: each, but where the words aren't refused a limit on a quantity that they
--- don't tell, since a file may pass that one.
+-- A refusal that comes of words alone: each, but where the words aren't refused a limit on a quantity that isn't among
+-- them, since a file may pass that one.
 abbrev pub IsOfWords : Result Plan Refusal → Refusal → Type 0
 IsOfWords (Err other) why = Unit {0}
 IsOfWords (Ok plan) refusal.Usage = Unit {0}
@@ -66,13 +66,13 @@ MayEnd (Ok plan) (Refused other) = ⊥
 MayEnd (Ok plan) (Stopped stop) = MayStop plan.sizes stop
 MayEnd (Ok plan) (Finished finish) = plan.ends_by finish ≡ true
 
--- the files, where they are told, changed at most at these names
+-- the files, where they are known, changed at most at these names
 abbrev pub ChangedAt : List Named → Option Names → Option Names → Type 0
 ChangedAt [] old new = new ≡ old
 ChangedAt (n ∷ ns) old new =
     ChangedAt ns old new ⊎ ((bytes : List ℕ) × ChangedAt ns (option_map (with_bytes n.name bytes) old) new)
 
--- the line of the end was said, or, after a fault of saying or want of memory, a prefix of it
+-- the line of the end was printed, or, after a fault of printing or an allocation failure, a prefix of it
 abbrev pub IsSaid : Ending → ℕ → Outside → Outside → Status → Type 0
 IsSaid ending words old new result = ((result ≡ ending_status ending) × Said old new (says ending))
     ⊎ (((result ≡ FileFault words) ⊎ (result ≡ Memory)) × SaidPart old new (says ending))
@@ -89,28 +89,29 @@ abbrev pub ending_of : Result Finish Stop → Ending
 ending_of (Ok finish) = Finished finish
 ending_of (Err stop) = Stopped stop
 
--- What every call promises, by what its words ask for. The first two are of files whose contents are
--- told, the others of any files.
+-- What every call promises, by what its words ask for. The first two are of files whose contents are known, the others
+-- of any files.
 pub record Answers (request : Result Plan Refusal) (words : ℕ) (old new : Outside) (result : Status) : Type 0 where
-  -- the answer is that of the words and the files, up to faults and want of memory
+  -- the answer is that of the words and the files, up to faults and allocation failures
   pub ends : Told old (λ files. Ends (answer_of request files) words files old new result)
   -- no name was looked for in vain, unless the answer is that one isn't there
   pub absent : Told old (λ files. (new.absent ≡ old.absent)
       ⊎ ((word : ℕ) × ((answer_of request files).ending ≡ Stopped (Fault word))))
-  -- what the words alone refuse is answered so; want of memory then comes of saying it alone
+  -- what the words alone refuse is answered so; memory can then run out only in printing it
   pub refused : (why : Refusal) → request ≡ Err why → IsConcluded (Refused why) words old new result
-  -- and nothing else is answered so: not Usage, not SameName, and no Limit on a quantity that the words tell
+  -- and nothing else is answered so: not Usage, not SameName, and no Limit on a quantity among the words
   pub refuses : (why : Refusal) → IsOfWords request why → result ≡ refusal_status why → request ≡ Err why
-  -- which word a fault tells, and that the count of its kind rose
+  -- which word a fault names, and that the count of its kind rose
   pub caused : (word : ℕ) → result ≡ FileFault word
       → (IsOneOf word (words_of (reads_of request)) × Rose old.read_faults new.read_faults)
       ⊎ (IsOneOf word (words_of (writes_of request)) × Rose old.write_faults new.write_faults)
       ⊎ ((word ≡ words) × Rose old.say_faults new.say_faults)
-  -- no fault is passed over, nor is want of memory: where the answer is neither, all counts are as before
+  -- no fault is passed over, nor is an allocation failure: all counts are as before, unless the answer is a fault, or
+  -- memory that the files ran out of, which leaves every count but its own
   pub quiet : IsQuiet old new result
-  -- memory that the files didn't want ran out before anything was written or said
-  pub wanting : result ≡ Memory → IsUntouched old new ⊎ Rose old.wants new.wants
-  -- the line of an end that may be was said; a fault and want of memory leave a prefix of one
+  -- memory that the files didn't run out of ran out before anything was written or said
+  pub wanting : result ≡ Memory → IsUntouched old new ⊎ RanOut old new
+  -- the line of an end that may be was printed; a fault and an allocation failure leave a prefix of one
   pub said : (ending : Ending) × MayEnd request ending × IsSaid ending words old new result
   -- every file but those that are to be written is as it was, and no count fell
   pub contents : ChangedAt (writes_of request) old.contents new.contents

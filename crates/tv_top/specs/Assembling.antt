@@ -11,7 +11,7 @@ use Rattle.tv_top.specs.Kinds.{is_quiet}
 use Rattle.tv_top.specs.Plan.{Named, Plan, named, within, input, comes_by, one_name, writes_bytes}
 use Rattle.tv_top.specs.Programs.{image_of, program_sizes}
 
--- the file of a program text, which may have so many bytes: its image, in bytes
+-- the file of a program text, which may have this many bytes: its image, in bytes
 abbrev pub image_in : List ℕ → Result (List ℕ) Bad
 image_in = within TextBytes TEXT_BYTES image_of
 
@@ -29,8 +29,8 @@ asm_plan text image = record {
 abbrev pub asm_asks : AsmArgs → Plan
 asm_asks args = asm_plan (named args.text) (named args.image)
 
--- What `asm` promises over files that told their contents, the two names being different: TEXT holds a
--- program text of this image, which IMAGE then holds, or it is refused for this.
+-- What `asm` promises over files whose contents are known, the two names being different: TEXT holds a program text of
+-- this image, which IMAGE then holds, or it is refused for this.
 abbrev pub Asms : Names → List ℕ → List ℕ → Outside → Outside → Status → Type 0
 Asms files text image = Comes (one_name 2 image) writes_bytes (Holds image_in (files text)) files
 

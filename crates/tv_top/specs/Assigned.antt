@@ -67,7 +67,7 @@ assigned_by kept = record { program = kept.program; z = kept.first.values }
 abbrev pub assigned_in : Assignment → Assigned
 assigned_in assignment = assigned_by (kept_in assignment)
 
--- the two files, the text being judged before the witness is read, of whose values so many are kept
+-- the two files, the text being judged before the witness is read, of whose values this many are kept
 unfoldable pub kept_of : Net → ℕ → ℕ → Named → Named → Names → Look Kept
 kept_of net n t text witness files = do
   program ← input text program_in files

@@ -23,7 +23,7 @@ use Rattle.tv_top.specs.Kinds.{is_quiet}
 use Rattle.tv_top.specs.Plan.{Named, Plan, Outcome, named, input, comes_by, one_name}
 use Rattle.tv_top.specs.Programs.{bits, program_in, program_sizes}
 
--- the network that the word behind those of the command tells: none is Benes' one, and `waksman` is Waksman's
+-- the network that the word after those of the command names: none is Benes' one, and `waksman` is Waksman's
 abbrev pub net_word : List (List ℕ) → Option Net
 net_word [] = Some Benes
 net_word (word ∷ []) = if bytes_eq word (codes "waksman") then Some Waksman else None
@@ -61,8 +61,8 @@ pub record HasSystem (net : Net) (n t : ℕ) (text : Option (List ℕ)) (held : 
   pub reduces : IfOk held (λ program. Reduces (bits program.width) (program_system net n t program) program.words n t)
   pub normal : IfOk held (λ program. AreNormal (program_system net n t program).constraints)
 
--- What `build` promises over files that told their contents, the two names being different and N and T within
--- their limits: TEXT holds a program, whose system SYSTEM then holds, or it is refused for this.
+-- What `build` promises over files whose contents are known, the two names being different and N and T within their
+-- limits: TEXT holds a program, whose system SYSTEM then holds, or it is refused for this.
 abbrev pub Builds : Net → Names → List ℕ → ℕ → ℕ → List ℕ → Outside → Outside → Status → Type 0
 Builds net files text n t system = Comes (one_name 4 system) (build_ends net n t) (HasSystem net n t (files text)) files
 

@@ -1,5 +1,5 @@
 -- `check SYSTEM WITNESS PUBLIC`: the verdict on a system, an assignment and public numbers.
-use Rattle.std.specs.Prelude.{◌≡◌, ℕ, codes, List, [], ◌∷◌, Result, Ok}
+use Rattle.std.specs.Prelude.{◌≡◌, ◌↔◌, ℕ, codes, List, [], ◌∷◌, Result, Ok}
 use Rattle.tv_check.specs.Meaning.{Tells}
 use Rattle.tv_check.specs.Verdict.{judge}
 use Rattle.tv_check.specs.declared.verdict.Verdict.{Verdict}
@@ -41,12 +41,12 @@ check_plan system witness tape = record {
 abbrev pub check_asks : CheckArgs → Plan
 check_asks args = check_plan (named args.system) (named args.witness) (named args.tape)
 
--- the verdict on these is this, and what it tells of them is so: yes, that the assignment satisfies the
--- system and extends the public numbers
+-- the verdict on these is this, and what it says of them, and no other verdict, is so: yes, that the assignment
+-- satisfies the system and extends the public numbers
 pub record IsJudged (s : System) (z x : List ℕ) (held : Result Verdict Bad) : Type 0 where
   pub verdict : Verdict
   pub is : held ≡ Ok verdict
-  pub tells : Tells verdict s z x
+  pub tells : (other : Verdict) → (verdict ≡ other) ↔ Tells other s z x
 
 -- the three files hold a system, an assignment and public numbers on which this is the verdict, or the
 -- first of them that is refused is refused for this
@@ -57,7 +57,7 @@ HasVerdict files system witness tape =
     Then (Holds (publics_in 3) (files tape)) (λ x.
     IsJudged s z x)))
 
--- What `check` promises over files that told their contents.
+-- What `check` promises over files whose contents are known.
 abbrev pub Checks : Names → List ℕ → List ℕ → List ℕ → Outside → Outside → Status → Type 0
 Checks files system witness tape = Comes [] check_ends (HasVerdict files system witness tape) files
 

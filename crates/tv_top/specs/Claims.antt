@@ -29,7 +29,7 @@ pub record Holds {A : Type 0} (read : List ℕ → Result A Bad) (file : Option 
   pub there : file ≡ Some bytes
   pub reads : read bytes ≡ held
 
--- the first comes to something, and with it the second to this; or the first is refused for this
+-- the first is found, and with it the second is this; or the first is refused for this
 abbrev pub Then : {A B : Type 0} → (Result A Bad → Type 0) → (A → Result B Bad → Type 0) → Result B Bad → Type 0
 Then {A} {B} First Second held = ((x : A) × First (Ok x) × Second x held) ⊎ ((bad : Bad) × First (Err bad) × (held ≡ Err bad))
 
@@ -59,10 +59,8 @@ pub record Answered {A : Type 0} (places : List Named) (ends : A → Outcome) (H
   pub read : AreRead (written_by places ends held)
   pub said : Said old new (line_by ends held)
 
--- What a call comes to over files that told their contents: they held something, or were refused for
--- something, of which this is so, and the answer, the line and what the files hold after the call go by it; or it was
--- stopped. And whatever this is so of goes with its own answer: each answer comes exactly where it is due.
-pub record Comes {A : Type 0} (places : List Named) (ends : A → Outcome) (Held : Result A Bad → Type 0) (files : Names)
-    (old new : Outside) (result : Status) : Type 0 where
-  pub ended : Answered places ends Held files old new result ⊎ IsStopped places old new result
-  pub exactly : (held : Result A Bad) → Held held → (result ≡ status_by ends held) ⊎ IsStopped places old new result
+-- How a call ends over files whose contents are known: they held something, or were refused for something, of which
+-- this is so, and the answer, the line and what the files hold after the call go by it; or it was stopped. A name has
+-- one contents, and what is read of it is a function of these: so each answer comes exactly where it is due.
+abbrev pub Comes : {A : Type 0} → List Named → (A → Outcome) → (Result A Bad → Type 0) → Names → Outside → Outside → Status → Type 0
+Comes places ends Held files old new result = Answered places ends Held files old new result ⊎ IsStopped places old new result

@@ -100,7 +100,7 @@ not_run_text (not_runs.WireCount has wants) = decimal has ++ codes " wires, " ++
 not_run_text (not_runs.WideWire at) = codes "wire " ++ decimal at ++ codes " is wide"
 not_run_text (not_runs.NotARun end) = end_text end
 
--- what a trial comes to
+-- the result of a trial
 abbrev pub trial_text : Trial → List ℕ
 trial_text trial =
     codes "trial: steps " ++ decimal trial.steps ++ codes ", wires " ++ decimal trial.wires ++ codes ", constraints "
@@ -115,7 +115,7 @@ finish_text (finishes.NotARun why) = Some (codes "not a run: " ++ not_run_text w
 finish_text (finishes.Verdict verdict) = Some (verdict_text verdict)
 finish_text (finishes.Trial trial) = Some (trial_text trial)
 
--- the line of an end, without its own end; nothing is said after a fault or want of memory
+-- the line of an end, without its own end; nothing is printed after a fault or an allocation failure
 abbrev pub line : Ending → Option (List ℕ)
 line (Refused why) = Some (refusal_text why)
 line (Stopped (stop.Fault word)) = None

@@ -23,7 +23,7 @@ ImageComesBack =
 abbrev pub TapeTextsFit : Type 0
 TapeTextsFit = (width : Width) (words : List ℕ) → AreWords (bits width) words → length words ≤ AUX_WORDS → length (text_of words) ≤ TEXT_BYTES
 
--- the file of a tape that has that text, of at most so many words, is read as these words, whichever word names it
+-- the file of a tape that has that text, of at most this many words, is read as these words, whichever word names it
 abbrev pub TapesComeBack : (ℕ → Width → List ℕ → Result (List ℕ) Bad) → ℕ → Type 0
 TapesComeBack read most = (word : ℕ) (width : Width) (words : List ℕ) → AreWords (bits width) words → length words ≤ most → read word width (text_of words) ≡ Ok words
 

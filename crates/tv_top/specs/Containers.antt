@@ -22,7 +22,7 @@ system_bad fault = bad.System fault.at fault.why
 abbrev pub witness_bad : Fault → Bad
 witness_bad fault = bad.Witness fault.at fault.why
 
--- what a container comes to, by what its faults are
+-- what is found of a container, by what its faults are
 abbrev pub container_result : {A : Type 0} → (Fault → Bad) → Result A Fault → Result A Bad
 container_result bad (Ok x) = Ok x
 container_result bad (Err fault) = Err (bad fault)
@@ -41,7 +41,7 @@ counts_in file = container_result system_bad (survey_of file)
 abbrev pub verdict_in : List ℕ → List ℕ → List ℕ → Result Verdict Bad
 verdict_in z x file = container_result system_bad (verdict_of file z x)
 
--- the first values of an assignment, so many at most, and how many it has
+-- at most this many first values of an assignment, and how many it has
 abbrev pub firsts_in_witness : ℕ → List ℕ → Result Firsts Bad
 firsts_in_witness most file = container_result witness_bad (firsts most (assignment_of file))
 

@@ -28,11 +28,11 @@ dis_stop dis.Memory = Memory
 unfoldable pub text_of : ℕ → List ℕ → Result (List ℕ) Bad
 text_of w image = if length image % (w / 4) == 0 then Ok (disassembly_of w image) else Err (bad.Image (length image))
 
--- the file of an image, which may have so many bytes: its program text
+-- the file of an image, which may have this many bytes: its program text
 abbrev pub text_in : Width → List ℕ → Result (List ℕ) Bad
 text_in width = within ImageBytes (image_bytes_most width) (text_of (bits width))
 
--- the width that the word behind those of the command tells: none is 32, and `16` is 16
+-- the width that the word after those of the command names: none is 32, and `16` is 16
 abbrev pub width_word : List (List ℕ) → Option Width
 width_word [] = Some Bits32
 width_word (word ∷ []) = if bytes_eq word (codes "16") then Some Bits16 else None
@@ -52,8 +52,8 @@ disasm_plan width image text = record {
 abbrev pub disasm_asks : DisasmArgs → Plan
 disasm_asks args = disasm_plan args.width (named args.image) (named args.text)
 
--- What `disasm` promises over files that told their contents, the two names being different: IMAGE holds an
--- image of words of this width with this program text, which TEXT then holds, or it is refused for this.
+-- What `disasm` promises over files whose contents are known, the two names being different: IMAGE holds an image of
+-- words of this width with this program text, which TEXT then holds, or it is refused for this.
 abbrev pub Disasms : Width → Names → List ℕ → List ℕ → Outside → Outside → Status → Type 0
 Disasms width files image text = Comes (one_name 2 text) writes_bytes (Holds (text_in width) (files image)) files
 

@@ -1,6 +1,6 @@
 -- How a call may end, given the answer that its words and files call for.
 use Rattle.std.specs.Prelude.{◌≡◌, ℕ, ◌≤◌, ◌⊎◌, List, [], ◌∷◌, ◌++◌, take, Option, Some, None, option_map, Result, Ok, Err, IfOk, OnOk, MatchResult}
-use Rattle.tv_files.specs.Outside.{Names, Outside, NoneFell, OnlyWrites, SameCounts, with_bytes}
+use Rattle.tv_files.specs.Outside.{Names, Outside, NoneFell, OnlyWrites, RanOut, SameCounts, with_bytes}
 use Rattle.tv_core.specs.declared.sink.SinkFault.{SinkFault}
 use Rattle.tv_core.specs.declared.sink.SinkFault.TheVariants as sink
 use Rattle.tv_word.specs.Counts.{Rose}
@@ -15,7 +15,7 @@ use Rattle.tv_top.specs.Contents.{bytes_in, IsRead}
 use Rattle.tv_top.specs.Plan.{Named, Outcome, Write, Answer, files_of}
 use Rattle.tv_top.specs.Status.{ending_status}
 
--- the files, where they are told, once these were written
+-- the files, where they are known, once these were written
 abbrev pub files_with : List Write → Option Names → Option Names
 files_with [] files = files
 files_with (w ∷ ws) files = files_with ws (option_map (with_bytes w.name (bytes_in w.content)) files)
@@ -75,8 +75,8 @@ abbrev pub IsCutShort : Answer → Names → Outside → Outside → Type 0
 IsCutShort answer files old new =
     IsUntouched old new ⊎ ((word : ℕ) × IsCutInWriting word answer files old new) ⊎ IsCutInSaying answer files old new
 
--- The call ended as the answer says, or by a fault of a file that the answer looked at, of one that it
--- writes or of saying its line, or by want of memory; a fault and want of memory leave no more than a prefix.
+-- The call ended as the answer says, or by a fault of a file that the answer looked at, of one that it writes or of
+-- printing its line, or because memory ran out; both leave no more than a prefix.
 abbrev pub Ends : Answer → ℕ → Names → Outside → Outside → Status → Type 0
 Ends answer words files old new result =
     IsAnswered answer files old new result
@@ -90,11 +90,11 @@ abbrev pub IsConcluded : Ending → ℕ → Outside → Outside → Status → T
 IsConcluded ending words old new result =
     ((result ≡ ending_status ending) × Said old new (says ending))
     ⊎ ((result ≡ FileFault words) × Rose old.say_faults new.say_faults × SaidPart old new (says ending))
-    ⊎ ((result ≡ Memory) × Rose old.wants new.wants × SaidPart old new (says ending))
+    ⊎ ((result ≡ Memory) × RanOut old new × SaidPart old new (says ending))
 
--- no count changed; or the answer is a fault, or memory that the files wanted
+-- no count changed; or the answer is a fault, or memory that the files ran out of, which leaves every other count
 abbrev pub IsQuiet : Outside → Outside → Status → Type 0
-IsQuiet old new result = SameCounts old new ⊎ ((word : ℕ) × (result ≡ FileFault word)) ⊎ ((result ≡ Memory) × Rose old.wants new.wants)
+IsQuiet old new result = SameCounts old new ⊎ ((word : ℕ) × (result ≡ FileFault word)) ⊎ ((result ≡ Memory) × RanOut old new)
 
 -- what saying the line of an end does
 pub record Concludes (ending : Ending) (words : ℕ) (old new : Outside) (result : Status) : Type 0 where
@@ -107,7 +107,7 @@ pub record Concludes (ending : Ending) (words : ℕ) (old new : Outside) (result
 -- writing these was cut short by this: what is written is never refused for its contents
 abbrev pub IsCut : List Write → Outside → Outside → Stop → Type 0
 IsCut writes old new (stop.Fault word) = IsCutAt word writes old.contents new.contents × Rose old.write_faults new.write_faults
-IsCut writes old new stop.Memory = (word : ℕ) × IsCutAt word writes old.contents new.contents × Rose old.wants new.wants
+IsCut writes old new stop.Memory = (word : ℕ) × IsCutAt word writes old.contents new.contents × RanOut old new
 IsCut writes old new (stop.Contents bad) = ⊥
 
 -- what writing files does
@@ -116,13 +116,13 @@ pub record Writes {X : Type 0} (writes : List Write) (old new : Outside) (result
   pub quiet : OnOk result (SameCounts old new)
   pub only : OnlyWrites old new
 
--- what an outcome comes to once it was found: its files are written, and unless that is cut short, it ends so; or
+-- what is done with an outcome once it was found: its files are written, and unless that is cut short, it ends so; or
 -- memory ran out before the first of them
 pub record Completes (places : List Named) (outcome : Outcome) (old new : Outside) (result : Result Finish Stop) : Type 0 where
   pub writes : Writes (files_of places outcome.files) old new result ⊎ ((result ≡ Err stop.Memory) × (new ≡ old))
   pub finish : IfOk result (λ finish. finish ≡ outcome.finish)
 
--- what a refusal comes to of a sink that writes the file at a word, and how its writing ended
+-- the end that a refusal of a sink leads to that writes the file at a word, and how its writing ended
 abbrev pub sink_stop : ℕ → SinkFault → Stop
 sink_stop word sink.Failed = stop.Fault word
 sink_stop word sink.Memory = stop.Memory

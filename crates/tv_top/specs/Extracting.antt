@@ -40,7 +40,7 @@ extract_plan net text n t witness tape aux = record {
 abbrev pub extract_asks : ExtractArgs → Plan
 extract_asks args = extract_plan args.net (named args.text) args.n args.t (named args.witness) (named args.tape) (named args.aux)
 
--- What `extract` promises over files that told their contents, the names that are written being none of the others and
+-- What `extract` promises over files whose contents are known, the names that are written being none of the others and
 -- N and T within their limits.
 abbrev pub Extracts : Net → Names → List ℕ → ℕ → ℕ → List ℕ → List ℕ → List ℕ → Outside → Outside → Status → Type 0
 Extracts net files text n t witness tape aux =

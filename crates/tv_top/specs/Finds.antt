@@ -1,6 +1,6 @@
--- What reading and judging files comes to, against what is due by what they hold.
+-- What reading and judging files finds, against what is due by what they hold.
 use Rattle.std.specs.Prelude.{◌≡◌, ℕ, ◌≤◌, ◌⊎◌, List, [], ◌∷◌, Result, Ok, Err, MatchResult}
-use Rattle.tv_files.specs.Outside.{Names, Outside, Told, OnlyReads}
+use Rattle.tv_files.specs.Outside.{Names, Outside, Told, OnlyReads, RanOut}
 use Rattle.tv_word.specs.Counts.{Rose}
 use Rattle.tv_top.specs.declared.refusal.Bad.{Bad}
 use Rattle.tv_top.specs.declared.refusal.Bad.TheVariants as bad
@@ -9,7 +9,7 @@ use Rattle.tv_top.specs.declared.refusal.Stop.{Stop}
 use Rattle.tv_top.specs.declared.refusal.Stop.TheVariants.{Fault, Memory, Contents}
 use Rattle.tv_top.specs.Plan.{Look}
 
--- what contents are refused for of which something is made; a definition reads no file and never wants memory, so
+-- what contents are refused for of which something is made; a definition reads no file and never runs out of memory, so
 -- those cases stand for nothing
 abbrev pub stop_bad : Size → Stop → Bad
 stop_bad what (Contents why) = why
@@ -32,18 +32,18 @@ IsFound view due (Err (Contents bad)) = due.gives ≡ Err (Contents bad)
 IsFound view due (Err (Fault word)) = word ≤ due.at
 IsFound view due (Err Memory) = Unit {0}
 
--- what a refused look leaves: all, but for the cause of a fault, or of memory that the files wanted
+-- what a refused look leaves: all, but for the cause of a fault, or of memory that the files ran out of
 abbrev pub Spares : Stop → Outside → Outside → Type 0
 Spares (Contents bad) old new = new ≡ old
 Spares (Fault word) old new = Unit {0}
-Spares Memory old new = (new ≡ old) ⊎ Rose old.wants new.wants
+Spares Memory old new = (new ≡ old) ⊎ RanOut old new
 
 -- what a look leaves: all, unless it was refused
 abbrev pub Leaves : {X : Type 0} → Result X Stop → Outside → Outside → Type 0
 Leaves found old new = MatchResult found (λ _. new ≡ old) (λ stop. Spares stop old new)
 
--- Files were read, those whose names stand at these words, and this was found. What they hold may pass the
--- limits of these quantities alone, be their contents told or not.
+-- Files were read, those whose names stand at these words, and this was found. What they hold may pass the limits of
+-- these quantities alone, be their contents known or not.
 pub record Finds {X A : Type 0} (view : X → A) (words : List ℕ) (sizes : List Size) (due : Names → Look A)
     (old new : Outside) (found : Result X Stop) : Type 0 where
   pub told : Told old (λ files. IsFound view (due files) found)

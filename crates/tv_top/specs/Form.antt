@@ -16,7 +16,7 @@ use Rattle.tv_top.specs.Shrinking.{shrink_asks, shrink_plan}
 use Rattle.tv_top.specs.Trialing.{trial_asks, trial_plan}
 use Rattle.tv_top.specs.Witnessing.{witness_asks, witness_plan}
 
--- what two words tell together, where each tells something, and what three do
+-- what two words mean together, where each means something, and what three do
 abbrev pub with_two : {A B C : Type 0} → (A → B → C) → Option A → Option B → Option C
 with_two f (Some a) (Some b) = Some (f a b)
 with_two f _ _ = None
@@ -25,8 +25,7 @@ abbrev pub with_three : {A B C D : Type 0} → (A → B → C → D) → Option 
 with_three f (Some a) (Some b) (Some c) = Some (f a b c)
 with_three f _ _ _ = None
 
--- the words behind a command's name, by its form; `disasm`, `build`, `witness` and `extract` may have
--- one more
+-- the words after a command's name, by its form; `disasm`, `build`, `witness` and `extract` may have one more
 abbrev pub asm_form : List (List ℕ) → Option Plan
 asm_form (text ∷ image ∷ []) = Some (asm_plan (name_at 1 text) (name_at 2 image))
 asm_form _ = None

@@ -21,7 +21,7 @@ primary_in word w = numbers_in word TapeWords (2 ^ w) TAPE_WORDS
 abbrev pub aux_in : ℕ → ℕ → List ℕ → Result (List ℕ) Bad
 aux_in word w = numbers_in word AuxWords (2 ^ w) AUX_WORDS
 
--- the three files, each read and judged before the next; the text tells the width
+-- the three files, each read and judged before the next; the text sets the width
 unfoldable pub inputs_of : Named → Named → Named → Names → Look Inputs
 inputs_of text tape aux files = do
   program ← input text program_in files
@@ -41,7 +41,7 @@ pub record AreInputs (inputs : Inputs) : Type 0 where
   pub aux : AreWords (bits inputs.program.width) inputs.aux
   pub aux_fits : length inputs.aux ≤ AUX_WORDS
 
--- the end of the run of at most so many steps
+-- the end of the run of at most t steps
 abbrev pub run_end : ℕ → Inputs → End
 run_end steps inputs =
     end_of (bits inputs.program.width) steps (start (bits inputs.program.width) inputs.program.words inputs.tape inputs.aux)

@@ -8,7 +8,7 @@ abbrev pub is_quiet : Finish → Bool
 is_quiet Quiet = true
 is_quiet _ = false
 
--- it tells how a run ends
+-- it says how a run ends
 abbrev pub is_run : Finish → Bool
 is_run (Run end) = true
 is_run _ = false
@@ -19,7 +19,7 @@ is_witness Quiet = true
 is_witness (NoRun end) = true
 is_witness _ = false
 
--- it tells how a run ends, or that there is none
+-- it says how a run ends, or that there is none
 abbrev pub is_extract : Finish → Bool
 is_extract (Run end) = true
 is_extract (NotARun why) = true
@@ -31,12 +31,12 @@ is_listing Quiet = true
 is_listing (NotARun why) = true
 is_listing _ = false
 
--- it tells a verdict
+-- it says a verdict
 abbrev pub is_verdict : Finish → Bool
 is_verdict (Verdict verdict) = true
 is_verdict _ = false
 
--- it tells what a trial comes to
+-- it says the result of a trial
 abbrev pub is_trial : Finish → Bool
 is_trial (Trial trial) = true
 is_trial _ = false

@@ -21,7 +21,7 @@ use Rattle.tv_top.specs.Kinds.{is_listing}
 use Rattle.tv_top.specs.Plan.{Named, Plan, Outcome, named, comes_by, one_name, writes_bytes}
 use Rattle.tv_top.specs.Programs.{bits, program_sizes}
 
--- the order that a word tells
+-- the order that a word names
 abbrev pub by_word : List ℕ → Option By
 by_word word = if bytes_eq word (codes "time") then Some Time else (if bytes_eq word (codes "cell") then Some Cell else None)
 
@@ -57,7 +57,7 @@ pub record HasListed (files : Names) (text : List ℕ) (n t : ℕ) (witness : Li
   pub assigned : HasAssigned Benes files text n t witness held
   pub satisfying : IfOk held (λ assigned. Sat (program_system Benes n t assigned.program) assigned.z → HasListing (bits assigned.program.width) Benes assigned.program.words n t assigned.z)
 
--- What `listing` promises over files that told their contents, OUT being none of the other names and N and T within
+-- What `listing` promises over files whose contents are known, OUT being none of the other names and N and T within
 -- their limits.
 abbrev pub Lists : By → Names → List ℕ → ℕ → ℕ → List ℕ → List ℕ → Outside → Outside → Status → Type 0
 Lists by files text n t witness out = Comes (one_name 6 out) (listing_ends by n t) (HasListed files text n t witness) files

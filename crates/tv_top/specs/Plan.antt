@@ -1,4 +1,4 @@
--- What a command's words come to: a plan, whose parts all clauses share.
+-- What a command's words mean: a plan, whose parts all clauses share.
 use Rattle.std.specs.Prelude.{ℕ, ◌+◌, ◌≤◌, max, Bool, List, [], ◌∷◌, length, Option, Some, None, option_map, find, Result, Ok, Err, nat_le, nat_lt, ◌||◌, if◌then◌else◌}
 use Rattle.std.specs.Option.{option_or}
 use Rattle.std.specs.Str.{bytes_eq}
@@ -39,7 +39,7 @@ pub record Look (A : Type 0) : Type 0 where
   pub at : ℕ
   pub gives : Result A Stop
 
--- what the files' contents come to: what each file that is written holds, in order, and the end
+-- what the files' contents lead to: what each file that is written holds, in order, and the end
 pub record Outcome : Type 0 where
   pub files : List Content
   pub finish : Finish
@@ -48,9 +48,9 @@ pub record Outcome : Type 0 where
 abbrev pub writes_bytes : List ℕ → Outcome
 writes_bytes bytes = record { files = Bytes bytes ∷ []; finish = Quiet }
 
--- The names that are read and that are written, in order of their words; the quantities that the words
--- tell, with their limits; the quantities of which the files that are read may hold too many; how it may
--- end; and what the files' contents come to.
+-- The names that are read and that are written, in order of their words; the quantities among the words, with their
+-- limits; the quantities of which the files that are read may hold too many; how it may end; and what the files'
+-- contents lead to.
 pub record Plan : Type 0 where
   pub reads : List Named
   pub writes : List Named
@@ -109,7 +109,7 @@ infixl 10 ◌>>=◌
 abbrev pub ◌>>=◌ : {A B : Type 0} → Look A → (A → Look B) → Look B
 look >>= f = look_on look.at look.gives f
 
--- what a file comes to that may have so many bytes of this quantity
+-- what is found of a file that may have this many bytes of this quantity
 abbrev pub within : {A : Type 0} → Size → ℕ → (List ℕ → Result A Bad) → List ℕ → Result A Bad
 within what most f bytes = if nat_le (length bytes) most then f bytes else Err (bad.Limit what (most + 1) most)
 
@@ -118,7 +118,7 @@ abbrev pub made_of : {A : Type 0} → Result A Bad → Result A Stop
 made_of (Ok x) = Ok x
 made_of (Err bad) = Err (stop.Contents bad)
 
--- what the file at a word comes to, by what is read of it: a fault where its name isn't there
+-- what is found of the file at a word, by what is read of it: a fault where its name isn't there
 abbrev pub held_at : {A : Type 0} → ℕ → (List ℕ → Result A Bad) → Option (List ℕ) → Result A Stop
 held_at word read None = Err (stop.Fault word)
 held_at word read (Some bytes) = made_of (read bytes)
@@ -131,12 +131,12 @@ input place read files = record { at = place.word; gives = held_at place.word re
 abbrev pub settled : {A : Type 0} → Result A Bad → Look A
 settled made = record { at = 0; gives = made_of made }
 
--- what is found, by what it comes to
+-- what is found, by what it leads to
 abbrev pub map_ok : {A B E : Type 0} → (A → B) → Result A E → Result B E
 map_ok f (Ok x) = Ok (f x)
 map_ok f (Err e) = Err e
 
--- what a command comes to by what was found
+-- how a command ends by what was found
 abbrev pub comes_by : {A : Type 0} → (A → Outcome) → Look A → Look Outcome
 comes_by f look = record { at = look.at; gives = map_ok f look.gives }
 

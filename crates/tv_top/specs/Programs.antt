@@ -34,7 +34,7 @@ image_words Bits32 = IMAGE_WORDS
 abbrev pub image_bytes_most : Width → ℕ
 image_bytes_most width = bits width / 8 * image_words width
 
--- the width of words that a text tells
+-- the width of words that a text sets
 abbrev pub width_told : List ℕ → Width
 width_told text = if width_of text == 16 then Bits16 else Bits32
 
@@ -43,7 +43,7 @@ pub record HasImage (program : Program) : Type 0 where
   pub short : length program.words ≤ image_words program.width
   pub words : AreWords (bits program.width) program.words
 
--- the bytes of a program's image: of each word those that spell it, the lowest first
+-- the bytes of a program's image: those of each word, the lowest first
 abbrev pub image_bytes : Program → List ℕ
 image_bytes program = flat_map (word_bytes (bits program.width)) program.words
 
@@ -53,7 +53,7 @@ asm_stop (asm.Bad line why) = Contents (bad.Program line why)
 asm_stop (asm.TooMany line most) = Contents (bad.Limit ImageWords (most + 2) most)
 asm_stop asm.Memory = Memory
 
--- what a program text for words of a width comes to
+-- what is found of a program text for words of a width
 abbrev pub program_result : Width → Result (List ℕ) AsmFault → Result Program Bad
 program_result width found = map_ok (λ words. record { width = width; words = words }) (made_by ImageWords asm_stop found)
 
@@ -61,7 +61,7 @@ program_result width found = map_ok (λ words. record { width = width; words = w
 unfoldable pub program_by : Width → List ℕ → Result Program Bad
 program_by width text = program_result width (assembled (bits width) (image_words width) text)
 
--- the program of a text, for words of the width that it tells
+-- the program of a text, for words of the width that it sets
 abbrev pub program_of : List ℕ → Result Program Bad
 program_of text = program_by (width_told text) text
 
@@ -73,6 +73,6 @@ image_of text = map_ok image_bytes (program_of text)
 abbrev pub program_sizes : List Size
 program_sizes = TextBytes ∷ ImageWords ∷ []
 
--- the file of a program text, which may have so many bytes: its program
+-- the file of a program text, which may have this many bytes: its program
 abbrev pub program_in : List ℕ → Result Program Bad
 program_in = within TextBytes TEXT_BYTES program_of

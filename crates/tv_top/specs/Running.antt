@@ -41,7 +41,7 @@ pub record HasRun (files : Names) (text tape aux : List ℕ) (steps : ℕ) (held
   pub accepts : IfOk held (λ inputs. (value step : ℕ) → run_end steps inputs ≡ Answer value step
       → Accepts (bits inputs.program.width) inputs.program.words inputs.tape inputs.aux steps value)
 
--- What `run` promises over files that told their contents, T being within its limit.
+-- What `run` promises over files whose contents are known, T being within its limit.
 abbrev pub Runs : Names → List ℕ → List ℕ → List ℕ → ℕ → Outside → Outside → Status → Type 0
 Runs files text tape aux steps = Comes [] (run_ends steps) (HasRun files text tape aux steps) files
 

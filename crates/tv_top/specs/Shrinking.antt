@@ -85,8 +85,8 @@ pub record IsShrunk (system : System) (held : Result Shrunken Bad) : Type 0 wher
   pub is : shrunk_of system ≡ held
   pub keeps : IfOk held (Keeps system)
 
--- What `shrink` promises over files that told their contents, the two names being different: SYSTEM holds a system,
--- and OUT then what is left of it, or one of the two is refused for this.
+-- What `shrink` promises over files whose contents are known, the two names being different: SYSTEM holds a system, and
+-- OUT then what is left of it, or one of the two is refused for this.
 abbrev pub Shrinks : Names → List ℕ → List ℕ → Outside → Outside → Status → Type 0
 Shrinks files system out = Comes (one_name 2 out) shrink_ends (Then (Holds system_in (files system)) IsShrunk) files
 

@@ -41,13 +41,13 @@ code_of (NotARun _) = 11
 code_of (SameName _ _) = 12
 code_of (BadImage _) = 13
 
--- the quantity that a word tells, among all that have a limit
+-- the quantity that a word is, among all that have a limit
 abbrev pub quantity_what : Quantity → What
 quantity_what quantity.TapeWords = TapeWords
 quantity_what quantity.Steps = Steps
 quantity_what quantity.Draws = Draws
 
--- the quantity of which a file holds so many, among all that have a limit
+-- the quantity that a file holds, among all that have a limit
 abbrev pub size_what : Size → What
 size_what size.ImageWords = ImageWords
 size_what size.ImageBytes = ImageBytes

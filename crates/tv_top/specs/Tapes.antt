@@ -21,7 +21,7 @@ tape_stop word what (tape.TooBig at) = Contents (bad.Tape word at)
 tape_stop word what (tape.TooMany most) = Contents (bad.Limit what (most + 1) most)
 tape_stop word what tape.Memory = Memory
 
--- the numbers of the text of the tape at a word: below a bound each, and at most so many of this quantity
+-- the numbers of the text of the tape at a word: below a bound each, and at most this many of this quantity
 unfoldable pub numbers_of : ℕ → Size → ℕ → ℕ → List ℕ → Result (List ℕ) Bad
 numbers_of word what below most text = made_by what (tape_stop word what) (tape_of text below most)
 
@@ -29,7 +29,7 @@ numbers_of word what below most text = made_by what (tape_stop word what) (tape_
 abbrev pub tape_sizes : Size → List Size
 tape_sizes what = TextBytes ∷ what ∷ []
 
--- the file of the tape at a word, which may have so many bytes: its numbers
+-- the file of the tape at a word, which may have this many bytes: its numbers
 abbrev pub numbers_in : ℕ → Size → ℕ → ℕ → List ℕ → Result (List ℕ) Bad
 numbers_in word what below most = within TextBytes TEXT_BYTES (numbers_of word what below most)
 
@@ -37,6 +37,6 @@ numbers_in word what below most = within TextBytes TEXT_BYTES (numbers_of word w
 abbrev pub publics_in : ℕ → List ℕ → Result (List ℕ) Bad
 publics_in word = numbers_in word TapeWords P CHECK_WORDS
 
--- some text tells these numbers, below a bound each, and at most so many
+-- some text has these numbers, below a bound each, and at most this many
 abbrev pub AreTold : ℕ → ℕ → List ℕ → Type 0
 AreTold below most numbers = (text : List ℕ) × (tape_of text below most ≡ Ok numbers)

@@ -25,7 +25,7 @@ use Rattle.tv_top.specs.Ends.{Added}
 use Rattle.tv_top.specs.Kinds.{is_trial}
 use Rattle.tv_top.specs.Plan.{Plan, Outcome, Look, comes_by, settled}
 
--- the system of k drawn instructions and `answer 0` behind them, for as many steps, and the values for their run
+-- the system of k drawn instructions and `answer 0` after them, for as many steps, and the values for their run
 abbrev pub drawn_system : ℕ → ℕ → System
 drawn_system seed k = system_of 32 Benes (image_drawn seed k) (length (tape_drawn seed k)) (k + 1)
 
@@ -74,20 +74,20 @@ pub record IsTrial (seed k : ℕ) : Type 0 where
   pub fills : IsFill 32 Benes (block_of 32) (image_drawn seed k) (tape_drawn seed k) (aux_drawn seed k) (k + 1) 0 (drawn_values seed k)
   pub satisfied : (trial_of seed k).satisfied ≡ (trial_of seed k).constraints
 
--- how a call of so many words ended: it said what the trial comes to, or saying failed, or memory was wanting
+-- how a call of this many words ended: it printed the result of the trial, or printing failed, or memory ran out
 abbrev pub Tries : ℕ → ℕ → ℕ → Outside → Outside → Status → Type 0
 Tries words seed k old new result =
     ((result ≡ Done) × Added old new (trial_text (trial_of seed k) ++ 10 ∷ []))
     ⊎ ((result ≡ FileFault words) × Rose old.say_faults new.say_faults) ⊎ (result ≡ Memory)
 
--- What `trial` promises over files that told their contents, K being within its limits: it is done and has said what the
--- trial comes to, unless saying failed or memory was wanting, and no file changed.
+-- What `trial` promises over files whose contents are known, K being within its limits: it is done and has printed the
+-- result of the trial, unless printing failed or memory ran out, and no file changed.
 pub record Trials (words seed k : ℕ) (old new : Outside) (result : Status) : Type 0 where
   pub ended : Tries words seed k old new result
   pub contents : new.contents ≡ old.contents
   pub trial : IsTrial seed k
 
--- What a call promises that has these words, so many, where they are those of `trial`.
+-- What a call promises that has these words, this many of them, where they are those of `trial`.
 abbrev pub OnTrial : List (List ℕ) → ℕ → Outside → Outside → Status → Type 0
 OnTrial words count old new result = (first second : List ℕ) (seed k : ℕ)
     → words ≡ codes "trial" ∷ first ∷ second ∷ []

@@ -65,7 +65,7 @@ pub record HasWitness (net : Net) (files : Names) (text tape aux : List ℕ) (t 
   pub inputs : HasInputs files text tape aux held
   pub witness : IfOk held (λ inputs. (v step : ℕ) → run_end t inputs ≡ Answer v step → IsWitness net t inputs v)
 
--- What `witness` promises over files that told their contents, WITNESS being none of the names that are read, and T
+-- What `witness` promises over files whose contents are known, WITNESS being none of the names that are read, and T
 -- within its limit.
 abbrev pub Witnesses : Net → Names → List ℕ → List ℕ → List ℕ → ℕ → List ℕ → Outside → Outside → Status → Type 0
 Witnesses net files text tape aux t witness =

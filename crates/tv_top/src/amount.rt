@@ -1,4 +1,4 @@
-//! The quantities that words tell, and their limits.
+//! The quantities among the words, and their limits.
 ghost use Rattle.std.specs.Prelude.{◌≡◌};
 ghost use Rattle.tv_core.specs.declared.limits.TheConstants.{STEPS};
 ghost use Rattle.tv_top.specs.declared.refusal.Quantity.TheVariants.{Steps};
@@ -8,7 +8,7 @@ ghost use Rattle.tv_top.specs.Plan.{limit_of};
 use crate::refusal::{Quantity, Refusal};
 use tv_core::limits::{STEPS, TAPE_WORDS};
 
-/// A quantity that a word tells: how many there are, and how many there may be.
+/// A quantity that a word is: how many there are, and how many there may be.
 #[derive(Clone, Copy)]
 pub(crate) struct Amount {
     pub(crate) what: Quantity,

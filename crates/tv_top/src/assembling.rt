@@ -26,7 +26,7 @@ pub(crate) struct AsmArgs<'a> {
 }
 
 impl<'a> AsmArgs<'a> {
-    /// What the words behind the command's name tell.
+    /// What the words after the command's name mean.
     pub(crate) fn read(words: &'a [String]) -> Option<AsmArgs<'a>>
         ensures { MatchOption result (asm_form (map string_bytes words.now) ≡ None)
             (λ args. asm_form (map string_bytes words.now) ≡ Some (asm_asks args)) }
@@ -48,7 +48,7 @@ impl<'a> AsmArgs<'a> {
         refusal_of(&[self.text], &[self.image], &[])
     }
 
-    /// Looks at the files, and writes what they come to.
+    /// Reads the files, and writes the output.
     pub(crate) fn perform<D: Files>(self, alloc: Global, files: &mut D) -> Result<Finish, Stop>
         ensures { Does (asm_asks self.entry) (D.seen files.old) (D.seen files.new) result }
     {
@@ -58,7 +58,7 @@ impl<'a> AsmArgs<'a> {
     }
 }
 
-/// The bytes of a program's image: of each word those that spell it, the lowest first.
+/// The bytes of a program's image: those of each word, the lowest first.
 #[tactic(auto, using(crate::proofs::Spelling::word_spelled))]
 fn image_bytes(alloc: Global, program: &Program) -> Result<Vec<u8>, AllocError>
     ensures { IfOk result (λ v. v.items ≡ image_bytes program.now) }

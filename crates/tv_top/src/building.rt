@@ -39,7 +39,7 @@ pub(crate) struct BuildArgs<'a> {
 }
 
 impl<'a> BuildArgs<'a> {
-    /// What the words behind the command's name tell.
+    /// What the words after the command's name mean.
     pub(crate) fn read(words: &'a [String]) -> Option<BuildArgs<'a>>
         ensures { MatchOption result (build_form (map string_bytes words.now) ≡ None)
             (λ args. build_form (map string_bytes words.now) ≡ Some (build_asks args)) }
@@ -65,7 +65,7 @@ impl<'a> BuildArgs<'a> {
         refusal_of(&[self.text], &[self.system], &amounts)
     }
 
-    /// Looks at the files, and writes what they come to.
+    /// Reads the files, and writes the output.
     pub(crate) fn perform<D: Files>(self, alloc: Global, files: &mut D) -> Result<Finish, Stop>
         requires { AreWithin (build_asks self).amounts }
         ensures { Does (build_asks self.entry) (D.seen files.old) (D.seen files.new) result }

@@ -1,4 +1,4 @@
-//! Whole files that may have so many bytes.
+//! Whole files of a bounded number of bytes.
 ghost use Rattle.std.specs.Prelude.{◌+◌, ◌<◌, ◌^◌, [], ◌∷◌, Ok};
 ghost use Rattle.tv_top.specs.Finds.{Finds};
 ghost use Rattle.tv_top.specs.Plan.{input, named, within};

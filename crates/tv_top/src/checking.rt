@@ -27,7 +27,7 @@ pub(crate) struct CheckArgs<'a> {
 }
 
 impl<'a> CheckArgs<'a> {
-    /// What the words behind the command's name tell.
+    /// What the words after the command's name mean.
     pub(crate) fn read(words: &'a [String]) -> Option<CheckArgs<'a>>
         ensures { MatchOption result (check_form (map string_bytes words.now) ≡ None)
             (λ args. check_form (map string_bytes words.now) ≡ Some (check_asks args)) }
@@ -51,7 +51,7 @@ impl<'a> CheckArgs<'a> {
         refusal_of(&reads, &[], &[])
     }
 
-    /// Looks at the files, and tells the verdict.
+    /// Reads the files, and reports the verdict.
     pub(crate) fn perform<D: Files>(self, alloc: Global, files: &mut D) -> Result<Finish, Stop>
         ensures { Does (check_asks self.entry) (D.seen files.old) (D.seen files.new) result }
     {

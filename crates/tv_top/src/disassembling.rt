@@ -27,7 +27,7 @@ pub(crate) struct DisasmArgs<'a> {
 }
 
 impl<'a> DisasmArgs<'a> {
-    /// What the words behind the command's name tell.
+    /// What the words after the command's name mean.
     pub(crate) fn read(words: &'a [String]) -> Option<DisasmArgs<'a>>
         ensures { MatchOption result (disasm_form (map string_bytes words.now) ≡ None)
             (λ args. disasm_form (map string_bytes words.now) ≡ Some (disasm_asks args)) }
@@ -50,7 +50,7 @@ impl<'a> DisasmArgs<'a> {
         refusal_of(&[self.image], &[self.text], &[])
     }
 
-    /// Looks at the files, and writes what they come to.
+    /// Reads the files, and writes the output.
     pub(crate) fn perform<D: Files>(self, alloc: Global, files: &mut D) -> Result<Finish, Stop>
         ensures { Does (disasm_asks self.entry) (D.seen files.old) (D.seen files.new) result }
     {
@@ -88,7 +88,7 @@ fn read_text<D: Files>(
     text_of(alloc, width, &image)
 }
 
-/// The width that the words behind the two names tell, which may be none or `16`.
+/// The width that the words after the two names name, which may be none or `16`.
 fn width_word(last: &[String]) -> Option<Width>
     ensures { result ≡ width_word (map string_bytes last.now) }
 {

@@ -37,7 +37,7 @@ pub(crate) struct ExtractArgs<'a> {
 }
 
 impl<'a> ExtractArgs<'a> {
-    /// What the words behind the command's name tell.
+    /// What the words after the command's name mean.
     pub(crate) fn read(words: &'a [String]) -> Option<ExtractArgs<'a>>
         ensures { MatchOption result (extract_form (map string_bytes words.now) ≡ None)
             (λ args. extract_form (map string_bytes words.now) ≡ Some (extract_asks args)) }
@@ -65,7 +65,7 @@ impl<'a> ExtractArgs<'a> {
         refusal_of(&[self.text, self.witness], &[self.tape, self.aux], &amounts)
     }
 
-    /// Looks at the files, and writes what they come to.
+    /// Reads the files, and writes the output.
     pub(crate) fn perform<D: Files>(self, alloc: Global, files: &mut D) -> Result<Finish, Stop>
         requires { AreWithin (extract_asks self).amounts }
         ensures { Does (extract_asks self.entry) (D.seen files.old) (D.seen files.new) result }
@@ -79,7 +79,7 @@ impl<'a> ExtractArgs<'a> {
     }
 }
 
-/// Writes the tapes of a run, and tells its answer.
+/// Writes the tapes of a run, and reports its answer.
 fn write_run<D: Files>(
     alloc: Global,
     files: &mut D,

@@ -26,7 +26,7 @@ pub(crate) enum Job<'a> {
     Asm(AsmArgs<'a>),
     /// The program text of an image.
     Disasm(DisasmArgs<'a>),
-    /// The end of a program's run on two tapes, of so many steps at most.
+    /// The end of a program's run on two tapes, of at most `t` steps.
     Run(RunArgs<'a>),
     /// The system of a program's runs of `t` steps on tapes of `n` words.
     Build(BuildArgs<'a>),
@@ -36,7 +36,7 @@ pub(crate) enum Job<'a> {
     Check(CheckArgs<'a>),
     /// The run that an assignment of a program's system has.
     Extract(ExtractArgs<'a>),
-    /// What the system comes to of `k` instructions drawn from a seed, on the values of its run.
+    /// The test of the system of `k` instructions drawn from a seed, on the values of its run.
     Trial(TrialArgs),
     /// A system with fewer private wires and the same solutions.
     Shrink(ShrinkArgs<'a>),
@@ -101,7 +101,7 @@ impl<'a> Job<'a> {
         }
     }
 
-    /// Looks at the files, and writes what they come to.
+    /// Reads the files, and writes the output.
     pub(crate) fn perform<D: Files>(self, alloc: Global, files: &mut D) -> Result<Finish, Stop>
         requires { AreWithin (plan_of self).amounts }
         ensures { Does (plan_of self.entry) (D.seen files.old) (D.seen files.new) result }

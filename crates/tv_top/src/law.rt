@@ -1,5 +1,5 @@
 //! The numbers of the limits, that what one command writes another one takes, and that what files
-//! hold never comes to want of memory.
+//! hold never leads to an allocation failure.
 ghost use Rattle.std.specs.Prelude.{◌≡◌, ◌≢◌, ◌≤◌, ◌+◌, ◌-◌, ◌^◌, ℕ, List, Err};
 ghost use Rattle.tv_asm.specs.Assembly.{assembled};
 ghost use Rattle.tv_asm.specs.declared.fault.AsmFault.TheVariants as asm;
@@ -53,7 +53,8 @@ pub fn image_comes_back()
 
 /// The text that `extract` writes of a tape is within the limit of texts, and `run` and `witness`
 /// read the tape's words of it again, and `check`, of a text that has the answer before them. So
-/// they take the tapes of each run that `extract` tells: a run of `STEPS` steps takes fewer words.
+/// they take the tapes of each run that `extract` reports: a run of `STEPS` steps takes fewer
+/// words.
 pub fn tapes_come_back()
     ensures texts { TapeTextsFit }
     ensures primary { TapesComeBack (λ word width. primary_in word (bits width)) TAPE_WORDS }
@@ -64,9 +65,9 @@ pub fn tapes_come_back()
     ensures answer { TAPE_WORDS + 1 ≤ CHECK_WORDS }
 {}
 
-/// What a program text and a tape's text come to is never want of memory: that is of the calls
-/// alone. So the definition that turns their faults into refusals never comes to the cases that
-/// stand for nothing.
+/// What is found of a program text and of a tape's text is never an allocation failure: that is of
+/// the calls alone. So the definition that turns their faults into refusals never reaches the cases
+/// that stand for nothing.
 pub fn definitions_want_no_memory()
     ensures texts { (w most : ℕ) (text : List ℕ) → assembled w most text ≢ Err asm.Memory }
     ensures tapes { (below most : ℕ) (text : List ℕ) →

@@ -40,7 +40,7 @@ fn number_line(text: &str, number: u64, after: &str) -> Line
     line
 }
 
-/// A line of two numbers, each behind a text.
+/// A line of two numbers, each after a text.
 fn pair_line(text: &str, first: u64, between: &str, second: u64) -> Line
     requires { length text.now + length between.now + 40 ≤ LINE_BYTES }
     ensures text { result.bytes ≡ text.now ++ decimal first ++ between.now ++ decimal second }

@@ -38,7 +38,7 @@ pub(crate) struct ListingArgs<'a> {
 }
 
 impl<'a> ListingArgs<'a> {
-    /// What the words behind the command's name tell.
+    /// What the words after the command's name mean.
     pub(crate) fn read(words: &'a [String]) -> Option<ListingArgs<'a>>
         ensures { MatchOption result (listing_form (map string_bytes words.now) ≡ None)
             (λ args. listing_form (map string_bytes words.now) ≡ Some (listing_asks args)) }
@@ -65,7 +65,7 @@ impl<'a> ListingArgs<'a> {
         refusal_of(&[self.text, self.witness], &[self.out], &amounts)
     }
 
-    /// Looks at the files, and writes what they come to.
+    /// Reads the files, and writes the output.
     pub(crate) fn perform<D: Files>(self, alloc: Global, files: &mut D) -> Result<Finish, Stop>
         requires { AreWithin (listing_asks self).amounts }
         ensures { Does (listing_asks self.entry) (D.seen files.old) (D.seen files.new) result }
@@ -79,7 +79,7 @@ impl<'a> ListingArgs<'a> {
     }
 }
 
-/// The order that a word tells.
+/// The order that a word names.
 fn by_word(word: &str) -> Option<By>
     ensures { result ≡ by_word word.now }
 {

@@ -1,10 +1,10 @@
-//! The network that words tell.
+//! The network that words name.
 ghost use Rattle.std.specs.Prelude.{◌≡◌, map, string_bytes};
 ghost use Rattle.tv_top.specs.Building.{net_word};
 
 use tv_benes::Net;
 
-/// The network that the words behind those of a command tell, which may be none or `waksman`.
+/// The network that the words after those of a command name, which may be none or `waksman`.
 pub(crate) fn net_word(last: &[String]) -> Option<Net>
     ensures { result ≡ net_word (map string_bytes last.now) }
 {

@@ -1,4 +1,4 @@
-//! The names that words tell, and names that are the same.
+//! The names among the words, and names that are the same.
 ghost use Rattle.std.specs.Prelude.{◌≡◌, map};
 ghost use Rattle.tv_top.specs.Plan.{named, same_in, same_of};
 

@@ -1,4 +1,4 @@
-//! The images of program texts, for words of the width that a text tells.
+//! The images of program texts, for words of the width that a text sets.
 ghost use Rattle.std.specs.Prelude.{◌≡◌, ◌≤◌, ◌/◌, ◌^◌, [], ◌∷◌, IfOk};
 ghost use Rattle.tv_asm.specs.Header.{width_of};
 ghost use Rattle.tv_top.specs.declared.programs.Width.TheVariants.{Bits16};
@@ -65,7 +65,7 @@ pub(crate) struct Program {
     pub(crate) words: Words,
 }
 
-/// The width of words that a text tells.
+/// The width of words that a text sets.
 fn width_told(text: &[u8]) -> Width
     ensures width { result ≡ width_told text.now }
     ensures short { result ≡ Bits16 → width_of text.now ≡ 16 }

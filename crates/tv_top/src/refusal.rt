@@ -13,7 +13,7 @@ use tv_disasm::DisFault;
 use tv_extract::NotRun;
 use tv_step::End;
 
-/// The quantities that words tell.
+/// The quantities among the words.
 #[derive(Clone, Copy, Debug, PartialEq, Eq)]
 pub enum Quantity {
     /// The words of a primary tape.
@@ -24,7 +24,7 @@ pub enum Quantity {
     Draws,
 }
 
-/// The quantities of which files hold so many.
+/// The quantities that files hold.
 #[derive(Clone, Copy)]
 pub(crate) enum Size {
     /// The words of the image that a program text has.
@@ -82,7 +82,7 @@ pub(crate) enum Stop {
     Contents(Bad),
 }
 
-/// What a trial comes to.
+/// The result of a trial.
 #[derive(Clone, Copy)]
 pub(crate) struct Trial {
     /// How many steps the run has.
@@ -111,7 +111,7 @@ pub(crate) enum Finish {
     NotARun(NotRun),
     /// This is the verdict.
     Verdict(Verdict),
-    /// The trial comes to this.
+    /// The trial has this result.
     Trial(Trial),
 }
 

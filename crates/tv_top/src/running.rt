@@ -31,7 +31,7 @@ pub(crate) struct RunArgs<'a> {
 }
 
 impl<'a> RunArgs<'a> {
-    /// What the words behind the command's name tell.
+    /// What the words after the command's name mean.
     pub(crate) fn read(words: &'a [String]) -> Option<RunArgs<'a>>
         ensures { MatchOption result (run_form (map string_bytes words.now) ≡ None)
             (λ args. run_form (map string_bytes words.now) ≡ Some (run_asks args)) }
@@ -56,7 +56,7 @@ impl<'a> RunArgs<'a> {
         refusal_of(&reads, &[], &[Amount::steps(self.t)])
     }
 
-    /// Looks at the files, and tells how the run ends.
+    /// Reads the files, and reports how the run ends.
     pub(crate) fn perform<D: Files>(self, alloc: Global, files: &mut D) -> Result<Finish, Stop>
         ensures { Does (run_asks self.entry) (D.seen files.old) (D.seen files.new) result }
     {
@@ -66,7 +66,7 @@ impl<'a> RunArgs<'a> {
     }
 }
 
-/// The end of the machine's run on an image and two tapes, of so many steps at most.
+/// The end of the machine's run on an image and two tapes, of at most `t` steps.
 fn end_on<const W: u32>(
     alloc: Global,
     image: &[u32],

@@ -24,7 +24,7 @@ pub(crate) struct ShrinkArgs<'a> {
 }
 
 impl<'a> ShrinkArgs<'a> {
-    /// What the words behind the command's name tell.
+    /// What the words after the command's name mean.
     pub(crate) fn read(words: &'a [String]) -> Option<ShrinkArgs<'a>>
         ensures { MatchOption result (shrink_form (map string_bytes words.now) ≡ None)
             (λ args. shrink_form (map string_bytes words.now) ≡ Some (shrink_asks args)) }
@@ -46,7 +46,7 @@ impl<'a> ShrinkArgs<'a> {
         refusal_of(&[self.system], &[self.out], &[])
     }
 
-    /// Looks at the files, and writes what they come to.
+    /// Reads the files, and writes the output.
     pub(crate) fn perform<D: Files>(self, alloc: Global, files: &mut D) -> Result<Finish, Stop>
         ensures { Does (shrink_asks self.entry) (D.seen files.old) (D.seen files.new) result }
     {

@@ -12,8 +12,8 @@ use tv_step::End;
 /// Why `check` or `run` says no.
 #[derive(Clone, Copy, Debug, PartialEq, Eq)]
 pub enum NoWhy {
-    /// The public wire with this number, 0 for the constant 1, has another value than the tape
-    /// gives, or is missing on one side.
+    /// The public wire with this number, 0 for the constant 1, has another value than the tape has,
+    /// or is missing on one side.
     Public { at: u64 },
     /// The constraint with this number, the first that fails, doesn't hold.
     Constraint { at: u64 },

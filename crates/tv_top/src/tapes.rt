@@ -33,8 +33,8 @@ fn tape_stop(word: u32, what: Size, fault: TapeFault) -> Stop
     }
 }
 
-/// The numbers of the tape of this name: below a bound each, and at most so many
-/// of this quantity.
+/// The numbers of the tape of this name: below a bound each, and at most this many of this
+/// quantity.
 #[tactic(auto, unfolding(crate::specs::Plan::input))]
 fn read_numbers<D: Files>(
     alloc: Global,
@@ -89,8 +89,7 @@ fn words_from(alloc: Global, numbers: &[u64]) -> Result<Words, AllocError>
     Ok(words)
 }
 
-/// The words of the tape of this name: below a bound each, and at most so many of
-/// this quantity.
+/// The words of the tape of this name: below a bound each, and at most this many of this quantity.
 pub(crate) fn read_words<D: Files>(
     alloc: Global,
     files: &mut D,

@@ -33,7 +33,7 @@ pub(crate) struct TrialArgs {
 }
 
 impl TrialArgs {
-    /// What the words behind the command's name tell.
+    /// What the words after the command's name mean.
     pub(crate) fn read(words: &[String]) -> Option<TrialArgs>
         ensures { MatchOption result (trial_form (map string_bytes words.now) ≡ None)
             (λ args. trial_form (map string_bytes words.now) ≡ Some (trial_asks args)) }
@@ -61,7 +61,7 @@ impl TrialArgs {
         refusal_of(&[], &[], &[draws])
     }
 
-    /// Tells what the trial comes to; no file is looked at.
+    /// Reports the result of the trial; no file is read.
     pub(crate) fn perform<D: Files>(self, alloc: Global, files: &mut D) -> Result<Finish, Stop>
         requires { AreWithin (trial_asks self).amounts }
         ensures { Does (trial_asks self) (D.seen files.old) (D.seen files.new) result }

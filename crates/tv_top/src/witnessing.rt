@@ -39,7 +39,7 @@ pub(crate) struct WitnessArgs<'a> {
 }
 
 impl<'a> WitnessArgs<'a> {
-    /// What the words behind the command's name tell.
+    /// What the words after the command's name mean.
     pub(crate) fn read(words: &'a [String]) -> Option<WitnessArgs<'a>>
         ensures { MatchOption result (witness_form (map string_bytes words.now) ≡ None)
             (λ args. witness_form (map string_bytes words.now) ≡ Some (witness_asks args)) }
@@ -66,7 +66,7 @@ impl<'a> WitnessArgs<'a> {
         refusal_of(&reads, &[self.witness], &[Amount::steps(self.t)])
     }
 
-    /// Looks at the files, and writes what they come to.
+    /// Reads the files, and writes the output.
     pub(crate) fn perform<D: Files>(self, alloc: Global, files: &mut D) -> Result<Finish, Stop>
         requires { AreWithin (witness_asks self).amounts }
         ensures { Does (witness_asks self.entry) (D.seen files.old) (D.seen files.new) result }
@@ -96,8 +96,7 @@ fn put_values<const W: u32, D: Files>(
     taker.finish()
 }
 
-/// Runs the machine on what was read, words of so many bits, and writes the values where it
-/// answers.
+/// Runs the machine on what was read, words of `W` bits, and writes the values where it answers.
 fn write_witness<const W: u32, D: Files>(
     alloc: Global,
     files: &mut D,

@@ -11,8 +11,8 @@ use crate::status::Status;
 use tv_core::{Put, SinkFault};
 use tv_files::{FileRefusal, Files, write_file};
 
-/// Says the line of an end, where it has one, by one `say`, and answers its status. Where that is
-/// refused, the refusal is the answer, and a fault tells the number of words.
+/// Prints the line of an end, where it has one, by one `say`, and returns its status. Where that is
+/// refused, the refusal is returned, and a fault names the number of words.
 pub(crate) fn conclude<D: Files>(files: &mut D, word_count: usize, ending: Ending) -> Status
     ensures { Concludes ending word_count (D.seen files.old) (D.seen files.new) result }
 {

@@ -15,7 +15,7 @@ one_answer image x aux t u v one other =
     let h : Answer u one.0 ≡ Answer v other.0 = sym one.2 ∙ other.2 in
     cc
 
--- what is given to a list is refused for want of memory alone, where the run answers
+-- what is given to a list is refused only where memory runs out, where the run answers
 refused : (image x aux : List ℕ) (t : ℕ) (old new : Kept) (fault : FillFault) → Accepts 32 image x aux t 0
     → FillsIn kept_giving 32 Benes image x aux t old new (Err fault) → fault ≡ Memory
 refused image x aux t old new (NoRun end) accepts fills = absurd (fills.0.1 0 accepts)

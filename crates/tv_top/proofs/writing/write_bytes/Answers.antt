@@ -4,7 +4,7 @@ use Rattle.tv_files.specs.declared.calls.FileRefusal.{FileRefusal}
 use Rattle.tv_files.specs.declared.calls.FileRefusal.TheVariants as refusal
 use Rattle.tv_top.specs.Contents.{Content.{Bytes}}
 use Rattle.tv_top.specs.Plan.{named, one_write}
-use Rattle.tv_top.proofs.Common.{Outside, OnlyWrites, SameCounts, Rose, Named, Stop, Fault, Memory, Writes}
+use Rattle.tv_top.proofs.Common.{Outside, OnlyWrites, RanOut, SameCounts, Rose, Named, Stop, Fault, Memory, Writes}
 use Rattle.tv_top.proofs.ContainerReads.{came}
 use Rattle.tv_top.proofs.writing.write_bytes.Goals as goal
 
@@ -15,7 +15,7 @@ stop_of word refusal.Memory = Memory
 
 wrote : (place : Named) (bytes : List ℕ) (old new : Outside) (written : Result (Unit {0}) FileRefusal) → OnOk written (HasBytes old new place.name bytes)
     → OnErr written (HasPart old new place.name bytes) →
-    (written ≡ Err refusal.Failed → Rose old.write_faults new.write_faults) → (written ≡ Err refusal.Memory → Rose old.wants new.wants)
+    (written ≡ Err refusal.Failed → Rose old.write_faults new.write_faults) → (written ≡ Err refusal.Memory → RanOut old new)
     → OnOk written (SameCounts old new) → OnlyWrites old new → Writes (one_write place (Bytes bytes)) old new (came (stop_of place.word) written)
 wrote place bytes old new (Ok done) whole part faulty wanting quiet only = record { ended = (whole, (tt, tt)); quiet = quiet; only = only }
 wrote place bytes old new (Err refusal.Failed) whole part faulty wanting quiet only = record {
