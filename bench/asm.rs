@@ -1,5 +1,5 @@
 //! The assembler in plain Rust, for words of 32 bits: the same two passes over the same text, with the same
-//! faults, std's hash map for labels and a `match` for names. It assembles its text so many times, to be timed
+//! faults, std's hash map for labels and a `match` for names. It assembles its text this many times, to be timed
 //! beside `asm.rattle`. usage: asm TEXT
 use std::collections::HashMap;
 use std::collections::hash_map::Entry;

@@ -1,17 +1,18 @@
 #!/usr/bin/env bash
-# Times `tinyr1cs build` on programs/rounds.asm for so many steps, 1,024, 65,536 and 262,144 where none are said, and for
-# 0 and 1,000 public words, where WORDS says no others: onto /dev/null, which forgets all that it gets, and, where a system
-# has no more bytes than MOST, 11,000,000,000 where nothing else is said, onto the disk. Beside the second stand the verdict
-# of check.rs, a program in plain Rust, on the file that was written, and a copy of the file, or of as much of it as MOST
-# leaves room for, scaled; then `check` and `extract` on it too. Of ROUNDS runs of each, 3 where nothing else is said, it
-# tells the one that took the least processor time, user and system together. It prints rows of the tables in README.md.
+# Times `tinyr1cs build` on programs/rounds.asm for the given numbers of steps, else for 1,024, 65,536 and 262,144, and
+# for 0 and 1,000 public words, unless WORDS says others: onto /dev/null, which forgets all that it gets, and, where a
+# system has no more bytes than MOST, 11,000,000,000 where nothing else is said, onto the disk. Beside the second stand
+# the verdict of check.rs, a program in plain Rust, on the file that was written, and a copy of the file, or of as much
+# of it as MOST leaves room for, scaled; then `check` and `extract` on it too. Of ROUNDS runs of each, 3 where nothing
+# else is said, it reports the one that took the least processor time, user and system together. It prints rows of the
+# tables in README.md.
 # usage: bench/build.sh [STEPS ..]
 set -euo pipefail
 
 bench=$(cd "$(dirname "$0")" && pwd)
 . "$bench/takes.sh"
 
-# A number of so many bytes at a place of a file, the lowest first.
+# A number of this many bytes at a place of a file, the lowest first.
 number_at() {
     od -A n -t "u$2" -j "$3" -N "$2" "$1" | tr -d ' '
 }

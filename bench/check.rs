@@ -13,7 +13,7 @@ use std::os::unix::fs::FileExt;
 use std::process::ExitCode;
 
 const P: u64 = 0xffff_ffff_0000_0001;
-/// The most bytes that one read of the system gives.
+/// The most bytes that one read of the system returns.
 const PIECE: usize = 65_536;
 const TAPE_PIECE: usize = 4096;
 const WIDEST: u32 = 1_048_576;
@@ -119,7 +119,7 @@ impl<'a> Window<'a> {
         Window { file, bytes: Box::new([0; PIECE]), held: 0, at: 0 }
     }
 
-    /// Reads on until so many bytes at a place are held; false where the file ends before.
+    /// Reads on until this many bytes at a place are held; false where the file ends before.
     fn reach(&mut self, at: u64, size: usize) -> io::Result<bool> {
         let Some(end) = at.checked_add(size as u64) else {
             return Ok(false);
@@ -150,7 +150,7 @@ impl<'a> Window<'a> {
         self.bytes[..self.held].get(from..).unwrap_or(&[])
     }
 
-    /// What is held from a place on, where there are so many bytes.
+    /// What is held from a place on, where there are that many bytes.
     fn bytes_at(&mut self, at: u64, size: usize) -> Result<&[u8], Refusal> {
         if self.reach(at, size)? {
             Ok(&self.bytes[(at - self.at) as usize..self.held])
@@ -226,7 +226,7 @@ impl Sections {
     }
 }
 
-/// Section 1 has so many bytes and names this field.
+/// Section 1 has this many bytes and names this field.
 fn this_field(window: &mut Window<'_>, one: Section, wants: u64) -> Result<(), Refusal> {
     let miscounted = Why::BadCount { has: one.size, wants };
     if one.size < 4 {
@@ -275,7 +275,7 @@ impl<'a> Rows<'a> {
         }
     }
 
-    /// Whether all constraints ahead hold; false behind the first that doesn't. With `TRY` unset nothing is
+    /// Whether all constraints ahead hold; false after the first that doesn't. With `TRY` unset nothing is
     /// tried, and each constraint holds. There is a value for each wire where something is tried.
     fn all<const TRY: bool>(&mut self, values: &[u64]) -> Result<bool, Refusal> {
         while self.left > 0 {
@@ -353,7 +353,7 @@ impl<'a> Rows<'a> {
         Ok(sum.value())
     }
 
-    /// Adds the terms that the window holds next, one at least and so many at most, and says how many.
+    /// Adds the terms that the window holds next, one at least and this many at most, and says how many.
     fn piece<const TRY: bool>(&mut self, most: usize, values: &[u64], sum: &mut Sum) -> Result<usize, Refusal> {
         let room = (self.end() - self.at) / 12;
         if room == 0 {
@@ -383,7 +383,7 @@ impl<'a> Rows<'a> {
     }
 }
 
-/// Whether the constraint at the beginning of these bytes holds, and what is behind it; `None` where not all of
+/// Whether the constraint at the beginning of these bytes holds, and what follows it; `None` where not all of
 /// it is there, or something is out of order.
 #[inline(always)]
 fn held_row<'a, const TRY: bool>(bytes: &'a [u8], wires: u32, values: &[u64]) -> Option<(bool, &'a [u8])> {
@@ -393,7 +393,7 @@ fn held_row<'a, const TRY: bool>(bytes: &'a [u8], wires: u32, values: &[u64]) ->
     Some((!TRY || mul(a, b) == c, rest))
 }
 
-/// The value of the combination at the beginning of these bytes, and what is behind it. Many have one term. The
+/// The value of the combination at the beginning of these bytes, and what follows it. Many have one term. The
 /// `FIRST` of a constraint isn't summed in vain where it is wide and the others aren't at hand.
 #[inline(always)]
 fn held_value<'a, const TRY: bool, const FIRST: bool>(

@@ -1,6 +1,6 @@
 #!/bin/sh
 # Times `tinyr1cs check` against check.rs, plain Rust as fast as one thread can, on systems of 1, 3, 9, 128, 2,000 and
-# 1,000,000 terms a combination, of 23 to 36 MB each, and on one with nine terms a constraint; then tells the most memory
+# 1,000,000 terms a combination, of 23 to 36 MB each, and on one with nine terms a constraint; then prints the most memory
 # that both held there, and on a system of twice the size. usage: bench/check.sh [ROUNDS]
 set -eu
 
@@ -13,7 +13,7 @@ example=$bench/../examples/sum
 "$bench/../bin/tinyr1cs" run "$example.asm" "$example.tape" /dev/null 1000 > /dev/null
 ln -s "$(realpath -- "$bench/../crates/tinyr1cs/out/tinyr1cs")" "$folder/tinyr1cs"
 
-# The system of so many constraints, in a folder of its own, with so many terms a combination where they are said.
+# The system of this many constraints, in a folder of its own, with this many terms a combination where they are said.
 make() {
     mkdir "$folder/$1"
     cd "$folder/$1"

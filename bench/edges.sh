@@ -228,6 +228,14 @@ edge 11 "not a run: 4000000 wires, $wires wanted\n" '' '' 'eval "$long"; long "'
 edge 6 'bad witness: byte 32000044: not below p\n' '' '' 'eval "$long"; long "'$prime'" $t extract P 0 1 LONG OLD AUX'
 edge 11 "not a run: 4000000 wires, $wires wanted\n" '' '' 'eval "$long"; long "'$zero'" $t listing P 0 1 LONG time OLD'
 
+# A system of 2^32 - 1 wires whose one constraint names the last of them but one, in less memory than a bit for each
+# wire takes: `shrink` takes memory for the terms, and the file of all labels finds no room.
+edge 8 '' 'file fault: /dev/full\n' 'FAR' '
+    printf "r1cs\1\0\0\0\2\0\0\0\1\0\0\0\50\0\0\0\0\0\0\0\10\0\0\0\1\0\0\0\377\377\377\377\377\377\377\377" >FAR
+    printf "\0\0\0\0\0\0\0\0\0\0\0\0\0\0\0\0\0\0\0\0\1\0\0\0\2\0\0\0\60\0\0\0\0\0\0\0" >>FAR
+    printf "\1\0\0\0\376\377\377\377\1\0\0\0\0\0\0\0\1\0\0\0\0\0\0\0\1\0\0\0\0\0\0\0" >>FAR
+    printf "\1\0\0\0\1\0\0\0\1\0\0\0\0\0\0\0" >>FAR; (ulimit -v 200000; $t shrink FAR /dev/full)'
+
 # A file that is cut while it is read, at 20 moments: the answer is one of those of a file that it was, or of its front
 # and a lost end, and none hangs.
 export cutting='

@@ -1,5 +1,5 @@
 #!/usr/bin/env python3
-"""Writes a system of so many terms as a compiler of circuits leaves it, a witness that satisfies it, and its tape.
+"""Writes a system of this many terms as a compiler of circuits leaves it, a witness that satisfies it, and its tape.
 
 usage: make_chains.py KIND FOLDER TERMS
 
@@ -45,7 +45,7 @@ def product(a, b, wire):
 
 
 def rounds(count, values):
-    """The constraints of so many rounds, each with its terms, over the public wires 1, the input, and 2, the key."""
+    """The constraints of this many rounds, each with its terms, over the public wires 1, the input, and 2, the key."""
     out = 1
     for number in range(count):
         w = len(values)

@@ -1,10 +1,10 @@
 #!/usr/bin/env python3
-"""Writes a system of so many constraints, a witness that satisfies it, and its tape.
+"""Writes a system of this many constraints, a witness that satisfies it, and its tape.
 
 usage: make_system.py FOLDER CONSTRAINTS [TERMS]
 
-Each constraint multiplies two combinations of earlier wires and gives a wire of its own. With TERMS each of
-the three combinations has so many terms; else the first two have four, and the third has one. The numbers are
+Each constraint multiplies two combinations of earlier wires and defines a wire of its own. With TERMS each of
+the three combinations has that many terms; else the first two have four, and the third has one. The numbers are
 the same at each run.
 """
 
@@ -28,7 +28,7 @@ def container(magic, version, header, sections):
 
 
 def combination(rng, values, terms):
-    """Terms over the wires that have values, as numbers in turn, and what they come to."""
+    """Terms over the wires that have values, as numbers in turn, and their value."""
     wires, uniform, bits = len(values), rng.random, rng.getrandbits
     flat, total = [], 0
     for _ in range(terms):
@@ -39,7 +39,7 @@ def combination(rng, values, terms):
 
 
 def rows(count, terms, values):
-    """The bytes of each constraint; the value of its wire is put behind the others."""
+    """The bytes of each constraint; the value of its wire is put after the others."""
     rng = random.Random(1)
     values += [rng.randrange(P) for _ in range(INPUTS)]
     a, b, c = terms

@@ -70,7 +70,7 @@ fn select<S: Sink>(s: &mut S, b: u32, x: u32, y: u32) -> u32 {
     o
 }
 
-/// A switch between two items of two wires each, of which the first is told.
+/// A switch between two items of two wires each, of which the first is passed.
 fn switch<S: Sink>(s: &mut S, x: u32, y: u32) -> (u32, u32) {
     let b = s.fresh();
     s.put(&[(1, b)], &[(1, b)], &[(1, b)]);
@@ -81,7 +81,7 @@ fn switch<S: Sink>(s: &mut S, x: u32, y: u32) -> (u32, u32) {
     (upper, lower)
 }
 
-/// The first wires of the outputs of a network on items whose first wires are told, in place.
+/// The first wires of the outputs of a network on items whose first wires are passed, in place.
 fn network<S: Sink>(s: &mut S, items: &mut [u32], spare: &mut [u32]) {
     if items.len() == 2 {
         (items[0], items[1]) = switch(s, items[0], items[1]);

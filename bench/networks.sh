@@ -1,7 +1,7 @@
 #!/usr/bin/env bash
 # Times a network of 2^18 and of 2^20 items into a sink that counts and into one that forgets, the values of its
 # wires, and its settings, against networks.rs, the same in plain Rust; and
-# tells the most memory that each held. Before each it prints the part, k, how many switches there were,
+# prints the most memory that each held. Before each it prints the part, k, how many switches there were,
 # and a sum. It needs rustc. The first run proves the crates in a scratch repository, which takes some minutes.
 # usage: bench/networks.sh [ROUNDS]
 set -euo pipefail

@@ -6,7 +6,7 @@
 #
 # The answer is then that of the unrefused run, with the same files; or status 9, `no memory` on standard error, at most
 # a first part of the line said, and each name that is written holding a first part of what it should hold, or what it
-# held. No other file changes, and behind the refusal no file is opened, read or written. A command has a line with how
+# held. No other file changes, and after the refusal no file is opened, read or written. A command has a line with how
 # many allocations it makes and how many runs ended in each way; the last line counts, and the status is 1 where a run
 # failed. It wants `cc`, and stands outside the gate.
 set -u

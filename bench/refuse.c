@@ -1,6 +1,6 @@
-/* Loaded before a program (LD_PRELOAD), refuses one of its allocations: that with the number that REFUSE tells, counted
+/* Loaded before a program (LD_PRELOAD), refuses one of its allocations: that with the number in REFUSE, counted
    from 1, and where REFUSE_ALL is set each one after it too. At the end the file that REFUSE_COUNT names gets how many
-   there were, and how many files were opened, reads and writes made behind the first refusal, those of standard error
+   there were, and how many files were opened, reads and writes made after the first refusal, those of standard error
    aside. Allocations are calls of malloc and realloc, once the C library has begun. */
 #define _GNU_SOURCE
 #include <errno.h>

@@ -1,7 +1,7 @@
 #!/bin/sh
-# Times `tinyr1cs shrink` on systems of so many terms, 4,194,304 where none are said, as a compiler of circuits leaves
+# Times `tinyr1cs shrink` on systems of TERMS terms, 4,194,304 where none are said, as a compiler of circuits leaves
 # them, against `tinyr1cs check` on the same systems, in turn: processor time, the ratios, and the most memory held; and
-# tells the terms, constraints and wires before and after. usage: bench/shrink.sh [TERMS [ROUNDS]]
+# prints the terms, constraints and wires before and after. usage: bench/shrink.sh [TERMS [ROUNDS]]
 set -eu
 
 terms=${1:-4194304}

@@ -1,6 +1,6 @@
 #!/usr/bin/env bash
-# Tells how many constraints of a step go into a sink that counts and into one that tests, and how many terms into one
-# that reads each and forgets it, each a second, at 32 and at 16 bits: the best of so many turns, five where none are
+# Prints how many constraints of a step go into a sink that counts and into one that tests, and how many terms into one
+# that reads each and forgets it, each a second, at 32 and at 16 bits: the best of TURNS turns, five where none are
 # said. The first run proves the crates in a scratch repository, which takes many minutes.
 # usage: bench/step.sh [TURNS]
 set -euo pipefail

@@ -9,7 +9,7 @@ cd "$folder"
 gauge=$(type -P time)
 TIMEFORMAT='%3R %3U %3S'
 
-# Runs a command ROUNDS times, and tells of the run with the least processor time $clock, $processor and $memory: the
+# Runs a command ROUNDS times, and reports of the run with the least processor time $clock, $processor and $memory: the
 # seconds by the clock, those of the processor, user and system together, and the most KiB that it held. What it said
 # last is in the file `said`.
 least() {

@@ -1,17 +1,19 @@
 #!/usr/bin/env bash
-# Times `tinyr1cs witness` on programs/rounds.asm for so many steps, 1,024, 65,536 and 262,144 where none are said, and for
-# 0 and 1,000 public words, where WORDS says no others: onto /dev/null and onto the disk; beside them write.rs, a program in
-# plain Rust that writes as many bytes from memory in pieces of as many, 4,096. Of ROUNDS runs, 3 where nothing else is
-# said, it tells the one that took the least processor time, user and system together. Then, where there is `perf`, it tells
-# how the time onto /dev/null is split: the machine's run, the sort of its lines, the settings, and the values of the steps,
-# of the network and of the sorted lines. It prints rows of the tables in README.md. usage: bench/witness.sh [STEPS ..]
+# Times `tinyr1cs witness` on programs/rounds.asm for the given numbers of steps, else for 1,024, 65,536 and 262,144,
+# and for 0 and 1,000 public words, unless WORDS says others: onto /dev/null and onto the disk; beside them write.rs, a
+# program in plain Rust that writes as many bytes from memory in pieces of as many, 4,096. Of ROUNDS runs, 3 where
+# nothing else is said, it reports the one that took the least processor time, user and system together. Then, where
+# there is `perf`, it reports how the time onto /dev/null is split: the machine's run, the sort of its lines, the
+# settings, and the values of the steps, of the network and of the sorted lines. It prints rows of the tables in
+# README.md.
+# usage: bench/witness.sh [STEPS ..]
 set -euo pipefail
 
 bench=$(cd "$(dirname "$0")" && pwd)
 . "$bench/takes.sh"
 
 # Samples the program each quarter of a millisecond, and adds up the shares of functions by the part of the work that their
-# path tells. What is compiled into the command itself, the packing of lines among it, counts as writing.
+# path says. What is compiled into the command itself, the packing of lines among it, counts as writing.
 split() {
     perf record -q -F 4000 -o samples -- "$@" > said
     perf report -q -i samples --stdio -F overhead,sym 2> /dev/null | awk '

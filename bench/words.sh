@@ -1,6 +1,6 @@
 #!/usr/bin/env bash
-# Tells how many constraints of each gadget of words go into a sink that counts and into one that tests, and how
-# many values its generator gives into a list, each a second: the best of so many turns, five where none are
+# Prints how many constraints of each gadget of words go into a sink that counts and into one that tests, and how
+# many values its generator assigns to a list, each a second: the best of TURNS turns, five where none are
 # said. The first run proves the crates in a scratch repository, which takes some minutes.
 # usage: bench/words.sh [TURNS]
 set -euo pipefail

@@ -1,4 +1,4 @@
-//! Writes a file of so many bytes from memory, in pieces of so many: write FILE BYTES PIECE
+//! Writes a file of BYTES bytes from memory, in pieces of PIECE bytes: write FILE BYTES PIECE
 
 use std::env;
 use std::fs::File;

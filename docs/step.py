@@ -15,7 +15,7 @@ BOXES = [  # name, what it makes, its size, what it takes
     ("arithmetic", "a row of 2 W bits", "110 wires, 120 constraints", ["instruction", "registers read", "operand"]),
     ("tapes", "what is taken, ended", "7 wires, 7 constraints", ["state before", "instruction", "operand"]),
     ("memory", "cell, old and new word, byte", "9 wires, 9 constraints", ["state before", "instruction", "registers read", "operand", "arithmetic", "tapes"]),
-    ("result and test", "result, test for 0", "7 wires, 10 constraints", ["instruction", "operand", "arithmetic", "tapes", "memory"]),
+    ("result and test", "result, test for 0", "7 wires, 10 constraints", ["state before", "instruction", "operand", "arithmetic", "tapes", "memory"]),
     ("registers written", "registers", "17 wires, 18 constraints", ["state before", "instruction", "registers read", "result and test"]),
     ("flag", "flag", "3 wires, 3 constraints", ["state before", "instruction", "arithmetic", "tapes", "result and test"]),
     ("program counter", "pc", "4 wires, 4 constraints", ["state before", "instruction", "operand"]),

@@ -11,17 +11,17 @@ WIRES = [  # text, width, private
     (["1", "answer"], 66, False),
     (["2 .. n + 1", "tape"], 86, False),
     (["W n", "bits of the", "tape's words"], 96, True),
-    (["1", "a wire", "that is 0"], 76, True),
+    (["20", "start state:", "all are 0"], 76, True),
     (["R", "step 1"], 96, True),
     (["R", "step 2"], 96, True),
     (["..", "T steps"], 76, True),
-    (["5 a switch", "network"], 106, True),
+    (["3 or 5 a switch", "network"], 106, True),
     (["m + 1 a line", "within m bits:", "reach and e"], 150, True),
 ]
 
 CONSTRAINTS = [  # text, over the wires from .. to ..
-    (["each word of the tape is a word"], 2, 3),
-    (["it is 0"], 4, 4),
+    (["each is below 2^W"], 2, 3),
+    (["they are 0"], 4, 4),
     (["each step from the state that the one before leads to"], 4, 7),
     (["the last step answers, and its value is wire 1"], 1, 7),
     (["memory: the lines are honest"], 2, 9),

@@ -1,6 +1,6 @@
 ; TinyRAM V=2.000 M=vn W=32 K=16
 ; The primary tape has a number n, n words, and n words again. Answers 0 exactly where the second n words are
-; the first in rising order; the auxiliary tape tells, for each of them, which of the first it is, from 0 on.
+; the first in rising order; the auxiliary tape says, for each of them, which of the first it is, from 0 on.
 ; So the list and the sorted list are public, and the order that leads from one to the other is not.
 
         read r1, 0          ; how many there are
@@ -29,7 +29,7 @@ _next:  cmpae r2, r1
         load.w r7, r4
         cmpe r7, r3
         cnjmp _no
-        add r4, r4, 0x100000 ; its mark is 1 MiB further on, behind the list
+        add r4, r4, 0x100000 ; its mark is 1 MiB further on, after the list
         load.w r7, r4       ; whether it stood in the sorted list before
         cmpe r7, 0
         cnjmp _no

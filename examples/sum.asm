@@ -1,5 +1,5 @@
 ; TinyRAM V=2.000 M=vn W=32 K=16
-; Answers 0 exactly where the first word of the primary tape is the sum of the words behind it, modulo 2^32.
+; Answers 0 exactly where the first word of the primary tape is the sum of the words after it, modulo 2^32.
 
         read r1, 0        ; what is left of the sum
 _next:  read r2, 0        ; the next word; the flag is 1 at the tape's end
