@@ -80,15 +80,27 @@ is_wanting (Ok _) = false
 is_wanting (Err Failed) = false
 is_wanting (Err Memory) = true
 
+-- which events came in a call: a fault in a read, in a write or in saying, memory running out, a name that isn't there
+pub record Events : Type 0 where
+  pub read_fault : Bool
+  pub write_fault : Bool
+  pub say_fault : Bool
+  pub want : Bool
+  pub miss : Bool
+
+-- none of them
+abbrev pub no_event : Events
+no_event = record { read_fault = false; write_fault = false; say_fault = false; want = false; miss = false }
+
 -- one call was made, and each count rose by one exactly where its event came
-pub record Counted (old new : MemFiles) (read_fault write_fault say_fault want miss : Bool) : Type 0 where
+pub record Counted (old new : MemFiles) (came : Events) : Type 0 where
   pub calls : calls_of new ≡ one_more (calls_of old)
   pub failing : failing_of new ≡ failing_of old
-  pub read_faults : (told_by new).read_faults ≡ raised read_fault (told_by old).read_faults
-  pub write_faults : (told_by new).write_faults ≡ raised write_fault (told_by old).write_faults
-  pub say_faults : (told_by new).say_faults ≡ raised say_fault (told_by old).say_faults
-  pub wants : (told_by new).wants ≡ raised want (told_by old).wants
-  pub absent : (told_by new).absent ≡ raised miss (told_by old).absent
+  pub read_faults : (told_by new).read_faults ≡ raised came.read_fault (told_by old).read_faults
+  pub write_faults : (told_by new).write_faults ≡ raised came.write_fault (told_by old).write_faults
+  pub say_faults : (told_by new).say_faults ≡ raised came.say_fault (told_by old).say_faults
+  pub wants : (told_by new).wants ≡ raised came.want (told_by old).wants
+  pub absent : (told_by new).absent ≡ raised came.miss (told_by old).absent
 
 -- what a read returns: a fault where the call is to fail or the name isn't there, and else all that fits
 abbrev pub read_answer : Bool → Option (List ℕ) → ℕ → ℕ → Result ℕ FileRefusal

@@ -5,7 +5,8 @@ ghost use Rattle.tv_files.specs.Calls.{Reads, Creates, Appends, Says};
 ghost use Rattle.tv_files.specs.Outside.{with_bytes, with_more};
 ghost use Rattle.tv_files.specs.MemFiles.{names_of, said_of, calls_of, failing_of, told_by};
 ghost use Rattle.tv_files.specs.MemFiles.{nothing};
-ghost use Rattle.tv_files.specs.MemFiles.{Counted, is_due, is_failed, is_wanting, read_answer};
+ghost use Rattle.tv_files.specs.MemFiles.{Counted, is_due, is_failed, is_wanting, no_event};
+ghost use Rattle.tv_files.specs.MemFiles.{read_answer};
 ghost use Rattle.tv_files.specs.MemFiles.{first_half};
 
 use crate::calls::{FileRefusal, Files};
@@ -110,8 +111,10 @@ impl Files for MemFiles {
         ensures rest { MatchResult result
             (λ count. drop count into.new ≡ drop count into.old)
             (λ _. into.new ≡ into.old) }
-        ensures counted { Counted self.old self.new
-            (is_err result) false false false (is_none (names_of self.old name.now)) }
+        ensures counted { Counted self.old self.new (record no_event {
+          read_fault = is_err result;
+          miss = is_none (names_of self.old name.now);
+        }) }
     {
         let due = next_is_due(&mut self.calls, &self.failing);
         match self.names.get(name) {
@@ -132,8 +135,10 @@ impl Files for MemFiles {
         ensures creates { Creates (told_by self.old) (told_by self.new) name.now result }
         ensures failed { is_failed result ≡ is_due self.old }
         ensures refused { OnErr result (names_of self.new ≡ names_of self.old) }
-        ensures counted { Counted self.old self.new false (is_failed result) false
-            (is_wanting result) false }
+        ensures counted { Counted self.old self.new (record no_event {
+          write_fault = is_failed result;
+          want = is_wanting result;
+        }) }
     {
         if next_is_due(&mut self.calls, &self.failing) {
             raise(&mut self.write_faults);
@@ -154,9 +159,11 @@ impl Files for MemFiles {
             ⊎ (IsTrue (is_due self.old)
             × (names_of self.new ≡ with_more name.now (first_half bytes.now)
             (names_of self.old)))) }
-        ensures counted { Counted self.old self.new
-            false (is_failed result) false (is_wanting result)
-            (is_none (names_of self.old name.now)) }
+        ensures counted { Counted self.old self.new (record no_event {
+          write_fault = is_failed result;
+          want = is_wanting result;
+          miss = is_none (names_of self.old name.now);
+        }) }
     {
         let due = next_is_due(&mut self.calls, &self.failing);
         match self.names.get_mut(name) {
@@ -175,8 +182,10 @@ impl Files for MemFiles {
         ensures refused { OnErr result ((said_of self.new ≡ said_of self.old)
             ⊎ (IsTrue (is_due self.old)
             × (said_of self.new ≡ said_of self.old ++ first_half bytes.now))) }
-        ensures counted { Counted self.old self.new false false (is_failed result)
-            (is_wanting result) false }
+        ensures counted { Counted self.old self.new (record no_event {
+          say_fault = is_failed result;
+          want = is_wanting result;
+        }) }
     {
         let due = next_is_due(&mut self.calls, &self.failing);
         add(
