@@ -1,5 +1,6 @@
 //! The registers, one of which is written by the row of its number.
-ghost use Rattle.std.specs.Prelude.{◌≡◌, ◌+◌, ◌≤◌, ◌<◌, ◌^◌, false, length, IfOk, OnOk};
+ghost use Rattle.std.specs.Prelude.{◌≡◌, ◌+◌, ◌≤◌, ◌<◌, ◌^◌, false, length, max, IfOk};
+ghost use Rattle.std.specs.Prelude.{OnOk};
 ghost use Rattle.std.specs.List.{range_with_len};
 ghost use Rattle.tv_core.specs.Combinations.{top};
 ghost use Rattle.tv_core.specs.Giving.{GivesIn};
@@ -25,9 +26,8 @@ pub fn write_reg<S: Sink>(
     requires room { Room S.meaning s.old 17 17 }
     requires sel_made { sel + 16 ≤ S.meaning.wires s.old }
     requires on_made { on < S.meaning.wires s.old }
-    requires x_made { top x.now ≤ S.meaning.wires s.old }
     requires x_short { length x.now ≤ 64 }
-    requires regs_made { wires_top regs.now ≤ S.meaning.wires s.old }
+    requires made { max (top x.now) (wires_top regs.now) ≤ S.meaning.wires s.old }
     ensures puts { PutsIn S.meaning s.old s.new (write_reg_of sel on x.now regs.now) result }
     ensures grows { IfOk result (λ _. Grows S.meaning s.old s.new 17 17) }
     ensures below { IfOk result (λ made. wires_top made ≤ S.meaning.wires s.new) }
@@ -55,10 +55,9 @@ fn tie<S: Sink>(
     requires room { Room S.meaning s.old 0 1 }
     requires on_made { on < S.meaning.wires s.old }
     requires v_made { v < S.meaning.wires s.old }
-    requires x_made { top x.now ≤ S.meaning.wires s.old }
     requires x_short { length x.now ≤ 64 }
     requires new_made { first + 16 ≤ S.meaning.wires s.old }
-    requires regs_made { wires_top regs.now ≤ S.meaning.wires s.old }
+    requires made { max (top x.now) (wires_top regs.now) ≤ S.meaning.wires s.old }
     ensures puts { PutsIn S.meaning s.old s.new (tie_of on x.now v first regs.now) result }
     ensures grows { IfOk result (λ _. Grows S.meaning s.old s.new 0 1) }
 {
