@@ -22,9 +22,9 @@ use Rattle.tv_lines.specs.SortedPair.{bits_from, cell_less, key_less, prefix_les
 use Rattle.tv_lines.specs.Unpacking.{HasWidths, SpellsLine}
 use Rattle.tv_lines.specs.declared.rows.LineBits.{LineBits}
 
-pub rises_next : (apart size : ℕ) (before after : LineBits) (next : ℕ) → (rises_of 11 3 2 apart size before after next).next ≡ next + 3
+pub rises_next : (apart size : ℕ) (before after : LineBits) (next : ℕ) → (rises_of apart size before after next).next ≡ next + 3
 unfolding rises_of
-rises_next apart size before after next = zero_product_next (λ j. less (prefix_less 11 3 apart before after j) (wire size)) 5 next
+rises_next apart size before after next = zero_product_next (λ j. less (prefix_less apart before after j) (wire size)) 5 next
 
 -- ---- the prefixes, as numbers
 -- (cell, time) of the second line is above
@@ -155,7 +155,7 @@ module _ (z : List ℕ) (before after : LineBits) (l m : Line) (b : HasWidths be
       (value_from z before.time p l.time (omega (arith, b.time)) (omega (arith, b.time)) (row before.time 20 l.time b.time sl.time))
       ∙ regroup (2 ^ (20 - p) * cells_apart l m) (m.time / 2 ^ p) (l.time / 2 ^ p) small
 
-  prefix_value : (apart : ℕ) → slice_index z apart ≡ cells_apart l m → (j : ℕ) → j < 5 → value (prefix_less 11 3 apart before after j) z ≡ prefix_less_in l m j
+  prefix_value : (apart : ℕ) → slice_index z apart ≡ cells_apart l m → (j : ℕ) → j < 5 → value (prefix_less apart before after j) z ≡ prefix_less_in l m j
   prefix_value apart is zero h = value-wire assigns apart ∙ is
   prefix_value apart is (suc zero) h = cell_value 11 (omega arith)
   prefix_value apart is (suc (suc zero)) h = cell_value 22 (omega arith)
@@ -164,9 +164,9 @@ module _ (z : List ℕ) (before after : LineBits) (l m : Line) (b : HasWidths be
   prefix_value apart is (suc (suc (suc (suc (suc j))))) h = absurd (omega arith)
 
   factor_value : (apart s : ℕ) → slice_index z apart ≡ cells_apart l m → (j : ℕ) → j < 5
-      → value (less (prefix_less 11 3 apart before after j) (wire s)) z ≡ (prefix_less_in l m j + (P - slice_index z s)) % P
+      → value (less (prefix_less apart before after j) (wire s)) z ≡ (prefix_less_in l m j + (P - slice_index z s)) % P
   factor_value apart s is j h =
-      value-less (prefix_less 11 3 apart before after j) (wire s) z ∙ ap₂ (λ x y. (x + (P - y)) % P) (prefix_value apart is j h) (value-wire assigns s)
+      value-less (prefix_less apart before after j) (wire s) z ∙ ap₂ (λ x y. (x + (P - y)) % P) (prefix_value apart is j h) (value-wire assigns s)
 
   prefix_small : (j : ℕ) → j < 5 → prefix_less_in l m j < P
   prefix_small zero h = mod-lt _ (omega arith)
@@ -177,10 +177,10 @@ module _ (z : List ℕ) (before after : LineBits) (l m : Line) (b : HasWidths be
   prefix_small (suc (suc (suc (suc (suc j))))) h = absurd (omega arith)
 
   pub rises_sound : (apart s next : ℕ) → slice_index z apart ≡ cells_apart l m → 0 < slice_index z s → slice_index z s ≤ 2 ^ 11
-      → Meets z (rises_of 11 3 2 apart s before after next).list → Rises l m
+      → Meets z (rises_of apart s before after next).list → Rises l m
   unfolding rises_of
   rises_sound apart s next is some most meets =
-      let found = zero_product_sound z (λ j. less (prefix_less 11 3 apart before after j) (wire s)) 5 next (omega arith) assigns meets in
+      let found = zero_product_sound z (λ j. less (prefix_less apart before after j) (wire s)) 5 next (omega arith) assigns meets in
       let none = sym (factor_value apart s is found.0 found.1) ∙ found.2 in
       let e = same_of_minus (prefix_less_in l m found.0) (slice_index z s) (prefix_small found.0 found.1) (wire-below assigns s) none in
       prefix_rises l m (Spells-below sl.cell) (Spells-below sm.cell) (Spells-below sl.time) (Spells-below sm.time) found.0 (slice_index z s) found.1 some most e
@@ -189,11 +189,11 @@ module _ (z : List ℕ) (before after : LineBits) (l m : Line) (b : HasWidths be
   is_size = rising_size l m (Spells-below sl.cell) (Spells-below sm.cell) (Spells-below sl.time) (Spells-below sm.time)
 
   pub rises_complete : (apart s next : ℕ) → slice_index z apart ≡ cells_apart l m → slice_index z s ≡ size l m → Rises l m
-      → HasFrom z next (products_values (factor_in l m) 5) → Meets z (rises_of 11 3 2 apart s before after next).list
+      → HasFrom z next (products_values (factor_in l m) 5) → Meets z (rises_of apart s before after next).list
   unfolding rises_of
   rises_complete apart s next is sized rises has =
       let i = is_size rises in
       let small = wire-below assigns s in
       let none : factor_in l m i.place ≡ 0 = omega (arith, i.is, i.most) in
-      zero_product_complete z (λ j. less (prefix_less 11 3 apart before after j) (wire s)) (factor_in l m) 5 i.place next (omega arith) assigns
+      zero_product_complete z (λ j. less (prefix_less apart before after j) (wire s)) (factor_in l m) 5 i.place next (omega arith) assigns
       (λ j h. factor_value apart s is j h ∙ ap (λ v. (prefix_less_in l m j + (P - v)) % P) sized) i.within none has

@@ -62,13 +62,15 @@ abbrev pub key_less : ℕ → LineBits → LineBits → ℕ → Combination
 key_less apart before after p = less ((2 ^ (time_bits - p), apart) ∷ bits_from after.time p) (bits_from before.time p)
 
 -- prefix number j, first of the cells and then of the keys
-abbrev pub prefix_less : ℕ → ℕ → ℕ → LineBits → LineBits → ℕ → Combination
-prefix_less c cells apart before after j =
-    if j == 0 then wire apart else if nat_lt j cells then cell_less before after (c * j) else key_less apart before after (c * (j - cells))
+abbrev pub prefix_less : ℕ → LineBits → LineBits → ℕ → Combination
+prefix_less apart before after j =
+    if j == 0 then wire apart
+    else if nat_lt j cell_chunks then cell_less before after (chunk * j)
+    else key_less apart before after (chunk * (j - cell_chunks))
 
--- in some prefix the second is above the first by this size; cells and times are cut into chunks of c bits
-unfoldable pub rises_of : ℕ → ℕ → ℕ → ℕ → ℕ → LineBits → LineBits → Circuit (Unit {0})
-rises_of c cells times apart size before after = zero_product_of (λ j. less (prefix_less c cells apart before after j) (wire size)) (cells + times)
+-- in some prefix the second is above the first by this size; cells and times are cut into chunks
+unfoldable pub rises_of : ℕ → ℕ → LineBits → LineBits → Circuit (Unit {0})
+rises_of apart size before after = zero_product_of (λ j. less (prefix_less apart before after j) (wire size)) (cell_chunks + time_chunks)
 
 -- the second line follows the first
 unfoldable pub sorted_pair_of : LineBits → LineBits → Circuit (Unit {0})
@@ -76,7 +78,7 @@ sorted_pair_of before after = do
   apart ← apart_of before after
   _ ← carried_of apart before after
   size ← size_of chunk
-  rises_of chunk cell_chunks time_chunks apart size before after
+  rises_of apart size before after
 
 -- the first line's old is 0
 unfoldable pub first_line_of : LineBits → Circuit (Unit {0})

@@ -23,6 +23,11 @@ pub record AreMade (bits : LineBits) (wires : ℕ) : Type 0 where
   pub old : bits.old.first + bits.old.n ≤ wires
   pub new : bits.new.first + bits.new.n ≤ wires
 
+-- both: a line's parts have as many bits as they should, which are wires below a number
+pub record IsLineBelow (wires : ℕ) (bits : LineBits) : Type 0 where
+  pub widths : HasWidths bits
+  pub made : AreMade bits wires
+
 -- the bits of cell and time are wires below this number
 abbrev pub key_end : LineBits → ℕ
 key_end bits = max (bits.cell.first + bits.cell.n) (bits.time.first + bits.time.n)

@@ -14,8 +14,7 @@ pub fn pack(line: &LineLc) -> Pair
     requires old_short { length line.now.old ≤ 32 }
     requires new_short { length line.now.new ≤ 32 }
     ensures pair { result ≡ pack line.now }
-    ensures first_short { length result.first ≤ 64 }
-    ensures second_short { length result.second ≤ 64 }
+    ensures short { max (length result.first) (length result.second) ≤ 64 }
     ensures first_top { top result.first ≡ max (top line.now.old) (top line.now.cell) }
     ensures second_top { top result.second ≡ max (top line.now.new) (top line.now.time) }
 {

@@ -1,6 +1,7 @@
 //! That the key of one line is above that of another, by prefixes.
 ghost use Rattle.std.specs.Prelude.{◌≡◌, ◌+◌, ◌-◌, ◌≤◌, ◌<◌, ◌^◌, [], ◌∷◌, ◌++◌, false, length};
-ghost use Rattle.std.specs.Prelude.{max, IfOk, OnOk};
+ghost use Rattle.std.specs.Prelude.{min, max, IfOk, OnOk};
+ghost use Rattle.tv_bits.specs.Bits.{AreBitsBelow};
 ghost use Rattle.tv_bits.specs.Order.{first_difference, prefix_difference};
 ghost use Rattle.tv_bits.specs.Prefixes.{products_values};
 ghost use Rattle.tv_core.specs.Combinations.{less, top, wire};
@@ -9,7 +10,7 @@ ghost use Rattle.tv_core.specs.Sinks.{PutsIn, Grows, Room};
 ghost use Rattle.tv_lines.specs.Packing.{line_of};
 ghost use Rattle.tv_lines.specs.SortedPair.{bits_from, prefix_less, prefix_less_in, factor_in};
 ghost use Rattle.tv_lines.specs.SortedPair.{rises_of, size};
-ghost use Rattle.tv_lines.specs.Unpacking.{HasWidths, AreMade, key_end};
+ghost use Rattle.tv_lines.specs.Unpacking.{IsLineBelow, key_end};
 
 use crate::rows::LineBits;
 use tv_bits::{Bits, first_difference, times_by};
@@ -36,13 +37,11 @@ pub(crate) fn rises<S: Sink>(
     after: &LineBits,
 ) -> Put<()>
     requires room { Room S.meaning s.old 3 4 }
-    requires before_widths { HasWidths before.now }
-    requires after_widths { HasWidths after.now }
-    requires before_made { AreMade before.now (S.meaning.wires s.old) }
-    requires after_made { AreMade after.now (S.meaning.wires s.old) }
+    requires before_line { IsLineBelow (S.meaning.wires s.old) before.now }
+    requires after_line { IsLineBelow (S.meaning.wires s.old) after.now }
     requires apart_made { apart < S.meaning.wires s.old }
     requires size_made { size < S.meaning.wires s.old }
-    ensures puts { PutsIn S.meaning s.old s.new (rises_of 11 3 2 apart size before.now after.now)
+    ensures puts { PutsIn S.meaning s.old s.new (rises_of apart size before.now after.now)
         result }
     ensures grows { IfOk result (λ _. Grows S.meaning s.old s.new 3 4) }
 {
@@ -60,11 +59,9 @@ pub(crate) fn rises<S: Sink>(
 // Makes `lc` the difference of prefix number `j` less `size`.
 fn fill_factor(lc: &mut Lc, j: u32, apart: Wire, size: Wire, before: &LineBits, after: &LineBits)
     requires within { j < 5 }
-    requires before_widths { HasWidths before.now }
-    requires after_widths { HasWidths after.now }
-    requires before_made { AreMade before.now (2 ^ 32 - 1) }
-    requires after_made { AreMade after.now (2 ^ 32 - 1) }
-    ensures terms { lc.new ≡ less (prefix_less 11 3 apart before.now after.now j) (wire size) }
+    requires before_line { IsLineBelow (2 ^ 32 - 1) before.now }
+    requires after_line { IsLineBelow (2 ^ 32 - 1) after.now }
+    ensures terms { lc.new ≡ less (prefix_less apart before.now after.now j) (wire size) }
     ensures top { top lc.new ≤ max (max (apart + 1) (size + 1))
         (max (key_end before.now) (key_end after.now)) }
 {
@@ -78,11 +75,9 @@ fn fill_factor(lc: &mut Lc, j: u32, apart: Wire, size: Wire, before: &LineBits, 
 fn plus_prefix(lc: &mut Lc, j: u32, apart: Wire, before: &LineBits, after: &LineBits)
     requires empty { lc.old ≡ [] }
     requires within { j < 5 }
-    requires before_widths { HasWidths before.now }
-    requires after_widths { HasWidths after.now }
-    requires before_made { AreMade before.now (2 ^ 32 - 1) }
-    requires after_made { AreMade after.now (2 ^ 32 - 1) }
-    ensures terms { lc.new ≡ prefix_less 11 3 apart before.now after.now j }
+    requires before_line { IsLineBelow (2 ^ 32 - 1) before.now }
+    requires after_line { IsLineBelow (2 ^ 32 - 1) after.now }
+    ensures terms { lc.new ≡ prefix_less apart before.now after.now j }
     ensures len { length lc.new ≤ 63 }
     ensures top { top lc.new ≤ max (apart + 1) (max (key_end before.now) (key_end after.now)) }
 {
@@ -106,10 +101,8 @@ fn plus_prefix(lc: &mut Lc, j: u32, apart: Wire, before: &LineBits, after: &Line
 fn plus_key(lc: &mut Lc, apart: Wire, before: &Bits, after: &Bits, from: u32)
     requires empty { lc.old ≡ [] }
     requires within { from ≤ 20 }
-    requires before_long { before.now.n ≡ 20 }
-    requires after_long { after.now.n ≡ 20 }
-    requires before_made { before.now.first + 20 < 2 ^ 32 }
-    requires after_made { after.now.first + 20 < 2 ^ 32 }
+    requires before_bits { AreBitsBelow (2 ^ 32 - 1) 20 before.now }
+    requires after_bits { AreBitsBelow (2 ^ 32 - 1) 20 after.now }
     ensures terms { lc.new ≡ less ((2 ^ (20 - from), apart) ∷ bits_from after.now from)
         (bits_from before.now from) }
     ensures len { length lc.new ≤ 41 }
@@ -122,12 +115,10 @@ fn plus_key(lc: &mut Lc, apart: Wire, before: &Bits, after: &Bits, from: u32)
 
 // Appends what the bits from place `from` on represent, of `after` less of `before`.
 fn plus_less(lc: &mut Lc, before: &Bits, after: &Bits, from: u32)
-    requires before_long { from ≤ before.now.n }
-    requires after_long { from ≤ after.now.n }
-    requires before_short { before.now.n ≤ 31 }
-    requires after_short { after.now.n ≤ 31 }
-    requires before_made { before.now.first + before.now.n < 2 ^ 32 }
-    requires after_made { after.now.first + after.now.n < 2 ^ 32 }
+    requires long { from ≤ min before.now.n after.now.n }
+    requires short { max before.now.n after.now.n ≤ 31 }
+    requires made { max (before.now.first + before.now.n) (after.now.first + after.now.n)
+        < 2 ^ 32 }
     requires room { length lc.old ≤ 1 }
     ensures terms { lc.new ≡ less (lc.old ++ bits_from after.now from) (bits_from before.now from) }
     ensures len { length lc.new ≤ length lc.old + after.now.n + before.now.n }

@@ -8,7 +8,7 @@ use Rattle.tv_lines.proofs.rising.rises.Goals as goal
 
 pub loop-i-init : goal.loop-i-init
 loop-i-init g c =
-    let factor : ℕ → Combination = λ j. less (prefix_less 11 3 c.args.apart c.args.before.now c.args.after.now j) (wire c.args.size) in
+    let factor : ℕ → Combination = λ j. less (prefix_less c.args.apart c.args.before.now c.args.after.now j) (wire c.args.size) in
     record {
       puts = no_product g.S.Sink.meaning factor c.args.s.now c.fill_factor.new.lc c.fill_factor.ensures.terms;
       grows = record { wires = omega arith; constraints = omega arith; whole = c.requires.room.whole };
@@ -17,7 +17,7 @@ loop-i-init g c =
 
 pub loop-i-preserved : goal.loop-i-preserved
 loop-i-preserved g c =
-    let factor : ℕ → Combination = λ j. less (prefix_less 11 3 c.args.apart c.args.before.now c.args.after.now j) (wire c.args.size) in
+    let factor : ℕ → Combination = λ j. less (prefix_less c.args.apart c.args.before.now c.args.after.now j) (wire c.args.size) in
     let grown = c.in_ok-w.ensures.grows in
     let product = rw c.fill_factor-in-loop-i.ensures.terms at c.in_ok-w.ensures.puts in
     let made = c.set_wire.ensures.terms in
@@ -31,7 +31,7 @@ pub returns-in_err-w-clause-puts : goal.returns-in_err-w-clause-puts
 unfolding rises_of
 returns-in_err-w-clause-puts g c =
     let m = g.S.Sink.meaning in
-    let factor : ℕ → Combination = λ j. less (prefix_less 11 3 c.args.apart c.args.before.now c.args.after.now j) (wire c.args.size) in
+    let factor : ℕ → Combination = λ j. less (prefix_less c.args.apart c.args.before.now c.args.after.now j) (wire c.args.size) in
     let product = rw c.fill_factor-in-loop-i.ensures.terms at c.in_err-w.ensures.puts in
     refused m _ _ _ c.from_residual.result c.from_residual.ensures.1
     (product_refused m factor 5 c.loop-i.i _ _ _ _ _ (omega arith) c.loop-i.invariant.puts product)
@@ -39,6 +39,6 @@ returns-in_err-w-clause-puts g c =
 pub returns-clause-puts : goal.returns-clause-puts
 unfolding rises_of
 returns-clause-puts g c =
-    let factor : ℕ → Combination = λ j. less (prefix_less 11 3 c.args.apart c.args.before.now c.args.after.now j) (wire c.args.size) in
+    let factor : ℕ → Combination = λ j. less (prefix_less c.args.apart c.args.before.now c.args.after.now j) (wire c.args.size) in
     let last = rw (c.fill_factor-2.ensures.terms, c.clear.ensures) at c.put.ensures.puts in
     last_product g.S.Sink.meaning factor 5 c.loop-i.i _ _ _ _ _ (omega arith) c.loop-i.invariant.puts last

@@ -9,7 +9,7 @@ use Rattle.tv_lines.proofs.rising.rises.Given as goal
 
 abbrev pub invariant-loop-i : goal.invariant-loop-i
 invariant-loop-i g l =
-    let factor : ℕ → Combination = λ j. less (prefix_less 11 3 l.apart l.before l.after j) (wire l.size) in
+    let factor : ℕ → Combination = λ j. less (prefix_less l.apart l.before l.after j) (wire l.size) in
     record {
       puts : PutsAll g.S.Sink.meaning l.initial.s l.s (turns l.i (next_product factor) (factor 0)) l.scratch.a;
       grows : Grows g.S.Sink.meaning l.initial.s l.s l.i l.i;
