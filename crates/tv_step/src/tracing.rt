@@ -1,5 +1,6 @@
 //! The trace of a run that answers.
-ghost use Rattle.std.specs.Prelude.{◌≡◌, ◌+◌, ◌*◌, ◌≤◌, ◌<◌, ◌^◌, ◌/◌, All, length, IfOk, IfErr};
+ghost use Rattle.std.specs.Prelude.{◌≡◌, ◌+◌, ◌*◌, ◌≤◌, ◌<◌, ◌^◌, ◌/◌, All, length, max, IfOk};
+ghost use Rattle.std.specs.Prelude.{IfErr};
 ghost use Rattle.tv_word.specs.Widths.{IsWidth};
 ghost use Rattle.tv_step.specs.Trace.{lines_of, states_of};
 ghost use Rattle.tv_step.specs.Tracing.{IsTrace, IsRefused};
@@ -85,8 +86,7 @@ pub fn trace<const W: u32>(
     requires aux_words { All (λ v. v < 2 ^ W) aux.now }
     requires image { length image.now * (W / 8) ≤ 2 ^ W }
     requires tape { length tape.now < 2 ^ 29 }
-    requires aux { length aux.now < 2 ^ 32 }
-    requires times { length image.now + length tape.now + 3 * t < 2 ^ 32 }
+    requires counts { max (length aux.now) (length image.now + length tape.now + 3 * t) < 2 ^ 32 }
     ensures trace { IfOk result (IsTrace W image.now tape.now aux.now t) }
     ensures fault { IfErr result (IsRefused W image.now tape.now aux.now t) }
 {
