@@ -1,5 +1,5 @@
 -- Which wires the outputs of a network are made of, and that its values are in the field.
-use Rattle.std.proofs.Common.{◌≡◌, mod-lt, ℕ, zero, suc, ◌+◌, ◌-◌, ◌*◌, ◌/◌, ◌^◌, ◌<◌, ◌≤◌, Bool, true, false, [], ◌∷◌, ◌++◌, length, sym, ◌∙◌, ap, subst}
+use Rattle.std.proofs.Common.{◌≡◌, mod-lt, ℕ, zero, suc, ◌+◌, ◌-◌, ◌*◌, ◌/◌, ◌^◌, ◌<◌, ◌≤◌, Bool, true, false, [], ◌∷◌, ◌++◌, sym, ◌∙◌, ap, subst}
 use Rattle.std.proofs.Common.{arith, inl, inr}
 use Rattle.std.proofs.lemmas.Bool.{cases_eq, cases_lt}
 use Rattle.std.proofs.lemmas.List.Elements.{All-nil, All-cons, All-append}
@@ -11,7 +11,7 @@ use Rattle.tv_benes.proofs.ThroughLaws.{twice, missing_small, alternating_keeps,
 use Rattle.tv_benes.specs.Levels.{other, innermost}
 use Rattle.tv_benes.specs.Network.{column_of, level_of, last_column_of, product, switch_values, column_values, level_values, NetworkFills}
 use Rattle.tv_benes.specs.Places.{wires_at, fifth, row, switch_wire, first_of, second_of, passed_to, ItemsOf, to_upper_of, to_lower_of, output, output_wire}
-use Rattle.tv_benes.specs.Places.{column_outputs, sum_at, EndsOf, two_ends, last_ends, last_pair, AreMade, AreBelow}
+use Rattle.tv_benes.specs.Places.{column_outputs, sum_at, EndsOf, two_ends, last_ends, last_pair, AreMade, AreBelow, IsPairMade}
 use Rattle.tv_benes.specs.Through.{switches, missing, from, to_upper, to_lower, alternating, through}
 use Rattle.tv_benes.specs.declared.places.Outputs.{Outputs}
 use Rattle.tv_benes.specs.declared.places.Sums.{Sums}
@@ -20,7 +20,6 @@ use Rattle.tv_benes.specs.declared.shape.Form.TheVariants.{Bound, Open}
 use Rattle.tv_benes.specs.declared.shape.Net.{Net}
 use Rattle.tv_benes.specs.declared.shape.Net.TheVariants.{Benes, Waksman}
 use Rattle.tv_core.specs.Circuits.{here, pure, ◌>>=◌}
-use Rattle.tv_core.specs.Combinations.{top}
 use Rattle.tv_core.specs.Laws.{InField}
 use Rattle.tv_core.specs.declared.field.TheConstants.{P}
 use Rattle.tv_core.specs.declared.lines.Pair.{Pair}
@@ -44,12 +43,6 @@ pub below_later : (o : Outputs) (n a b : ℕ) → a ≤ b → AreBelow o n a →
 below_later o n a b more below i within = let at = below i within in omega arith
 
 -- ---- pairs that are made of wires below a number
-pub record IsPairMade (pair : Pair) (wires : ℕ) : Type 0 where
-  pub first : top pair.first ≤ wires
-  pub second : top pair.second ≤ wires
-  pub first_short : length pair.first ≤ 64
-  pub second_short : length pair.second ≤ 64
-
 pub made_by : (pair : ℕ → Pair) (count wires : ℕ) → ((i : ℕ) → i < count → IsPairMade (pair i) wires) → AreMade pair count wires
 made_by pair count wires each = record {
   first = λ i h. (each i h).first;
@@ -58,7 +51,7 @@ made_by pair count wires each = record {
   second_short = λ i h. (each i h).second_short;
 }
 
-made_at : (pair : ℕ → Pair) (count wires : ℕ) → AreMade pair count wires → (i : ℕ) → i < count → IsPairMade (pair i) wires
+pub made_at : (pair : ℕ → Pair) (count wires : ℕ) → AreMade pair count wires → (i : ℕ) → i < count → IsPairMade (pair i) wires
 made_at pair count wires made i h = record {
   first = made.first i h;
   second = made.second i h;

@@ -142,16 +142,21 @@ NetworkIsSound = (z : List ℕ) (net : Net) (next h : ℕ) (item : ℕ → Pair)
 abbrev pub AreValues : List ℕ → ℕ → (ℕ → Pair) → (ℕ → PairNum) → Type 0
 AreValues z h item v = (j : ℕ) → j < 2 ^ suc h → pair_value z (item j) ≡ v j
 
--- what an assignment that has the values for some bits has: it satisfies the constraints, it has these bits at the
--- switches, in order, and at the outputs what goes through by these bits of the numbers v
-pub record IsFilled (z : List ℕ) (net : Net) (h first : ℕ) (item : ℕ → Pair) (bit : ℕ → Bool) (v : ℕ → PairNum) : Type 0 where
+-- what a network is filled by: the bits of its switches, and the numbers of its items
+pub record Setting : Type 0 where
+  pub bit : ℕ → Bool
+  pub number : ℕ → PairNum
+
+-- what an assignment that has the values for these has: it satisfies the constraints, it has these bits at the
+-- switches, in order, and at the outputs what goes through by these bits of these numbers
+pub record IsFilled (z : List ℕ) (net : Net) (h first : ℕ) (item : ℕ → Pair) (by : Setting) : Type 0 where
   pub meets : Meets z (network_of net h item first).list
-  pub bits : (j : ℕ) → j < switches net h → slice_index z (bit_place net Bound h first j) ≡ bit_number (bit j)
-  pub outputs : (i : ℕ) → i < 2 ^ suc h → pair_value z (output (network_of net h item first).answer i) ≡ through net h bit v i
+  pub bits : (j : ℕ) → j < switches net h → slice_index z (bit_place net Bound h first j) ≡ bit_number (by.bit j)
+  pub outputs : (i : ℕ) → i < 2 ^ suc h → pair_value z (output (network_of net h item first).answer i) ≡ through net h by.bit by.number i
 
 abbrev pub NetworkIsComplete : Type 0
 NetworkIsComplete = (z : List ℕ) (net : Net) (next h : ℕ) (item : ℕ → Pair) (bit : ℕ → Bool) (v : ℕ → PairNum) → Assigns z
-    → AreValues z h item v → HasFrom z next (network_values net h bit v) → IsFilled z net h next item bit v
+    → AreValues z h item v → HasFrom z next (network_values net h bit v) → IsFilled z net h next item (record { bit = bit; number = v })
 
 -- over normal items of wires before the first, every combination that is put is normal
 abbrev pub NetworkIsNormal : Type 0

@@ -131,6 +131,13 @@ abbrev pub last_pair : (net : Net) (form : Form) → EndsOf (other form) → End
 last_pair net form upper lower i = alternating (end_in net (other form) upper) (end_in net (other form) lower) (i + 2 * missing net)
 
 -- ---- bounds
+-- two combinations of at most 64 terms over wires below `wires`
+pub record IsPairMade (pair : Pair) (wires : ℕ) : Type 0 where
+  pub first : top pair.first ≤ wires
+  pub second : top pair.second ≤ wires
+  pub first_short : length pair.first ≤ 64
+  pub second_short : length pair.second ≤ 64
+
 -- the items at places below count are combinations of at most 64 terms over wires below `wires`
 pub record AreMade (pair : ℕ → Pair) (count wires : ℕ) : Type 0 where
   pub first : (i : ℕ) → i < count → top (pair i).first ≤ wires

@@ -3,7 +3,7 @@ ghost use Rattle.std.specs.Prelude.{◌≡◌, ℕ, ◌+◌, ◌*◌, ◌<◌, �
 ghost use Rattle.tv_core.specs.Combinations.{top};
 ghost use Rattle.tv_core.specs.Sinks.{PutsIn, Grows, Room};
 ghost use Rattle.tv_benes.specs.Network.{remainder_of, switch_of, column_of};
-ghost use Rattle.tv_benes.specs.Places.{wires_at, AreMade};
+ghost use Rattle.tv_benes.specs.Places.{wires_at, AreMade, IsPairMade};
 ghost use Rattle.tv_benes.specs.declared.shape.Form.TheVariants.{Bound, Open};
 
 use crate::open_switches::open_switch;
@@ -51,14 +51,10 @@ fn switch<S: Sink>(
     y_second: &[(F, Wire)],
 ) -> Put<()>
     requires room { Room S.meaning s.old 5 5 }
-    requires x_made { top x.now ≤ S.meaning.wires s.old }
-    requires x2_made { top x_second.now ≤ S.meaning.wires s.old }
-    requires y_made { top y.now ≤ S.meaning.wires s.old }
-    requires y2_made { top y_second.now ≤ S.meaning.wires s.old }
-    requires x_short { length x.now ≤ 64 }
-    requires x2_short { length x_second.now ≤ 64 }
-    requires y_short { length y.now ≤ 64 }
-    requires y2_short { length y_second.now ≤ 64 }
+    requires x_made { IsPairMade (record { first = x.now; second = x_second.now })
+        (S.meaning.wires s.old) }
+    requires y_made { IsPairMade (record { first = y.now; second = y_second.now })
+        (S.meaning.wires s.old) }
     ensures puts { PutsIn S.meaning s.old s.new
         (switch_of Bound (record { first = x.now; second = x_second.now })
         (record { first = y.now; second = y_second.now })) result }
@@ -76,14 +72,8 @@ fn switch<S: Sink>(
 // A bound switch between two pairs of combinations.
 pub(crate) fn bound_switch<S: Sink>(s: &mut S, scratch: &mut Scratch, x: &Pair, y: &Pair) -> Put<()>
     requires room { Room S.meaning s.old 5 5 }
-    requires x_made { top x.now.first ≤ S.meaning.wires s.old }
-    requires x2_made { top x.now.second ≤ S.meaning.wires s.old }
-    requires y_made { top y.now.first ≤ S.meaning.wires s.old }
-    requires y2_made { top y.now.second ≤ S.meaning.wires s.old }
-    requires x_short { length x.now.first ≤ 64 }
-    requires x2_short { length x.now.second ≤ 64 }
-    requires y_short { length y.now.first ≤ 64 }
-    requires y2_short { length y.now.second ≤ 64 }
+    requires x_made { IsPairMade x.now (S.meaning.wires s.old) }
+    requires y_made { IsPairMade y.now (S.meaning.wires s.old) }
     ensures puts { PutsIn S.meaning s.old s.new (switch_of Bound x.now y.now) result }
     ensures grows { IfOk result (λ _. Grows S.meaning s.old s.new 5 5) }
 {

@@ -20,4 +20,4 @@ NetworkWIsSound = (z : List ℕ) (next h : ℕ) (item : ℕ → Pair) → Assign
 -- the outputs what goes through by them, whatever numbers are the values of the items
 abbrev pub NetworkWIsComplete : Type 0
 NetworkWIsComplete = (z : List ℕ) (next h : ℕ) (item : ℕ → Pair) (bit : ℕ → Bool) (v : ℕ → PairNum) → Assigns z
-    → AreValues z h item v → HasFrom z next (network_values Waksman h bit v) → IsFilled z Waksman h next item bit v
+    → AreValues z h item v → HasFrom z next (network_values Waksman h bit v) → IsFilled z Waksman h next item (record { bit = bit; number = v })

@@ -3,6 +3,7 @@ use Rattle.tv_core.proofs.Chain.{puts_no_turn, puts_turn, turn_refused, refused}
 use Rattle.tv_core.specs.Circuits.{Circuit}
 use Rattle.tv_benes.specs.Network.{switch_of, column_of}
 use Rattle.tv_benes.specs.declared.shape.Form.TheVariants.{Bound}
+use Rattle.tv_benes.proofs.Sizes.{made_at, made_later}
 use Rattle.tv_benes.proofs.columns.bound_column.Goals as goal
 
 pub loop-j-init : goal.loop-j-init
@@ -15,11 +16,10 @@ loop-j-init g c =
 
 pub bound_switch-requires : goal.bound_switch-requires
 bound_switch-requires g c =
-    let m = c.requires.made in
-    let even : 2 * c.loop-j.j < 2 * c.args.n = omega arith in
-    let odd : 2 * c.loop-j.j + 1 < 2 * c.args.n = omega arith in
     let grown = c.loop-j.invariant.grows in
     let room = c.requires.room in
+    let pair = g.T.Pairs.pair c.args.items.now in
+    let made = made_later pair (2 * c.args.n) _ (g.S.Sink.meaning.wires c.loop-j.s) (omega (arith, grown.wires)) c.requires.made in
     record {
       room = record {
         whole = grown.whole;
@@ -27,14 +27,8 @@ bound_switch-requires g c =
         wires = omega (arith, room.wires, grown.wires);
         constraints = omega (arith, room.constraints, grown.constraints);
       };
-      x_made = rw c.fill.ensures (omega (arith, grown.wires, m.first (2 * c.loop-j.j) even));
-      x2_made = rw c.fill.ensures (omega (arith, grown.wires, m.second (2 * c.loop-j.j) even));
-      y_made = rw c.fill-in-loop-j.ensures (omega (arith, grown.wires, m.first (2 * c.loop-j.j + 1) odd));
-      y2_made = rw c.fill-in-loop-j.ensures (omega (arith, grown.wires, m.second (2 * c.loop-j.j + 1) odd));
-      x_short = rw c.fill.ensures (m.first_short (2 * c.loop-j.j) even);
-      x2_short = rw c.fill.ensures (m.second_short (2 * c.loop-j.j) even);
-      y_short = rw c.fill-in-loop-j.ensures (m.first_short (2 * c.loop-j.j + 1) odd);
-      y2_short = rw c.fill-in-loop-j.ensures (m.second_short (2 * c.loop-j.j + 1) odd);
+      x_made = rw c.fill.ensures (made_at pair _ _ made (2 * c.loop-j.j) (omega arith));
+      y_made = rw c.fill-in-loop-j.ensures (made_at pair _ _ made (2 * c.loop-j.j + 1) (omega arith));
     }
 
 pub loop-j-preserved : goal.loop-j-preserved
