@@ -1,5 +1,5 @@
 -- Terms that are summed as they are read, with none kept.
-use Rattle.std.proofs.Common.{◌≡◌, ℕ, ◌+◌, ◌-◌, ◌*◌, ◌%◌, ◌<◌, ◌≤◌, List, [], ◌∷◌, ◌++◌, Result, Ok, refl, ap, sym, ◌∙◌, arith, slice_index, ◌==◌, Bool, true}
+use Rattle.std.proofs.Common.{◌≡◌, ℕ, ◌+◌, ◌-◌, ◌*◌, ◌%◌, ◌≤◌, List, [], ◌∷◌, ◌++◌, Result, Ok, refl, ap, sym, ◌∙◌, arith, slice_index, ◌==◌, Bool, true}
 use Rattle.std.proofs.Common.{false, add-zero, zero-add, add_assoc}
 use Rattle.std.proofs.lemmas.Bool.{eqb-true, eqb-false, eq-eqb, ne_eqb}
 use Rattle.std.proofs.Math.Nat.{mod-mod}
@@ -36,17 +36,19 @@ adds answer file wires end z first k next n more at sum wire coefficient summed 
 -- one term that a window holds, and one after others
 pub adds_one : (piece : Piece) (bounds : Bounds) (z : List ℕ) (at old wire coefficient : ℕ) →
     ((file : List ℕ) → IsPiece piece file → term_at file bounds.wires bounds.end at ≡ Ok (coefficient, wire)) →
-    Adds piece bounds z at 1 1 old (old + coefficient * slice_index z wire)
+    Adds piece bounds z (record { at = at; count = 1 }) old (old + coefficient * slice_index z wire)
 adds_one piece bounds z at old wire coefficient term = λ file held answer first k n enough summed.
     adds answer file bounds.wires bounds.end z first k (k + 1) n (n - 1) at old wire coefficient summed refl (omega arith) (term file held)
 
-pub adds_more : (piece : Piece) (bounds : Bounds) (z : List ℕ) (at count few old sum new here : ℕ) → Adds piece bounds z at count few old sum →
-    few < count → here ≡ at + 12 * few → Adds piece bounds z here 1 1 sum new → Adds piece bounds z at count (few + 1) old new
-adds_more piece bounds z at count few old sum new here before some is one = λ file held answer first k n enough summed.
-    let count-is : k + (few + 1) ≡ k + few + 1 = omega arith in
-    let left : n - (few + 1) ≡ n - few - 1 = omega arith in
-    let next : at + 12 * (few + 1) ≡ here + 12 = omega (arith, is) in
-    rw (count-is, left, next) (one file held answer first (k + few) (n - few) (omega arith) (rw is (before file held answer first k n enough summed)))
+pub adds_more : (piece : Piece) (bounds : Bounds) (z : List ℕ) (at count old sum new here : ℕ) →
+    Adds piece bounds z (record { at = at; count = count }) old sum → here ≡ at + 12 * count →
+    Adds piece bounds z (record { at = here; count = 1 }) sum new → Adds piece bounds z (record { at = at; count = count + 1 }) old new
+adds_more piece bounds z at count old sum new here before is one = λ file held answer first k n enough summed.
+    let count-is : k + (count + 1) ≡ k + count + 1 = omega arith in
+    let left : n - (count + 1) ≡ n - count - 1 = omega arith in
+    let next : at + 12 * (count + 1) ≡ here + 12 = omega (arith, is) in
+    let sums = before file held answer first k n (omega arith) summed in
+    rw (count-is, left, next) (one file held answer first (k + count) (n - count) (omega arith) (rw is sums))
 
 -- no term is left
 pub comes_to : (answer : Result (Read Combination) Fault) (file : List ℕ) (wires end : ℕ) (z : List ℕ) (first k n at sum : ℕ) →
@@ -65,7 +67,7 @@ counted file wires end at count z first sum next is summed = rw (combination_at-
 
 -- so is one that a window holds
 pub held : (piece : Piece) (bounds : Bounds) (z file : List ℕ) (at count first sum : ℕ) → IsPiece piece file → at + 4 + 12 * count ≤ bounds.end →
-    count ≡ number file 4 at → count ≤ 1048576 → Adds piece bounds z (at + 4) count count first sum →
+    count ≡ number file 4 at → count ≤ 1048576 → Adds piece bounds z (record { at = at + 4; count = count }) first sum →
     ComesTo (combination_at file bounds.wires bounds.end at) z first sum count (at + 4 + 12 * count)
 held piece bounds z file at count first sum is_piece within is narrow added =
     let answer = terms_at file bounds.wires bounds.end count (at + 4) in

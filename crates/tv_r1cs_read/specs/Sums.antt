@@ -1,5 +1,5 @@
 -- Constraints that are tried as they are read, with no term kept.
-use Rattle.std.specs.Prelude.{◌≡◌, ℕ, ◌+◌, ◌-◌, ◌*◌, ◌≤◌, Bool, List, length, Result, Ok, slice_index}
+use Rattle.std.specs.Prelude.{◌≡◌, ℕ, ◌+◌, ◌-◌, ◌*◌, ◌≤◌, Bool, true, false, List, [], length, Result, Ok, slice_index}
 use Rattle.std.specs.List.{sum_by}
 use Rattle.tv_core.specs.Constraints.{Combination, Constraint, value}
 use Rattle.tv_core.specs.Meanings.{holds, terms_of}
@@ -17,12 +17,23 @@ pub record IsSummed (answer : Result (Read Combination) Fault) (file : List ℕ)
   pub ahead : IsAhead answer terms file wires end n at
   pub is : sum ≡ first + sum_by (λ t. t.1 * slice_index z t.0) terms
 
--- Of the terms from a place on that a window holds, the first few are added: a combination whose terms before the place
--- have one sum has another sum after them.
-abbrev pub Adds : Piece → Bounds → List ℕ → (at count few old new : ℕ) → Type 0
-Adds piece bounds z at count few old new =
-    (file : List ℕ) → IsPiece piece file → (answer : Result (Read Combination) Fault) → (first k n : ℕ) → count ≤ n →
-    IsSummed answer file bounds.wires bounds.end z first k n at old → IsSummed answer file bounds.wires bounds.end z first (k + few) (n - few) (at + 12 * few) new
+-- consecutive terms: the place of the first, and how many
+pub record Stretch : Type 0 where
+  pub at : ℕ
+  pub count : ℕ
+
+-- The terms of a stretch, which a window holds, are added: a combination whose terms before them have one sum has another
+-- sum after them.
+abbrev pub Adds : Piece → Bounds → List ℕ → Stretch → (old new : ℕ) → Type 0
+Adds piece bounds z terms old new =
+    (file : List ℕ) → IsPiece piece file → (answer : Result (Read Combination) Fault) → (first k n : ℕ) → terms.count ≤ n →
+    IsSummed answer file bounds.wires bounds.end z first k n terms.at old →
+    IsSummed answer file bounds.wires bounds.end z first (k + terms.count) (n - terms.count) (terms.at + 12 * terms.count) new
+
+-- the values of an assignment: none where each wire counts as 0, else one for each wire
+pub record AreValues (none : Bool) (wires : ℕ) (values : List ℕ) : Type 0 where
+  pub empty : none ≡ true → values ≡ []
+  pub whole : none ≡ false → wires ≤ length values
 
 -- the combination that was read was added to a first sum, has n terms, and ends before this place
 pub record ComesTo (answer : Result (Read Combination) Fault) (z : List ℕ) (first sum n next : ℕ) : Type 0 where

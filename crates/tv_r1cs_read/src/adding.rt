@@ -1,10 +1,10 @@
 //! Terms that a window holds, added to a sum as they are read, with none kept.
 
-ghost use Rattle.std.specs.Prelude.{◌≡◌, ◌+◌, ◌*◌, ◌≤◌, ◌<◌, ◌^◌, [], true, false, length};
+ghost use Rattle.std.specs.Prelude.{◌≡◌, ◌+◌, ◌*◌, ◌≤◌, ◌<◌, ◌^◌, length};
 ghost use Rattle.std.specs.Prelude.{slice_index};
 ghost use Rattle.std.specs.Bool.{OnFalse, OnTrue};
 ghost use Rattle.tv_container.specs.Reading.{Holds};
-ghost use Rattle.tv_r1cs_read.specs.Sums.{Adds};
+ghost use Rattle.tv_r1cs_read.specs.Sums.{Adds, AreValues};
 
 use crate::sum::Sum;
 use crate::terms::{Bounds, TERM_BYTES, held_term};
@@ -33,11 +33,11 @@ pub(crate) fn add_term<const PASS: bool>(
     requires held { Holds window.now at 12 }
     requires within { at + 12 ≤ bounds.now.end }
     requires small { sum.old < 2 ^ 150 }
-    requires none { PASS ≡ true → values.now ≡ [] }
-    requires whole { PASS ≡ false → bounds.now.wires ≤ length values.now }
+    requires values { AreValues PASS bounds.now.wires values.now }
     ensures same { OnFalse result (sum.new ≡ sum.old) }
     ensures small { sum.new ≤ sum.old + 2 ^ 128 }
-    ensures adds { OnTrue result (Adds window.now bounds.now values.now at 1 1 sum.old sum.new) }
+    ensures adds { OnTrue result (Adds window.now bounds.now values.now
+        (record { at = at; count = 1 }) sum.old sum.new) }
 {
     let Some(term) = held_term(window, bounds, at) else {
         return false;
@@ -64,11 +64,11 @@ pub(crate) fn add_terms<const PASS: bool>(
     requires held { Holds window.now at (12 * count) }
     requires within { at + 12 * count ≤ bounds.now.end }
     requires small { sum.old + count * 2 ^ 128 ≤ 2 ^ 150 }
-    requires none { PASS ≡ true → values.now ≡ [] }
-    requires whole { PASS ≡ false → bounds.now.wires ≤ length values.now }
+    requires values { AreValues PASS bounds.now.wires values.now }
     ensures most { result ≤ count }
     ensures small { sum.new ≤ sum.old + result * 2 ^ 128 }
-    ensures adds { Adds window.now bounds.now values.now at count result sum.old sum.new }
+    ensures adds { Adds window.now bounds.now values.now
+        (record { at = at; count = result }) sum.old sum.new }
 {
     let mut at = at;
     for good in 0..count {
@@ -97,7 +97,8 @@ pub(crate) fn add_far(
     requires small { sum + count * 2 ^ 128 ≤ 2 ^ 150 }
     ensures most { result.0 ≤ count }
     ensures small { result.1 ≤ sum + result.0 * 2 ^ 128 }
-    ensures adds { Adds window.now bounds.now values.now at count result.0 sum result.1 }
+    ensures adds { Adds window.now bounds.now values.now
+        (record { at = at; count = result.0 }) sum result.1 }
 {
     let mut sum = sum;
     let good = if values.is_empty() {

@@ -1,6 +1,6 @@
 //! How far reading of a system has come, and its constraints read or evaluated in turn.
 ghost use Rattle.std.specs.Prelude.{◌≡◌, ℕ, ◌+◌, ◌<◌, ◌≤◌, List, [], None, Err, IfOk, IfSome};
-ghost use Rattle.std.specs.Prelude.{IsNone, IsSome, MatchResult, length, true, false};
+ghost use Rattle.std.specs.Prelude.{IsNone, IsSome, MatchResult};
 ghost use Rattle.tv_files.specs.Outside.{Outside};
 ghost use Rattle.tv_container.specs.Reading.{Looks, Refuses, IsMissing, Known};
 ghost use Rattle.tv_container.specs.declared.why.ReadRefusal.{ReadRefusal};
@@ -9,6 +9,7 @@ ghost use Rattle.tv_r1cs_read.specs.Progress.{counts_of, IsBegun};
 ghost use Rattle.tv_r1cs_read.specs.R1cs.{header_of, system_of};
 ghost use Rattle.tv_r1cs_read.specs.Steps.{Failed, Fewer, Gave, Stays, Steps, Tells};
 ghost use Rattle.tv_r1cs_read.specs.Steps.{WentOn, WentOver};
+ghost use Rattle.tv_r1cs_read.specs.Sums.{AreValues};
 
 use crate::header::{Header, read_header};
 use crate::held::held_from;
@@ -224,8 +225,7 @@ impl Progress {
     #[inline(never)]
     fn try_rows<const PASS: bool>(&mut self, values: &[F]) -> bool
         requires on { self.old.stopped ≡ None }
-        requires none { PASS ≡ true → values.now ≡ [] }
-        requires whole { PASS ≡ false → self.old.header.wires ≤ length values.now }
+        requires values { AreValues PASS self.old.header.wires values.now }
         ensures steps { (outside : Outside) → (name : List ℕ) → Steps outside outside name self.old
             self.new (λ file rows. WentOver result values.now self.old self.new file rows) }
         ensures goes { self.new.stopped ≡ None }

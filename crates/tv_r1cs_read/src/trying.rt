@@ -1,11 +1,10 @@
 //! A constraint tried straight from the bytes that the window holds.
 
-ghost use Rattle.std.specs.Prelude.{◌≡◌, ℕ, ◌+◌, ◌*◌, ◌≤◌, ◌<◌, ◌^◌, List, [], length};
-ghost use Rattle.std.specs.Prelude.{true, false, IfSome};
+ghost use Rattle.std.specs.Prelude.{◌≡◌, ℕ, ◌+◌, ◌*◌, ◌≤◌, ◌<◌, ◌^◌, List, IfSome};
 ghost use Rattle.tv_container.specs.Reading.{IsPiece};
 ghost use Rattle.tv_r1cs_read.specs.Held.{IsHeld};
 ghost use Rattle.tv_r1cs_read.specs.R1cs.{combination_at, constraint_at};
-ghost use Rattle.tv_r1cs_read.specs.Sums.{ComesTo, IsTried};
+ghost use Rattle.tv_r1cs_read.specs.Sums.{AreValues, ComesTo, IsTried};
 
 use crate::adding::{add_term, add_terms};
 use crate::held::Held;
@@ -41,8 +40,7 @@ pub(crate) fn try_held<const PASS: bool>(
     values: &[F],
 ) -> Option<Tried>
     requires held { IsHeld window.now bounds.now.end held }
-    requires none { PASS ≡ true → values.now ≡ [] }
-    requires whole { PASS ≡ false → bounds.now.wires ≤ length values.now }
+    requires values { AreValues PASS bounds.now.wires values.now }
     ensures within { IfSome result (λ tried. tried.next ≤ held.to) }
     ensures size { IfSome result (λ tried. tried.next ≡ held.from + 12 + 12 * tried.terms) }
     ensures gives { (file : List ℕ) → IsPiece window.now file → IfSome result
@@ -74,8 +72,7 @@ fn sum_held<const PASS: bool, const FIRST: bool>(
 ) -> Option<Summed>
     requires held { IsHeld window.now bounds.now.end held }
     requires small { sum < 2 ^ 128 }
-    requires none { PASS ≡ true → values.now ≡ [] }
-    requires whole { PASS ≡ false → bounds.now.wires ≤ length values.now }
+    requires values { AreValues PASS bounds.now.wires values.now }
     ensures held { IfSome result (λ summed. IsHeld window.now bounds.now.end summed.behind) }
     ensures ends { IfSome result (λ summed. summed.behind.to ≡ held.to) }
     ensures size { IfSome result

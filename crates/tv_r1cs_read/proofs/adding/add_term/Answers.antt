@@ -5,7 +5,7 @@ use Rattle.tv_r1cs_read.proofs.adding.add_term.Goals as goal
 pub returns-then-this-ne0-clause-adds : goal.returns-then-this-ne0-clause-adds
 returns-then-this-ne0-clause-adds g c =
     let none : c.args.sum.now + c.in-Some.term.1 * slice_index c.args.values.now c.in-Some.term.0
-    ≡ c.args.sum.now = rw (c.requires.none (search rules)) (grind arith) in
+    ≡ c.args.sum.now = rw (c.requires.values.empty (search rules)) (grind arith) in
     rw none at (adds_one _ c.args.bounds.now c.args.values.now _ c.args.sum.now _ _ c.in-Some.ensures.gives)
 
 pub returns-clause-adds : goal.returns-clause-adds

@@ -6,6 +6,6 @@ pub loop-good-preserved : goal.loop-good-preserved
 loop-good-preserved g c = record {
   place = omega (arith, c.loop-good.invariant.place);
   small = omega (arith, c.loop-good.invariant.small, c.add_term.ensures.small);
-  adds = adds_more _ c.args.bounds.now c.args.values.now _ _ _ _ _ _ _ c.loop-good.invariant.adds c.loop-good-test.true c.loop-good.invariant.place
+  adds = adds_more _ c.args.bounds.now c.args.values.now _ _ _ _ _ _ c.loop-good.invariant.adds c.loop-good.invariant.place
       (rw c.if-not-add_term.false at c.add_term.ensures.adds);
 }
