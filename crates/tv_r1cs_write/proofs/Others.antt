@@ -1,5 +1,5 @@
 -- The numbers below another one, but for those of a list.
-use Rattle.std.proofs.Common.{◌≡◌, ◌≢◌, ℕ, suc, ◌+◌, ◌<◌, ◌≤◌, not, ◌||◌, List, [], ◌∷◌, ◌++◌, refl, sym, ◌∙◌, ap, arith, append-nil, eqb, inl, inr}
+use Rattle.std.proofs.Common.{◌≡◌, ◌≢◌, ℕ, suc, ◌+◌, ◌-◌, ◌<◌, ◌≤◌, not, ◌||◌, List, [], ◌∷◌, ◌++◌, refl, sym, ◌∙◌, ap, arith, append-nil, eqb, inl, inr}
 use Rattle.std.proofs.Common.{true, false, cond, drop, length, get_or, eq-eqb, ne_eqb, subst}
 use Rattle.std.proofs.Math.Seq.{drop-cons}
 use Rattle.std.proofs.lemmas.List.{get_or-drop, length-drop}
@@ -104,3 +104,18 @@ bytes_more n but e =
     ap label_bytes (others_more n but ∙ ap (λ b. others n but ++ cond (not b) (n ∷ []) []) e)
     ∙ flat_map-append eight_bytes (others n but) (n ∷ [])
     ∙ ap (λ bytes. label_bytes (others n but) ++ bytes) (append-nil (eight_bytes n))
+
+-- the bytes of the labels begin with those of the numbers below a lesser one
+pub bytes_begin : (n count : ℕ) (but : List ℕ) → n ≤ count →
+    (rest : List ℕ) × label_bytes (others count but) ≡ label_bytes (others n but) ++ rest
+unfolding others
+bytes_begin n count but within =
+    let kept = λ (v : ℕ). not (list_any (λ m. eqb m v) but) in
+    let later = filter kept (range_with_len (0 + n) (count - n)) in
+    let all : count ≡ n + (count - n) = omega arith in (
+      label_bytes later,
+      ap (λ k. label_bytes (filter kept (range_with_len 0 k))) all
+          ∙ ap (λ xs. label_bytes (filter kept xs)) (range-append 0 n (count - n))
+          ∙ ap label_bytes (filter-append kept (range_with_len 0 n) (range_with_len (0 + n) (count - n)))
+          ∙ flat_map-append eight_bytes (filter kept (range_with_len 0 n)) later,
+    )

@@ -58,7 +58,8 @@ pub(crate) fn write_labels<D: Files>(
     pending.flush(files, name);
 }
 
-// Writes the numbers below `count` as labels, but for these.
+// Writes the numbers below `count` as labels, but for these. Stops at a refusal, after which nothing
+// is appended.
 fn put_labels<D: Files>(pending: &mut Pending, files: &mut D, name: &str, count: u64, but: &[u32])
     requires { IsStrictlyIncreasing but.now }
     ensures { Took name.now (D.seen files.old) pending.old (D.seen files.new) pending.new
@@ -66,6 +67,9 @@ fn put_labels<D: Files>(pending: &mut Pending, files: &mut D, name: &str, count:
 {
     let mut next = 0;
     for label in 0..count {
+        if pending.outcome.is_err() {
+            return;
+        }
         if next < but.len() && u64::from(but[next]) == label {
             next += 1;
         } else {

@@ -1,7 +1,7 @@
-use Rattle.std.proofs.Common.{◌≡◌, ◌≢◌, ◌∙◌, ◌<◌, arith, get_or, length}
-use Rattle.tv_container.proofs.Buffers.{took_none, took_then}
+use Rattle.std.proofs.Common.{◌≡◌, ◌≢◌, ◌∙◌, ◌<◌, ap, arith, get_or, length, not}
+use Rattle.tv_container.proofs.Buffers.{lost_more, took_none, took_then}
 use Rattle.tv_r1cs_write.specs.Bytes.{others}
-use Rattle.tv_r1cs_write.proofs.Others.{absent, all_ahead, bytes_more, bytes_stay, passed, there, waiting}
+use Rattle.tv_r1cs_write.proofs.Others.{absent, all_ahead, bytes_begin, bytes_more, bytes_stay, passed, there, waiting}
 use Rattle.tv_r1cs_write.proofs.parts.put_labels.Goals as goal
 use Rattle.tv_r1cs_write.proofs.parts.put_labels.Goals.{then-next-but+then-from-label, else-next-but, else-next-but-via-then-next-but+else-from-label}
 use Rattle.tv_r1cs_write.proofs.parts.put_labels.Goals.{else-next-but-via-else-next-but}
@@ -9,6 +9,11 @@ use Rattle.tv_r1cs_write.proofs.parts.put_labels.Goals.{else-next-but-via-else-n
 pub loop-label-init : goal.loop-label-init
 unfolding others
 loop-label-init g c = record { took = took_none; ahead = all_ahead c.args.but.now c.requires }
+
+pub returns-then-is_err : goal.returns-then-is_err
+returns-then-is_err g c =
+    let more = bytes_begin c.loop-label.label c.args.count c.args.but.now (omega (arith, c.loop-label-test.true)) in
+    rw more.1 (took_then c.loop-label.invariant.took (lost_more (c.is_err.ensures.negation ∙ ap not c.if-is_err.true)))
 
 pub loop-label-preserved : goal.loop-label-preserved
 loop-label-preserved g c =
