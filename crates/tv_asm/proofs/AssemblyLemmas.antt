@@ -11,7 +11,7 @@ use Rattle.tv_asm.specs.Assembly.{assembled, image_of, with_line}
 use Rattle.tv_asm.specs.Labels.{address, defines, is_defined}
 use Rattle.tv_asm.specs.Steps.{◌>>=◌}
 use Rattle.tv_asm.specs.Text.{lines}
-use Rattle.tv_asm.specs.Views.{AreLabelsOf, address_in, first_place, is_earlier}
+use Rattle.tv_asm.specs.Views.{AreLabelsOf, address_in, context_in, first_place, is_earlier}
 use Rattle.tv_asm.specs.declared.fault.AsmFault.{AsmFault}
 use Rattle.tv_asm.specs.declared.labels.Labels.{Labels}
 use Rattle.tv_asm.specs.declared.labels.Place.{Place}
@@ -74,7 +74,7 @@ IsAssembled-none w labels most text h =
 next_is : (w : ℕ) (labels : Labels) (most number : ℕ) (words rest behind text line : List ℕ)
     → IsAssembled w labels most number words rest text
     → lines rest ≡ line ∷ lines behind
-    → (with_line w most (number + 1) (is_earlier labels (number + 1)) (address_in labels) words line
+    → (with_line w most (context_in labels (number + 1)) words line
     >>= λ next. image_of w most (lines text) (take number (lines text) ++ line ∷ []) next (lines behind))
     ≡ assembled w most text
 next_is w labels most number words rest behind text line r first =
@@ -83,9 +83,11 @@ next_is w labels most number words rest behind text line r first =
     let count : length (take number all) ≡ number = length-take_next all number line (lines behind) next in
     let before = take number all in
     let more = λ (words' : List ℕ). image_of w most all (before ++ line ∷ []) words' (lines behind) in
-    ap (λ f. with_line w most (number + 1) f (address_in labels) words line >>= more) (is_earlier-is w labels all number r.noted count)
-    ∙ ap (λ f. with_line w most (number + 1) (is_defined before) f words line >>= more) (address_in-is w labels all r.noted)
-    ∙ ap (λ n. with_line w most (n + 1) (is_defined before) (address w all) words line >>= more) (sym count)
+    let step = λ (n : ℕ) (earlier : List ℕ → Bool) (place : List ℕ → Option ℕ).
+    with_line w most (record { number = n + 1; earlier = earlier; address = place }) words line >>= more in
+    ap (λ f. step number f (address_in labels)) (is_earlier-is w labels all number r.noted count)
+    ∙ ap (λ f. step number (is_defined before) f) (address_in-is w labels all r.noted)
+    ∙ ap (λ n. step n (is_defined before) (address w all)) (sym count)
     ∙ ap (image_of w most all before words) (sym next)
     ∙ r.so_far
 
@@ -94,7 +96,7 @@ pub IsAssembled-more : (w : ℕ) (labels : Labels) (most number : ℕ) (words af
     → IsAssembled w labels most number words rest text
     → lines rest ≡ line ∷ lines behind
     → length behind < length rest
-    → with_line w most (number + 1) (is_earlier labels (number + 1)) (address_in labels) words line ≡ Ok after
+    → with_line w most (context_in labels (number + 1)) words line ≡ Ok after
     → length after ≤ most
     → IsAssembled w labels most (number + 1) after behind text
 IsAssembled-more w labels most number words after rest behind text line r first shorter step fits =
@@ -115,7 +117,7 @@ IsAssembled-more w labels most number words after rest behind text line r first 
 pub IsAssembled-fault : (w : ℕ) (labels : Labels) (most number : ℕ) (words rest behind text line : List ℕ) (fault : AsmFault)
     → IsAssembled w labels most number words rest text
     → lines rest ≡ line ∷ lines behind
-    → with_line w most (number + 1) (is_earlier labels (number + 1)) (address_in labels) words line ≡ Err fault
+    → with_line w most (context_in labels (number + 1)) words line ≡ Err fault
     → Err fault ≡ assembled w most text
 IsAssembled-fault w labels most number words rest behind text line fault r first step =
     let all = lines text in

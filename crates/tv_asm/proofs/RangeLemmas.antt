@@ -17,7 +17,7 @@ use Rattle.tv_isa.specs.declared.operation.Shape.TheVariants.{DestSourceA, DestA
 use Rattle.tv_word.proofs.WidthLaws.{for_widths}
 use Rattle.tv_word.specs.Numeral.{is_numeral, numeral, positional}
 use Rattle.tv_word.specs.Widths.{IsWidth}
-use Rattle.tv_asm.specs.Assembly.{at_line, assembled, image_of, line_words, part_words, with_line}
+use Rattle.tv_asm.specs.Assembly.{Context, at_line, assembled, context_after, image_of, line_words, part_words, with_line}
 use Rattle.tv_asm.specs.Header.{is_good_header}
 use Rattle.tv_asm.specs.Instruction.{counted, fields, name_of, operand_at, operand_count, operands_in, raw_words, table_words, words_of}
 use Rattle.tv_asm.specs.Labels.{address, defines, has_instruction, is_defined}
@@ -60,20 +60,19 @@ where_true true x P h = h refl
 where_true false x P h = tt
 
 -- no more words than there may be
-line_fits : (w most number : ℕ) (earlier : List ℕ → Bool) (place : List ℕ → Option ℕ) (words line : List ℕ)
-    → IfOk (with_line w most number earlier place words line) (λ next. length next ≤ most)
-line_fits w most number earlier place words line =
-    bind_if (at_line number (line_words w (number == 1) earlier place line)) _ (λ next. length next ≤ most) (λ two _.
-    check_if (leb (length words + length two) most) (TooMany number most) _ (λ next. length next ≤ most) (λ test.
+line_fits : (w most : ℕ) (context : Context) (words line : List ℕ) → IfOk (with_line w most context words line) (λ next. length next ≤ most)
+line_fits w most context words line =
+    bind_if (at_line context.number (line_words w (context.number == 1) context.earlier context.address line)) _ (λ next. length next ≤ most) (λ two _.
+    check_if (leb (length words + length two) most) (TooMany context.number most) _ (λ next. length next ≤ most) (λ test.
     rw (length-append words two) (leb-true (length words + length two) most test)))
 
 lines_fit : (w most : ℕ) (all before : List (List ℕ)) (words : List ℕ) (more : List (List ℕ)) → length words ≤ most
     → IfOk (image_of w most all before words more) (λ words. length words ≤ most)
 lines_fit w most all before words [] room = room
 lines_fit w most all before words (line ∷ more) room =
-    bind_if (with_line w most (length before + 1) (is_defined before) (address w all) words line) _ (λ words. length words ≤ most) (λ next is.
+    bind_if (with_line w most (context_after w all before) words line) _ (λ words. length words ≤ most) (λ next is.
     lines_fit w most all (before ++ line ∷ []) next more
-    (known _ (λ words. length words ≤ most) next is (line_fits w most (length before + 1) (is_defined before) (address w all) words line)))
+    (known _ (λ words. length words ≤ most) next is (line_fits w most (context_after w all before) words line)))
 
 pub images_short : ImagesAreShort
 unfolding assembled
@@ -244,22 +243,22 @@ told_small : {A : Type 0} (number : ℕ) (read : Result A AsmWhy) (P : A → Typ
 told_small number (Ok x) P h = h
 told_small number (Err why) P h = tt
 
-next_small : (w : ℕ) → IsWidth w → (most number : ℕ) (earlier : List ℕ → Bool) (place : List ℕ → Option ℕ) → HasSmall w place → (words line : List ℕ)
-    → AreSmall w words → IfOk (with_line w most number earlier place words line) (AreSmall w)
-next_small w width most number earlier place small words line so_far =
-    let said_words = line_words w (number == 1) earlier place line in
-    bind_if (at_line number said_words) _ (AreSmall w) (λ two is.
-    check_if (leb (length words + length two) most) (TooMany number most) _ (AreSmall w) (λ _.
+next_small : (w : ℕ) → IsWidth w → (most : ℕ) (context : Context) → HasSmall w context.address → (words line : List ℕ)
+    → AreSmall w words → IfOk (with_line w most context words line) (AreSmall w)
+next_small w width most context small words line so_far =
+    let said_words = line_words w (context.number == 1) context.earlier context.address line in
+    bind_if (at_line context.number said_words) _ (AreSmall w) (λ two is.
+    check_if (leb (length words + length two) most) (TooMany context.number most) _ (AreSmall w) (λ _.
     both w words two so_far (known _ (AreSmall w) two is
-    (told_small number said_words (AreSmall w) (line_small w width (number == 1) earlier place small line)))))
+    (told_small context.number said_words (AreSmall w) (line_small w width (context.number == 1) context.earlier context.address small line)))))
 
 image_small : (w : ℕ) → IsWidth w → (most : ℕ) (all before : List (List ℕ)) (words : List ℕ) (more : List (List ℕ)) → AreSmall w words
     → IfOk (image_of w most all before words more) (AreSmall w)
 image_small w width most all before words [] so_far = so_far
 image_small w width most all before words (line ∷ more) so_far =
-    bind_if (with_line w most (length before + 1) (is_defined before) (address w all) words line) _ (AreSmall w) (λ next is.
+    bind_if (with_line w most (context_after w all before) words line) _ (AreSmall w) (λ next is.
     image_small w width most all (before ++ line ∷ []) next more
-    (known _ (AreSmall w) next is (next_small w width most (length before + 1) (is_defined before) (address w all)
+    (known _ (AreSmall w) next is (next_small w width most (context_after w all before)
     (address_small w width all) words line so_far)))
 
 by_index : {E : Type 0} (w : ℕ) (read : Result (List ℕ) E) → IfOk read (AreSmall w) → IfOk read (All (λ word. word < 2 ^ w))

@@ -33,18 +33,28 @@ abbrev pub at_line : {A : Type 0} → ℕ → Result A AsmWhy → Result A AsmFa
 at_line number (Ok x) = Ok x
 at_line number (Err why) = Err (Bad number why)
 
+-- where a line stands: its number, the first being 1; which labels earlier lines define; and the address of each label
+pub record Context : Type 0 where
+  pub number : ℕ
+  pub earlier : List ℕ → Bool
+  pub address : List ℕ → Option ℕ
+
 -- the words after one line more: with its words there may be `most` at most
-abbrev pub with_line : ℕ → ℕ → ℕ → (List ℕ → Bool) → (List ℕ → Option ℕ) → List ℕ → List ℕ → Result (List ℕ) AsmFault
-with_line w most number earlier address words line = do
-  two ← at_line number (line_words w (number == 1) earlier address line)
-  _ ← check (nat_le (length words + length two) most) (TooMany number most)
+abbrev pub with_line : ℕ → ℕ → Context → List ℕ → List ℕ → Result (List ℕ) AsmFault
+with_line w most context words line = do
+  two ← at_line context.number (line_words w (context.number == 1) context.earlier context.address line)
+  _ ← check (nat_le (length words + length two) most) (TooMany context.number most)
   Ok (words ++ two)
+
+-- what the line after these is read with
+abbrev pub context_after : ℕ → List (List ℕ) → List (List ℕ) → Context
+context_after w all before = record { number = length before + 1; earlier = is_defined before; address = address w all }
 
 -- the words of lines, after those of the lines before them; `all` are the lines of the text
 abbrev pub image_of : ℕ → ℕ → List (List ℕ) → List (List ℕ) → List ℕ → List (List ℕ) → Result (List ℕ) AsmFault
 image_of w most all before words [] = Ok words
 image_of w most all before words (line ∷ more) = do
-  next ← with_line w most (length before + 1) (is_defined before) (address w all) words line
+  next ← with_line w most (context_after w all before) words line
   image_of w most all (before ++ line ∷ []) next more
 
 -- the image of a text for words of w bits, of at most `most` words, or the first fault

@@ -4,6 +4,7 @@ use Rattle.std.specs.HashMap.{get_by}
 use Rattle.std.specs.List.{before_first, count_by}
 use Rattle.std.specs.Option.{option_map, option_map_or}
 use Rattle.std.specs.Str.{bytes_eq}
+use Rattle.tv_asm.specs.Assembly.{Context}
 use Rattle.tv_asm.specs.Labels.{defines, has_instruction, is_defined}
 use Rattle.tv_asm.specs.Line.{Said}
 use Rattle.tv_asm.specs.declared.fault.AsmWhy.{AsmWhy}
@@ -40,6 +41,10 @@ address_in labels name = option_map (λ place. place.address) (place_in labels n
 -- a label that a line before this one defines
 abbrev pub is_earlier : Labels → ℕ → List ℕ → Bool
 is_earlier labels number name = option_map_or (λ place. nat_lt place.line number) (place_in labels name) false
+
+-- what the line of this number is read with, by the labels noted
+abbrev pub context_in : Labels → ℕ → Context
+context_in labels number = record { number = number; earlier = is_earlier labels number; address = address_in labels }
 
 -- the words of a line, which may have none
 abbrev pub words_said : Result (Option (List ℕ)) AsmWhy → Result (List ℕ) AsmWhy

@@ -4,7 +4,7 @@ ghost use Rattle.std.specs.Prelude.{IfErr, Ok, Err};
 ghost use Rattle.std.specs.List.{All};
 ghost use Rattle.tv_asm.specs.Assembly.{assembled, line_words, part_words, with_line};
 ghost use Rattle.tv_asm.specs.Header.{width_of};
-ghost use Rattle.tv_asm.specs.Views.{address_in, is_earlier, words_said};
+ghost use Rattle.tv_asm.specs.Views.{address_in, context_in, is_earlier, words_said};
 ghost use Rattle.tv_word.specs.Widths.{IsWidth};
 
 use crate::fault::{AsmFault, AsmWhy};
@@ -56,11 +56,10 @@ fn append<const W: u32>(
     requires room { length words.old ≤ most }
     ensures room { OnOk result (length words.new ≤ most) }
     ensures ok { OnOk result
-        (with_line W most number (is_earlier labels.now number) (address_in labels.now) words.old
-        line.now ≡ Ok words.new) }
+        (with_line W most (context_in labels.now number) words.old line.now ≡ Ok words.new) }
     ensures err { IfErr result (λ fault. (fault ≡ AsmFault.Memory)
-        ⊎ (with_line W most number (is_earlier labels.now number) (address_in labels.now) words.old
-        line.now ≡ Err fault)) }
+        ⊎ (with_line W most (context_in labels.now number) words.old line.now
+        ≡ Err fault)) }
 {
     match line_words::<W>(line, number, labels) {
         Ok(None) => Ok(()),

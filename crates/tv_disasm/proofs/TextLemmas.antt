@@ -10,7 +10,7 @@ use Rattle.std.specs.List.{All, AllByRecursion, flat_map, slice_split}
 use Rattle.std.specs.Simd.{first_chunks}
 use Rattle.std.specs.Str.Lines.{strip_carriage_return}
 use Rattle.tv_asm.proofs.TextLemmas.{lines-nil, lines_of-cons}
-use Rattle.tv_asm.specs.Assembly.{assembled, image_of, line_words, with_line}
+use Rattle.tv_asm.specs.Assembly.{Context, assembled, context_after, image_of, line_words, with_line}
 use Rattle.tv_asm.specs.Header.{is_good_header, is_header_of_16, width_of}
 use Rattle.tv_asm.specs.Labels.{address, is_defined}
 use Rattle.tv_asm.specs.Line.{code_says}
@@ -71,12 +71,12 @@ texts-lines : (w : ℕ) → IsWidth w → (pairs : List (List ℕ)) → AllByRec
 texts-lines w width [] h = tt
 texts-lines w width (two ∷ more) h = ((IsTwo-IsLineOf w width two h.0).line, texts-lines w width more h.1)
 
-with_line-two : (w : ℕ) → IsWidth w → (most number : ℕ) (earlier : List ℕ → Bool) (place : List ℕ → Option ℕ) (words two : List ℕ) → IsTwo w two
-    → length words + 2 ≤ most → with_line w most number earlier place words (text_of w two) ≡ Ok (words ++ two_words w two)
-with_line-two w width most number earlier place words two h room =
+with_line-two : (w : ℕ) → IsWidth w → (most : ℕ) (context : Context) (words two : List ℕ) → IsTwo w two
+    → length words + 2 ≤ most → with_line w most context words (text_of w two) ≡ Ok (words ++ two_words w two)
+with_line-two w width most context words two h room =
     let line = IsTwo-IsLineOf w width two h in
-    let said : line_words w (number == 1) earlier place (text_of w two) ≡ Ok (two_words w two) =
-    line_words-line w (number == 1) earlier place (text_of w two) line.line ∙ line.words place in
+    let said : line_words w (context.number == 1) context.earlier context.address (text_of w two) ≡ Ok (two_words w two) =
+    line_words-line w (context.number == 1) context.earlier context.address (text_of w two) line.line ∙ line.words context.address in
     rw (said, le-leb (length words + 2) most room) refl
 
 -- lines of two words each assemble to these words
@@ -86,7 +86,7 @@ image_of-texts w width most all before words [] h room = ap (λ l. Ok l) (sym (a
 image_of-texts w width most all before words (two ∷ more) h room =
     let next = words ++ two_words w two in
     let rest : length next + 2 * length more ≤ most = omega (arith, length-append words (two_words w two)) in
-    rw (with_line-two w width most (length before + 1) (is_defined before) (address w all) words two h.0 (omega arith))
+    rw (with_line-two w width most (context_after w all before) words two h.0 (omega arith))
     (image_of-texts w width most all (before ++ text_of w two ∷ []) next more h.1 rest
     ∙ ap (λ l. Ok l) (append_assoc words (two_words w two) (flat_map (two_words w) more)))
 

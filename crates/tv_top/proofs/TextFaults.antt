@@ -1,6 +1,6 @@
 -- What is found of a program text is never an allocation failure.
 use Rattle.std.proofs.Common.{◌≢◌, ◌==◌, ◌+◌, ℕ, Bool, true, false, nat_le, List, [], ◌∷◌, ◌++◌, length, Result, Ok, Err}
-use Rattle.tv_asm.specs.Assembly.{assembled, at_line, image_of, line_words, with_line}
+use Rattle.tv_asm.specs.Assembly.{assembled, at_line, context_after, image_of, line_words, with_line}
 use Rattle.tv_asm.specs.Labels.{address, is_defined}
 use Rattle.tv_asm.specs.Steps.{◌>>=◌, check}
 use Rattle.tv_asm.specs.Text.{lines}
@@ -25,7 +25,7 @@ then_wants (Err fault) next one other e = one e
 lines_want : (w most : ℕ) (all before : List (List ℕ)) (words : List ℕ) (more : List (List ℕ)) → image_of w most all before words more ≢ Err Memory
 lines_want w most all before words [] = λ e. cc
 lines_want w most all before words (line ∷ more) =
-    then_wants (with_line w most (length before + 1) (is_defined before) (address w all) words line)
+    then_wants (with_line w most (context_after w all before) words line)
     (λ next. image_of w most all (before ++ line ∷ []) next more)
     (line_wants most (length before + 1) words (line_words w ((length before + 1) == 1) (is_defined before) (address w all) line)
     (λ two. nat_le (length words + length two) most))
