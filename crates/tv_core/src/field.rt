@@ -1,5 +1,6 @@
 //! The field of P = 2^64 - 2^32 + 1.
 ghost use Rattle.std.specs.Prelude.{◌≡◌, ℕ, ◌+◌, ◌-◌, ◌*◌, ◌%◌, ◌^◌, ◌<◌, ◌≤◌, ◌↔◌, IsNone, IfSome};
+ghost use Rattle.std.specs.Prelude.{if◌then◌else◌};
 ghost use Rattle.tv_core.specs.declared.field.TheConstants.{P};
 
 use std::marker::Model;
@@ -25,6 +26,31 @@ impl Model for F {
     ghost invariant = { λ f. f.word < P };
 
     ghost inverse = { λ n. record { word = n } };
+}
+
+// Returns 2^128 `upper` + `low` modulo `P`, not yet reduced below it, and whether 2^64 is to be
+// added to that number; together they are below 2 `P`.
+#[inline(always)]
+fn folded(low: u128, upper: u64) -> (u64, bool)
+    requires { upper < 2 ^ 31 }
+    ensures residue { (result.0 + (if result.1 then 2 ^ 64 else 0)) % P
+        ≡ (low + 2 ^ 128 * upper) % P }
+    ensures small { result.0 + (if result.1 then 2 ^ 64 else 0) < 2 * P }
+{
+    // Modulo P, 2^64 is 2^32 - 1, and so 2^96 is -1: with the number as
+    // low + 2^64 middle + 2^96 top, in parts of 64, 32 and 63 bits, it is
+    // low - top + (2^32 - 1) middle.
+    let high = (low >> 64) as u64;
+    let low = (low % 18_446_744_073_709_551_616) as u64;
+    let middle = high % 4_294_967_296;
+    let top = (upper << 32) + (high >> 32);
+    let (difference, borrow) = low.overflowing_sub(top);
+    let start = if borrow {
+        difference.wrapping_add(P)
+    } else {
+        difference
+    };
+    start.overflowing_add((middle << 32) - middle)
 }
 
 impl F {
@@ -62,20 +88,7 @@ impl F {
         requires { upper < 2 ^ 31 }
         ensures { result ≡ (low + 2 ^ 128 * upper) % P }
     {
-        // Modulo P, 2^64 is 2^32 - 1, and so 2^96 is -1: with the number as
-        // low + 2^64 middle + 2^96 top, in parts of 64, 32 and 63 bits, it is
-        // low - top + (2^32 - 1) middle.
-        let high = (low >> 64) as u64;
-        let low = (low % 18_446_744_073_709_551_616) as u64;
-        let middle = high % 4_294_967_296;
-        let top = (upper << 32) + (high >> 32);
-        let (difference, borrow) = low.overflowing_sub(top);
-        let start = if borrow {
-            difference.wrapping_add(P)
-        } else {
-            difference
-        };
-        let (sum, carry) = start.overflowing_add((middle << 32) - middle);
+        let (sum, carry) = folded(low, upper);
         F {
             word: if carry || sum >= P {
                 sum.wrapping_sub(P)
@@ -83,6 +96,17 @@ impl F {
                 sum
             },
         }
+    }
+
+    /// Returns a number of that residue, which may be `P` or more: `of_wide` without its last
+    /// comparison.
+    #[inline(always)]
+    pub fn noncanonical(low: u128, upper: u64) -> u64
+        requires { upper < 2 ^ 31 }
+        ensures { result % P ≡ (low + 2 ^ 128 * upper) % P }
+    {
+        let (sum, carry) = folded(low, upper);
+        if carry { sum.wrapping_sub(P) } else { sum }
     }
 
     /// Returns the element as a number.

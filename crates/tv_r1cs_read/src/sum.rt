@@ -4,7 +4,7 @@ ghost use Rattle.std.specs.Prelude.{◌≡◌, ◌+◌, ◌-◌, ◌*◌, ◌%�
 ghost use Rattle.tv_core.specs.declared.field.TheConstants.{P};
 
 use std::marker::Model;
-use tv_core::{F, P};
+use tv_core::F;
 
 /// A sum of products that isn't reduced: multiples of 2^128 are counted apart. Contracts see it as
 /// the number.
@@ -65,24 +65,12 @@ impl Sum {
         F::of_wide(self.low, self.carries)
     }
 
-    /// Returns a number that is the sum modulo P, and may be P or more: `F::of_wide` less its last
-    /// step.
+    /// Returns a number that is the sum modulo P, and may be P or more.
     #[inline(always)]
     pub(crate) fn residue(self) -> u64
         requires { self < 2 ^ 151 }
         ensures { result % P ≡ self % P }
     {
-        let high = (self.low >> 64) as u64;
-        let low = (self.low % 18_446_744_073_709_551_616) as u64;
-        let middle = high % 4_294_967_296;
-        let top = (self.carries << 32) + (high >> 32);
-        let (difference, borrow) = low.overflowing_sub(top);
-        let start = if borrow {
-            difference.wrapping_add(P)
-        } else {
-            difference
-        };
-        let (sum, carry) = start.overflowing_add((middle << 32) - middle);
-        if carry { sum.wrapping_sub(P) } else { sum }
+        F::noncanonical(self.low, self.carries)
     }
 }
