@@ -85,6 +85,7 @@ impl Window {
     pub fn bytes_from(&self, at: u64) -> &[u8]
         requires { Holds self.now at 0 }
         ensures all { at + length result.now ≡ self.now.at + length self.now.bytes }
+        ensures few { length result.now ≤ 65536 }
         ensures bytes { (file : List ℕ) → IsPiece self.now file → result.now
             ≡ take (length result.now) (drop at file) }
     {

@@ -8,11 +8,8 @@ ghost use Rattle.tv_r1cs_read.specs.Held.{IsHeld};
 use crate::terms::{Bounds, TERM_BYTES};
 use tv_container::Window;
 
-/// How many bytes are looked at from a place on: no more than a window holds, so few that a
-/// combination that is among them isn't too wide.
-const SIGHT: u64 = 65_536;
-
-/// A place, and the one up to which the window holds the bytes from there on, at most 65,536.
+/// A place, and the one up to which the window holds the bytes from there on, at most 65,536: so
+/// few that no combination among them is too wide.
 #[derive(Clone, Copy)]
 pub(crate) struct Held {
     pub(crate) from: u64,
@@ -32,7 +29,7 @@ pub(crate) fn held_from(window: &Window, bounds: &Bounds, at: u64) -> Held
     let held = window.bytes_from(at).len() as u64;
     Held {
         from: at,
-        to: at + held.min(bounds.end - at).min(SIGHT),
+        to: at + held.min(bounds.end - at),
     }
 }
 
