@@ -11,12 +11,12 @@ ghost use Rattle.tv_r1cs_read.specs.Steps.{Failed, Fewer, Gave, Stays, Steps, Te
 ghost use Rattle.tv_r1cs_read.specs.Steps.{WentOn, WentOver};
 ghost use Rattle.tv_r1cs_read.specs.Sums.{AreValues};
 
+use crate::far_trial::try_far;
 use crate::header::{Header, read_header};
 use crate::held::held_from;
+use crate::held_trial::try_held;
 use crate::rows::{Row, read_row};
 use crate::terms::Bounds;
-use crate::tried::try_row;
-use crate::trying::try_held;
 use std::marker::Model;
 use tv_container::{ReadRefusal, ReadWhy, Window};
 use tv_core::{Counts, F};
@@ -189,7 +189,7 @@ impl Progress {
         ensures left { IfSome result (λ _. self.new.left + 1 ≡ self.old.left) }
     {
         let bounds = self.bounds();
-        match try_row(files, name, &mut self.window, &bounds, self.at, values) {
+        match try_far(files, name, &mut self.window, &bounds, self.at, values) {
             Ok(tried) => {
                 self.at = tried.next;
                 self.left -= 1;

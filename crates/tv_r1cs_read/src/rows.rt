@@ -148,16 +148,16 @@ fn read_combination<D: Files>(
         GivesBy result (λ behind. combination_read terms.new behind.from)
         (combination_at file bounds.now.wires bounds.now.end held.from)) }
 {
-    match held_combination(window, bounds, held, terms)? {
+    match read_held(window, bounds, held, terms)? {
         Some(behind) => Ok(behind),
-        None => far_combination(files, name, window, bounds, held.from, terms),
+        None => read_far(files, name, window, bounds, held.from, terms),
     }
 }
 
 // Takes the combination at a place from the window, and returns what the window holds after it;
 // `None` where the window doesn't hold all of it, or it isn't as it should be.
 #[inline(always)]
-fn held_combination(
+fn read_held(
     window: &Window,
     bounds: &Bounds,
     held: Held,
@@ -218,7 +218,7 @@ fn take_terms(
 #[cold]
 #[inline(never)]
 #[tactic(auto, unfolding(crate::specs::R1cs::combination_at))]
-fn far_combination<D: Files>(
+fn read_far<D: Files>(
     files: &mut D,
     name: &str,
     window: &mut Window,

@@ -1,6 +1,6 @@
 use Rattle.std.proofs.Common.{◌≡◌, ◌+◌, ◌*◌, ◌^◌, ◌≤◌}
 use Rattle.tv_r1cs_read.specs.Sums.{Adds}
-use Rattle.tv_r1cs_read.proofs.adding.add_terms.Given as goal
+use Rattle.tv_r1cs_read.proofs.addition.add_terms.Given as goal
 
 abbrev pub invariant-loop-good : goal.invariant-loop-good
 invariant-loop-good g l = record {

@@ -6,11 +6,11 @@ ghost use Rattle.tv_r1cs_read.specs.Held.{IsHeld};
 ghost use Rattle.tv_r1cs_read.specs.R1cs.{combination_at, constraint_at};
 ghost use Rattle.tv_r1cs_read.specs.Sums.{AreValues, ComesTo, IsTried};
 
-use crate::adding::{add_term, add_terms};
+use crate::addition::{add_term, add_terms};
+use crate::far_trial::Tried;
 use crate::held::Held;
 use crate::sum::Sum;
 use crate::terms::{Bounds, TERM_BYTES};
-use crate::tried::Tried;
 use tv_container::Window;
 use tv_core::F;
 

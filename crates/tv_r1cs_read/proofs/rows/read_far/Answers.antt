@@ -3,7 +3,7 @@ use Rattle.std.proofs.lemmas.List.{length_push}
 use Rattle.std.proofs.lemmas.List.Elements.{All-nil, All-push}
 use Rattle.std.proofs.lemmas.Result.{err_from_is_err_and}
 use Rattle.tv_r1cs_read.proofs.Ahead.{begins, combination_at-counted, ends, goes_on, refused}
-use Rattle.tv_r1cs_read.proofs.rows.far_combination.Goals as goal
+use Rattle.tv_r1cs_read.proofs.rows.read_far.Goals as goal
 
 pub loop-init : goal.loop-init
 loop-init g c = record {

@@ -1,6 +1,6 @@
 use Rattle.std.proofs.Common.{arith}
 use Rattle.tv_r1cs_read.proofs.Summing.{adds_more}
-use Rattle.tv_r1cs_read.proofs.adding.add_terms.Goals as goal
+use Rattle.tv_r1cs_read.proofs.addition.add_terms.Goals as goal
 
 pub loop-good-preserved : goal.loop-good-preserved
 loop-good-preserved g c = record {

@@ -1,6 +1,6 @@
 use Rattle.std.proofs.Common.{◌≡◌, ◌+◌, ◌*◌, arith, rules, slice_index}
 use Rattle.tv_r1cs_read.proofs.Summing.{adds_one}
-use Rattle.tv_r1cs_read.proofs.adding.add_term.Goals as goal
+use Rattle.tv_r1cs_read.proofs.addition.add_term.Goals as goal
 
 pub returns-then-this-ne0-clause-adds : goal.returns-then-this-ne0-clause-adds
 returns-then-this-ne0-clause-adds g c =

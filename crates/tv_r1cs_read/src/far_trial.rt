@@ -6,7 +6,7 @@ ghost use Rattle.tv_container.specs.Reading.{ReadsIn, Refuses};
 ghost use Rattle.tv_r1cs_read.specs.R1cs.{combination_at, constraint_at};
 ghost use Rattle.tv_r1cs_read.specs.Sums.{IsTried, IsValued};
 
-use crate::adding::add_far;
+use crate::addition::add_far;
 use crate::sum::Sum;
 use crate::terms::{Bounds, TERM_BYTES, read_count, read_term};
 use tv_container::{ReadRefusal, Window};
@@ -33,7 +33,7 @@ struct Valued {
 
 /// Reads the constraint at a place, and tries it under an assignment.
 #[tactic(auto, unfolding(crate::specs::R1cs::constraint_at))]
-pub(crate) fn try_row<D: Files>(
+pub(crate) fn try_far<D: Files>(
     files: &mut D,
     name: &str,
     window: &mut Window,
@@ -51,9 +51,9 @@ pub(crate) fn try_row<D: Files>(
         tried.holds tried.terms tried.next)
         (λ why. Refuses why (constraint_at file bounds.now.wires bounds.now.end at))) }
 {
-    let a = read_value(files, name, window, bounds, at, values)?;
-    let b = read_value(files, name, window, bounds, a.next, values)?;
-    let c = read_value(files, name, window, bounds, b.next, values)?;
+    let a = sum_far(files, name, window, bounds, at, values)?;
+    let b = sum_far(files, name, window, bounds, a.next, values)?;
+    let c = sum_far(files, name, window, bounds, b.next, values)?;
     Ok(Tried {
         holds: a.value * b.value == c.value,
         terms: u64::from(a.terms) + u64::from(b.terms) + u64::from(c.terms),
@@ -75,7 +75,7 @@ fn value_at(wire: u32, values: &[F]) -> F
 // then as many as the window holds after it are summed at once, up to the first that isn't as it
 // should be.
 #[tactic(auto, unfolding(crate::specs::R1cs::combination_at))]
-fn read_value<D: Files>(
+fn sum_far<D: Files>(
     files: &mut D,
     name: &str,
     window: &mut Window,

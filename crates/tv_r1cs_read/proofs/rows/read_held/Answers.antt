@@ -1,6 +1,6 @@
 use Rattle.std.proofs.Common.{◌+◌, ◌≤◌, ◌∙◌, arith, sym}
 use Rattle.tv_r1cs_read.proofs.Ahead.{combination_at-counted, count_at-good}
-use Rattle.tv_r1cs_read.proofs.rows.held_combination.Goals as goal
+use Rattle.tv_r1cs_read.proofs.rows.read_held.Goals as goal
 
 pub returns-then-branch-clause-gives : goal.returns-then-branch-clause-gives
 returns-then-branch-clause-gives c = λ file piece.

@@ -3,7 +3,7 @@ use Rattle.tv_container.specs.Places.{places}
 use Rattle.tv_container.specs.Reading.{InPiece, IsPiece}
 use Rattle.tv_r1cs_read.specs.R1cs.{terms_at}
 use Rattle.tv_r1cs_read.specs.Sums.{IsSummed}
-use Rattle.tv_r1cs_read.proofs.tried.read_value.Given as goal
+use Rattle.tv_r1cs_read.proofs.far_trial.sum_far.Given as goal
 
 abbrev pub invariant-loop-left : goal.invariant-loop-left
 invariant-loop-left g l = record {

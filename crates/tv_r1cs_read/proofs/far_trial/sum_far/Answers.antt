@@ -2,7 +2,7 @@ use Rattle.std.proofs.Common.{◌≡◌, ◌+◌, ◌-◌, ◌*◌, arith, ◌�
 use Rattle.std.proofs.lemmas.Result.{err_from_is_err_and}
 use Rattle.tv_r1cs_read.proofs.Ahead.{combination_at-counted, refused}
 use Rattle.tv_r1cs_read.proofs.Summing.{adds, comes_to, counted, starts, valued}
-use Rattle.tv_r1cs_read.proofs.tried.read_value.Goals as goal
+use Rattle.tv_r1cs_read.proofs.far_trial.sum_far.Goals as goal
 
 pub loop-left-init : goal.loop-left-init
 loop-left-init g c = record {
