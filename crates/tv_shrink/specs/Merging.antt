@@ -1,7 +1,8 @@
 -- Two multiples of normal combinations added, one wire of which may be left out.
-use Rattle.std.specs.Prelude.{ℕ, ◌^◌, ◌==◌, [], ◌∷◌, Option, None, Some, if◌then◌else◌}
+use Rattle.std.specs.Prelude.{◌≡◌, ℕ, ◌^◌, ◌==◌, [], ◌∷◌, Option, None, Some, if◌then◌else◌}
 use Rattle.tv_core.specs.Constraints.{Combination}
 use Rattle.tv_shrink.specs.Replacing.{without}
+use Rattle.tv_shrink.specs.declared.merge.Side.{Side}
 
 -- a combination without a wire, where there is one to leave out
 abbrev pub leaving_out : Option ℕ → Combination → Combination
@@ -27,3 +28,9 @@ tail_at w (t ∷ x) = if t.1 == w then x else t ∷ x
 abbrev pub unless_left : Option ℕ → ℕ → ℕ → ℕ
 unless_left None w k = k
 unless_left (Some v) w k = if v == w then 0 else k
+
+-- a side goes past a wire, if it is the first that is ahead, and stays the same multiple
+pub record GoesPast (wire : ℕ) (old new : Side) : Type 0 where
+  pub terms : new.terms.now ≡ tail_at wire old.terms.now
+  pub factor : new.factor ≡ old.factor
+  pub leaving : new.leaving ≡ old.leaving

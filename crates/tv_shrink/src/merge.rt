@@ -4,7 +4,7 @@ ghost use Rattle.std.specs.Prelude.{◌≡◌, ◌≤◌, ◌<◌, ◌+◌, ◌*
 ghost use Rattle.std.specs.Prelude.{min};
 ghost use Rattle.tv_core.specs.Combinations.{scaled};
 ghost use Rattle.tv_core.specs.declared.field.TheConstants.{P};
-ghost use Rattle.tv_shrink.specs.Merging.{first_wire, head_at, leaving_out, tail_at, unless_left};
+ghost use Rattle.tv_shrink.specs.Merging.{first_wire, head_at, leaving_out, unless_left, GoesPast};
 ghost use Rattle.tv_core.specs.Normal.{normal, with_term, IsNormalFrom};
 
 use std::alloc::AllocError;
@@ -48,9 +48,7 @@ impl<'a> Side<'a> {
     fn take(&mut self, wire: Wire) -> F
         ensures coefficient { result ≡ unless_left self.old.leaving wire
             (self.old.factor * head_at wire self.old.terms.now % P) }
-        ensures terms { self.new.terms.now ≡ tail_at wire self.old.terms.now }
-        ensures factor { self.new.factor ≡ self.old.factor }
-        ensures leaving { self.new.leaving ≡ self.old.leaving }
+        ensures past { GoesPast wire self.old self.new }
     {
         let [(coefficient, first), rest @ ..] = self.terms else {
             return F::ZERO;
@@ -109,12 +107,8 @@ fn take_least(left: &mut Side<'_>, right: &mut Side<'_>) -> (F, Wire)
         (left.old.factor * head_at result.1 left.old.terms.now % P)
         + unless_left right.old.leaving result.1
         (right.old.factor * head_at result.1 right.old.terms.now % P)) % P }
-    ensures left { left.new.terms.now ≡ tail_at result.1 left.old.terms.now }
-    ensures right { right.new.terms.now ≡ tail_at result.1 right.old.terms.now }
-    ensures left_factor { left.new.factor ≡ left.old.factor }
-    ensures left_leaving { left.new.leaving ≡ left.old.leaving }
-    ensures right_factor { right.new.factor ≡ right.old.factor }
-    ensures right_leaving { right.new.leaving ≡ right.old.leaving }
+    ensures left { GoesPast result.1 left.old left.new }
+    ensures right { GoesPast result.1 right.old right.new }
 {
     let (wire, other) = (left.first(), right.first());
     if wire.0 < other.0 {

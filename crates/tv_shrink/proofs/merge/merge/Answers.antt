@@ -21,17 +21,19 @@ loop-left-preserved c =
     ∙ ap (λ l. (given c.loop-left.left.factor c.loop-left.left.leaving wire c.loop-left.left.terms.now + unless_left l wire
     (c.loop-left.right.factor * head_at wire c.loop-left.right.terms.now % P)) % P) c.loop-left.invariant.all in
     record {
-      left = subst (IsNormalFrom 0) (sym c.take_least-coefficient.ensures.left) (normal-rest wire c.loop-left.left.terms.now c.loop-left.invariant.left h);
-      right = subst (IsNormalFrom 0) (sym c.take_least-coefficient.ensures.right) (normal-rest wire c.loop-left.right.terms.now c.loop-left.invariant.right g);
-      all = c.take_least-coefficient.ensures.right_leaving ∙ c.loop-left.invariant.all;
+      left = subst (IsNormalFrom 0) (sym c.take_least-coefficient.ensures.left.terms)
+          (normal-rest wire c.loop-left.left.terms.now c.loop-left.invariant.left h);
+      right = subst (IsNormalFrom 0) (sym c.take_least-coefficient.ensures.right.terms)
+          (normal-rest wire c.loop-left.right.terms.now c.loop-left.invariant.right g);
+      all = c.take_least-coefficient.ensures.right.leaving ∙ c.loop-left.invariant.all;
       whole =
           simp (
             c.in_ok-push_term.ensures.term,
-            c.take_least-coefficient.ensures.left_factor,
-            c.take_least-coefficient.ensures.left_leaving,
-            c.take_least-coefficient.ensures.left,
-            c.take_least-coefficient.ensures.right_factor,
-            c.take_least-coefficient.ensures.right,
+            c.take_least-coefficient.ensures.left.factor,
+            c.take_least-coefficient.ensures.left.leaving,
+            c.take_least-coefficient.ensures.left.terms,
+            c.take_least-coefficient.ensures.right.factor,
+            c.take_least-coefficient.ensures.right.terms,
           )
           (merge-turn c.loop-left.out.items _ c.loop-left.left.factor c.loop-left.right.factor wire c.take_least-coefficient.result.0 c.loop-left.left.leaving
           c.loop-left.left.terms.now c.loop-left.right.terms.now

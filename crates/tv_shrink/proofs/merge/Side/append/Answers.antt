@@ -10,9 +10,10 @@ loop-self-preserved c =
     let h : c.first-wire.result ≤ first_wire c.loop-self.self.terms.now = omega (arith, c.first-wire.ensures) in
     let small : c.first-wire.result < 2 ^ 32 = omega arith in
     record {
-      rising = subst (IsNormalFrom 0) (sym c.take.ensures.terms) (normal-rest c.first-wire.result c.loop-self.self.terms.now c.loop-self.invariant.rising h);
+      rising = subst (IsNormalFrom 0) (sym c.take.ensures.past.terms)
+          (normal-rest c.first-wire.result c.loop-self.self.terms.now c.loop-self.invariant.rising h);
       whole =
-          simp (c.in_ok-push_term.ensures.term, c.take.ensures.factor, c.take.ensures.leaving, c.take.ensures.terms)
+          simp (c.in_ok-push_term.ensures.term, c.take.ensures.past.factor, c.take.ensures.past.leaving, c.take.ensures.past.terms)
           (append-turn c.loop-self.out.items _ c.loop-self.self.factor c.first-wire.result c.take.result c.loop-self.self.leaving c.loop-self.self.terms.now
           c.loop-self.invariant.rising h small c.take.ensures.coefficient c.loop-self.invariant.whole);
     }
