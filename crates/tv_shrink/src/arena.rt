@@ -13,6 +13,7 @@ use crate::fault::ShrinkFault;
 use crate::normal::append_normal;
 use crate::numbers::Numbers;
 use crate::row::{Row, append_replaced};
+use crate::substitution::Substitution;
 use std::alloc::AllocError;
 use tv_core::{F, TERMS, Wire};
 
@@ -77,49 +78,46 @@ pub(crate) fn append_narrow(
     Ok(has as u8)
 }
 
-// Appends a combination with `replacement` in place of a wire, and returns how many terms it has
-// then.
+// Appends a combination after a substitution, and returns how many terms it has then.
 fn append_part(
     out: &mut Vec<(F, Wire)>,
     terms: &[(F, Wire)],
-    wire: Wire,
-    replacement: &[(F, Wire)],
+    by: &Substitution<'_>,
 ) -> Result<u8, AllocError>
     requires normal { IsNormalFrom 0 terms.now }
-    requires by { IsNormalFrom 0 replacement.now }
+    requires by { IsNormalFrom 0 by.now.replacement.now }
     requires few { length terms.now < 256 }
-    requires fits { fits wire replacement.now terms.now ≡ true }
+    requires fits { fits by.now.wire by.now.replacement.now terms.now ≡ true }
     ensures out { OnOk result (out.new.items
-        ≡ out.old.items ++ replaced wire replacement.now terms.now) }
-    ensures size { IfOk result (λ size. size ≡ length (replaced wire replacement.now terms.now)) }
+        ≡ out.old.items ++ replaced by.now.wire by.now.replacement.now terms.now) }
+    ensures size { IfOk result (λ size. size
+        ≡ length (replaced by.now.wire by.now.replacement.now terms.now)) }
 {
     let start = out.len();
-    append_replaced(out, terms, wire, replacement)?;
+    append_replaced(out, terms, by)?;
     Ok((out.len() - start) as u8)
 }
 
-/// Puts a constraint with `replacement` in place of a wire into `out`, and returns where its terms
-/// lie in it.
+/// Puts a constraint after a substitution into `out`, and returns where its terms lie in it.
 pub(crate) fn put_replaced(
     out: &mut Vec<(F, Wire)>,
     row: &Row<'_>,
-    wire: Wire,
-    replacement: &[(F, Wire)],
+    by: &Substitution<'_>,
 ) -> Result<Span, AllocError>
     requires normal { IsNormalConstraint row.now }
-    requires by { IsNormalFrom 0 replacement.now }
+    requires by { IsNormalFrom 0 by.now.replacement.now }
     requires few { (length row.now.a < 256) × (length row.now.b < 256)
         × (length row.now.c < 256) }
-    requires fits { fits_in wire replacement.now row.now ≡ true }
+    requires fits { fits_in by.now.wire by.now.replacement.now row.now ≡ true }
     ensures out { OnOk result (out.new.items
-        ≡ row_terms (replaced_in wire replacement.now row.now)) }
+        ≡ row_terms (replaced_in by.now.wire by.now.replacement.now row.now)) }
     ensures made { IfOk result (λ made. made
-        ≡ span_of 0 (replaced_in wire replacement.now row.now)) }
+        ≡ span_of 0 (replaced_in by.now.wire by.now.replacement.now row.now)) }
 {
     out.clear();
-    let a = append_part(out, row.a, wire, replacement)?;
-    let b = append_part(out, row.b, wire, replacement)?;
-    let c = append_part(out, row.c, wire, replacement)?;
+    let a = append_part(out, row.a, by)?;
+    let b = append_part(out, row.b, by)?;
+    let c = append_part(out, row.c, by)?;
     Ok(Span { start: 0, a, b, c })
 }
 

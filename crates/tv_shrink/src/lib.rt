@@ -19,6 +19,7 @@ mod rows;
 mod shrinking;
 mod shrunk;
 mod state;
+mod substitution;
 mod writing;
 
 pub use fault::ShrinkFault;

@@ -14,6 +14,7 @@ ghost use Rattle.tv_shrink.specs.Tidy.{row_has, RowsAreNormal, Covers, RowIsNorm
 
 use crate::row::Row;
 use crate::rows::Rows;
+use crate::substitution::Substitution;
 use std::alloc::{AllocError, Global};
 use std::marker::Model;
 use tv_core::{F, Wire};
@@ -111,30 +112,29 @@ impl Occurrences {
         Ok(())
     }
 
-    /// The first of the rows that a wire may stand in, but for the one at a place, that doesn't
-    /// keep to its most terms with `replacement` in the wire's place. It looks at no row after it.
+    /// The first of the rows that a substitution's wire may stand in, but for the one at a place,
+    /// that doesn't keep to its most terms after it. It looks at no row after that one.
     pub(crate) fn misfit(
         &self,
         rows: &Rows,
         but: usize,
         scratch: &mut Vec<(F, Wire)>,
-        wire: Wire,
-        replacement: &[(F, Wire)],
+        by: &Substitution<'_>,
     ) -> Result<Option<u32>, AllocError>
         requires normal { RowsAreNormal rows.now }
-        requires by { IsNormalFrom 0 replacement.now }
+        requires by { IsNormalFrom 0 by.now.replacement.now }
         ensures some { IfOk result (λ found. IfSome found (λ row.
-            row_fits wire replacement.now
+            row_fits by.now.wire by.now.replacement.now
             (slice_index_or (slice_set rows.now but None) row None) ≡ false)) }
         ensures none { result ≡ Ok None → (i : ℕ)
-            → list_any (λ p. p == i) (rows_of self.now wire) ≡ true
-            → row_fits wire replacement.now
+            → list_any (λ p. p == i) (rows_of self.now by.now.wire) ≡ true
+            → row_fits by.now.wire by.now.replacement.now
             (slice_index_or (slice_set rows.now but None) i None) ≡ true }
     {
-        let mut number = self.heads[wire.0 as usize % self.heads.len()];
+        let mut number = self.heads[by.wire.0 as usize % self.heads.len()];
         while number > 0 {
             let entry = self.entries[number as usize - 1];
-            if !rows.other_fits(but, entry.row, scratch, wire, replacement)? {
+            if !rows.other_fits(but, entry.row, scratch, by)? {
                 return Ok(Some(entry.row));
             }
             number = entry.next;

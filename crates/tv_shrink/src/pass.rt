@@ -11,6 +11,7 @@ ghost use Rattle.tv_shrink.specs.Tidy.{RowsAreNormal};
 use crate::row::solve;
 use crate::rows::Rows;
 use crate::state::State;
+use crate::substitution::Substitution;
 use std::alloc::{AllocError, Global};
 use tv_core::{F, Wire};
 
@@ -65,13 +66,16 @@ impl Pass {
               self.old.state.pass;
         }) }
     {
+        let by = Substitution {
+            wire,
+            replacement: &self.solved,
+        };
         let scratch = &mut self.scratch;
-        if !self.state.others_fit(at, scratch, wire, &self.solved)? {
+        if !self.state.others_fit(at, scratch, &by)? {
             return Ok(());
         }
         self.state.remove(at);
-        self.state
-            .substitute(&mut self.named, scratch, wire, &self.solved)
+        self.state.substitute(&mut self.named, scratch, &by)
     }
 
     /// The turn of the constraint at a place.

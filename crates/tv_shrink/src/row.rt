@@ -10,6 +10,7 @@ ghost use Rattle.tv_shrink.specs.Replacing.{linear_form, replaced, solved};
 ghost use Rattle.tv_shrink.specs.Tidy.{row_has, RowIsNormal};
 
 use crate::merge::{Side, merge};
+use crate::substitution::Substitution;
 use std::alloc::AllocError;
 use std::marker::Model;
 use tv_core::{F, TERMS, Wire};
@@ -146,47 +147,45 @@ pub(crate) fn solve(
     others.append(out)
 }
 
-/// Appends a combination with `replacement` in place of a wire.
+/// Appends a combination after a substitution.
 pub(crate) fn append_replaced(
     out: &mut Vec<(F, Wire)>,
     terms: &[(F, Wire)],
-    wire: Wire,
-    replacement: &[(F, Wire)],
+    by: &Substitution<'_>,
 ) -> Result<(), AllocError>
     requires normal { IsNormalFrom 0 terms.now }
-    requires by { IsNormalFrom 0 replacement.now }
+    requires by { IsNormalFrom 0 by.now.replacement.now }
     ensures { OnOk result (out.new.items
-        ≡ out.old.items ++ replaced wire replacement.now terms.now) }
+        ≡ out.old.items ++ replaced by.now.wire by.now.replacement.now terms.now) }
 {
-    let Some(coefficient) = coefficient_of(terms, wire) else {
+    let Some(coefficient) = coefficient_of(terms, by.wire) else {
         return out.extend_from_slice(terms);
     };
     let mut others = Side {
         terms,
         factor: F::ONE,
-        leaving: Some(wire),
+        leaving: Some(by.wire),
     };
-    let mut by = Side::whole(replacement, coefficient);
-    merge(out, &mut others, &mut by)
+    let mut replacement = Side::whole(by.replacement, coefficient);
+    merge(out, &mut others, &mut replacement)
 }
 
-// Whether a combination keeps to its most terms with `replacement` in place of a wire; `scratch` is
-// for its use. Costs a merge only where it has the wire and both together have more terms.
+// Whether a combination keeps to its most terms after a substitution; `scratch` is for its use.
+// Costs a merge only where it has the wire and both together have more terms.
 fn fits(
     scratch: &mut Vec<(F, Wire)>,
     terms: &[(F, Wire)],
-    wire: Wire,
-    replacement: &[(F, Wire)],
+    by: &Substitution<'_>,
 ) -> Result<bool, AllocError>
     requires normal { IsNormalFrom 0 terms.now }
-    requires by { IsNormalFrom 0 replacement.now }
-    ensures { IfOk result (λ answer. answer ≡ fits wire replacement.now terms.now) }
+    requires by { IsNormalFrom 0 by.now.replacement.now }
+    ensures { IfOk result (λ answer. answer ≡ fits by.now.wire by.now.replacement.now terms.now) }
 {
-    if terms.len() + replacement.len() <= TERMS || !has_wire(terms, wire) {
+    if terms.len() + by.replacement.len() <= TERMS || !has_wire(terms, by.wire) {
         return Ok(true);
     }
     scratch.clear();
-    append_replaced(scratch, terms, wire, replacement)?;
+    append_replaced(scratch, terms, by)?;
     Ok(scratch.len() <= TERMS)
 }
 
@@ -208,22 +207,18 @@ impl Row<'_> {
         Ok(false)
     }
 
-    /// Whether each combination keeps to its most terms with `replacement` in place of a wire;
-    /// `scratch` is for its use.
+    /// Whether each combination keeps to its most terms after a substitution; `scratch` is for its
+    /// use.
     pub(crate) fn fits(
         &self,
         scratch: &mut Vec<(F, Wire)>,
-        wire: Wire,
-        replacement: &[(F, Wire)],
+        by: &Substitution<'_>,
     ) -> Result<bool, AllocError>
         requires normal { IsNormalConstraint self.now }
-        requires by { IsNormalFrom 0 replacement.now }
-        ensures { IfOk result (λ answer. answer ≡ fits_in wire replacement.now self.now) }
+        requires by { IsNormalFrom 0 by.now.replacement.now }
+        ensures { IfOk result (λ answer. answer
+            ≡ fits_in by.now.wire by.now.replacement.now self.now) }
     {
-        Ok(
-            fits(scratch, self.a, wire, replacement)?
-                && fits(scratch, self.b, wire, replacement)?
-                && fits(scratch, self.c, wire, replacement)?,
-        )
+        Ok(fits(scratch, self.a, by)? && fits(scratch, self.b, by)? && fits(scratch, self.c, by)?)
     }
 }

@@ -18,6 +18,7 @@ use crate::arena::{
 use crate::fault::ShrinkFault;
 use crate::numbers::Numbers;
 use crate::row::Row;
+use crate::substitution::Substitution;
 use std::alloc::{AllocError, Global};
 use std::marker::Model;
 use tv_core::{F, Wire};
@@ -161,20 +162,18 @@ impl Rows {
         Ok(())
     }
 
-    /// Whether the constraint at a place keeps to its most terms with `replacement` in place of a
-    /// wire, as one does that was dropped, is to be dropped, or isn't there; `scratch` is for its
-    /// use.
+    /// Whether the constraint at a place keeps to its most terms after a substitution, as one does
+    /// that was dropped, is to be dropped, or isn't there; `scratch` is for its use.
     pub(crate) fn other_fits(
         &self,
         but: usize,
         at: u32,
         scratch: &mut Vec<(F, Wire)>,
-        wire: Wire,
-        replacement: &[(F, Wire)],
+        by: &Substitution<'_>,
     ) -> Result<bool, AllocError>
         requires normal { RowsAreNormal self.now }
-        requires by { IsNormalFrom 0 replacement.now }
-        ensures { IfOk result (λ answer. answer ≡ row_fits wire replacement.now
+        requires by { IsNormalFrom 0 by.now.replacement.now }
+        ensures { IfOk result (λ answer. answer ≡ row_fits by.now.wire by.now.replacement.now
             (slice_index_or (slice_set self.now but None) at None)) }
     {
         let at = at as usize;
@@ -182,33 +181,33 @@ impl Rows {
             return Ok(true);
         }
         match self.get(at) {
-            Some(row) => row.fits(scratch, wire, replacement),
+            Some(row) => row.fits(scratch, by),
             None => Ok(true),
         }
     }
 
-    /// Puts `replacement` in place of a wire in the constraint at a place, unless it was dropped;
-    /// `scratch` is for its use.
+    /// Substitutes in the constraint at a place, unless it was dropped; `scratch` is for its use.
     pub(crate) fn replace(
         &mut self,
         at: usize,
         scratch: &mut Vec<(F, Wire)>,
-        wire: Wire,
-        replacement: &[(F, Wire)],
+        by: &Substitution<'_>,
     ) -> Result<(), AllocError>
         requires inside { at < length self.old }
         requires normal { RowIsNormal (slice_index_or self.old at None) }
-        requires by { IsNormalFrom 0 replacement.now }
-        requires fits { row_fits wire replacement.now (slice_index_or self.old at None) ≡ true }
+        requires by { IsNormalFrom 0 by.now.replacement.now }
+        requires fits { row_fits by.now.wire by.now.replacement.now
+            (slice_index_or self.old at None) ≡ true }
         ensures replaces { OnOk result (self.new ≡ slice_set self.old at
-            (option_map (replaced_in wire replacement.now) (slice_index_or self.old at None))) }
+            (option_map (replaced_in by.now.wire by.now.replacement.now)
+            (slice_index_or self.old at None))) }
         ensures err { OnErr result (self.new ≡ self.old) }
     {
         let Some(span) = self.spans[at] else {
             return Ok(());
         };
         let row = span.row(&self.terms);
-        let made = put_replaced(scratch, &row, wire, replacement)?;
+        let made = put_replaced(scratch, &row, by)?;
         let start = lay(&mut self.terms, &span, scratch)?;
         self.spans[at] = Some(Span { start, ..made });
         Ok(())

@@ -12,6 +12,7 @@ ghost use Rattle.tv_shrink.specs.Tidy.{marked, row_has, RowsAreNormal, RowIsNorm
 use crate::occurrences::Occurrences;
 use crate::row::{Row, row_has};
 use crate::rows::Rows;
+use crate::substitution::Substitution;
 use std::alloc::{AllocError, Global};
 use std::marker::Model;
 use tv_core::{F, Wire};
@@ -102,49 +103,47 @@ impl State {
         self.rows.remove(at);
     }
 
-    /// Whether all constraints but the one at a place keep to their most terms with `replacement`
-    /// in place of a wire. One that doesn't is the first that the next call for the wire looks at.
+    /// Whether all constraints but the one at a place keep to their most terms after a
+    /// substitution. One that doesn't is the first that the next call for the wire looks at.
     pub(crate) fn others_fit(
         &mut self,
         but: usize,
         scratch: &mut Vec<(F, Wire)>,
-        wire: Wire,
-        replacement: &[(F, Wire)],
+        by: &Substitution<'_>,
     ) -> Result<bool, AllocError>
-        requires private { self.old.publics ≤ wire }
-        requires by { IsNormalFrom 0 replacement.now }
+        requires private { self.old.publics ≤ by.now.wire }
+        requires by { IsNormalFrom 0 by.now.replacement.now }
         ensures same { self.new ≡ self.old }
         ensures fit { IfOk result (λ fit. fit
-            ≡ list_all (row_fits wire replacement.now) (slice_set self.old.pass.rows but None)) }
+            ≡ list_all (row_fits by.now.wire by.now.replacement.now)
+            (slice_set self.old.pass.rows but None)) }
     {
-        let misfit = self
-            .occurrences
-            .misfit(&self.rows, but, scratch, wire, replacement)?;
+        let misfit = self.occurrences.misfit(&self.rows, but, scratch, by)?;
         let Some(row) = misfit else {
             return Ok(true);
         };
-        self.occurrences.add(wire.0, row)?;
+        self.occurrences.add(by.wire.0, row)?;
         Ok(false)
     }
 
-    // Puts `replacement` in place of a wire in the constraint at a place, if the wire stands there,
-    // and files each private wire that comes into it.
+    // Substitutes in the constraint at a place, if the wire stands there, and files each private
+    // wire that comes into it.
     fn replace_at(
         &mut self,
         at: u32,
         scratch: &mut Vec<(F, Wire)>,
-        wire: Wire,
-        replacement: &[(F, Wire)],
+        by: &Substitution<'_>,
     ) -> Result<(), AllocError>
-        requires by { IsNormalFrom 0 replacement.now }
-        requires lacks { has_wire wire replacement.now ≡ false }
-        requires fits { row_fits wire replacement.now
+        requires by { IsNormalFrom 0 by.now.replacement.now }
+        requires lacks { has_wire by.now.wire by.now.replacement.now ≡ false }
+        requires fits { row_fits by.now.wire by.now.replacement.now
             (slice_index_or self.old.pass.rows at None) ≡ true }
         ensures { OnOk result (self.new ≡ record {
           publics = self.old.publics;
           pass = record {
             rows = slice_set self.old.pass.rows at (option_map
-                (replaced_in wire replacement.now) (slice_index_or self.old.pass.rows at None));
+                (replaced_in by.now.wire by.now.replacement.now)
+                (slice_index_or self.old.pass.rows at None));
             gone = self.old.pass.gone;
           };
         }) }
@@ -152,36 +151,36 @@ impl State {
         if at as usize >= self.rows.len() {
             return Ok(());
         }
-        if !row_has(&self.rows.get(at as usize), wire) {
+        if !row_has(&self.rows.get(at as usize), by.wire) {
             return Ok(());
         }
-        self.occurrences.file(at, replacement, self.publics)?;
-        self.rows.replace(at as usize, scratch, wire, replacement)
+        self.occurrences.file(at, by.replacement, self.publics)?;
+        self.rows.replace(at as usize, scratch, by)
     }
 
-    /// Puts `replacement` in place of a private wire in all constraints, after which the wire is
-    /// gone; `named` and `scratch` are for its use.
+    /// Substitutes for a private wire in all constraints, after which the wire is gone; `named` and
+    /// `scratch` are for its use.
     pub(crate) fn substitute(
         &mut self,
         named: &mut Vec<u32>,
         scratch: &mut Vec<(F, Wire)>,
-        wire: Wire,
-        replacement: &[(F, Wire)],
+        by: &Substitution<'_>,
     ) -> Result<(), AllocError>
-        requires private { self.old.publics ≤ wire }
-        requires by { IsNormalFrom 0 replacement.now }
-        requires lacks { has_wire wire replacement.now ≡ false }
-        requires fit { list_all (row_fits wire replacement.now) self.old.pass.rows ≡ true }
+        requires private { self.old.publics ≤ by.now.wire }
+        requires by { IsNormalFrom 0 by.now.replacement.now }
+        requires lacks { has_wire by.now.wire by.now.replacement.now ≡ false }
+        requires fit { list_all (row_fits by.now.wire by.now.replacement.now)
+            self.old.pass.rows ≡ true }
         ensures { OnOk result (self.new ≡ record {
           publics = self.old.publics;
-          pass = substituted wire replacement.now self.old.pass;
+          pass = substituted by.now.wire by.now.replacement.now self.old.pass;
         }) }
     {
-        self.occurrences.rows_of(wire.0, named)?;
+        self.occurrences.rows_of(by.wire.0, named)?;
         for at in named.iter() {
-            self.replace_at(*at, scratch, wire, replacement)?;
+            self.replace_at(*at, scratch, by)?;
         }
-        self.gone.push(wire.0)?;
+        self.gone.push(by.wire.0)?;
         Ok(())
     }
 

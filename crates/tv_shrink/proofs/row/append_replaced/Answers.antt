@@ -14,13 +14,16 @@ pub returns-in_default : goal.returns-in_default
 returns-in_default c =
     on_ok_weaker c.extend_from_slice.result (λ items. items
     ∙ ap (λ u. c.args.out.now.items ++ u)
-    (sym (replaced-lacking c.args.wire c.args.replacement.now c.args.terms.now
-    (sym (lacks_by (has_wire c.args.wire c.args.terms.now) (coefficient c.args.wire c.args.terms.now) (sym c.in_default.is ∙ c.coefficient_of.ensures))))))
+    (sym (replaced-lacking c.args.by.now.wire c.args.by.now.replacement.now c.args.terms.now
+    (sym (lacks_by (has_wire c.args.by.now.wire c.args.terms.now) (coefficient c.args.by.now.wire c.args.terms.now)
+    (sym c.in_default.is ∙ c.coefficient_of.ensures))))))
     (on_ok_if c.extend_from_slice.result _ _ _ c.extend_from_slice.ensures.items)
 
 pub returns : goal.returns
 returns c =
     on_ok_weaker c.merge.result (λ merged. merged
     ∙ ap (λ u. c.args.out.now.items ++ u)
-    (replaced-made c.args.wire c.in-Some.coefficient c.args.replacement.now c.args.terms.now _ c.requires.normal (sym c.in-Some.is ∙ c.coefficient_of.ensures)
-    (ap₂ (λ k r. normal (scaled 1 (without c.args.wire c.args.terms.now) ++ scaled k r)) c.whole-by.ensures.factor c.whole-by.ensures.terms))) c.merge.ensures
+    (replaced-made c.args.by.now.wire c.in-Some.coefficient c.args.by.now.replacement.now c.args.terms.now _
+    c.requires.normal (sym c.in-Some.is ∙ c.coefficient_of.ensures)
+    (ap₂ (λ k r. normal (scaled 1 (without c.args.by.now.wire c.args.terms.now) ++ scaled k r))
+    c.whole-replacement.ensures.factor c.whole-replacement.ensures.terms))) c.merge.ensures

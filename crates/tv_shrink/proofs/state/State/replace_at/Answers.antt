@@ -5,13 +5,14 @@ use Rattle.tv_shrink.proofs.state.State.replace_at.Goals as goal
 
 pub returns-then-not-row_has : goal.returns-then-not-row_has
 returns-then-not-row_has c =
-    unchanged c.args.self.now c.args.wire c.args.at c.args.replacement.now
-    (ap (λ (s : State). row_has c.args.wire (get_or s.pass.rows c.args.at None)) (sym c.self.view_is) ∙ ap (row_has c.args.wire) (sym c.get.ensures)
+    unchanged c.args.self.now c.args.by.now.wire c.args.at c.args.by.now.replacement.now
+    (ap (λ (s : State). row_has c.args.by.now.wire (get_or s.pass.rows c.args.at None)) (sym c.self.view_is)
+    ∙ ap (row_has c.args.by.now.wire) (sym c.get.ensures)
     ∙ sym c.row_has.ensures ∙ c.if-not-row_has.true)
 
 pub invariant_of-self-2 : goal.invariant_of-self-2
 invariant_of-self-2 c =
-    kept_replaced c.self.inside.publics c.args.wire c.args.at c.args.replacement.now c.self.inside.rows c.self.inside.occurrences
+    kept_replaced c.self.inside.publics c.args.by.now.wire c.args.at c.args.by.now.replacement.now c.self.inside.rows c.self.inside.occurrences
     c.file.new.self c.self.invariant c.requires.lacks
     c.in_ok-file.ensures.more
     c.in_ok-file.ensures.added
