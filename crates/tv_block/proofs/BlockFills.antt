@@ -40,6 +40,7 @@ use Rattle.tv_parts.proofs.WrittenFills.{written_complete, written_sizes}
 use Rattle.tv_parts.specs.Arithmetic.{shift_ops, division_ops, spelled_word, arithmetic_values, sums_values, products_values, shifts_values}
 use Rattle.tv_parts.specs.Arithmetic.{HasArithmetic, IsArithmetic}
 use Rattle.tv_parts.specs.Flag.{sign_at, flag_values}
+use Rattle.tv_parts.specs.Inputs.{input_of, operation_of}
 use Rattle.tv_parts.specs.Memory.{memory_values}
 use Rattle.tv_parts.specs.OpcodeSums.{opcode_sum, IsOpcode}
 use Rattle.tv_parts.specs.Operand.{operand_values, IsOperand}
@@ -128,7 +129,7 @@ module _ (w : ℕ) (z : List ℕ) (n : ℕ) (state : StateWires) (at head tail :
     pub are : AreRegisters z (triple w n state at).answer now instr
     pub is : IsOperand w z (operand w n state at).answer a_of
     pub tests : slice_index z (test w n state at) ≡ test_in w n now instr low_at high_at takes
-    pub does : IsArithmetic w z (made w n state at).answer (test w n state at) (operand w n state at).answer instr.op x_of a_of
+    pub does : IsArithmetic w z (made w n state at).answer (test w n state at) (operand w n state at).answer (operation_of instr.op x_of a_of)
     pub spelled : Spells z (made w n state at).answer.x.first w (spelled_word w instr.op x_of a_of)
     pub low : low_at ≡ row_low w now instr o
     pub rest : HasFrom z (made w n state at).next (later_values w n now instr takes low_at high_at (slice_index z (test w n state at)))
@@ -148,7 +149,7 @@ front w width z n state at head tail o takes assigns in_range has =
     let known : Before w z n state = record { width = width; assigns = assigns; short = in_range.short; range = range } in
     let size = state_sixteen w z n state range in
     let r4 : List ℕ = later_values w n v i takes low high f in
-    let r3 : List ℕ = f ∷ (arithmetic_values w i.op x a f low high ++ r4) in
+    let r3 : List ℕ = f ∷ (arithmetic_values w (operation_of i.op x a) f low high ++ r4) in
     let r2 : List ℕ = operand_values w a ++ r3 in
     let r1 : List ℕ = triple_values (other_register i) (tail % 16) i.dest v.regs ++ r2 in
     let ins = instruction w n state at in
@@ -194,11 +195,12 @@ front w width z n state at head tail o takes assigns in_range has =
     }) h3.0 in
     let is = operand_in known head tail regs.next ins.answer regs.answer.named_word decoded are.named m3 in
     let f_is : slice_index z taken.next ≡ f = h3.1.0 in
-    let h4 = some_had z (taken.next + 1) does_made.next (arithmetic_values w i.op x a f low high) r4
+    let h4 = some_had z (taken.next + 1) does_made.next (arithmetic_values w (operation_of i.op x a) f low high) r4
     (arithmetic_sizes.fills w width ins.answer.op regs.answer.other_word taken.next taken.answer i.op x a f low high (taken.next + 1)) h3.1.1 in
     let divided : among division_ops i.op ≡ true → slice_index z taken.next ≡ flag_of (a == 0) = (λ e. f_is ∙ test_division w n v i low high takes e) in
     let x_word = other_below w n v head tail range in
-    let operation : HasArithmetic w z ins.answer.op regs.answer.other_word taken.next taken.answer i.op x a = record {
+    let operation : HasArithmetic w z (record { op = ins.answer.op; other = regs.answer.other_word; f = taken.next; operand = taken.answer })
+    (operation_of i.op x a) = record {
       assigns = assigns;
       opcode = row;
       word = x_word;
@@ -208,7 +210,7 @@ front w width z n state at head tail o takes assigns in_range has =
       divides = λ e. subst IsBit (sym (divided e)) (flag_small (a == 0));
     } in
     let m4 = arithmetic_complete w width z (taken.next + 1) ins.answer.op regs.answer.other_word taken.next taken.answer i.op x a o
-    operation divided in_range.data_word (subst (λ g. HasFrom z (taken.next + 1) (arithmetic_values w i.op x a g low high)) (sym f_is) h4.0) in
+    operation divided in_range.data_word (subst (λ g. HasFrom z (taken.next + 1) (arithmetic_values w (operation_of i.op x a) g low high)) (sym f_is) h4.0) in
     let does = arithmetic_sound w width z (taken.next + 1) ins.answer.op regs.answer.other_word taken.next taken.answer i.op x a operation m4.0 in
     let row_bits : List ℕ = double_row_values w low high (flag_of (among (8 ∷ []) i.op)) in
     let after_row : List ℕ = sums_values w i.op x a ++ (products_values w i.op x a ++ shifts_values w x a f low high) in
@@ -304,13 +306,13 @@ back w width z n state at head tail o takes assigns in_range fore =
     let result = result_number w i.op a low high finds in
     let y = tested_in w n v i low high b in
     let r6 : List ℕ = pc_values w v i in
-    let r5 : List ℕ = flag_values w n v i low b f ++ r6 in
+    let r5 : List ℕ = flag_values w (input_of n v i low) b f ++ r6 in
     let r4 : List ℕ = written_values w n v i low b ++ r5 in
     let r3 : List ℕ = zero_sign_values y (sign_at i.op) ++ r4 in
     let r2 : List ℕ = results_values w i.op a low high finds ++ r3 in
     let d = data_of arith_made.answer regs.answer.other_word in
     let mem = memory w n state at in
-    let h6 = some_had z t.next mem.next (memory_values w n v i spelled low b) r2
+    let h6 = some_had z t.next mem.next (memory_values w (input_of n v i low) spelled b) r2
     (memory_sizes.fills w width n state row_op taken.answer d t.answer v i spelled low b t.next) rest in
     let m6 = memory_complete w width z t.next n state row_op taken.answer d t.answer v i spelled low (record {
       assigns = assigns;
@@ -376,7 +378,7 @@ back w width z n state at head tail o takes assigns in_range fore =
       word = are_results.word;
     }) h9.0 in
     let flags = flag w n state at in
-    let h10 = some_had z wrote.next flags.next (flag_values w n v i low b f) r6
+    let h10 = some_had z wrote.next flags.next (flag_values w (input_of n v i low) b f) r6
     (flag_sizes.fills w state row_op arith_made.answer.x taken.next t.answer n v i low b f wrote.next) h9.1 in
     let word_at = slice_index z res.answer.word in
     let zero_at = slice_index z res.answer.tested in

@@ -47,6 +47,7 @@ use Rattle.tv_parts.proofs.TapeFills.{flag_test}
 use Rattle.tv_parts.proofs.TapeLaws.{tapes_sound}
 use Rattle.tv_parts.specs.Arithmetic.{shift_ops, division_ops, arithmetic_of, IsArithmetic}
 use Rattle.tv_parts.specs.Flag.{sign_at, next_flag_of}
+use Rattle.tv_parts.specs.Inputs.{StepInput, input_of, operation_of}
 use Rattle.tv_parts.specs.Memory.{memory_of, AreStored}
 use Rattle.tv_parts.specs.OpcodeSums.{IsOpcode}
 use Rattle.tv_parts.specs.Operand.{operand_of, IsOperand}
@@ -133,7 +134,7 @@ module _ {w : ℕ} {z : List ℕ} {n : ℕ} {state : StateWires} (known : Before
     pub arithmetic_in : (next other y f : ℕ) → slice_index z other ≡ x → Tests z i.op y f
         → (among shift_ops i.op ≡ true → (if slice_index z y == 0 then 1 else 0) ≡ flag_of (nat_lt a w))
         → Meets z (arithmetic_of w op other f taken next).list
-        → IsArithmetic w z (arithmetic_of w op other f taken next).answer f taken i.op x a
+        → IsArithmetic w z (arithmetic_of w op other f taken next).answer f taken (operation_of i.op x a)
     arithmetic_in next other y f held test shifted meets =
         arithmetic_sound w known.width z next op other f taken i.op x a (record {
           assigns = known.assigns;
@@ -174,15 +175,19 @@ module _ {w : ℕ} {z : List ℕ} {n : ℕ} {state : StateWires} (known : Before
           operand = is;
         }) meets
 
-    module _ {f : ℕ} {made : ArithmeticWires} {t : TapeWires} (does : IsArithmetic w z made f taken i.op x a) (tapes : AreTapes z t n v i) where
+    module _ {f : ℕ} {made : ArithmeticWires} {t : TapeWires} (does : IsArithmetic w z made f taken (operation_of i.op x a))
+        (tapes : AreTapes z t n v i) where
       abbrev low : ℕ
       low = slice_index z made.row.low
 
       abbrev high : ℕ
       high = slice_index z made.row.high
 
+      abbrev input : StepInput
+      input = input_of n v i low
+
       pub memory_in : (next other : ℕ) → slice_index z other ≡ x → Meets z (memory_of w state op taken (data_of made other) t next).list
-          → AreStored w z (memory_of w state op taken (data_of made other) t next).answer n v i low (took z t)
+          → AreStored w z (memory_of w state op taken (data_of made other) t next).answer input (took z t)
       memory_in next other held meets =
           memory_sound w known.width z next n state op taken (data_of made other) t v i does.bits.0 low (record {
             assigns = known.assigns;
@@ -202,7 +207,7 @@ module _ {w : ℕ} {z : List ℕ} {n : ℕ} {state : StateWires} (known : Before
 
       pub results_in : (next byte : ℕ) → slice_index z byte ≡ byte_of low (a % word_size w)
           → Meets z (results_of w state op taken (sources_of w made byte) t next).list
-          → AreResults w z (results_of w state op taken (sources_of w made byte) t next).answer n v i low high (took z t)
+          → AreResults w z (results_of w state op taken (sources_of w made byte) t next).answer input high (took z t)
       results_in next byte is_byte meets =
           let width = known.width in
           results_sound w width z next n state op taken (sources_of w made byte) t v i low high (record {
@@ -222,14 +227,14 @@ module _ {w : ℕ} {z : List ℕ} {n : ℕ} {state : StateWires} (known : Before
           }) meets
 
       -- a result that is tested for 0 is the table's, and at cmpe the low half
-      pub zero_word : (r : ResultWires) → AreResults w z r n v i low high (took z t) → among zero_ops i.op ≡ true
+      pub zero_word : (r : ResultWires) → AreResults w z r input high (took z t) → among zero_ops i.op ≡ true
           → slice_index z r.word ≡ (if i.op == CMPE then low else result_in w n v i low (took z t))
       zero_word r results e = elim (cases_eq i.op CMPE) [
         | inl same ↦ results.compared same ∙ sym (ap (λ b. if b then low else result_in w n v i low (took z t)) (eq-eqb i.op CMPE same))
         | inr apart ↦ results.word (zero_writes i.op e apart) ∙ sym (ap (λ b. if b then low else result_in w n v i low (took z t)) (ne_eqb i.op CMPE apart))
       ]
 
-      flag_in : (next : ℕ) (r : ResultWires) → AreResults w z r n v i low high (took z t) → Tests z i.op r.tested f
+      flag_in : (next : ℕ) (r : ResultWires) → AreResults w z r input high (took z t) → Tests z i.op r.tested f
           → Meets z (next_flag_of w state op made.x f t next).list
           → slice_index z (next_flag_of w state op made.x f t next).answer ≡ (stepped w n v i low (took z t)).flag
       flag_in next r results test meets =

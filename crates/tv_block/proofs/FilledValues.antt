@@ -8,6 +8,7 @@ use Rattle.tv_numbers.specs.Numbers.{operand_word, other_word, found}
 use Rattle.tv_numbers.specs.Views.{View}
 use Rattle.tv_parts.specs.Arithmetic.{arithmetic_values}
 use Rattle.tv_parts.specs.Flag.{sign_at}
+use Rattle.tv_parts.specs.Inputs.{operation_of}
 use Rattle.tv_parts.specs.Operand.{operand_values}
 use Rattle.tv_parts.specs.Results.{result_number, tested_number}
 use Rattle.tv_parts.specs.Tapes.{tapes_values}
@@ -30,7 +31,7 @@ computed_by w v head tail step test =
     instruction_values w head tail
     ++ (triple_values (other_register step.instr) (tail % 16) step.instr.dest v.regs
     ++ (operand_values w step.operand
-    ++ test ∷ arithmetic_values w step.instr.op step.other step.operand test step.low step.high))
+    ++ test ∷ arithmetic_values w (operation_of step.instr.op step.other step.operand) test step.low step.high))
 
 abbrev pub effects_by : ℕ → View → StepNumbers → ℕ → List ℕ
 effects_by w v step test =
@@ -46,7 +47,7 @@ module _ (w n : ℕ) (v : View) (head tail word : ℕ) (takes : Bool) (step : St
       instruction_values w head tail
       ++ (triple_values (other_register i) (tail % 16) i.dest v.regs
       ++ (operand_values w a
-      ++ f ∷ (arithmetic_values w i.op x a f low high ++ (tapes_values w m v i low b ++ effects_values w m v i low high b f))))
+      ++ f ∷ (arithmetic_values w (operation_of i.op x a) f low high ++ (tapes_values w m v i low b ++ effects_values w m v i low high b f))))
 
   abbrev test_at : ℕ → Instr → Bool → ℕ → ℕ → ℕ
   test_at m i b low high = test_by w i.op (operand_word v i) low high (found w m v i low b)
@@ -59,7 +60,7 @@ module _ (w n : ℕ) (v : View) (head tail word : ℕ) (takes : Bool) (step : St
       let tests : test ≡ test_at step.n step.instr step.aux step.low step.high =
       by ∙ ap₂ (λ (a : ℕ) (b : Bool). test_by w step.instr.op a step.low step.high b) numbers.operand numbers.finds in
       joined (instruction_values w head tail) registers (operand_values w step.operand) test
-      (arithmetic_values w step.instr.op step.other step.operand test step.low step.high) (effects_by w v step test)
+      (arithmetic_values w (operation_of step.instr.op step.other step.operand) test step.low step.high) (effects_by w v step test)
       ∙ (ap (all step.n step.instr step.aux step.low step.high step.operand step.other) tests
       ∙ (ap₂ (λ (a x : ℕ). all step.n step.instr step.aux step.low step.high a x (test_at step.n step.instr step.aux step.low step.high))
       numbers.operand numbers.other

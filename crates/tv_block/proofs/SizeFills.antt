@@ -37,6 +37,7 @@ use Rattle.tv_parts.proofs.TapeFills.{tapes_sizes}
 use Rattle.tv_parts.proofs.WrittenFills.{written_sizes}
 use Rattle.tv_parts.specs.Arithmetic.{spelled_word, arithmetic_of, arithmetic_values}
 use Rattle.tv_parts.specs.Flag.{sign_at, next_flag_of, flag_values}
+use Rattle.tv_parts.specs.Inputs.{input_of, operation_of}
 use Rattle.tv_parts.specs.Memory.{memory_of, memory_values}
 use Rattle.tv_parts.specs.Operand.{operand_of, operand_values}
 use Rattle.tv_parts.specs.Pc.{pc_of, pc_values}
@@ -92,13 +93,13 @@ block_length w width n state v head tail o takes size =
     (triple_sizes.fills [] [] [] [] [] (other_register i) (tail % 16) i.dest v.regs) in
     let e3 = counted (operand_of w 0 0 0) (operand_values w a) (w + 1) (operand_sizes.end w 0 0 0) (operand_sizes.fills w 0 0 0 a) in
     let e4 =
-    counted (arithmetic_of w 0 0 0 b) (arithmetic_values w i.op x a f low high) (3 * w + w / 16 + 12) (arithmetic_sizes.end w width 0 0 0 b)
+    counted (arithmetic_of w 0 0 0 b) (arithmetic_values w (operation_of i.op x a) f low high) (3 * w + w / 16 + 12) (arithmetic_sizes.end w width 0 0 0 b)
     (arithmetic_sizes.fills w width 0 0 0 b i.op x a f low high) in
     let e5 =
     counted (tapes_of w n state 0 b) (tapes_values w n v i low takes) 7 (tapes_sizes.end w n state 0 b)
     (tapes_sizes.fills w n state 0 b v i low takes) in
     let e6 =
-    counted (memory_of w state 0 b (data_of m 0) t) (memory_values w n v i (spelled_word w i.op x a) low takes) (w / 8 + 5)
+    counted (memory_of w state 0 b (data_of m 0) t) (memory_values w (input_of n v i low) (spelled_word w i.op x a) takes) (w / 8 + 5)
     (memory_sizes.end w width state 0 b (data_of m 0) t)
     (memory_sizes.fills w width n state 0 b (data_of m 0) t v i (spelled_word w i.op x a) low takes) in
     let e7 =
@@ -110,7 +111,7 @@ block_length w width n state v head tail o takes size =
     counted (written_of 0 state regs 0) (written_values w n v i low takes) 17 (written_sizes.end 0 state regs 0)
     (written_sizes.fills 0 state regs 0 w n v i low takes size) in
     let e10 =
-    counted (next_flag_of w state 0 m.x 0 t) (flag_values w n v i low takes f) 3 (flag_sizes.end w state 0 m.x 0 t)
+    counted (next_flag_of w state 0 m.x 0 t) (flag_values w (input_of n v i low) takes f) 3 (flag_sizes.end w state 0 m.x 0 t)
     (flag_sizes.fills w state 0 m.x 0 t n v i low takes f) in
     let e11 = counted (pc_of w state 0 b) (pc_values w v i) 4 (pc_sizes.end w state 0 b) (pc_sizes.fills w state 0 b v i) in
     let all : HasLength (block_values w n v head tail o takes) _ =
@@ -159,13 +160,13 @@ block_in_field w width n v head tail o takes short range head_word tail_word o_w
     (λ _. All-set (λ k. k < P) v.regs i.dest (result_in w n v i low takes) (field (result_in w n v i low takes) result) regs) (λ _. regs) in
     let other : other_register i < 16 = cond_both _ i.dest i.source (λ k. k < 16) (λ _. omega arith) (λ _. omega arith) in
     let on : flag_of (writes w n v i low takes) < P = cond_both (writes w n v i low takes) 1 0 (λ k. k < P) (λ _. omega arith) (λ _. omega arith) in
-    let r10 : List ℕ = flag_values w n v i low takes f ++ pc_values w v i in
+    let r10 : List ℕ = flag_values w (input_of n v i low) takes f ++ pc_values w v i in
     let r9 : List ℕ = written_values w n v i low takes ++ r10 in
     let r8 : List ℕ = zero_sign_values y (sign_at i.op) ++ r9 in
     let r7 : List ℕ = results_values w i.op a low high finds ++ r8 in
-    let r6 : List ℕ = memory_values w n v i (spelled_word w i.op x a) low takes ++ r7 in
+    let r6 : List ℕ = memory_values w (input_of n v i low) (spelled_word w i.op x a) takes ++ r7 in
     let r5 : List ℕ = tapes_values w n v i low takes ++ r6 in
-    let r4 : List ℕ = arithmetic_values w i.op x a f low high ++ r5 in
+    let r4 : List ℕ = arithmetic_values w (operation_of i.op x a) f low high ++ r5 in
     let r3 : List ℕ = operand_values w a ++ f ∷ r4 in
     let r2 : List ℕ = triple_values (other_register i) (tail % 16) i.dest v.regs ++ r3 in
     InField-append (instruction_values w head tail) r2 (instruction_sizes.in_field w width head tail head_word tail_word)
@@ -173,15 +174,15 @@ block_in_field w width n v head tail o takes short range head_word tail_word o_w
     (triple_sizes.in_field (other_register i) (tail % 16) i.dest v.regs other (omega arith) (omega arith) regs)
     (InField-append (operand_values w a) (f ∷ r4) (operand_sizes.in_field w a (field a a_word))
     (InField-cons f r4 (test_small i.op y)
-    (InField-append (arithmetic_values w i.op x a f low high) r5
+    (InField-append (arithmetic_values w (operation_of i.op x a) f low high) r5
     (arithmetic_sizes.in_field w width i.op x a f low high (field low halves.0) (field high halves.1))
     (InField-append (tapes_values w n v i low takes) r6 (tapes_sizes.in_field w n v i low takes short range.taken range.ended)
-    (InField-append (memory_values w n v i (spelled_word w i.op x a) low takes) r7
+    (InField-append (memory_values w (input_of n v i low) (spelled_word w i.op x a) takes) r7
     (memory_sizes.in_field w width n v i (spelled_word w i.op x a) low takes short range.taken a_word x_word halves.0)
     (InField-append (results_values w i.op a low high finds) r8 (results_sizes.in_field w width i.op a low high finds a_word halves.0 halves.1)
     (InField-append (zero_sign_values y (sign_at i.op)) r9 (zero_sign_sizes.in_field y (sign_at i.op))
     (InField-append (written_values w n v i low takes) r10 (InField-cons _ (stepped w n v i low takes).regs on after)
-    (InField-append (flag_values w n v i low takes f) (pc_values w v i) (flag_sizes.in_field w n v i low takes f range.flag)
+    (InField-append (flag_values w (input_of n v i low) takes f) (pc_values w v i) (flag_sizes.in_field w n v i low takes f range.flag)
     (pc_sizes.in_field w width v i range.pc_fits a_word)))))))))))
 
 three_lines : (w n : ℕ) (state : StateWires) (time next : ℕ) → length (block_of w n state time next).answer.lines ≡ 3

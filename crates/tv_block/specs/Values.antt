@@ -12,6 +12,7 @@ use Rattle.tv_numbers.specs.Views.{View, flag_of}
 use Rattle.tv_regs.specs.Triple.{triple_values}
 use Rattle.tv_parts.specs.Arithmetic.{spelled_word, low_number, high_number, arithmetic_values}
 use Rattle.tv_parts.specs.Flag.{sign_at, flag_values}
+use Rattle.tv_parts.specs.Inputs.{input_of, operation_of}
 use Rattle.tv_parts.specs.Memory.{memory_values}
 use Rattle.tv_parts.specs.Operand.{operand_values}
 use Rattle.tv_parts.specs.Pc.{pc_values}
@@ -46,11 +47,11 @@ module _ (w n : ℕ) (v : View) (i : Instr) (low high : ℕ) (takes : Bool) wher
   -- written, the flag and the program counter
   abbrev pub effects_values : ℕ → List ℕ
   effects_values f =
-      memory_values w n v i (spelled_word w i.op (other_word v i) (operand_word v i)) low takes
+      memory_values w (input_of n v i low) (spelled_word w i.op (other_word v i) (operand_word v i)) takes
       ++ (results_values w i.op (operand_word v i) low high (found w n v i low takes)
       ++ (zero_sign_values tested_in (sign_at i.op)
       ++ (written_values w n v i low takes
-      ++ (flag_values w n v i low takes f
+      ++ (flag_values w (input_of n v i low) takes f
       ++ pc_values w v i))))
 
 -- the number of the other register
@@ -68,6 +69,6 @@ block_values w n v head tail o takes =
     instruction_values w head tail
     ++ (triple_values (other_register i) (tail % 16) i.dest v.regs
     ++ (operand_values w (operand_word v i)
-    ++ f ∷ (arithmetic_values w i.op (other_word v i) (operand_word v i) f low high
+    ++ f ∷ (arithmetic_values w (operation_of i.op (other_word v i) (operand_word v i)) f low high
     ++ (tapes_values w n v i low takes
     ++ effects_values w n v i low high takes f))))

@@ -10,6 +10,7 @@ ghost use Rattle.tv_numbers.specs.Shown.{handed};
 ghost use Rattle.tv_numbers.specs.Views.{ViewInRange};
 ghost use Rattle.tv_parts.specs.Arithmetic.{spelled_word, arithmetic_values};
 ghost use Rattle.tv_parts.specs.Flag.{sign_at};
+ghost use Rattle.tv_parts.specs.Inputs.{operation_of};
 ghost use Rattle.tv_parts.specs.Operand.{operand_values};
 ghost use Rattle.tv_parts.specs.Results.{results_values};
 ghost use Rattle.tv_parts.specs.Tapes.{tapes_values};
@@ -154,8 +155,8 @@ fn fill_computed<const W: u32, V: Values>(
         ++ (triple_values (other_register step.now.instr) (tail % 16) step.now.instr.dest
         state.now.regs
         ++ (operand_values W step.now.operand
-        ++ test ∷ arithmetic_values W step.now.instr.op step.now.other step.now.operand test
-        step.now.low step.now.high))) result }
+        ++ test ∷ arithmetic_values W (operation_of step.now.instr.op step.now.other
+        step.now.operand) test step.now.low step.now.high))) result }
     ensures whole { OnOk result (V.giving.broken v.new ≡ false) }
 {
     let instr = &step.instr;

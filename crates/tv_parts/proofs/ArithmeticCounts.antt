@@ -35,6 +35,7 @@ use Rattle.tv_parts.proofs.Sized.{Sized, sized_then, sized_pure, sized_as}
 use Rattle.tv_parts.specs.Arithmetic.{bitwise_ops, difference_ops, strict_ops, signed_ops, product_ops, division_ops, with_sign, rows_of, sums_of}
 use Rattle.tv_parts.specs.Arithmetic.{products_of, shifts_of, arithmetic_of, spelled_word}
 use Rattle.tv_parts.specs.Arithmetic.{rows_values, sums_values, products_values, shifts_values, arithmetic_values, ArithmeticSizes, ArithmeticCosts}
+use Rattle.tv_parts.specs.Inputs.{operation_of}
 use Rattle.tv_parts.specs.OpcodeSums.{opcode_sum}
 use Rattle.tv_parts.specs.declared.records.ArithmeticWires.{ArithmeticWires}
 use Rattle.tv_parts.specs.declared.records.OperandWires.{OperandWires}
@@ -228,7 +229,7 @@ shifts_length w width x a f low high =
     ∙ ap (λ n. 2 + n) (length-append (shift_power_values w a) last ∙ ap (λ n. n + 2) (power_length w width a))
     ∙ (let e : 2 + (w / 16 + 2 + 2) ≡ w / 16 + 6 = omega arith in e)
 
-arithmetic_length : (w : ℕ) → IsWidth w → (k x a f low high : ℕ) → length (arithmetic_values w k x a f low high) ≡ 3 * w + w / 16 + 12
+arithmetic_length : (w : ℕ) → IsWidth w → (k x a f low high : ℕ) → length (arithmetic_values w (operation_of k x a) f low high) ≡ 3 * w + w / 16 + 12
 arithmetic_length w width k x a f low high =
     let v1 = rows_values w k x a low high in
     let v2 = sums_values w k x a in
@@ -239,7 +240,7 @@ arithmetic_length w width k x a f low high =
     (length-append v2 (v3 ++ v4) ∙ ap (λ n. 1 + n) (length-append v3 v4 ∙ ap (λ n. 2 + n) (shifts_length w width x a f low high)))
     ∙ (let e : 3 * w + 3 + (1 + (2 + (w / 16 + 6))) ≡ 3 * w + w / 16 + 12 = omega arith in e)
 
-arithmetic_in_field : (w : ℕ) → IsWidth w → (k x a g low high : ℕ) → low < P → high < P → InField (arithmetic_values w k x a g low high)
+arithmetic_in_field : (w : ℕ) → IsWidth w → (k x a g low high : ℕ) → low < P → high < P → InField (arithmetic_values w (operation_of k x a) g low high)
 arithmetic_in_field w width k x a g low high l h =
     let v = spelled_word w k x a in
     let shifts = shifts_values w x a g low high in

@@ -44,6 +44,7 @@ use Rattle.tv_parts.specs.Arithmetic.{bitwise_ops, difference_ops, strict_ops, s
 use Rattle.tv_parts.specs.Arithmetic.{sums_of, products_of, shifts_of, arithmetic_of}
 use Rattle.tv_parts.specs.Arithmetic.{spelled_word, shifted_word, low_number, high_number, rows_values, sums_values, products_values, shifts_values}
 use Rattle.tv_parts.specs.Arithmetic.{HasArithmetic, ArithmeticIsComplete}
+use Rattle.tv_parts.specs.Inputs.{operation_of}
 use Rattle.tv_parts.specs.OpcodeSums.{opcode_sum}
 use Rattle.tv_parts.specs.declared.records.OperandWires.{OperandWires}
 use Rattle.tv_parts.specs.declared.records.RowWires.{RowWires}
@@ -68,7 +69,8 @@ record RowsHave (w : ℕ) (z : List ℕ) (r : RowWires) (v low high : ℕ) : Typ
   low_wire : slice_index z r.row.low ≡ low
   high_wire : slice_index z r.row.high ≡ high
 
-module _ (w : ℕ) (width : IsWidth w) (z : List ℕ) (op other f : ℕ) (operand : OperandWires) (k x a : ℕ) (has : HasArithmetic w z op other f operand k x a) where
+module _ (w : ℕ) (width : IsWidth w) (z : List ℕ) (op other f : ℕ) (operand : OperandWires) (k x a : ℕ)
+    (has : HasArithmetic w z (record { op = op; other = other; f = f; operand = operand }) (operation_of k x a)) where
   abbrev v : ℕ
   v = spelled_word w k x a
 

@@ -40,6 +40,7 @@ use Rattle.tv_parts.proofs.OpcodeLaws.{opcode_sum_sound}
 use Rattle.tv_parts.proofs.TapeLaws.{flag_small}
 use Rattle.tv_parts.specs.Arithmetic.{bitwise_ops, difference_ops, strict_ops, signed_ops, product_ops, division_ops, shift_ops, with_sign, rows_of}
 use Rattle.tv_parts.specs.Arithmetic.{sums_of, products_of, shifts_of, arithmetic_of, shifted_word, HasArithmetic, ArithmeticIsSound}
+use Rattle.tv_parts.specs.Inputs.{operation_of}
 use Rattle.tv_parts.specs.OpcodeSums.{opcode_sum, distinct}
 use Rattle.tv_parts.specs.declared.records.OperandWires.{OperandWires}
 use Rattle.tv_parts.specs.declared.records.RowWires.{RowWires}
@@ -103,7 +104,8 @@ pub record ProductsHold (w : ℕ) (z : List ℕ) (r : RowWires) (k x a : ℕ) : 
   pub product : among product_ops k ≡ true → IsRowProduct w z r.row x a
   pub signed_product : among (8 ∷ []) k ≡ true → IsRowSignedProduct w z r.row x a
 
-module _ (w : ℕ) (width : IsWidth w) (z : List ℕ) (op other f : ℕ) (operand : OperandWires) (k x a : ℕ) (has : HasArithmetic w z op other f operand k x a) where
+module _ (w : ℕ) (width : IsWidth w) (z : List ℕ) (op other f : ℕ) (operand : OperandWires) (k x a : ℕ)
+    (has : HasArithmetic w z (record { op = op; other = other; f = f; operand = operand }) (operation_of k x a)) where
   pub gate : (ks : List ℕ) → distinct ks ≡ true → value (opcode_sum op ks) z ≡ flag_of (among ks k)
   gate ks is = opcode_sum_sound z op k ks has.opcode is
 

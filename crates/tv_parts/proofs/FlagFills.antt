@@ -31,6 +31,7 @@ use Rattle.tv_parts.proofs.TapeGates.{value-two}
 use Rattle.tv_parts.proofs.TapeLaws.{among_one}
 use Rattle.tv_parts.specs.Accumulation.{closed_of}
 use Rattle.tv_parts.specs.Flag.{tested_in, next_flag_of, HasFlag, flag_in, flag_values, FlagIsSound, FlagIsComplete, FlagSizes, FlagCosts}
+use Rattle.tv_parts.specs.Inputs.{input_of}
 use Rattle.tv_parts.specs.OpcodeSums.{opcode_sum}
 use Rattle.tv_parts.specs.Tapes.{took}
 use Rattle.tv_parts.specs.declared.records.StateWires.{StateWires}
@@ -78,7 +79,9 @@ bit_below : (x i : ℕ) → bit_at x i < 2
 bit_below x i = omega arith
 
 module _ (w : ℕ) (width : IsWidth w) (z : List ℕ) (n : ℕ) (state : StateWires) (op : ℕ) (x : Bits) (f : ℕ) (t : TapeWires) (v : View) (i : Instr)
-    (low high result y : ℕ) (has : HasFlag w z n state op x f t v i low high result y) where
+    (low high result y : ℕ)
+    (has : HasFlag w z (record { state = state; op = op; x = x; f = f; tapes = t }) (input_of n v i low) high
+    (record { word = result; tested = y })) where
   abbrev primary : Bool
   primary = takes_primary v i n
 
@@ -248,7 +251,7 @@ flags_below w x a found flag k h =
       ),
     )
 
-flag_values_below : (w n : ℕ) (v : View) (i : Instr) (o : ℕ) (takes : Bool) (f : ℕ) → v.flag < 2 → InField (flag_values w n v i o takes f)
+flag_values_below : (w n : ℕ) (v : View) (i : Instr) (o : ℕ) (takes : Bool) (f : ℕ) → v.flag < 2 → InField (flag_values w (input_of n v i o) takes f)
 flag_values_below w n v i o takes f h =
     let v2 : List ℕ = flag_in w n v i o takes ∷ [] in
     let v1 : List ℕ = (if i.op == 12 then (bit_at (other_word v i) 0 + (P - f)) % P else 0) ∷ v2 in

@@ -36,6 +36,7 @@ use Rattle.tv_parts.proofs.ResultLaws.{small_word}
 use Rattle.tv_parts.proofs.TapeGates.{value-two, value-four}
 use Rattle.tv_parts.proofs.TapeLaws.{among_one}
 use Rattle.tv_parts.specs.Accumulation.{closed_of, accumulated_of}
+use Rattle.tv_parts.specs.Inputs.{input_of}
 use Rattle.tv_parts.specs.Memory.{line_of, byte_of_pair, byte_of_four, byte_at_of, power_in, new_of, memory_of, line_values, byte_values, gained, new_values}
 use Rattle.tv_parts.specs.Memory.{memory_values, HasMemory, MemoryIsSound, MemoryIsComplete, MemorySizes, MemoryCosts}
 use Rattle.tv_parts.specs.OpcodeSums.{opcode_sum}
@@ -66,7 +67,8 @@ power_is z a both at one is w width = for_widths (λ w. Spells z a w at → valu
 
 -- ---- the word after the step
 module _ (w : ℕ) (width : IsWidth w) (z : List ℕ) (n : ℕ) (state : StateWires) (op : ℕ) (a : OperandWires) (d : DataWires) (t : TapeWires) (v : View)
-    (i : Instr) (x o : ℕ) (has : HasMemory w z n state op a d t v i x o) where
+    (i : Instr) (x o : ℕ)
+    (has : HasMemory w z (record { state = state; op = op; operand = a; tapes = t }) d (input_of n v i o) x) where
   abbrev at : ℕ
   at = operand_word v i
 
@@ -157,7 +159,8 @@ record AreLine (w : ℕ) (z : List ℕ) (line : LineWires) (n : ℕ) (v : View) 
   pub old : slice_index z line.old ≡ old_in w n v i o takes
 
 line_sound : (w : ℕ) (width : IsWidth w) (z : List ℕ) (next n : ℕ) (state : StateWires) (op : ℕ) (a : OperandWires) (d : DataWires) (t : TapeWires) (v : View)
-    (i : Instr) (x o : ℕ) → HasMemory w z n state op a d t v i x o
+    (i : Instr) (x o : ℕ)
+    → HasMemory w z (record { state = state; op = op; operand = a; tapes = t }) d (input_of n v i o) x
     → Meets z (line_of w state op a d.word t next).list → AreLine w z (line_of w state op a d.word t next).answer n v i o (took z t)
 unfolding line_of pure ◌>>=◌
 line_sound w width z next n state op a d t v i x o has meets =
@@ -179,7 +182,8 @@ line_sound w width z next n state op a d t v i x o has meets =
     }
 
 line_complete : (w : ℕ) (width : IsWidth w) (z : List ℕ) (next n : ℕ) (state : StateWires) (op : ℕ) (a : OperandWires) (d : DataWires) (t : TapeWires)
-    (v : View) (i : Instr) (x o : ℕ) → HasMemory w z n state op a d t v i x o
+    (v : View) (i : Instr) (x o : ℕ)
+    → HasMemory w z (record { state = state; op = op; operand = a; tapes = t }) d (input_of n v i o) x
     → HasFrom z next (line_values w n v i o (took z t)) → Meets z (line_of w state op a d.word t next).list
 unfolding line_of pure ◌>>=◌
 line_complete w width z next n state op a d t v i x o has values =
@@ -202,7 +206,8 @@ line_complete w width z next n state op a d t v i x o has values =
     Meets-join z located.list _ m1 (Meets-join z cell.list _ m2 (Meets-join z old.list _ m3 tt))
 
 new_sound : (w : ℕ) (width : IsWidth w) (z : List ℕ) (next n : ℕ) (state : StateWires) (op : ℕ) (a : OperandWires) (d : DataWires) (t : TapeWires) (v : View)
-    (i : Instr) (x o : ℕ) → HasMemory w z n state op a d t v i x o
+    (i : Instr) (x o : ℕ)
+    → HasMemory w z (record { state = state; op = op; operand = a; tapes = t }) d (input_of n v i o) x
     → (line : LineWires) (byte : ℕ) → slice_index z line.old ≡ old_in w n v i o (took z t) → slice_index z byte ≡ byte_of o (operand_word v i % word_size w)
     → Meets z (new_of w op d a line byte next).list → slice_index z (new_of w op d a line byte next).answer ≡ (data_line w n v i o (took z t) 0).new
 unfolding new_of ◌>>=◌
@@ -220,9 +225,10 @@ new_sound w width z next n state op a d t v i x o has line byte is_old is_byte m
     ∙ new_is w width z n state op a d t v i x o has line.old changed.answer is_old is_changed
 
 new_complete : (w : ℕ) (width : IsWidth w) (z : List ℕ) (next n : ℕ) (state : StateWires) (op : ℕ) (a : OperandWires) (d : DataWires) (t : TapeWires) (v : View)
-    (i : Instr) (x o : ℕ) → HasMemory w z n state op a d t v i x o
+    (i : Instr) (x o : ℕ)
+    → HasMemory w z (record { state = state; op = op; operand = a; tapes = t }) d (input_of n v i o) x
     → (line : LineWires) (byte : ℕ) → slice_index z line.old ≡ old_in w n v i o (took z t) → slice_index z byte ≡ byte_of o (operand_word v i % word_size w)
-    → HasFrom z next (new_values w n v i x o (took z t)) → Meets z (new_of w op d a line byte next).list
+    → HasFrom z next (new_values w (input_of n v i o) x (took z t)) → Meets z (new_of w op d a line byte next).list
 unfolding new_of ◌>>=◌
 new_complete w width z next n state op a d t v i x o has line byte is_old is_byte values =
     let assigns = has.assigns in
@@ -274,15 +280,15 @@ memory_complete w width z next n state op a d t v i x o has values =
     let e1 : line.next ≡ next + 3 = line_next w state op a d.word t next in
     let e2 : byte.next ≡ next + 3 + length (byte_values w o at) = byte_next w width d.bits a.bits.first line.next
     ∙ ap₂ (λ m k. m + k) e1 (sym (byte_length w width o at)) in
-    let first = HasFrom-split z next (line_values w n v i o (took z t)) (byte_values w o at ++ new_values w n v i x o (took z t)) values in
-    let second = HasFrom-split z (next + 3) (byte_values w o at) (new_values w n v i x o (took z t)) first.1 in
+    let first = HasFrom-split z next (line_values w n v i o (took z t)) (byte_values w o at ++ new_values w (input_of n v i o) x (took z t)) values in
+    let second = HasFrom-split z (next + 3) (byte_values w o at) (new_values w (input_of n v i o) x (took z t)) first.1 in
     let m1 = line_complete w width z next n state op a d t v i x o has first.0 in
     let are = line_sound w width z next n state op a d t v i x o has m1 in
     let laws = byte_laws z line.next d.bits a.bits.first o at has.assigns w width has.bits has.operand.bits in
     let m2 = laws.1 (subst (λ k. HasFrom z k (byte_values w o at)) (sym e1) second.0) in
     let is_byte = laws.0 m2 in
     let m3 = new_complete w width z byte.next n state op a d t v i x o has line.answer byte.answer are.old is_byte
-    (subst (λ k. HasFrom z k (new_values w n v i x o (took z t))) (sym e2) second.1) in
+    (subst (λ k. HasFrom z k (new_values w (input_of n v i o) x (took z t))) (sym e2) second.1) in
     Meets-join z line.list _ m1 (Meets-join z byte.list _ m2 (Meets-join z new.list _ m3 tt))
 
 -- ---- sizes and costs
@@ -319,8 +325,8 @@ ends_four state op a d t next = omega arith
 memory_next : (w : ℕ) → IsWidth w → EndsAt w
 memory_next w width = for_widths EndsAt ends_two ends_four w width
 
-values_length : (w : ℕ) → IsWidth w → (n : ℕ) (v : View) (i : Instr) (x o : ℕ) (takes : Bool) → length (memory_values w n v i x o takes) ≡ w / 8 + 5
-values_length w width n v i x o takes = for_widths (λ w. length (memory_values w n v i x o takes) ≡ w / 8 + 5) refl refl w width
+values_length : (w : ℕ) → IsWidth w → (n : ℕ) (v : View) (i : Instr) (x o : ℕ) (takes : Bool) → length (memory_values w (input_of n v i o) x takes) ≡ w / 8 + 5
+values_length w width n v i x o takes = for_widths (λ w. length (memory_values w (input_of n v i o) x takes) ≡ w / 8 + 5) refl refl w width
 
 either : (b : Bool) (x y : ℕ) → x < P → y < P → (if b then x else y) < P
 either true x y h k = h
@@ -344,7 +350,7 @@ with_byte_below o j b h k l = subst (λ m. m < P) (put_in_by o j b h k l) (mod-l
 
 memory_in_field : (w : ℕ) → IsWidth w → (n : ℕ) (v : View) (i : Instr) (x o : ℕ) (takes : Bool) → n < 2 ^ 29 → v.taken ≤ n → operand_word v i < 2 ^ w
     → other_word v i < 2 ^ w → o < 2 ^ w
-    → InField (memory_values w n v i x o takes)
+    → InField (memory_values w (input_of n v i o) x takes)
 memory_in_field w width n v i x o takes short within word other o_word =
     let at : ℕ = operand_word v i in
     let located : ℕ = if touches v i then at / word_size w else NULL_CELL in
@@ -361,11 +367,11 @@ memory_in_field w width n v i x o takes short within word other o_word =
     let l1 : List ℕ = (data_line w n v i o takes 0).cell ∷ l2 in
     let n2 : List ℕ = (data_line w n v i o takes 0).new ∷ [] in
     let n1 : List ℕ = (if i.op == 26 then change else 0) ∷ n2 in
-    InField-append (line_values w n v i o takes) (byte_values w o at ++ new_values w n v i x o takes)
+    InField-append (line_values w n v i o takes) (byte_values w o at ++ new_values w (input_of n v i o) x takes)
     (InField-cons located l1 located_small (InField-cons (data_line w n v i o takes 0).cell l2
     (either (takes_primary v i n) (tape_cell v.taken) located (omega arith) located_small)
     (InField-cons (old_in w n v i o takes) [] old_small InField-none)))
-    (InField-append (byte_values w o at) (new_values w n v i x o takes) (bytes_below w o at)
+    (InField-append (byte_values w o at) (new_values w (input_of n v i o) x takes) (bytes_below w o at)
     (InField-cons change n1 change_small (InField-cons (if i.op == 26 then change else 0) n2 (either (i.op == 26) change 0 change_small (omega arith))
     (InField-cons (data_line w n v i o takes 0).new [] new_small InField-none))))
   where

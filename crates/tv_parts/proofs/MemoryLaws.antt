@@ -33,6 +33,7 @@ use Rattle.tv_parts.proofs.ResultLaws.{small_word}
 use Rattle.tv_parts.proofs.TapeGates.{value-two, value-three}
 use Rattle.tv_parts.proofs.UpperLaws.{upper_once}
 use Rattle.tv_parts.specs.Accumulation.{accumulated_of}
+use Rattle.tv_parts.specs.Inputs.{input_of}
 use Rattle.tv_parts.specs.Memory.{byte_of_pair, byte_of_four, byte_at_of, byte_values, gained, HasMemory}
 use Rattle.tv_parts.specs.OpcodeSums.{opcode_sum}
 use Rattle.tv_parts.specs.Operand.{upper_of}
@@ -124,7 +125,8 @@ place_small w width = for_widths (λ w. (at : ℕ) → at % (w / 8) < 4) (λ at.
 
 -- ---- the values
 module _ (w : ℕ) (width : IsWidth w) (z : List ℕ) (n : ℕ) (state : StateWires) (op : ℕ) (a : OperandWires) (d : DataWires) (t : TapeWires) (v : View)
-    (i : Instr) (x o : ℕ) (has : HasMemory w z n state op a d t v i x o) where
+    (i : Instr) (x o : ℕ)
+    (has : HasMemory w z (record { state = state; op = op; operand = a; tapes = t }) d (input_of n v i o) x) where
   abbrev at : ℕ
   at = operand_word v i
 

@@ -38,7 +38,7 @@ picked true m n h k = omega arith
 picked false m n h k = omega arith
 
 module _ (w : ℕ) (width : IsWidth w) (z : List ℕ) (imm tail register : ℕ) (immediate : Bool) (second named : ℕ)
-    (has : HasOperand w z imm tail register immediate second named) where
+    (has : HasOperand w z (record { imm = imm; tail = tail; register = register }) immediate second named) where
   sum_is : (value (wire register) z + value (wire imm) z * value ((1, tail) ∷ (P - 1, register) ∷ []) z) % P ≡ (if immediate then second else named)
   sum_is =
       let parts = value-two z 1 (P - 1) tail register ∙ ap₂ (λ m n. (1 * m + (P - 1) * n) % P) has.whole has.held in

@@ -42,7 +42,8 @@ use Rattle.tv_parts.specs.declared.records.StateWires.{StateWires}
 folded_four : (k l m n : ℕ) → (k + (l + (m + n % P) % P) % P) % P ≡ (k + l + m + n % P) % P
 folded_four k l m n = omega arith
 
-module _ (w : ℕ) (width : IsWidth w) (z : List ℕ) (state : StateWires) (op : ℕ) (a : OperandWires) (v : View) (i : Instr) (has : HasPc w z state op a v i) where
+module _ (w : ℕ) (width : IsWidth w) (z : List ℕ) (state : StateWires) (op : ℕ) (a : OperandWires) (v : View) (i : Instr)
+    (has : HasPc w z (record { state = state; op = op; operand = a }) v i) where
   abbrev at : ℕ
   at = operand_word v i
 

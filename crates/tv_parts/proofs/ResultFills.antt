@@ -33,6 +33,7 @@ use Rattle.tv_parts.proofs.TapeGates.{value-two, value-three, value-four}
 use Rattle.tv_parts.proofs.TapeLaws.{among_one}
 use Rattle.tv_parts.proofs.UpperLaws.{upper_is, length-upper}
 use Rattle.tv_parts.specs.Accumulation.{closed_of}
+use Rattle.tv_parts.specs.Inputs.{input_of}
 use Rattle.tv_parts.specs.OpcodeSums.{place_of, opcode_sum}
 use Rattle.tv_parts.specs.Operand.{upper_of}
 use Rattle.tv_parts.specs.Rows.{covers}
@@ -113,7 +114,8 @@ pick_four false false false false y v1 v2 v3 v4 p q r s e = absurd (true≢false
 
 -- ---- the values
 module _ (w : ℕ) (width : IsWidth w) (z : List ℕ) (n : ℕ) (state : StateWires) (op : ℕ) (a : OperandWires) (from : Sources) (t : TapeWires) (v : View)
-    (i : Instr) (low high : ℕ) (has : HasSources w z n state op a from t v i low high) where
+    (i : Instr) (low high : ℕ)
+    (has : HasSources w z (record { state = state; op = op; operand = a; tapes = t }) from (input_of n v i low) high) where
   abbrev at : ℕ
   at = operand_word v i
 
@@ -296,7 +298,8 @@ unfolding tested_of fresh put pure ◌>>=◌
 tested_answer w op a from result next = refl
 
 word_sound : (w : ℕ) (width : IsWidth w) (z : List ℕ) (next n : ℕ) (state : StateWires) (op : ℕ) (a : OperandWires) (from : Sources) (t : TapeWires) (v : View)
-    (i : Instr) (low high : ℕ) (has : HasSources w z n state op a from t v i low high)
+    (i : Instr) (low high : ℕ)
+    (has : HasSources w z (record { state = state; op = op; operand = a; tapes = t }) from (input_of n v i low) high)
     → Meets z (result_of w state op a from t next).list
     → slice_index z (result_of w state op a from t next).answer ≡ result_number w i.op (operand_word v i) low high (takes_primary v i n || took z t)
 unfolding result_of ◌>>=◌
@@ -317,7 +320,8 @@ word_sound w width z next n state op a from t v i low high has meets =
     ∙ word_is w width z n state op a from t v i low high has l.answer h.answer m.answer l_is h_is m_is
 
 word_complete : (w : ℕ) (width : IsWidth w) (z : List ℕ) (next n : ℕ) (state : StateWires) (op : ℕ) (a : OperandWires) (from : Sources) (t : TapeWires)
-    (v : View) (i : Instr) (low high : ℕ) (has : HasSources w z n state op a from t v i low high)
+    (v : View) (i : Instr) (low high : ℕ)
+    (has : HasSources w z (record { state = state; op = op; operand = a; tapes = t }) from (input_of n v i low) high)
     → let finds : Bool = takes_primary v i n || took z t in
     slice_index z next ≡ low_part i.op low finds → slice_index z (next + 1) ≡ high_part i.op high
     → slice_index z (next + 1 + 1) ≡ moved_part i.op (operand_word v i)

@@ -25,6 +25,7 @@ use Rattle.tv_numbers.specs.Views.{flag_of}
 use Rattle.tv_shift.specs.Power.{shift_power_of, shift_power_values}
 use Rattle.tv_shift.specs.RowShift.{left_low, left_high, right_low, right_high, left_shift_of, left_shift_values, right_shift_of, right_shift_values}
 use Rattle.tv_word.specs.Widths.{IsWidth}
+use Rattle.tv_parts.specs.Inputs.{OperationNumbers, operation_of}
 use Rattle.tv_parts.specs.OpcodeSums.{opcode_sum, IsOpcode}
 use Rattle.tv_parts.specs.Operand.{IsOperand}
 use Rattle.tv_parts.specs.Results.{results_of}
@@ -169,44 +170,52 @@ shifts_values w x a f low high =
     row_division_values f x high a
     ++ (shift_power_values w a ++ (left_shift_values (f * x % P) (2 ^ (a % w)) ++ right_shift_values w low high (2 ^ (a % w))))
 
-abbrev pub arithmetic_values : ℕ → ℕ → ℕ → ℕ → ℕ → ℕ → ℕ → List ℕ
-arithmetic_values w k x a f low high =
-    rows_values w k x a low high ++ (sums_values w k x a ++ (products_values w k x a ++ shifts_values w x a f low high))
+abbrev pub arithmetic_values : ℕ → OperationNumbers → ℕ → ℕ → ℕ → List ℕ
+arithmetic_values w by f low high =
+    rows_values w by.k by.x by.a low high
+    ++ (sums_values w by.k by.x by.a ++ (products_values w by.k by.x by.a ++ shifts_values w by.x by.a f low high))
 
 -- ---- the laws
+-- the wires that an operation takes: those of the opcode's row, of the other word, of f, and of the operand
+pub record ArithmeticSources : Type 0 where
+  pub op : ℕ
+  pub other : ℕ
+  pub f : ℕ
+  pub operand : OperandWires
+
 -- z has what an operation takes: the opcode k, the other word x and the operand a; at a shift f is 1 where the operand is
 -- below w, and else 0; at a division it is 0 or 1
-pub record HasArithmetic (w : ℕ) (z : List ℕ) (op other f : ℕ) (operand : OperandWires) (k x a : ℕ) : Type 0 where
+pub record HasArithmetic (w : ℕ) (z : List ℕ) (from : ArithmeticSources) (by : OperationNumbers) : Type 0 where
   pub assigns : Assigns z
-  pub opcode : IsOpcode z op k
-  pub word : x < 2 ^ w
-  pub held : slice_index z other ≡ x
-  pub taken : IsOperand w z operand a
-  pub shifts : among shift_ops k ≡ true → slice_index z f ≡ flag_of (nat_lt a w)
-  pub divides : among division_ops k ≡ true → IsBit (slice_index z f)
+  pub opcode : IsOpcode z from.op by.k
+  pub word : by.x < 2 ^ w
+  pub held : slice_index z from.other ≡ by.x
+  pub taken : IsOperand w z from.operand by.a
+  pub shifts : among shift_ops by.k ≡ true → slice_index z from.f ≡ flag_of (nat_lt by.a w)
+  pub divides : among division_ops by.k ≡ true → IsBit (slice_index z from.f)
 
 -- the row holds the halves of the operation's number, with their bits; x represents the other word but at a division, where
 -- f says whether the operand is 0
-pub record IsArithmetic (w : ℕ) (z : List ℕ) (made : ArithmeticWires) (f : ℕ) (operand : OperandWires) (k x a : ℕ) : Type 0 where
-  pub halves : AreHalves w x a k (slice_index z made.row.low) (slice_index z made.row.high)
+pub record IsArithmetic (w : ℕ) (z : List ℕ) (made : ArithmeticWires) (f : ℕ) (operand : OperandWires) (by : OperationNumbers) : Type 0 where
+  pub halves : AreHalves w by.x by.a by.k (slice_index z made.row.low) (slice_index z made.row.high)
   pub row : SpellsRow w z made.row
   pub bits : (v : ℕ) × Spells z made.x.first w v
-  pub same : among division_ops k ≡ false → Spells z made.x.first w x
-  pub by_zero : among division_ops k ≡ true → slice_index z f ≡ flag_of (a == 0)
+  pub same : among division_ops by.k ≡ false → Spells z made.x.first w by.x
+  pub by_zero : among division_ops by.k ≡ true → slice_index z f ≡ flag_of (by.a == 0)
   pub both : slice_index z made.both ≡ slice_index z operand.bits.first * slice_index z (operand.bits.first + 1) % P
 
 -- an assignment that satisfies the constraints has them at the returned wires
 abbrev pub ArithmeticIsSound : Type 0
 ArithmeticIsSound = (w : ℕ) → IsWidth w → (z : List ℕ) (next op other f : ℕ) (operand : OperandWires) (k x a : ℕ)
-    → HasArithmetic w z op other f operand k x a → Meets z (arithmetic_of w op other f operand next).list
-    → IsArithmetic w z (arithmetic_of w op other f operand next).answer f operand k x a
+    → HasArithmetic w z (record { op = op; other = other; f = f; operand = operand }) (operation_of k x a) → Meets z (arithmetic_of w op other f operand next).list
+    → IsArithmetic w z (arithmetic_of w op other f operand next).answer f operand (operation_of k x a)
 
 -- an assignment that has these values at the wires that are made meets the constraints, and has the halves in the row;
 -- the data word o is any word
 abbrev pub ArithmeticIsComplete : Type 0
 ArithmeticIsComplete = (w : ℕ) → IsWidth w → (z : List ℕ) (next op other f : ℕ) (operand : OperandWires) (k x a o : ℕ)
-    → HasArithmetic w z op other f operand k x a → (among division_ops k ≡ true → slice_index z f ≡ flag_of (a == 0)) → o < 2 ^ w
-    → HasFrom z next (arithmetic_values w k x a (slice_index z f) (low_number w k x a o) (high_number w k x a))
+    → HasArithmetic w z (record { op = op; other = other; f = f; operand = operand }) (operation_of k x a) → (among division_ops k ≡ true → slice_index z f ≡ flag_of (a == 0)) → o < 2 ^ w
+    → HasFrom z next (arithmetic_values w (operation_of k x a) (slice_index z f) (low_number w k x a o) (high_number w k x a))
     → Meets z (arithmetic_of w op other f operand next).list
     × (slice_index z (arithmetic_of w op other f operand next).answer.row.low ≡ low_number w k x a o)
     × (slice_index z (arithmetic_of w op other f operand next).answer.row.high ≡ high_number w k x a)
@@ -229,8 +238,8 @@ pub record ArithmeticSizes : Type 0 where
   pub end : (w : ℕ) → IsWidth w → (op other f : ℕ) (operand : OperandWires) (next : ℕ) → (arithmetic_of w op other f operand next).next ≡ next +
       (3 * w + w / 16 + 12)
   pub fills : (w : ℕ) → IsWidth w → (op other f : ℕ) (operand : OperandWires) (k x a g low high : ℕ)
-      → Fills (arithmetic_of w op other f operand) (arithmetic_values w k x a g low high)
-  pub in_field : (w : ℕ) → IsWidth w → (k x a g low high : ℕ) → low < P → high < P → InField (arithmetic_values w k x a g low high)
+      → Fills (arithmetic_of w op other f operand) (arithmetic_values w (operation_of k x a) g low high)
+  pub in_field : (w : ℕ) → IsWidth w → (k x a g low high : ℕ) → low < P → high < P → InField (arithmetic_values w (operation_of k x a) g low high)
 
 -- how many constraints and terms the operations cost
 pub record ArithmeticCosts : Type 0 where

@@ -18,6 +18,7 @@ use Rattle.tv_numbers.specs.Tables.{flags, keeper_ops}
 use Rattle.tv_numbers.specs.Views.{View, flag_of}
 use Rattle.tv_word.specs.Widths.{IsWidth}
 use Rattle.tv_parts.specs.Accumulation.{accumulated_of}
+use Rattle.tv_parts.specs.Inputs.{FlagWires, StepInput, input_of, ResultNumbers}
 use Rattle.tv_parts.specs.OpcodeSums.{opcode_sum, IsOpcode}
 use Rattle.tv_parts.specs.Results.{plus_ops, minus_ops, zero_ops, tested_numbers}
 use Rattle.tv_parts.specs.Rows.{covers, AreHalves}
@@ -43,26 +44,28 @@ next_flag_of w state op x f t = do
 abbrev pub sign_at : ℕ → ℕ
 sign_at k = if among plus_ops k then 1 else if among minus_ops k then P - 1 else 0
 
--- z has what the flag is made from: f is the sign where the number y that is tested is 0, and else 0; at a division,
--- where nothing is said of y, f says whether the operand is 0
-pub record HasFlag (w : ℕ) (z : List ℕ) (n : ℕ) (state : StateWires) (op : ℕ) (x : Bits) (f : ℕ) (t : TapeWires) (v : View) (i : Instr) (low high result y : ℕ) : Type 0 where
+-- z has what the flag is made from: f is the sign where the number that is tested is 0, and else 0; at a division, where
+-- nothing is said of that number, f says whether the operand is 0
+pub record HasFlag (w : ℕ) (z : List ℕ) (wires : FlagWires) (step : StepInput) (high : ℕ) (made : ResultNumbers) : Type 0 where
   pub assigns : Assigns z
-  pub short : n < 2 ^ 29
-  pub within : v.taken ≤ n
-  pub bit : IsBit v.flag
-  pub before : slice_index z state.taken_of_primary ≡ v.taken
-  pub flag : slice_index z state.flag ≡ v.flag
-  pub opcode : IsOpcode z op i.op
-  pub other : other_word v i < 2 ^ w
-  pub operand : operand_word v i < 2 ^ w
-  pub lowest : among (SHL ∷ SHR ∷ []) i.op ≡ true → slice_index z x.first ≡ bit_at (other_word v i) 0
-  pub top : among (SHL ∷ SHR ∷ []) i.op ≡ true → slice_index z (x.first + (w - 1)) ≡ bit_at (other_word v i) (w - 1)
-  pub test : slice_index z f ≡ (if y == 0 then sign_at i.op else 0)
-  pub tested : covers (tested_numbers w (operand_word v i) low high result) i.op ≡ true → y ≡ chosen (tested_numbers w (operand_word v i) low high result) i.op
-  pub result_word : among zero_ops i.op ≡ true → result ≡ (if i.op == CMPE then low else result_in w n v i low (took z t))
-  pub divides : among (UDIV ∷ UMOD ∷ []) i.op ≡ true → slice_index z f ≡ flag_of (operand_word v i == 0)
-  pub halves : AreHalves w (other_word v i) (operand_word v i) i.op low high
-  pub tapes : AreTapes z t n v i
+  pub short : step.words < 2 ^ 29
+  pub within : step.view.taken ≤ step.words
+  pub bit : IsBit step.view.flag
+  pub before : slice_index z wires.state.taken_of_primary ≡ step.view.taken
+  pub flag : slice_index z wires.state.flag ≡ step.view.flag
+  pub opcode : IsOpcode z wires.op step.instr.op
+  pub other : other_word step.view step.instr < 2 ^ w
+  pub operand : operand_word step.view step.instr < 2 ^ w
+  pub lowest : among (SHL ∷ SHR ∷ []) step.instr.op ≡ true → slice_index z wires.x.first ≡ bit_at (other_word step.view step.instr) 0
+  pub top : among (SHL ∷ SHR ∷ []) step.instr.op ≡ true → slice_index z (wires.x.first + (w - 1)) ≡ bit_at (other_word step.view step.instr) (w - 1)
+  pub test : slice_index z wires.f ≡ (if made.tested == 0 then sign_at step.instr.op else 0)
+  pub tested : covers (tested_numbers w (operand_word step.view step.instr) step.low high made.word) step.instr.op ≡ true
+      → made.tested ≡ chosen (tested_numbers w (operand_word step.view step.instr) step.low high made.word) step.instr.op
+  pub result_word : among zero_ops step.instr.op ≡ true
+      → made.word ≡ (if step.instr.op == CMPE then step.low else result_in w step.words step.view step.instr step.low (took z wires.tapes))
+  pub divides : among (UDIV ∷ UMOD ∷ []) step.instr.op ≡ true → slice_index z wires.f ≡ flag_of (operand_word step.view step.instr == 0)
+  pub halves : AreHalves w (other_word step.view step.instr) (operand_word step.view step.instr) step.instr.op step.low high
+  pub tapes : AreTapes z wires.tapes step.words step.view step.instr
 
 -- the table's flag
 abbrev pub flag_in : ℕ → ℕ → View → Instr → ℕ → Bool → ℕ
@@ -71,19 +74,22 @@ flag_in w n v i o takes = chosen (flags w (other_word v i) (operand_word v i) (f
 -- an assignment that satisfies the constraints has it at the returned wire
 abbrev pub FlagIsSound : Type 0
 FlagIsSound = (w : ℕ) → IsWidth w → (z : List ℕ) (next n : ℕ) (state : StateWires) (op : ℕ) (x : Bits) (f : ℕ) (t : TapeWires) (v : View) (i : Instr) (low high result y o : ℕ)
-    → HasFlag w z n state op x f t v i low high result y → Meets z (next_flag_of w state op x f t next).list
+    → HasFlag w z (record { state = state; op = op; x = x; f = f; tapes = t }) (input_of n v i low) high (record { word = result; tested = y })
+    → Meets z (next_flag_of w state op x f t next).list
     → slice_index z (next_flag_of w state op x f t next).answer ≡ flag_in w n v i o (took z t)
 
 -- the values of the wires that are made: at a shift the bit less f, and the flag
-abbrev pub flag_values : ℕ → ℕ → View → Instr → ℕ → Bool → ℕ → List ℕ
-flag_values w n v i o takes f =
-    (if i.op == SHL then (bit_at (other_word v i) (w - 1) + (P - f)) % P else 0) ∷ (if i.op == SHR then (bit_at (other_word v i) 0 + (P - f)) % P else 0)
-    ∷ flag_in w n v i o takes ∷ []
+abbrev pub flag_values : ℕ → StepInput → Bool → ℕ → List ℕ
+flag_values w step takes f =
+    (if step.instr.op == SHL then (bit_at (other_word step.view step.instr) (w - 1) + (P - f)) % P else 0)
+    ∷ (if step.instr.op == SHR then (bit_at (other_word step.view step.instr) 0 + (P - f)) % P else 0)
+    ∷ flag_in w step.words step.view step.instr step.low takes ∷ []
 
 -- an assignment that has these values at the wires that are made meets the constraints
 abbrev pub FlagIsComplete : Type 0
 FlagIsComplete = (w : ℕ) → IsWidth w → (z : List ℕ) (next n : ℕ) (state : StateWires) (op : ℕ) (x : Bits) (f : ℕ) (t : TapeWires) (v : View) (i : Instr) (low high result y o : ℕ)
-    → HasFlag w z n state op x f t v i low high result y → HasFrom z next (flag_values w n v i o (took z t) (slice_index z f))
+    → HasFlag w z (record { state = state; op = op; x = x; f = f; tapes = t }) (input_of n v i low) high (record { word = result; tested = y })
+    → HasFrom z next (flag_values w (input_of n v i o) (took z t) (slice_index z f))
     → Meets z (next_flag_of w state op x f t next).list
 
 -- which wire is returned, and that the values are one number of the field for each wire that is made
@@ -91,8 +97,8 @@ pub record FlagSizes : Type 0 where
   pub answer : (w : ℕ) (state : StateWires) (op : ℕ) (x : Bits) (f : ℕ) (t : TapeWires) (next : ℕ) → (next_flag_of w state op x f t next).answer ≡ next + 2
   pub end : (w : ℕ) (state : StateWires) (op : ℕ) (x : Bits) (f : ℕ) (t : TapeWires) (next : ℕ) → (next_flag_of w state op x f t next).next ≡ next + 3
   pub fills : (w : ℕ) (state : StateWires) (op : ℕ) (x : Bits) (f : ℕ) (t : TapeWires) (n : ℕ) (v : View) (i : Instr) (o : ℕ) (takes : Bool) (g : ℕ)
-      → Fills (next_flag_of w state op x f t) (flag_values w n v i o takes g)
-  pub in_field : (w n : ℕ) (v : View) (i : Instr) (o : ℕ) (takes : Bool) (f : ℕ) → v.flag < 2 → InField (flag_values w n v i o takes f)
+      → Fills (next_flag_of w state op x f t) (flag_values w (input_of n v i o) takes g)
+  pub in_field : (w n : ℕ) (v : View) (i : Instr) (o : ℕ) (takes : Bool) (f : ℕ) → v.flag < 2 → InField (flag_values w (input_of n v i o) takes f)
 
 -- three constraints of 35 terms
 pub record FlagCosts : Type 0 where

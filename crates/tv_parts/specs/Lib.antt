@@ -8,6 +8,7 @@ pub mod Pc
 pub mod Results
 pub mod Rows
 pub mod States
+pub mod Inputs
 pub mod Tapes
 pub mod Traced
 pub mod Written

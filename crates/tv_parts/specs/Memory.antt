@@ -18,6 +18,7 @@ use Rattle.tv_numbers.specs.Views.{View}
 use Rattle.tv_step.specs.Rows.{word_size}
 use Rattle.tv_word.specs.Widths.{IsWidth}
 use Rattle.tv_parts.specs.Accumulation.{accumulated_of}
+use Rattle.tv_parts.specs.Inputs.{TapedWires, StepInput, input_of}
 use Rattle.tv_parts.specs.OpcodeSums.{opcode_sum, IsOpcode}
 use Rattle.tv_parts.specs.Operand.{upper_of, IsOperand}
 use Rattle.tv_parts.specs.Tapes.{primary_in, took, AreTapes}
@@ -88,48 +89,53 @@ byte_values w o a = if w == 16 then byte_of o (a % 2) ∷ [] else byte_of o (a %
 abbrev pub gained : ℕ → ℕ → ℕ → ℕ
 gained o j b = 256 ^ j * ((b + (P - byte_of o j)) % P) % P
 
-abbrev pub new_values : ℕ → ℕ → View → Instr → ℕ → ℕ → Bool → List ℕ
-new_values w n v i x o takes =
-    let change : ℕ = gained o (operand_word v i % word_size w) (x % 256) in
-    change ∷ (if i.op == STORE_B then change else 0) ∷ (data_line w n v i o takes 0).new ∷ []
+abbrev pub new_values : ℕ → StepInput → ℕ → Bool → List ℕ
+new_values w step x takes =
+    let change : ℕ = gained step.low (operand_word step.view step.instr % word_size w) (x % 256) in
+    change ∷ (if step.instr.op == STORE_B then change else 0) ∷ (data_line w step.words step.view step.instr step.low takes 0).new ∷ []
 
-abbrev pub memory_values : ℕ → ℕ → View → Instr → ℕ → ℕ → Bool → List ℕ
-memory_values w n v i x o takes = line_values w n v i o takes ++ (byte_values w o (operand_word v i) ++ new_values w n v i x o takes)
+-- all of them, x being the word whose lowest byte is stored
+abbrev pub memory_values : ℕ → StepInput → ℕ → Bool → List ℕ
+memory_values w step x takes =
+    line_values w step.words step.view step.instr step.low takes
+    ++ (byte_values w step.low (operand_word step.view step.instr) ++ new_values w step x takes)
 
 -- ---- the laws
--- z has what memory is read and written by: the data word o with its bits, a word x whose lowest byte is stored, and
--- which is the other word at store.b, and the product of the operand's two lowest bits
-pub record HasMemory (w : ℕ) (z : List ℕ) (n : ℕ) (state : StateWires) (op : ℕ) (a : OperandWires) (d : DataWires) (t : TapeWires) (v : View) (i : Instr) (x o : ℕ) : Type 0 where
+-- z has what memory is read and written by: the data word with its bits, a word x whose lowest byte is stored, and which
+-- is the other word at store.b, and the product of the operand's two lowest bits
+pub record HasMemory (w : ℕ) (z : List ℕ) (wires : TapedWires) (d : DataWires) (step : StepInput) (x : ℕ) : Type 0 where
   pub assigns : Assigns z
-  pub short : n < 2 ^ 29
-  pub within : v.taken ≤ n
-  pub before : slice_index z state.taken_of_primary ≡ v.taken
-  pub opcode : IsOpcode z op i.op
-  pub operand : IsOperand w z a (operand_word v i)
-  pub bits : Spells z d.bits w o
-  pub word : slice_index z d.word ≡ o
+  pub short : step.words < 2 ^ 29
+  pub within : step.view.taken ≤ step.words
+  pub before : slice_index z wires.state.taken_of_primary ≡ step.view.taken
+  pub opcode : IsOpcode z wires.op step.instr.op
+  pub operand : IsOperand w z wires.operand (operand_word step.view step.instr)
+  pub bits : Spells z d.bits w step.low
+  pub word : slice_index z d.word ≡ step.low
   pub spelled : Spells z d.x.first w x
-  pub stored : i.op ≡ STORE_B → x ≡ other_word v i
-  pub other : slice_index z d.other ≡ other_word v i
-  pub both : slice_index z d.both ≡ slice_index z a.bits.first * slice_index z (a.bits.first + 1) % P
-  pub tapes : AreTapes z t n v i
+  pub stored : step.instr.op ≡ STORE_B → x ≡ other_word step.view step.instr
+  pub other : slice_index z d.other ≡ other_word step.view step.instr
+  pub both : slice_index z d.both ≡ slice_index z wires.operand.bits.first * slice_index z (wires.operand.bits.first + 1) % P
+  pub tapes : AreTapes z wires.tapes step.words step.view step.instr
 
 -- the wires are those of the data line, and of the byte at the operand's address
-pub record AreStored (w : ℕ) (z : List ℕ) (s : StoreWires) (n : ℕ) (v : View) (i : Instr) (o : ℕ) (takes : Bool) : Type 0 where
-  pub cell : slice_index z s.line.cell ≡ (data_line w n v i o takes 0).cell
-  pub old : slice_index z s.line.old ≡ (data_line w n v i o takes 0).old
-  pub new : slice_index z s.new ≡ (data_line w n v i o takes 0).new
-  pub byte : slice_index z s.byte ≡ byte_of o (operand_word v i % word_size w)
+pub record AreStored (w : ℕ) (z : List ℕ) (s : StoreWires) (step : StepInput) (takes : Bool) : Type 0 where
+  pub cell : slice_index z s.line.cell ≡ (data_line w step.words step.view step.instr step.low takes 0).cell
+  pub old : slice_index z s.line.old ≡ (data_line w step.words step.view step.instr step.low takes 0).old
+  pub new : slice_index z s.new ≡ (data_line w step.words step.view step.instr step.low takes 0).new
+  pub byte : slice_index z s.byte ≡ byte_of step.low (operand_word step.view step.instr % word_size w)
 
 -- an assignment that meets the constraints has them at the wires that are answered
 abbrev pub MemoryIsSound : Type 0
 MemoryIsSound = (w : ℕ) → IsWidth w → (z : List ℕ) (next n : ℕ) (state : StateWires) (op : ℕ) (a : OperandWires) (d : DataWires) (t : TapeWires) (v : View) (i : Instr) (x o : ℕ)
-    → HasMemory w z n state op a d t v i x o → Meets z (memory_of w state op a d t next).list → AreStored w z (memory_of w state op a d t next).answer n v i o (took z t)
+    → HasMemory w z (record { state = state; op = op; operand = a; tapes = t }) d (input_of n v i o) x → Meets z (memory_of w state op a d t next).list
+    → AreStored w z (memory_of w state op a d t next).answer (input_of n v i o) (took z t)
 
 -- an assignment that has these values at the wires that are made meets the constraints
 abbrev pub MemoryIsComplete : Type 0
 MemoryIsComplete = (w : ℕ) → IsWidth w → (z : List ℕ) (next n : ℕ) (state : StateWires) (op : ℕ) (a : OperandWires) (d : DataWires) (t : TapeWires) (v : View) (i : Instr) (x o : ℕ)
-    → HasMemory w z n state op a d t v i x o → HasFrom z next (memory_values w n v i x o (took z t)) → Meets z (memory_of w state op a d t next).list
+    → HasMemory w z (record { state = state; op = op; operand = a; tapes = t }) d (input_of n v i o) x
+    → HasFrom z next (memory_values w (input_of n v i o) x (took z t)) → Meets z (memory_of w state op a d t next).list
 
 -- which wires are answered, and that the values are one number of the field for each wire that is made
 pub record MemorySizes : Type 0 where
@@ -137,9 +143,9 @@ pub record MemorySizes : Type 0 where
       ≡ record { line = record { cell = next + 1; old = next + 2 }; byte = next + (w / 8 + 1); new = next + (w / 8 + 4) }
   pub end : (w : ℕ) → IsWidth w → (state : StateWires) (op : ℕ) (a : OperandWires) (d : DataWires) (t : TapeWires) (next : ℕ) → (memory_of w state op a d t next).next ≡ next + (w / 8 + 5)
   pub fills : (w : ℕ) → IsWidth w → (n : ℕ) (state : StateWires) (op : ℕ) (a : OperandWires) (d : DataWires) (t : TapeWires) (v : View) (i : Instr) (x o : ℕ) (takes : Bool)
-      → Fills (memory_of w state op a d t) (memory_values w n v i x o takes)
+      → Fills (memory_of w state op a d t) (memory_values w (input_of n v i o) x takes)
   pub in_field : (w : ℕ) → IsWidth w → (n : ℕ) (v : View) (i : Instr) (x o : ℕ) (takes : Bool) → n < 2 ^ 29 → v.taken ≤ n → operand_word v i < 2 ^ w → other_word v i < 2 ^ w → o < 2 ^ w
-      → InField (memory_values w n v i x o takes)
+      → InField (memory_values w (input_of n v i o) x takes)
 
 -- nine constraints, or seven for words of two bytes, of 2 w + w / 8 + 37 terms
 pub record MemoryCosts : Type 0 where

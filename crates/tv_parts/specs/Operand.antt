@@ -31,12 +31,18 @@ upper_of m a k = scaled (m * power_inverse k % P) (less (wire a.word) (bits_comb
 abbrev pub operand_values : ℕ → ℕ → List ℕ
 operand_values w a = a ∷ bits_values a w
 
+-- the wires that the operand is chosen by and from: those of the immediate bit, of the second word, and of the register
+pub record OperandSources : Type 0 where
+  pub imm : ℕ
+  pub tail : ℕ
+  pub register : ℕ
+
 -- z has what the operand is chosen from: the immediate bit, the second word and the register
-pub record HasOperand (w : ℕ) (z : List ℕ) (imm tail register : ℕ) (immediate : Bool) (second named : ℕ) : Type 0 where
+pub record HasOperand (w : ℕ) (z : List ℕ) (from : OperandSources) (immediate : Bool) (second named : ℕ) : Type 0 where
   pub assigns : Assigns z
-  pub bit : slice_index z imm ≡ flag_of immediate
-  pub whole : slice_index z tail ≡ second
-  pub held : slice_index z register ≡ named
+  pub bit : slice_index z from.imm ≡ flag_of immediate
+  pub whole : slice_index z from.tail ≡ second
+  pub held : slice_index z from.register ≡ named
   pub second_word : second < 2 ^ w
   pub named_word : named < 2 ^ w
 
@@ -48,13 +54,14 @@ pub record IsOperand (w : ℕ) (z : List ℕ) (made : OperandWires) (a : ℕ) : 
 -- an assignment that satisfies the constraints has the operand at the returned wires
 abbrev pub OperandIsSound : Type 0
 OperandIsSound = (w : ℕ) → IsWidth w → (z : List ℕ) (next imm tail register : ℕ) (immediate : Bool) (second named : ℕ)
-    → HasOperand w z imm tail register immediate second named → Meets z (operand_of w imm tail register next).list
+    → HasOperand w z (record { imm = imm; tail = tail; register = register }) immediate second named → Meets z (operand_of w imm tail register next).list
     → IsOperand w z (operand_of w imm tail register next).answer (if immediate then second else named)
 
 -- an assignment that has these values at the wires that are made meets the constraints
 abbrev pub OperandIsComplete : Type 0
 OperandIsComplete = (w : ℕ) → IsWidth w → (z : List ℕ) (next imm tail register : ℕ) (immediate : Bool) (second named : ℕ)
-    → HasOperand w z imm tail register immediate second named → HasFrom z next (operand_values w (if immediate then second else named))
+    → HasOperand w z (record { imm = imm; tail = tail; register = register }) immediate second named
+    → HasFrom z next (operand_values w (if immediate then second else named))
     → Meets z (operand_of w imm tail register next).list
 
 -- which wires are returned, and that the values are one number of the field for each wire that is made

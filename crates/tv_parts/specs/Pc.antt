@@ -17,6 +17,7 @@ use Rattle.tv_numbers.specs.Tables.{pcs}
 use Rattle.tv_numbers.specs.Views.{View, flag_of}
 use Rattle.tv_word.specs.Widths.{IsWidth}
 use Rattle.tv_parts.specs.Accumulation.{accumulated_of}
+use Rattle.tv_parts.specs.Inputs.{StepWires}
 use Rattle.tv_parts.specs.OpcodeSums.{place_of, IsOpcode}
 use Rattle.tv_parts.specs.Operand.{upper_of, IsOperand}
 use Rattle.tv_parts.specs.Tapes.{if_zero_of}
@@ -59,26 +60,26 @@ pc_values w v i =
     ∷ chosen (pcs w v.pc (operand_word v i) v.flag) i.op ∷ []
 
 -- z has what the counter is made from
-pub record HasPc (w : ℕ) (z : List ℕ) (state : StateWires) (op : ℕ) (a : OperandWires) (v : View) (i : Instr) : Type 0 where
+pub record HasPc (w : ℕ) (z : List ℕ) (wires : StepWires) (v : View) (i : Instr) : Type 0 where
   pub assigns : Assigns z
   pub small : v.pc < 2 ^ w
   pub aligned : v.pc % (w / 4) ≡ 0
   pub bit : IsBit v.flag
-  pub pc : slice_index z state.pc ≡ v.pc
-  pub flag : slice_index z state.flag ≡ v.flag
-  pub opcode : IsOpcode z op i.op
-  pub operand : IsOperand w z a (operand_word v i)
+  pub pc : slice_index z wires.state.pc ≡ v.pc
+  pub flag : slice_index z wires.state.flag ≡ v.flag
+  pub opcode : IsOpcode z wires.op i.op
+  pub operand : IsOperand w z wires.operand (operand_word v i)
 
 -- an assignment that meets the constraints has the counter after the step at the wire that is answered
 abbrev pub PcIsSound : Type 0
 PcIsSound = (w : ℕ) → IsWidth w → (z : List ℕ) (next : ℕ) (state : StateWires) (op : ℕ) (a : OperandWires) (v : View) (i : Instr)
-    → HasPc w z state op a v i → Meets z (pc_of w state op a next).list
+    → HasPc w z (record { state = state; op = op; operand = a }) v i → Meets z (pc_of w state op a next).list
     → slice_index z (pc_of w state op a next).answer ≡ chosen (pcs w v.pc (operand_word v i) v.flag) i.op
 
 -- an assignment that has these values at the wires that are made meets the constraints
 abbrev pub PcIsComplete : Type 0
 PcIsComplete = (w : ℕ) → IsWidth w → (z : List ℕ) (next : ℕ) (state : StateWires) (op : ℕ) (a : OperandWires) (v : View) (i : Instr)
-    → HasPc w z state op a v i → HasFrom z next (pc_values w v i) → Meets z (pc_of w state op a next).list
+    → HasPc w z (record { state = state; op = op; operand = a }) v i → HasFrom z next (pc_values w v i) → Meets z (pc_of w state op a next).list
 
 -- which wire is answered, and that the values are one number of the field for each wire that is made
 pub record PcSizes : Type 0 where

@@ -18,6 +18,7 @@ use Rattle.tv_numbers.specs.Views.{View}
 use Rattle.tv_step.specs.Rows.{word_size}
 use Rattle.tv_word.specs.Widths.{IsWidth}
 use Rattle.tv_parts.specs.Accumulation.{accumulated_of}
+use Rattle.tv_parts.specs.Inputs.{TapedWires, StepInput, input_of}
 use Rattle.tv_parts.specs.OpcodeSums.{place_of, opcode_terms, opcode_sum, IsOpcode}
 use Rattle.tv_parts.specs.Operand.{upper_of, IsOperand}
 use Rattle.tv_parts.specs.Rows.{covers, AreHalves}
@@ -108,34 +109,34 @@ tested_numbers w a low high result =
     ∷ []
 
 -- z has what the result is made from
-pub record HasSources (w : ℕ) (z : List ℕ) (n : ℕ) (state : StateWires) (op : ℕ) (a : OperandWires) (from : Sources) (t : TapeWires) (v : View) (i : Instr) (low high : ℕ) : Type 0 where
+pub record HasSources (w : ℕ) (z : List ℕ) (wires : TapedWires) (from : Sources) (step : StepInput) (high : ℕ) : Type 0 where
   pub assigns : Assigns z
-  pub within : v.taken ≤ n
-  pub short : n < 2 ^ 29
-  pub before : slice_index z state.taken_of_primary ≡ v.taken
-  pub opcode : IsOpcode z op i.op
-  pub operand : IsOperand w z a (operand_word v i)
-  pub low_wire : slice_index z from.low ≡ low
+  pub within : step.view.taken ≤ step.words
+  pub short : step.words < 2 ^ 29
+  pub before : slice_index z wires.state.taken_of_primary ≡ step.view.taken
+  pub opcode : IsOpcode z wires.op step.instr.op
+  pub operand : IsOperand w z wires.operand (operand_word step.view step.instr)
+  pub low_wire : slice_index z from.low ≡ step.low
   pub high_wire : slice_index z from.high ≡ high
-  pub top : slice_index z from.top ≡ bit_at low (w - 1)
-  pub byte : slice_index z from.byte ≡ byte_of low (operand_word v i % word_size w)
-  pub other : other_word v i < 2 ^ w
-  pub halves : AreHalves w (other_word v i) (operand_word v i) i.op low high
-  pub tapes : AreTapes z t n v i
+  pub top : slice_index z from.top ≡ bit_at step.low (w - 1)
+  pub byte : slice_index z from.byte ≡ byte_of step.low (operand_word step.view step.instr % word_size w)
+  pub other : other_word step.view step.instr < 2 ^ w
+  pub halves : AreHalves w (other_word step.view step.instr) (operand_word step.view step.instr) step.instr.op step.low high
+  pub tapes : AreTapes z wires.tapes step.words step.view step.instr
 
 -- the wires are those of the result, which is the table's where it may be written, and the low half at cmpe, and of the
 -- number that is tested, where there is one
-pub record AreResults (w : ℕ) (z : List ℕ) (r : ResultWires) (n : ℕ) (v : View) (i : Instr) (low high : ℕ) (takes : Bool) : Type 0 where
-  pub word : among (CMOV ∷ writer_ops) i.op ≡ true → slice_index z r.word ≡ result_in w n v i low takes
-  pub compared : i.op ≡ CMPE → slice_index z r.word ≡ low
-  pub tested : covers (tested_numbers w (operand_word v i) low high (slice_index z r.word)) i.op ≡ true
-      → slice_index z r.tested ≡ chosen (tested_numbers w (operand_word v i) low high (slice_index z r.word)) i.op
+pub record AreResults (w : ℕ) (z : List ℕ) (r : ResultWires) (step : StepInput) (high : ℕ) (takes : Bool) : Type 0 where
+  pub word : among (CMOV ∷ writer_ops) step.instr.op ≡ true → slice_index z r.word ≡ result_in w step.words step.view step.instr step.low takes
+  pub compared : step.instr.op ≡ CMPE → slice_index z r.word ≡ step.low
+  pub tested : covers (tested_numbers w (operand_word step.view step.instr) step.low high (slice_index z r.word)) step.instr.op ≡ true
+      → slice_index z r.tested ≡ chosen (tested_numbers w (operand_word step.view step.instr) step.low high (slice_index z r.word)) step.instr.op
 
 -- an assignment that meets the constraints has them at the wires that are answered
 abbrev pub ResultsAreSound : Type 0
 ResultsAreSound = (w : ℕ) → IsWidth w → (z : List ℕ) (next n : ℕ) (state : StateWires) (op : ℕ) (a : OperandWires) (from : Sources) (t : TapeWires) (v : View) (i : Instr) (low high : ℕ)
-    → HasSources w z n state op a from t v i low high → Meets z (results_of w state op a from t next).list
-    → AreResults w z (results_of w state op a from t next).answer n v i low high (took z t)
+    → HasSources w z (record { state = state; op = op; operand = a; tapes = t }) from (input_of n v i low) high → Meets z (results_of w state op a from t next).list
+    → AreResults w z (results_of w state op a from t next).answer (input_of n v i low) high (took z t)
 
 -- the values of the wires that are made: the parts of the result that are a half of the row or the operand, the result,
 -- and the number that is tested, which is the operand at a division
@@ -163,7 +164,8 @@ results_values w k a low high found =
 -- an assignment that has these values at the wires that are made meets the constraints
 abbrev pub ResultsAreComplete : Type 0
 ResultsAreComplete = (w : ℕ) → IsWidth w → (z : List ℕ) (next n : ℕ) (state : StateWires) (op : ℕ) (a : OperandWires) (from : Sources) (t : TapeWires) (v : View) (i : Instr) (low high : ℕ)
-    → HasSources w z n state op a from t v i low high → HasFrom z next (results_values w i.op (operand_word v i) low high (found w n v i low (took z t)))
+    → HasSources w z (record { state = state; op = op; operand = a; tapes = t }) from (input_of n v i low) high
+    → HasFrom z next (results_values w i.op (operand_word v i) low high (found w n v i low (took z t)))
     → Meets z (results_of w state op a from t next).list
 
 -- which wires are answered, and that the values are one number of the field for each wire that is made

@@ -3,6 +3,7 @@ use Rattle.std.specs.Prelude.{◌≡◌, ℕ, ◌+◌, ◌*◌, ◌≤◌, ◌<�
 use Rattle.tv_numbers.specs.Views.{View}
 use Rattle.tv_regs.specs.Reading.{words_at, wires_top}
 use Rattle.tv_regs.specs.declared.triple.Triple.{Triple}
+use Rattle.tv_parts.specs.Inputs.{TapedWires, FlagWires}
 use Rattle.tv_parts.specs.declared.records.ArithmeticWires.{ArithmeticWires}
 use Rattle.tv_parts.specs.declared.records.DataWires.{DataWires}
 use Rattle.tv_parts.specs.declared.records.LineWires.{LineWires}
@@ -83,12 +84,33 @@ pub record ResultUnder (wires : ℕ) (r : ResultWires) : Type 0 where
   pub word : r.word < wires
   pub tested : r.tested < wires
 
--- those of the operand, of the bits on which the operations work, and of what they make
+-- those of the operand
 pub record OperandUnder (w wires : ℕ) (a : OperandWires) : Type 0 where
   pub word : a.word < wires
   pub size : a.bits.n ≡ w
   pub bits : a.bits.first + w ≤ wires
 
+-- those of an opcode's row and of an operand
+pub record OperationUnder (w wires op : ℕ) (a : OperandWires) : Type 0 where
+  pub row : op + 29 ≤ wires
+  pub operand : OperandUnder w wires a
+
+-- those that memory and result are made from
+pub record TapedUnder (w wires : ℕ) (step : TapedWires) : Type 0 where
+  pub state : StateUnder wires step.state
+  pub row : step.op + 29 ≤ wires
+  pub operand : OperandUnder w wires step.operand
+  pub tapes : TapesUnder wires step.tapes
+
+-- those that the flag is made from
+pub record FlagUnder (w wires : ℕ) (from : FlagWires) : Type 0 where
+  pub state : StateUnder wires from.state
+  pub row : from.op + 29 ≤ wires
+  pub bits : from.x.first + w ≤ wires
+  pub test : from.f < wires
+  pub tapes : TapesUnder wires from.tapes
+
+-- those of the bits on which the operations work, and of what they make
 pub record RowUnder (w wires : ℕ) (r : RowWires) : Type 0 where
   pub size : r.x.n ≡ w
   pub x : r.x.first + w ≤ wires

@@ -14,6 +14,7 @@ use Rattle.tv_isa.specs.declared.opcode.TheConstants.{READ}
 use Rattle.tv_numbers.specs.Numbers.{operand_word, asks, takes_primary, stepped}
 use Rattle.tv_numbers.specs.Views.{flag_of, View}
 use Rattle.tv_word.specs.Widths.{IsWidth}
+use Rattle.tv_parts.specs.Inputs.{StepWires}
 use Rattle.tv_parts.specs.OpcodeSums.{opcode_sum, IsOpcode}
 use Rattle.tv_parts.specs.Operand.{upper_of, IsOperand}
 use Rattle.tv_parts.specs.declared.records.OperandWires.{OperandWires}
@@ -88,26 +89,26 @@ pub record AreTapes (z : List ℕ) (t : TapeWires) (n : ℕ) (v : View) (i : Ins
   pub ended : slice_index z t.ended ≡ (if asks v i && not (took z t) then 1 else v.ended)
 
 -- z has what the tapes are read from: the state's numbers, the opcode's row and the operand
-pub record HasTapes (w : ℕ) (z : List ℕ) (n : ℕ) (state : StateWires) (op : ℕ) (a : OperandWires) (v : View) (i : Instr) : Type 0 where
+pub record HasTapes (w : ℕ) (z : List ℕ) (wires : StepWires) (n : ℕ) (v : View) (i : Instr) : Type 0 where
   pub assigns : Assigns z
   pub short : n < 2 ^ 29
   pub within : v.taken ≤ n
   pub bit : IsBit v.ended
-  pub before : slice_index z state.taken_of_primary ≡ v.taken
-  pub ended : slice_index z state.aux_ended ≡ v.ended
-  pub opcode : IsOpcode z op i.op
-  pub operand : IsOperand w z a (operand_word v i)
+  pub before : slice_index z wires.state.taken_of_primary ≡ v.taken
+  pub ended : slice_index z wires.state.aux_ended ≡ v.ended
+  pub opcode : IsOpcode z wires.op i.op
+  pub operand : IsOperand w z wires.operand (operand_word v i)
 
 -- an assignment that meets the constraints has them at the wires that are answered
 abbrev pub TapesAreSound : Type 0
 TapesAreSound = (w : ℕ) → IsWidth w → (z : List ℕ) (next n : ℕ) (state : StateWires) (op : ℕ) (a : OperandWires) (v : View) (i : Instr)
-    → HasTapes w z n state op a v i → Meets z (tapes_of w n state op a next).list → AreTapes z (tapes_of w n state op a next).answer n v i
+    → HasTapes w z (record { state = state; op = op; operand = a }) n v i → Meets z (tapes_of w n state op a next).list → AreTapes z (tapes_of w n state op a next).answer n v i
 
 -- an assignment that has these values at the wires that are made meets the constraints, and whether a word of tape 1
 -- is taken, where one is asked for, is free
 abbrev pub TapesAreComplete : Type 0
 TapesAreComplete = (w : ℕ) → IsWidth w → (z : List ℕ) (next n : ℕ) (state : StateWires) (op : ℕ) (a : OperandWires) (v : View) (i : Instr) (o : ℕ) (takes : Bool)
-    → HasTapes w z n state op a v i → (takes ≡ true → asks v i ≡ true) → HasFrom z next (tapes_values w n v i o takes)
+    → HasTapes w z (record { state = state; op = op; operand = a }) n v i → (takes ≡ true → asks v i ≡ true) → HasFrom z next (tapes_values w n v i o takes)
     → Meets z (tapes_of w n state op a next).list × (took z (tapes_of w n state op a next).answer ≡ takes)
 
 -- which wires are answered, and that the values are one number of the field for each wire that is made

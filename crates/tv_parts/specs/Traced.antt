@@ -4,11 +4,16 @@ use Rattle.tv_isa.specs.Instruction.{IsInstruction}
 use Rattle.tv_numbers.specs.Numbers.{operand_word, other_word, takes_primary, found, old_in}
 use Rattle.tv_numbers.specs.Views.{View, flag_of}
 use Rattle.tv_step.specs.declared.lines.TraceState.{TraceState}
+use Rattle.tv_parts.specs.Inputs.{StepInput, input_of}
 use Rattle.tv_parts.specs.declared.step_numbers.StepNumbers.{StepNumbers}
 
 -- the view of a trace's state
 abbrev pub traced_view : TraceState → View
 traced_view state = record { pc = state.pc; regs = state.regs; flag = flag_of state.flag; taken = state.primary; ended = flag_of state.ended }
+
+-- a step in numbers from a trace's state
+abbrev pub traced_input : TraceState → StepNumbers → StepInput
+traced_input state step = input_of step.n (traced_view state) step.instr step.low
 
 -- the numbers of a step from a view, by its instruction, the row's low half, which is its data word where it has one,
 -- and whether it takes that of the auxiliary tape

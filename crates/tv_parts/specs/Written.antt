@@ -16,6 +16,7 @@ use Rattle.tv_regs.specs.Reading.{words_at}
 use Rattle.tv_regs.specs.Update.{update_of}
 use Rattle.tv_regs.specs.declared.triple.Triple.{Triple}
 use Rattle.tv_parts.specs.Accumulation.{accumulated_of}
+use Rattle.tv_parts.specs.Inputs.{StepInput, input_of}
 use Rattle.tv_parts.specs.OpcodeSums.{opcode_sum, IsOpcode}
 use Rattle.tv_parts.specs.declared.records.StateWires.{StateWires}
 
@@ -29,23 +30,33 @@ written_of op state regs result = do
 abbrev pub written_values : ℕ → ℕ → View → Instr → ℕ → Bool → List ℕ
 written_values w n v i o takes = flag_of (writes w n v i o takes) ∷ (stepped w n v i o takes).regs
 
+-- the wires that the registers are written by: those of the state, of the opcode's row, of the registers that the step
+-- reads, and of its result
+pub record WrittenWires : Type 0 where
+  pub state : StateWires
+  pub op : ℕ
+  pub regs : Triple
+  pub result : ℕ
+
 -- z has what is written, and where: the destination's number and word, and at the opcodes that may write it the result
-pub record HasWritten (w : ℕ) (z : List ℕ) (n : ℕ) (state : StateWires) (op : ℕ) (regs : Triple) (result : ℕ) (v : View) (i : Instr) (o : ℕ) (takes : Bool) : Type 0 where
+pub record HasWritten (w : ℕ) (z : List ℕ) (wires : WrittenWires) (step : StepInput) (takes : Bool) : Type 0 where
   pub assigns : Assigns z
-  pub opcode : IsOpcode z op i.op
-  pub size : length state.regs ≡ 16
-  pub words : words_at z state.regs ≡ v.regs
-  pub bit : IsBit v.flag
-  pub flag : slice_index z state.flag ≡ v.flag
-  pub within : i.dest < 16
-  pub dest : slice_index z regs.dest ≡ i.dest
-  pub dest_word : slice_index z regs.dest_word ≡ slice_index v.regs i.dest
-  pub word : among (CMOV ∷ writer_ops) i.op ≡ true → slice_index z result ≡ result_in w n v i o takes
+  pub opcode : IsOpcode z wires.op step.instr.op
+  pub size : length wires.state.regs ≡ 16
+  pub words : words_at z wires.state.regs ≡ step.view.regs
+  pub bit : IsBit step.view.flag
+  pub flag : slice_index z wires.state.flag ≡ step.view.flag
+  pub within : step.instr.dest < 16
+  pub dest : slice_index z wires.regs.dest ≡ step.instr.dest
+  pub dest_word : slice_index z wires.regs.dest_word ≡ slice_index step.view.regs step.instr.dest
+  pub word : among (CMOV ∷ writer_ops) step.instr.op ≡ true
+      → slice_index z wires.result ≡ result_in w step.words step.view step.instr step.low takes
 
 -- an assignment that has these values at the wires that are made meets the constraints
 abbrev pub WrittenIsComplete : Type 0
 WrittenIsComplete = (w : ℕ) (z : List ℕ) (next n : ℕ) (state : StateWires) (op : ℕ) (regs : Triple) (result : ℕ) (v : View) (i : Instr) (o : ℕ) (takes : Bool)
-    → HasWritten w z n state op regs result v i o takes → HasFrom z next (written_values w n v i o takes) → Meets z (written_of op state regs result next).list
+    → HasWritten w z (record { state = state; op = op; regs = regs; result = result }) (input_of n v i o) takes
+    → HasFrom z next (written_values w n v i o takes) → Meets z (written_of op state regs result next).list
 
 -- which wires are returned, and that the values are one number of the field for each wire that is made
 pub record WrittenSizes : Type 0 where

@@ -10,7 +10,8 @@ ghost use Rattle.tv_parts.specs.Arithmetic.{with_sign, rows_of, sums_of, product
 ghost use Rattle.tv_parts.specs.Arithmetic.{shifts_of, arithmetic_of, ArithmeticIsSound};
 ghost use Rattle.tv_parts.specs.Arithmetic.{ArithmeticIsComplete, ArithmeticSizes};
 ghost use Rattle.tv_parts.specs.Arithmetic.{ArithmeticCosts, ShiftTestIsSound};
-ghost use Rattle.tv_parts.specs.States.{OperandUnder, RowUnder, ArithmeticUnder};
+ghost use Rattle.tv_parts.specs.Inputs.{operation_of};
+ghost use Rattle.tv_parts.specs.States.{OperandUnder, OperationUnder, RowUnder, ArithmeticUnder};
 ghost use Rattle.tv_isa.specs.Opcodes.{among};
 ghost use Rattle.tv_isa.specs.declared.opcode.TheConstants.{SMULH};
 ghost use Rattle.tv_shift.specs.RowShift.{left_low, left_high, right_low, right_high};
@@ -50,10 +51,9 @@ pub fn put_arithmetic<const W: u32, S: Sink>(
 ) -> Put<ArithmeticWires>
     requires width { IsWidth W }
     requires room { Room S.meaning s.old (3 * W + W / 16 + 12) (3 * W + W / 16 + 22) }
-    requires op_made { op + 29 ≤ S.meaning.wires s.old }
+    requires operation_made { OperationUnder W (S.meaning.wires s.old) op a.now }
     requires other_made { other < S.meaning.wires s.old }
     requires f_made { f < S.meaning.wires s.old }
-    requires a_made { OperandUnder W (S.meaning.wires s.old) a.now }
     ensures puts { PutsIn S.meaning s.old s.new (arithmetic_of W op other f a.now) result }
     ensures grows { IfOk result (λ _. Grows S.meaning s.old s.new (3 * W + W / 16 + 12)
         (3 * W + W / 16 + 22)) }
@@ -172,9 +172,8 @@ fn put_shifts<const W: u32, S: Sink>(
 ) -> Put<Wire>
     requires width { IsWidth W }
     requires room { Room S.meaning s.old (W / 16 + 6) (W / 16 + 10) }
-    requires op_made { op + 29 ≤ S.meaning.wires s.old }
+    requires operation_made { OperationUnder W (S.meaning.wires s.old) op a.now }
     requires wires_made { max other f < S.meaning.wires s.old }
-    requires a_made { OperandUnder W (S.meaning.wires s.old) a.now }
     requires rows_made { RowUnder W (S.meaning.wires s.old) rows.now }
     ensures puts { PutsIn S.meaning s.old s.new (shifts_of W op other f a.now rows.now) result }
     ensures grows { IfOk result (λ _. Grows S.meaning s.old s.new (W / 16 + 6) (W / 16 + 10)) }
@@ -205,7 +204,8 @@ pub fn fill_arithmetic<const W: u32, V: Values>(
     requires a_word { a < 2 ^ W }
     requires high_word { high < 2 ^ W }
     requires whole { V.giving.broken v.old ≡ false }
-    ensures gives { GivesIn V.giving v.old v.new (arithmetic_values W k x a f low high) result }
+    ensures gives { GivesIn V.giving v.old v.new
+        (arithmetic_values W (operation_of k x a) f low high) result }
     ensures whole { OnOk result (V.giving.broken v.new ≡ false) }
 {
     fill_rows::<W, V>(v, k, x, a, low, high)?;

@@ -8,8 +8,8 @@ ghost use Rattle.tv_core.specs.Sinks.{PutsIn, Grows, Room};
 ghost use Rattle.tv_core.specs.declared.field.TheConstants.{P};
 ghost use Rattle.tv_parts.specs.Flag.{tested_in, next_flag_of, FlagIsSound, FlagIsComplete};
 ghost use Rattle.tv_parts.specs.Flag.{FlagSizes, FlagCosts, flag_values};
-ghost use Rattle.tv_parts.specs.States.{StateUnder, TapesUnder};
-ghost use Rattle.tv_parts.specs.Traced.{traced_view, AreNumbers};
+ghost use Rattle.tv_parts.specs.States.{FlagUnder};
+ghost use Rattle.tv_parts.specs.Traced.{traced_view, traced_input, AreNumbers};
 ghost use Rattle.tv_isa.specs.Opcodes.{chosen};
 ghost use Rattle.tv_numbers.specs.Tables.{flags};
 ghost use Rattle.tv_numbers.specs.Views.{flag_of};
@@ -44,11 +44,13 @@ pub fn put_flag<const W: u32, S: Sink>(
 ) -> Put<Wire>
     requires width { IsWidth W }
     requires room { Room S.meaning s.old 3 3 }
-    requires state_made { StateUnder (S.meaning.wires s.old) state.now }
-    requires op_made { op + 29 ≤ S.meaning.wires s.old }
-    requires x_made { x.now.first + W ≤ S.meaning.wires s.old }
-    requires f_made { f < S.meaning.wires s.old }
-    requires tapes_made { TapesUnder (S.meaning.wires s.old) tapes.now }
+    requires from_made { FlagUnder W (S.meaning.wires s.old) (record {
+      state = state.now;
+      op = op;
+      x = x.now;
+      f = f;
+      tapes = tapes.now;
+    }) }
     ensures puts { PutsIn S.meaning s.old s.new (next_flag_of W state.now op x.now f tapes.now)
         result }
     ensures grows { IfOk result (λ _. Grows S.meaning s.old s.new 3 3) }
@@ -129,8 +131,7 @@ pub fn fill_flag<const W: u32, V: Values>(
     requires step { AreNumbers W (traced_view state.now) step.now }
     requires whole { V.giving.broken v.old ≡ false }
     ensures gives { GivesIn V.giving v.old v.new
-        (flag_values W step.now.n (traced_view state.now) step.now.instr step.now.low step.now.aux
-        f) result }
+        (flag_values W (traced_input state.now step.now) step.now.aux f) result }
     ensures whole { OnOk result (V.giving.broken v.new ≡ false) }
 {
     give_values(v, &flag_values::<W>(state, step, f))
@@ -140,8 +141,7 @@ pub fn fill_flag<const W: u32, V: Values>(
 fn flag_values<const W: u32>(state: &TraceState, step: &StepNumbers, f: F) -> [F; 3]
     requires width { IsWidth W }
     requires step { AreNumbers W (traced_view state.now) step.now }
-    ensures { result ≡ flag_values W step.now.n (traced_view state.now) step.now.instr step.now.low
-        step.now.aux f }
+    ensures { result ≡ flag_values W (traced_input state.now step.now) step.now.aux f }
 {
     let op = step.instr.op;
     let x = step.other;

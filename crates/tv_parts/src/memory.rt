@@ -7,11 +7,10 @@ ghost use Rattle.tv_core.specs.Sinks.{PutsIn, Grows, Room};
 ghost use Rattle.tv_parts.specs.Memory.{line_of, byte_of_pair, byte_of_four, byte_at_of};
 ghost use Rattle.tv_parts.specs.Memory.{power_in, new_of, memory_of};
 ghost use Rattle.tv_parts.specs.Memory.{MemoryIsSound, MemoryIsComplete, MemorySizes, MemoryCosts};
-ghost use Rattle.tv_parts.specs.States.{StateUnder, OperandUnder, TapesUnder, DataUnder, LineUnder};
-ghost use Rattle.tv_parts.specs.States.{StoreUnder};
+ghost use Rattle.tv_parts.specs.States.{TapedUnder, DataUnder, LineUnder, StoreUnder};
 ghost use Rattle.tv_parts.specs.Memory.{line_values, byte_values, gained, new_values};
 ghost use Rattle.tv_parts.specs.Memory.{memory_values};
-ghost use Rattle.tv_parts.specs.Traced.{traced_view, AreNumbers};
+ghost use Rattle.tv_parts.specs.Traced.{traced_view, traced_input, AreNumbers};
 ghost use Rattle.tv_isa.specs.Opcodes.{among};
 ghost use Rattle.tv_mem.specs.Bytes.{byte_of};
 ghost use Rattle.tv_numbers.specs.Numbers.{with_byte_in};
@@ -45,11 +44,13 @@ pub fn put_memory<const W: u32, S: Sink>(
 ) -> Put<StoreWires>
     requires width { IsWidth W }
     requires room { Room S.meaning s.old (W / 8 + 5) (W / 8 + 5) }
-    requires state_made { StateUnder (S.meaning.wires s.old) state.now }
-    requires op_made { op + 29 ≤ S.meaning.wires s.old }
-    requires operand_made { OperandUnder W (S.meaning.wires s.old) a.now }
+    requires step_made { TapedUnder W (S.meaning.wires s.old) (record {
+      state = state.now;
+      op = op;
+      operand = a.now;
+      tapes = tapes.now;
+    }) }
     requires data_made { DataUnder W (S.meaning.wires s.old) d.now }
-    requires tapes_made { TapesUnder (S.meaning.wires s.old) tapes.now }
     ensures puts { PutsIn S.meaning s.old s.new (memory_of W state.now op a.now d.now tapes.now)
         result }
     ensures grows { IfOk result (λ _. Grows S.meaning s.old s.new (W / 8 + 5) (W / 8 + 5)) }
@@ -73,11 +74,13 @@ fn put_line<const W: u32, S: Sink>(
 ) -> Put<LineWires>
     requires width { IsWidth W }
     requires room { Room S.meaning s.old 3 3 }
-    requires state_made { StateUnder (S.meaning.wires s.old) state.now }
-    requires op_made { op + 29 ≤ S.meaning.wires s.old }
-    requires operand_made { OperandUnder W (S.meaning.wires s.old) a.now }
+    requires step_made { TapedUnder W (S.meaning.wires s.old) (record {
+      state = state.now;
+      op = op;
+      operand = a.now;
+      tapes = tapes.now;
+    }) }
     requires word_made { word < S.meaning.wires s.old }
-    requires tapes_made { TapesUnder (S.meaning.wires s.old) tapes.now }
     ensures puts { PutsIn S.meaning s.old s.new (line_of W state.now op a.now word tapes.now)
         result }
     ensures grows { IfOk result (λ _. Grows S.meaning s.old s.new 3 3) }
@@ -195,11 +198,9 @@ fn put_new<const W: u32, S: Sink>(
 ) -> Put<Wire>
     requires width { IsWidth W }
     requires room { Room S.meaning s.old 3 3 }
-    requires op_made { op + 29 ≤ S.meaning.wires s.old }
+    requires wires_made { max (op + 29) (a.now.bits.first + W) ≤ S.meaning.wires s.old }
     requires data_made { DataUnder W (S.meaning.wires s.old) d.now }
-    requires a_made { a.now.bits.first + W ≤ S.meaning.wires s.old }
-    requires line_made { LineUnder (S.meaning.wires s.old) line.now }
-    requires byte_made { byte < S.meaning.wires s.old }
+    requires read_made { max line.now.old byte < S.meaning.wires s.old }
     ensures puts { PutsIn S.meaning s.old s.new (new_of W op d.now a.now line.now byte) result }
     ensures grows { IfOk result (λ _. Grows S.meaning s.old s.new 3 3) }
     ensures below { IfOk result (λ w. w < S.meaning.wires s.new) }
@@ -251,8 +252,7 @@ pub fn fill_memory<const W: u32, V: Values>(
     requires taken { state.now.primary ≤ step.now.n }
     requires whole { V.giving.broken v.old ≡ false }
     ensures gives { GivesIn V.giving v.old v.new
-        (memory_values W step.now.n (traced_view state.now) step.now.instr step.now.spelled
-        step.now.low step.now.aux) result }
+        (memory_values W (traced_input state.now step.now) step.now.spelled step.now.aux) result }
     ensures whole { OnOk result (V.giving.broken v.new ≡ false) }
 {
     give_values(v, &line_values::<W>(state, step))?;
@@ -313,8 +313,8 @@ fn fill_bytes<const W: u32, V: Values>(v: &mut V, word: u32, at: u32) -> Put<()>
 fn new_values<const W: u32>(state: &TraceState, step: &StepNumbers) -> [F; 3]
     requires width { IsWidth W }
     requires step { AreNumbers W (traced_view state.now) step.now }
-    ensures { result ≡ new_values W step.now.n (traced_view state.now) step.now.instr
-        step.now.spelled step.now.low step.now.aux }
+    ensures { result ≡ new_values W (traced_input state.now step.now) step.now.spelled
+        step.now.aux }
 {
     let change = gained(step.low, step.operand % (W / 8), step.spelled % 256);
     let changed = if step.instr.op == STORE_B {

@@ -9,7 +9,7 @@ ghost use Rattle.tv_parts.specs.Results.{parts_in, signs_in, result_of, tested_o
 ghost use Rattle.tv_parts.specs.Results.{sign_of};
 ghost use Rattle.tv_parts.specs.Results.{ResultsAreSound, ResultsAreComplete, ResultsSizes};
 ghost use Rattle.tv_parts.specs.Results.{ResultsCosts};
-ghost use Rattle.tv_parts.specs.States.{StateUnder, OperandUnder, TapesUnder, SourcesUnder};
+ghost use Rattle.tv_parts.specs.States.{TapedUnder, OperationUnder, SourcesUnder};
 ghost use Rattle.tv_parts.specs.States.{ResultUnder};
 ghost use Rattle.tv_parts.specs.Results.{low_part, high_part, moved_part, result_number};
 ghost use Rattle.tv_parts.specs.Results.{tested_number, results_values, place_bits};
@@ -46,11 +46,13 @@ pub fn put_results<const W: u32, S: Sink>(
 ) -> Put<ResultWires>
     requires width { IsWidth W }
     requires room { Room S.meaning s.old 5 8 }
-    requires state_made { StateUnder (S.meaning.wires s.old) state.now }
-    requires op_made { op + 29 ≤ S.meaning.wires s.old }
-    requires operand_made { OperandUnder W (S.meaning.wires s.old) a.now }
+    requires step_made { TapedUnder W (S.meaning.wires s.old) (record {
+      state = state.now;
+      op = op;
+      operand = a.now;
+      tapes = tapes.now;
+    }) }
     requires from_made { SourcesUnder (S.meaning.wires s.old) from.now }
-    requires tapes_made { TapesUnder (S.meaning.wires s.old) tapes.now }
     ensures puts { PutsIn S.meaning s.old s.new (results_of W state.now op a.now from.now tapes.now)
         result }
     ensures grows { IfOk result (λ _. Grows S.meaning s.old s.new 5 8) }
@@ -73,11 +75,13 @@ fn put_result<const W: u32, S: Sink>(
 ) -> Put<Wire>
     requires width { IsWidth W }
     requires room { Room S.meaning s.old 4 4 }
-    requires state_made { StateUnder (S.meaning.wires s.old) state.now }
-    requires op_made { op + 29 ≤ S.meaning.wires s.old }
-    requires operand_made { OperandUnder W (S.meaning.wires s.old) a.now }
+    requires step_made { TapedUnder W (S.meaning.wires s.old) (record {
+      state = state.now;
+      op = op;
+      operand = a.now;
+      tapes = tapes.now;
+    }) }
     requires from_made { SourcesUnder (S.meaning.wires s.old) from.now }
-    requires tapes_made { TapesUnder (S.meaning.wires s.old) tapes.now }
     ensures puts { PutsIn S.meaning s.old s.new (result_of W state.now op a.now from.now
         tapes.now) result }
     ensures grows { IfOk result (λ _. Grows S.meaning s.old s.new 4 4) }
@@ -151,8 +155,7 @@ fn put_tested<const W: u32, S: Sink>(
 ) -> Put<Wire>
     requires width { IsWidth W }
     requires room { Room S.meaning s.old 1 4 }
-    requires op_made { op + 29 ≤ S.meaning.wires s.old }
-    requires operand_made { OperandUnder W (S.meaning.wires s.old) a.now }
+    requires operation_made { OperationUnder W (S.meaning.wires s.old) op a.now }
     requires from_made { SourcesUnder (S.meaning.wires s.old) from.now }
     requires result_made { word < S.meaning.wires s.old }
     ensures puts { PutsIn S.meaning s.old s.new (tested_of W op a.now from.now word) result }

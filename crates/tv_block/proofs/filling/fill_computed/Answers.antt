@@ -3,6 +3,7 @@ use Rattle.tv_core.proofs.GivingChain.{gives_then_refused, gives_refused_then, g
 use Rattle.tv_core.proofs.GivingTails.{gives_in_then}
 use Rattle.tv_isa.specs.declared.instr.Instr.{Instr}
 use Rattle.tv_parts.specs.Arithmetic.{arithmetic_values}
+use Rattle.tv_parts.specs.Inputs.{operation_of}
 use Rattle.tv_parts.specs.Operand.{operand_values}
 use Rattle.tv_regs.specs.Triple.{triple_values}
 use Rattle.tv_block.specs.Values.{other_register}
@@ -15,7 +16,7 @@ returns-in_err-fill_instruction-clause-gives g c =
     let i : Instr = c.args.step.now.instr in
     let a = c.args.step.now.operand in
     let f = c.args.test in
-    let r4 = arithmetic_values w i.op c.args.step.now.other a f c.args.step.now.low c.args.step.now.high in
+    let r4 = arithmetic_values w (operation_of i.op c.args.step.now.other a) f c.args.step.now.low c.args.step.now.high in
     let r2 = operand_values w a ++ f ∷ r4 in
     let r1 = triple_values (other_register i) (c.args.tail % 16) i.dest c.args.state.now.regs ++ r2 in
     let p0 = c.in_err-fill_instruction.ensures.gives in
@@ -29,7 +30,7 @@ returns-in_err-fill_triple-clause-gives g c =
     let i : Instr = c.args.step.now.instr in
     let a = c.args.step.now.operand in
     let f = c.args.test in
-    let r4 = arithmetic_values w i.op c.args.step.now.other a f c.args.step.now.low c.args.step.now.high in
+    let r4 = arithmetic_values w (operation_of i.op c.args.step.now.other a) f c.args.step.now.low c.args.step.now.high in
     let r2 = operand_values w a ++ f ∷ r4 in
     let r1 = triple_values (other_register i) (c.args.tail % 16) i.dest c.args.state.now.regs ++ r2 in
     let p0 = c.in_ok-fill_instruction.ensures.gives in
@@ -44,7 +45,7 @@ returns-in_err-fill_operand-clause-gives g c =
     let i : Instr = c.args.step.now.instr in
     let a = c.args.step.now.operand in
     let f = c.args.test in
-    let r4 = arithmetic_values w i.op c.args.step.now.other a f c.args.step.now.low c.args.step.now.high in
+    let r4 = arithmetic_values w (operation_of i.op c.args.step.now.other a) f c.args.step.now.low c.args.step.now.high in
     let r2 = operand_values w a ++ f ∷ r4 in
     let r1 = triple_values (other_register i) (c.args.tail % 16) i.dest c.args.state.now.regs ++ r2 in
     let p0 = c.in_ok-fill_instruction.ensures.gives in
@@ -60,7 +61,7 @@ returns-in_err-give-clause-gives g c =
     let i : Instr = c.args.step.now.instr in
     let a = c.args.step.now.operand in
     let f = c.args.test in
-    let r4 = arithmetic_values w i.op c.args.step.now.other a f c.args.step.now.low c.args.step.now.high in
+    let r4 = arithmetic_values w (operation_of i.op c.args.step.now.other a) f c.args.step.now.low c.args.step.now.high in
     let r2 = operand_values w a ++ f ∷ r4 in
     let r1 = triple_values (other_register i) (c.args.tail % 16) i.dest c.args.state.now.regs ++ r2 in
     let p0 = c.in_ok-fill_instruction.ensures.gives in
@@ -78,7 +79,7 @@ returns-clause-gives g c =
     let i : Instr = c.args.step.now.instr in
     let a = c.args.step.now.operand in
     let f = c.args.test in
-    let r4 = arithmetic_values w i.op c.args.step.now.other a f c.args.step.now.low c.args.step.now.high in
+    let r4 = arithmetic_values w (operation_of i.op c.args.step.now.other a) f c.args.step.now.low c.args.step.now.high in
     let r2 = operand_values w a ++ f ∷ r4 in
     let r1 = triple_values (other_register i) (c.args.tail % 16) i.dest c.args.state.now.regs ++ r2 in
     let p0 = c.in_ok-fill_instruction.ensures.gives in

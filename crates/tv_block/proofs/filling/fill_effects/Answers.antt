@@ -7,6 +7,7 @@ use Rattle.tv_numbers.specs.Numbers.{operand_word, other_word, found}
 use Rattle.tv_numbers.specs.Views.{View}
 use Rattle.tv_parts.specs.Arithmetic.{spelled_word}
 use Rattle.tv_parts.specs.Flag.{sign_at, flag_values}
+use Rattle.tv_parts.specs.Inputs.{input_of}
 use Rattle.tv_parts.specs.Memory.{memory_values}
 use Rattle.tv_parts.specs.Pc.{pc_values}
 use Rattle.tv_parts.specs.Results.{results_values}
@@ -26,11 +27,11 @@ returns-in_err-fill_tapes-clause-gives g c =
     let high = c.args.step.now.high in
     let takes = c.args.step.now.aux in
     let r6 = pc_values w v i in
-    let r5 = flag_values w n v i low takes c.args.test ++ r6 in
+    let r5 = flag_values w (input_of n v i low) takes c.args.test ++ r6 in
     let r4 = written_values w n v i low takes ++ r5 in
     let r3 = zero_sign_values (tested_in w n v i low high takes) (sign_at i.op) ++ r4 in
     let r2 = results_values w i.op (operand_word v i) low high (found w n v i low takes) ++ r3 in
-    let r1 = memory_values w n v i (spelled_word w i.op (other_word v i) (operand_word v i)) low takes ++ r2 in
+    let r1 = memory_values w (input_of n v i low) (spelled_word w i.op (other_word v i) (operand_word v i)) takes ++ r2 in
     let p0 = c.in_err-fill_tapes.ensures.gives in
     gives_refused m _ _ _ c.from_residual.result c.from_residual.ensures.1
     (gives_refused_then m _ r1 _ _ _ p0)
@@ -46,11 +47,11 @@ returns-in_err-fill_memory-clause-gives g c =
     let high = c.args.step.now.high in
     let takes = c.args.step.now.aux in
     let r6 = pc_values w v i in
-    let r5 = flag_values w n v i low takes c.args.test ++ r6 in
+    let r5 = flag_values w (input_of n v i low) takes c.args.test ++ r6 in
     let r4 = written_values w n v i low takes ++ r5 in
     let r3 = zero_sign_values (tested_in w n v i low high takes) (sign_at i.op) ++ r4 in
     let r2 = results_values w i.op (operand_word v i) low high (found w n v i low takes) ++ r3 in
-    let r1 = memory_values w n v i (spelled_word w i.op (other_word v i) (operand_word v i)) low takes ++ r2 in
+    let r1 = memory_values w (input_of n v i low) (spelled_word w i.op (other_word v i) (operand_word v i)) takes ++ r2 in
     let p0 = c.in_ok-fill_tapes.ensures.gives in
     let p1 = rw (c.requires.spelled, c.requires.step.other, c.requires.step.operand) at c.in_err-fill_memory.ensures.gives in
     gives_refused m _ _ _ c.from_residual-in_err-fill_memory.result c.from_residual-in_err-fill_memory.ensures.1
@@ -67,11 +68,11 @@ returns-in_err-give_values-clause-gives g c =
     let high = c.args.step.now.high in
     let takes = c.args.step.now.aux in
     let r6 = pc_values w v i in
-    let r5 = flag_values w n v i low takes c.args.test ++ r6 in
+    let r5 = flag_values w (input_of n v i low) takes c.args.test ++ r6 in
     let r4 = written_values w n v i low takes ++ r5 in
     let r3 = zero_sign_values (tested_in w n v i low high takes) (sign_at i.op) ++ r4 in
     let r2 = results_values w i.op (operand_word v i) low high (found w n v i low takes) ++ r3 in
-    let r1 = memory_values w n v i (spelled_word w i.op (other_word v i) (operand_word v i)) low takes ++ r2 in
+    let r1 = memory_values w (input_of n v i low) (spelled_word w i.op (other_word v i) (operand_word v i)) takes ++ r2 in
     let p0 = c.in_ok-fill_tapes.ensures.gives in
     let p1 = rw (c.requires.spelled, c.requires.step.other, c.requires.step.operand) at c.in_ok-fill_memory.ensures.gives in
     let p2 = rw (c.requires.results, c.requires.step.operand, c.requires.step.finds) at c.in_err-give_values.ensures.gives in
@@ -89,11 +90,11 @@ returns-in_err-fill_zero_sign-clause-gives g c =
     let high = c.args.step.now.high in
     let takes = c.args.step.now.aux in
     let r6 = pc_values w v i in
-    let r5 = flag_values w n v i low takes c.args.test ++ r6 in
+    let r5 = flag_values w (input_of n v i low) takes c.args.test ++ r6 in
     let r4 = written_values w n v i low takes ++ r5 in
     let r3 = zero_sign_values (tested_in w n v i low high takes) (sign_at i.op) ++ r4 in
     let r2 = results_values w i.op (operand_word v i) low high (found w n v i low takes) ++ r3 in
-    let r1 = memory_values w n v i (spelled_word w i.op (other_word v i) (operand_word v i)) low takes ++ r2 in
+    let r1 = memory_values w (input_of n v i low) (spelled_word w i.op (other_word v i) (operand_word v i)) takes ++ r2 in
     let p0 = c.in_ok-fill_tapes.ensures.gives in
     let p1 = rw (c.requires.spelled, c.requires.step.other, c.requires.step.operand) at c.in_ok-fill_memory.ensures.gives in
     let p2 = rw (c.requires.results, c.requires.step.operand, c.requires.step.finds) at c.in_ok-give_values.ensures.gives in
@@ -114,11 +115,11 @@ returns-in_err-fill_written-clause-gives g c =
     let high = c.args.step.now.high in
     let takes = c.args.step.now.aux in
     let r6 = pc_values w v i in
-    let r5 = flag_values w n v i low takes c.args.test ++ r6 in
+    let r5 = flag_values w (input_of n v i low) takes c.args.test ++ r6 in
     let r4 = written_values w n v i low takes ++ r5 in
     let r3 = zero_sign_values (tested_in w n v i low high takes) (sign_at i.op) ++ r4 in
     let r2 = results_values w i.op (operand_word v i) low high (found w n v i low takes) ++ r3 in
-    let r1 = memory_values w n v i (spelled_word w i.op (other_word v i) (operand_word v i)) low takes ++ r2 in
+    let r1 = memory_values w (input_of n v i low) (spelled_word w i.op (other_word v i) (operand_word v i)) takes ++ r2 in
     let p0 = c.in_ok-fill_tapes.ensures.gives in
     let p1 = rw (c.requires.spelled, c.requires.step.other, c.requires.step.operand) at c.in_ok-fill_memory.ensures.gives in
     let p2 = rw (c.requires.results, c.requires.step.operand, c.requires.step.finds) at c.in_ok-give_values.ensures.gives in
@@ -140,11 +141,11 @@ returns-in_err-fill_flag-clause-gives g c =
     let high = c.args.step.now.high in
     let takes = c.args.step.now.aux in
     let r6 = pc_values w v i in
-    let r5 = flag_values w n v i low takes c.args.test ++ r6 in
+    let r5 = flag_values w (input_of n v i low) takes c.args.test ++ r6 in
     let r4 = written_values w n v i low takes ++ r5 in
     let r3 = zero_sign_values (tested_in w n v i low high takes) (sign_at i.op) ++ r4 in
     let r2 = results_values w i.op (operand_word v i) low high (found w n v i low takes) ++ r3 in
-    let r1 = memory_values w n v i (spelled_word w i.op (other_word v i) (operand_word v i)) low takes ++ r2 in
+    let r1 = memory_values w (input_of n v i low) (spelled_word w i.op (other_word v i) (operand_word v i)) takes ++ r2 in
     let p0 = c.in_ok-fill_tapes.ensures.gives in
     let p1 = rw (c.requires.spelled, c.requires.step.other, c.requires.step.operand) at c.in_ok-fill_memory.ensures.gives in
     let p2 = rw (c.requires.results, c.requires.step.operand, c.requires.step.finds) at c.in_ok-give_values.ensures.gives in
@@ -167,11 +168,11 @@ returns-clause-gives g c =
     let high = c.args.step.now.high in
     let takes = c.args.step.now.aux in
     let r6 = pc_values w v i in
-    let r5 = flag_values w n v i low takes c.args.test ++ r6 in
+    let r5 = flag_values w (input_of n v i low) takes c.args.test ++ r6 in
     let r4 = written_values w n v i low takes ++ r5 in
     let r3 = zero_sign_values (tested_in w n v i low high takes) (sign_at i.op) ++ r4 in
     let r2 = results_values w i.op (operand_word v i) low high (found w n v i low takes) ++ r3 in
-    let r1 = memory_values w n v i (spelled_word w i.op (other_word v i) (operand_word v i)) low takes ++ r2 in
+    let r1 = memory_values w (input_of n v i low) (spelled_word w i.op (other_word v i) (operand_word v i)) takes ++ r2 in
     let p0 = c.in_ok-fill_tapes.ensures.gives in
     let p1 = rw (c.requires.spelled, c.requires.step.other, c.requires.step.operand) at c.in_ok-fill_memory.ensures.gives in
     let p2 = rw (c.requires.results, c.requires.step.operand, c.requires.step.finds) at c.in_ok-give_values.ensures.gives in
