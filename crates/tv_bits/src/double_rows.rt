@@ -55,8 +55,7 @@ pub fn double_row<const W: u32, S: Sink>(
     ensures puts { PutsIn S.meaning s.old s.new (double_row_of W signed.now) result }
     ensures grows { IfOk result (λ _. Grows S.meaning s.old s.new (2 * W + 3) (2 * W + 3)) }
     ensures bits_below { IfOk result (λ row. row.first + 2 * W ≤ S.meaning.wires s.new) }
-    ensures low_below { IfOk result (λ row. row.low < S.meaning.wires s.new) }
-    ensures high_below { IfOk result (λ row. row.high < S.meaning.wires s.new) }
+    ensures words_below { IfOk result (λ row. max row.low row.high < S.meaning.wires s.new) }
 {
     let row = row_wires::<W, S>(s, scratch)?;
     fill_above_edge::<W>(&mut scratch.a, signed, row.high);
@@ -72,8 +71,7 @@ fn row_wires<const W: u32, S: Sink>(s: &mut S, scratch: &mut Scratch) -> Put<Dou
     ensures puts { PutsIn S.meaning s.old s.new (row_wires_of W) result }
     ensures grows { IfOk result (λ _. Grows S.meaning s.old s.new (2 * W + 2) (2 * W + 2)) }
     ensures bits_below { IfOk result (λ row. row.first + 2 * W ≤ S.meaning.wires s.new) }
-    ensures low_below { IfOk result (λ row. row.low < S.meaning.wires s.new) }
-    ensures high_below { IfOk result (λ row. row.high < S.meaning.wires s.new) }
+    ensures words_below { IfOk result (λ row. max row.low row.high < S.meaning.wires s.new) }
 {
     let first = new_bits_by(s, &mut scratch.a, 2 * W)?.first;
     let low = word::<W, S>(s, scratch, first)?;

@@ -21,15 +21,11 @@ pub fn two_ands<S: Sink>(
     m: &[(F, Wire)],
 ) -> Put<()>
     requires room { Room S.meaning s.old 0 1 }
-    requires x_a_made { top x_a.now ≤ S.meaning.wires s.old }
-    requires y_a_made { top y_a.now ≤ S.meaning.wires s.old }
-    requires x_b_made { top x_b.now ≤ S.meaning.wires s.old }
-    requires y_b_made { top y_b.now ≤ S.meaning.wires s.old }
+    requires a_made { max (top x_a.now) (top y_a.now) ≤ S.meaning.wires s.old }
+    requires b_made { max (top x_b.now) (top y_b.now) ≤ S.meaning.wires s.old }
     requires m_made { top m.now ≤ S.meaning.wires s.old }
-    requires x_a_short { length x_a.now ≤ 8 }
-    requires y_a_short { length y_a.now ≤ 8 }
-    requires x_b_short { length x_b.now ≤ 8 }
-    requires y_b_short { length y_b.now ≤ 8 }
+    requires short { max (max (length x_a.now) (length y_a.now))
+        (max (length x_b.now) (length y_b.now)) ≤ 8 }
     requires m_short { length m.now ≤ 64 }
     ensures puts { PutsIn S.meaning s.old s.new
         (two_ands_of x_a.now y_a.now x_b.now y_b.now gamma m.now) result }
@@ -60,10 +56,8 @@ fn fill_side(
     c: F,
     k: F,
 )
-    requires x_a_short { length x_a.now ≤ 8 }
-    requires y_a_short { length y_a.now ≤ 8 }
-    requires x_b_short { length x_b.now ≤ 8 }
-    requires y_b_short { length y_b.now ≤ 8 }
+    requires short { max (max (length x_a.now) (length y_a.now))
+        (max (length x_b.now) (length y_b.now)) ≤ 8 }
     ensures terms { lc.new ≡ side x_a.now y_a.now x_b.now y_b.now c k }
     ensures len { length lc.new ≤ 33 }
     ensures top { top lc.new ≡ max 1 (max (max (top x_a.now) (top y_a.now))

@@ -1,6 +1,6 @@
 //! The order of two numbers, by a difference of their prefixes.
 ghost use Rattle.std.specs.Prelude.{◌≡◌, ◌+◌, ◌-◌, ◌*◌, ◌≤◌, ◌<◌, ◌^◌, false, length, max, IfOk};
-ghost use Rattle.std.specs.Prelude.{OnOk};
+ghost use Rattle.std.specs.Prelude.{min, OnOk};
 ghost use Rattle.tv_bits.specs.Order.{first_difference};
 ghost use Rattle.tv_bits.specs.Prefixes.{prefix_less, prefix_less_in, prefix_difference_of};
 ghost use Rattle.tv_bits.specs.Prefixes.{prefix_difference_values, PrefixDifferenceIsSound};
@@ -30,14 +30,11 @@ pub fn prefix_difference_by<S: Sink>(
 ) -> Put<()>
     requires room { Room S.meaning s.old (count - 2) (count - 1) }
     requires chunks { 2 ≤ count }
-    requires x_long { chunk * (count - 1) ≤ x.now.n }
-    requires y_long { chunk * (count - 1) ≤ y.now.n }
-    requires x_short { x.now.n ≤ 63 }
-    requires y_short { y.now.n ≤ 63 }
+    requires long { chunk * (count - 1) ≤ min x.now.n y.now.n }
+    requires short { max x.now.n y.now.n ≤ 63 }
     requires d_short { x.now.n + y.now.n + length d.now ≤ 128 }
-    requires x_made { x.now.first + x.now.n ≤ S.meaning.wires s.old }
-    requires y_made { y.now.first + y.now.n ≤ S.meaning.wires s.old }
-    requires d_made { top d.now ≤ S.meaning.wires s.old }
+    requires made { max (max (x.now.first + x.now.n) (y.now.first + y.now.n)) (top d.now)
+        ≤ S.meaning.wires s.old }
     ensures puts { PutsIn S.meaning s.old s.new (prefix_difference_of x.now y.now d.now chunk count)
         result }
     ensures grows { IfOk result (λ _. Grows S.meaning s.old s.new (count - 2) (count - 1)) }
@@ -55,13 +52,10 @@ pub fn prefix_difference_by<S: Sink>(
 
 // Makes `lc` the difference of the prefixes from place `from` on, less `d`.
 fn fill_prefix_less(lc: &mut Lc, x: &Bits, y: &Bits, d: &Lc, from: u32)
-    requires x_long { from ≤ x.now.n }
-    requires y_long { from ≤ y.now.n }
-    requires x_short { x.now.n ≤ 63 }
-    requires y_short { y.now.n ≤ 63 }
+    requires long { from ≤ min x.now.n y.now.n }
+    requires short { max x.now.n y.now.n ≤ 63 }
     requires d_short { x.now.n + y.now.n + length d.now ≤ 128 }
-    requires x_within { x.now.first + x.now.n < 2 ^ 32 }
-    requires y_within { y.now.first + y.now.n < 2 ^ 32 }
+    requires within { max (x.now.first + x.now.n) (y.now.first + y.now.n) < 2 ^ 32 }
     ensures terms { lc.new ≡ prefix_less x.now y.now d.now from }
     ensures top { top lc.new ≤ max (max (x.now.first + x.now.n) (y.now.first + y.now.n))
         (top d.now) }

@@ -15,10 +15,8 @@ use tv_core::{F, Lc, Put, Scratch, Sink, Values, Wire};
 pub fn select<S: Sink>(s: &mut S, b: Wire, x: &Lc, y: &Lc) -> Put<Wire>
     requires room { Room S.meaning s.old 1 1 }
     requires b_made { b < S.meaning.wires s.old }
-    requires x_made { top x.now ≤ S.meaning.wires s.old }
-    requires y_made { top y.now ≤ S.meaning.wires s.old }
-    requires x_short { length x.now ≤ 64 }
-    requires y_short { length y.now ≤ 64 }
+    requires made { max (top x.now) (top y.now) ≤ S.meaning.wires s.old }
+    requires short { max (length x.now) (length y.now) ≤ 64 }
     ensures puts { PutsIn S.meaning s.old s.new (select_of b x.now y.now) result }
     ensures grows { IfOk result (λ _. Grows S.meaning s.old s.new 1 1) }
     ensures below { IfOk result (λ chosen. chosen < S.meaning.wires s.new) }
@@ -36,10 +34,8 @@ pub fn select_terms<S: Sink>(
 ) -> Put<Wire>
     requires room { Room S.meaning s.old 1 1 }
     requires b_made { b < S.meaning.wires s.old }
-    requires x_made { top x.now ≤ S.meaning.wires s.old }
-    requires y_made { top y.now ≤ S.meaning.wires s.old }
-    requires x_short { length x.now ≤ 64 }
-    requires y_short { length y.now ≤ 64 }
+    requires made { max (top x.now) (top y.now) ≤ S.meaning.wires s.old }
+    requires short { max (length x.now) (length y.now) ≤ 64 }
     ensures puts { PutsIn S.meaning s.old s.new (select_of b x.now y.now) result }
     ensures grows { IfOk result (λ _. Grows S.meaning s.old s.new 1 1) }
     ensures below { IfOk result (λ chosen. chosen < S.meaning.wires s.new) }
@@ -80,10 +76,8 @@ pub fn pick_by<S: Sink>(
 ) -> Put<Wire>
     requires room { Room S.meaning s.old 1 1 }
     requires b_made { top b.now ≤ S.meaning.wires s.old }
-    requires x_made { top x.now ≤ S.meaning.wires s.old }
-    requires y_made { top y.now ≤ S.meaning.wires s.old }
-    requires x_short { length x.now ≤ 64 }
-    requires y_short { length y.now ≤ 64 }
+    requires made { max (top x.now) (top y.now) ≤ S.meaning.wires s.old }
+    requires short { max (length x.now) (length y.now) ≤ 64 }
     ensures puts { PutsIn S.meaning s.old s.new (pick_of b.now x.now y.now) result }
     ensures grows { IfOk result (λ _. Grows S.meaning s.old s.new 1 1) }
     ensures below { IfOk result (λ w. w < S.meaning.wires s.new) }
