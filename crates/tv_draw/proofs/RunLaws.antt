@@ -61,7 +61,8 @@ taken : (st : State) (i : ℕ) (tape : List ℕ) (rest : List ℕ → State) →
 taken st i [] rest pc memory = (refl, λ j h. refl)
 taken st i (v ∷ left) rest pc memory = (ap (λ n. (n + 8) % 2 ^ 32) (pc left), λ j h. ap (λ m. word_in 32 m j) (memory left))
 
-row_follows : (op : Op) (st : State) (i d s a : ℕ) → stays op ≡ true → (is_store op ≡ true → 65536 ≤ a) → Follows st (row 32 op st i d s a)
+row_follows : (op : Op) (st : State) (i d s a : ℕ) → stays op ≡ true → (is_store op ≡ true → 65536 ≤ a)
+    → Follows st (row 32 op st (record { dest = i; held = d; source = s; operand = a }))
 row_follows ops.Jmp st i d s a e far = cc
 row_follows ops.Cjmp st i d s a e far = cc
 row_follows ops.Cnjmp st i d s a e far = cc

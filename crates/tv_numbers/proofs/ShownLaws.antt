@@ -37,7 +37,8 @@ abbrev is_unused : Op → Bool
 is_unused (Unused op) = true
 is_unused _ = false
 
-stops : (w : ℕ) (op : Op) (st : State) (i d s a : ℕ) → is_unused op ≡ true → (n : ℕ) × (row w op st i d s a ≡ Next.Undefined n)
+stops : (w : ℕ) (op : Op) (st : State) (i d s a : ℕ) → is_unused op ≡ true
+    → (n : ℕ) × (row w op st (record { dest = i; held = d; source = s; operand = a }) ≡ Next.Undefined n)
 stops w (Unused op) st i d s a e = (op, refl)
 stops w _ st i d s a e = absurd (true≢false (sym e))
 

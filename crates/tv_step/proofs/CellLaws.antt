@@ -139,7 +139,7 @@ module _ (w : ℕ) (width : IsWidth w) (x : List ℕ) (st : State) (on : IsOn w 
 
   -- no other word of memory changes
   others_stay : (op : Op) (i d s a c : ℕ) → c ≢ (line_of w (length x) op st a time).cell
-      → word_in w (came w st (row w op st i d s a)).memory c ≡ word_in w st.memory c
+      → word_in w (came w st (row w op st (record { dest = i; held = d; source = s; operand = a }))).memory c ≡ word_in w st.memory c
   others_stay StoreB i d s a c other = others_after_byte w width st.memory a (d % 256) c other
   others_stay StoreW i d s a c other = others_after_word w width st.memory (a / (w / 8)) d c other
   others_stay op i d s a c other = ap (λ m. word_in w m c) (memory_stays w st op i d s a refl)

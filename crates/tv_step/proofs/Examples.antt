@@ -80,7 +80,7 @@ stores_at_the_top = refl
 
 -- the word in register 1 and the flag after an instruction on s and a
 abbrev result : Op → ℕ → ℕ → ℕ × Bool
-result op s a = elim (row 32 op (start 32 [] [] []) 1 0 s a) as (λ _. ℕ × Bool) [
+result op s a = elim (row 32 op (start 32 [] [] []) (record { dest = 1; held = 0; source = s; operand = a })) as (λ _. ℕ × Bool) [
   | Next.Gone st ↦ (reg st 1, st.flag)
   | Next.Answered v ↦ (v, false)
   | Next.Undefined op ↦ (op, false)

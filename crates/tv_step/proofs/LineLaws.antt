@@ -63,7 +63,8 @@ module _ (w : ℕ) (st : State) where
   taken i [] rest same = refl
   taken i (v ∷ left) rest same = same left
 
-  pub memory_stays : (op : Op) (i d s a : ℕ) → is_store op ≡ false → (came (row w op st i d s a)).memory ≡ st.memory
+  pub memory_stays : (op : Op) (i d s a : ℕ) → is_store op ≡ false
+      → (came (row w op st (record { dest = i; held = d; source = s; operand = a }))).memory ≡ st.memory
   memory_stays StoreB i d s a e = absurd (true≢false e)
   memory_stays StoreW i d s a e = absurd (true≢false e)
   memory_stays Cmov i d s a e = either st.flag (moves w st i a) (goes_on w st) refl refl

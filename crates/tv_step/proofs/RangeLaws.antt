@@ -111,7 +111,8 @@ module _ (w : ℕ) (width : IsWidth w) where
   takes_in st i [] rest h words later = gives_in st h i 0 true some_words
   takes_in st i (v ∷ left) rest h words later = gives_in (rest left) (later left (All-tail Word v left words)) i v false (All-head Word v left words)
 
-  row_in : (op : Op) (st : State) (i d s a : ℕ) → InRange w st → Word d → Word s → Word a → NextIn (row w op st i d s a)
+  row_in : (op : Op) (st : State) (i d s a : ℕ) → InRange w st → Word d → Word s → Word a
+      → NextIn (row w op st (record { dest = i; held = d; source = s; operand = a }))
   row_in And st i d s a h hd hs ha = gives_in st h i _ _ (and_lt w s a hs ha)
   row_in Or st i d s a h hd hs ha = gives_in st h i _ _ (or_lt w s a hs ha)
   row_in Xor st i d s a h hd hs ha = gives_in st h i _ _ (xor_lt w s a hs ha)

@@ -53,7 +53,8 @@ module _ (w : ℕ) (st : State) where
   zero_not_one : (a : ℕ) → (a == 0) ≡ true → (a == 1) ≡ false
   zero_not_one a e = let z = eqb-true a 0 e in ne_eqb a 1 (λ o. omega arith)
 
-  row_left : (op : Op) (i d s a : ℕ) → Left (is_read op && (a == 0)) (is_read op && (a == 1)) (row w op st i d s a)
+  row_left : (op : Op) (i d s a : ℕ)
+      → Left (is_read op && (a == 0)) (is_read op && (a == 1)) (row w op st (record { dest = i; held = d; source = s; operand = a }))
   row_left Cmov i d s a = either false false st.flag (moves w st i a) (goes_on w st) (record { first = refl; second = refl })
       (record { first = refl; second = refl })
   row_left Cjmp i d s a = either false false st.flag (jumps w st a) (goes_on w st) (record { first = refl; second = refl })
@@ -209,7 +210,8 @@ reads_goes w st i v true c e = takes_goes w st i st.primary (λ left. record st 
 reads_goes w st i v false true e = takes_goes w st i st.aux (λ left. record st { aux = left }) v e
 reads_goes w st i v false false e = takes_goes w st i [] (λ _. st) v e
 
-answers_unread : (w : ℕ) (st : State) (op : Op) (i d s a v : ℕ) → row w op st i d s a ≡ Next.Answered v → (is_read op && (a == 1)) ≡ false
+answers_unread : (w : ℕ) (st : State) (op : Op) (i d s a v : ℕ)
+    → row w op st (record { dest = i; held = d; source = s; operand = a }) ≡ Next.Answered v → (is_read op && (a == 1)) ≡ false
 answers_unread w st Read i d s a v e = absurd (reads_goes w st i v (a == 0) (a == 1) e)
 answers_unread w st _ i d s a v e = refl
 

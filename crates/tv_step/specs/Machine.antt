@@ -23,7 +23,8 @@ operand st i = if i.imm then i.a else reg st (i.a % 16)
 
 -- what an instruction does; all operands are read before anything is written
 abbrev pub executed : ℕ → State → Instr → Next
-executed w st i = row w (op_of i.op) st i.dest (reg st i.dest) (reg st i.source) (operand st i)
+executed w st i =
+    row w (op_of i.op) st (record { dest = i.dest; held = reg st i.dest; source = reg st i.source; operand = operand st i })
 
 -- one step
 abbrev pub next : ℕ → State → Next

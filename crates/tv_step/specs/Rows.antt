@@ -1,5 +1,4 @@
--- The 29 instructions, a row each: what comes of a step of word size w in a state st, where i is the number
--- of the destination register, d and s are the words in the destination and source registers, and a is the operand.
+-- The 29 instructions, a row each: what comes of a step of word size w in a state st, on the instruction's operands.
 use Rattle.std.specs.Prelude.{ℕ, ◌+◌, ◌-◌, ◌*◌, ◌/◌, ◌%◌, ◌^◌, Bool, true, false, not, ◌==◌, nat_lt, nat_le, if◌then◌else◌, List, [], ◌∷◌, ◌*ℤ◌, int_lt, int_le, bit_and, bit_or, bit_xor, slice_set}
 use Rattle.tv_mem.specs.Bytes.{Bytes, with_byte, with_word, word_in}
 use Rattle.tv_word.specs.Twos.{twos, fits}
@@ -60,35 +59,44 @@ reads w st i a =
     else if a == 1 then takes w st i st.aux (λ left. record st { aux = left })
     else takes w st i [] (λ _. st)
 
+-- what an instruction works on: the number of its destination register, the words held in that and in its source register,
+-- and its operand
+pub record Operands : Type 0 where
+  pub dest : ℕ
+  pub held : ℕ
+  pub source : ℕ
+  pub operand : ℕ
+
 -- what comes of an instruction
-abbrev pub row : ℕ → Op → State → ℕ → ℕ → ℕ → ℕ → Next
-row w And st i d s a = logic w st i (bit_and s a)
-row w Or st i d s a = logic w st i (bit_or s a)
-row w Xor st i d s a = logic w st i (bit_xor s a)
-row w Not st i d s a = logic w st i (2 ^ w - 1 - a)
-row w Add st i d s a = gives w st i ((s + a) % 2 ^ w) (nat_le (2 ^ w) (s + a))
-row w Sub st i d s a = gives w st i ((s + (2 ^ w - a)) % 2 ^ w) (nat_lt s a)
-row w Mull st i d s a = gives w st i (s * a % 2 ^ w) (nat_le (2 ^ w) (s * a))
-row w Umulh st i d s a = gives w st i (s * a / 2 ^ w) (nat_le (2 ^ w) (s * a))
-row w Smulh st i d s a = gives w st i (twos (2 * w) (signed w s *ℤ signed w a) / 2 ^ w) (not (fits w (signed w s *ℤ signed w a)))
-row w Udiv st i d s a = gives w st i (if a == 0 then 0 else s / a) (a == 0)
-row w Umod st i d s a = gives w st i (if a == 0 then 0 else s % a) (a == 0)
-row w Shl st i d s a = gives w st i (if nat_lt a w then s * 2 ^ a % 2 ^ w else 0) (has_bit (w - 1) s)
-row w Shr st i d s a = gives w st i (if nat_lt a w then s / 2 ^ a else 0) (has_bit 0 s)
-row w Cmpe st i d s a = tests w st (s == a)
-row w Cmpa st i d s a = tests w st (nat_lt a s)
-row w Cmpae st i d s a = tests w st (nat_le a s)
-row w Cmpg st i d s a = tests w st (int_lt (signed w a) (signed w s))
-row w Cmpge st i d s a = tests w st (int_le (signed w a) (signed w s))
-row w Mov st i d s a = moves w st i a
-row w Cmov st i d s a = if st.flag then moves w st i a else goes_on w st
-row w Jmp st i d s a = jumps w st a
-row w Cjmp st i d s a = if st.flag then jumps w st a else goes_on w st
-row w Cnjmp st i d s a = if st.flag then goes_on w st else jumps w st a
-row w StoreB st i d s a = stores w st (with_byte st.memory a (d % 256))
-row w LoadB st i d s a = moves w st i (st.memory a)
-row w StoreW st i d s a = stores w st (with_word w st.memory (a / word_size w) d)
-row w LoadW st i d s a = moves w st i (word_in w st.memory (a / word_size w))
-row w Read st i d s a = reads w st i a
-row w Answer st i d s a = Next.Answered a
-row w (Unused op) st i d s a = Next.Undefined op
+abbrev pub row : ℕ → Op → State → Operands → Next
+row w And st on = logic w st on.dest (bit_and on.source on.operand)
+row w Or st on = logic w st on.dest (bit_or on.source on.operand)
+row w Xor st on = logic w st on.dest (bit_xor on.source on.operand)
+row w Not st on = logic w st on.dest (2 ^ w - 1 - on.operand)
+row w Add st on = gives w st on.dest ((on.source + on.operand) % 2 ^ w) (nat_le (2 ^ w) (on.source + on.operand))
+row w Sub st on = gives w st on.dest ((on.source + (2 ^ w - on.operand)) % 2 ^ w) (nat_lt on.source on.operand)
+row w Mull st on = gives w st on.dest (on.source * on.operand % 2 ^ w) (nat_le (2 ^ w) (on.source * on.operand))
+row w Umulh st on = gives w st on.dest (on.source * on.operand / 2 ^ w) (nat_le (2 ^ w) (on.source * on.operand))
+row w Smulh st on =
+    gives w st on.dest (twos (2 * w) (signed w on.source *ℤ signed w on.operand) / 2 ^ w) (not (fits w (signed w on.source *ℤ signed w on.operand)))
+row w Udiv st on = gives w st on.dest (if on.operand == 0 then 0 else on.source / on.operand) (on.operand == 0)
+row w Umod st on = gives w st on.dest (if on.operand == 0 then 0 else on.source % on.operand) (on.operand == 0)
+row w Shl st on = gives w st on.dest (if nat_lt on.operand w then on.source * 2 ^ on.operand % 2 ^ w else 0) (has_bit (w - 1) on.source)
+row w Shr st on = gives w st on.dest (if nat_lt on.operand w then on.source / 2 ^ on.operand else 0) (has_bit 0 on.source)
+row w Cmpe st on = tests w st (on.source == on.operand)
+row w Cmpa st on = tests w st (nat_lt on.operand on.source)
+row w Cmpae st on = tests w st (nat_le on.operand on.source)
+row w Cmpg st on = tests w st (int_lt (signed w on.operand) (signed w on.source))
+row w Cmpge st on = tests w st (int_le (signed w on.operand) (signed w on.source))
+row w Mov st on = moves w st on.dest on.operand
+row w Cmov st on = if st.flag then moves w st on.dest on.operand else goes_on w st
+row w Jmp st on = jumps w st on.operand
+row w Cjmp st on = if st.flag then jumps w st on.operand else goes_on w st
+row w Cnjmp st on = if st.flag then goes_on w st else jumps w st on.operand
+row w StoreB st on = stores w st (with_byte st.memory on.operand (on.held % 256))
+row w LoadB st on = moves w st on.dest (st.memory on.operand)
+row w StoreW st on = stores w st (with_word w st.memory (on.operand / word_size w) on.held)
+row w LoadW st on = moves w st on.dest (word_in w st.memory (on.operand / word_size w))
+row w Read st on = reads w st on.dest on.operand
+row w Answer st on = Next.Answered on.operand
+row w (Unused op) st on = Next.Undefined op

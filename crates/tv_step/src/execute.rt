@@ -115,7 +115,8 @@ impl<const W: u32> Machine<W> {
         requires d_word { d < 2 ^ W }
         requires s_word { s < 2 ^ W }
         requires a_word { a < 2 ^ W }
-        ensures ok { IfOk result (λ outcome. CameTo (row W op (state_of self.old) i d s a) outcome
+        ensures ok { IfOk result (λ outcome. CameTo (row W op (state_of self.old)
+            (record { dest = i; held = d; source = s; operand = a })) outcome
             (state_of self.old) (state_of self.new)) }
         ensures err { OnErr result (state_of self.new ≡ state_of self.old) }
     {
