@@ -1,5 +1,5 @@
 -- A sink that writes its constraints to a file as they come.
-use Rattle.std.specs.Prelude.{◌≡◌, refl, ℕ, ◌+◌, false, is_err, List, ◌++◌, length, Result, Ok, OnOk, OnErr}
+use Rattle.std.specs.Prelude.{◌≡◌, refl, ℕ, ◌+◌, false, is_err, List, [], ◌++◌, length, Result, Ok, OnOk, OnErr}
 use Rattle.std.proofs.Common.{◌∙◌}
 use Rattle.std.specs.Borrow.{GName}
 use Rattle.std.specs.List.{All}
@@ -74,6 +74,12 @@ pub record Stands (stream : Stream) (list : List Constraint) : Type 0 where
   pub narrow : All (IsNarrow stream.progress.wires) list
   pub written : HasBut stream.outside stream.name stream.progress.held (begun_bytes stream.progress list)
 
+-- a sink that writes to a file of this name, whose head has these counts and this number of labels; no constraint was put
+pub record Begins (file : List ℕ) (counts : Counts) (labels : ℕ) (stream : Stream) : Type 0 where
+  pub name : stream.name ≡ file
+  pub begun : stream.progress ≡ begun counts labels
+  pub stands : Stands stream []
+
 -- after a refusal, where contents are known: the name has a first part of these bytes
 pub record Tried (stream : Stream) (list : List Constraint) : Type 0 where
   pub written : HasFront stream.outside stream.name (begun_bytes stream.progress list)
@@ -134,6 +140,7 @@ pub record Finishes (sink : Stream) (new : Outside) (labels : List ℕ) (result 
 
 -- what a call did that streamed a system, whose wires have these labels, to a file; a whole file is read as the system
 -- again
-pub record IsSystemStreamed (old new : Outside) (name : List ℕ) (system : System) (count : ℕ) (labels : List ℕ) (result : Result (Unit {0}) SinkFault) : Type 0 where
+pub record IsSystemStreamed (old new : Outside) (name : List ℕ) (system : System) (count : ℕ) (labels : List ℕ)
+    (result : Result (Unit {0}) SinkFault) : Type 0 where
   pub file : IsStreamed old new name (system_bytes system count labels) result
   pub read : OnOk result (system_of (system_bytes system count labels) ≡ Ok system)

@@ -1,11 +1,11 @@
 //! The sink that writes to a file.
-ghost use Rattle.std.specs.Prelude.{◌≡◌, ◌+◌, ◌≤◌, ◌<◌, ◌^◌, [], false, is_err, length, Ok};
+ghost use Rattle.std.specs.Prelude.{◌≡◌, ◌+◌, ◌≤◌, ◌<◌, ◌^◌, false, is_err, length, Ok};
 ghost use Rattle.std.specs.Prelude.{IfOk, IfErr};
 ghost use Rattle.std.specs.List.{range_with_len};
 ghost use Rattle.std.specs.List.Sorted.{IsStrictlyIncreasing};
 ghost use Rattle.tv_files.specs.Calls.{Creates};
 ghost use Rattle.tv_r1cs_write.specs.Bytes.{others};
-ghost use Rattle.tv_r1cs_write.specs.Streams.{begun, stream, stream_meaning, Finishes, Stands};
+ghost use Rattle.tv_r1cs_write.specs.Streams.{stream, stream_meaning, Begins, Finishes};
 ghost use Rattle.tv_container.specs.Written.{NotCreated};
 
 use crate::head::head;
@@ -44,10 +44,8 @@ impl<'a, D: Files> StreamSink<'a, D> {
         ensures ok_same { IfOk result (λ sink. sink.files.ghost_name ≡ files.entry.ghost_name) }
         ensures ok_creates { IfOk result (λ sink. Creates (D.seen files.old) (D.seen sink.files.now)
             name.now (Ok tt)) }
-        ensures name { IfOk result (λ sink. sink.name.now ≡ name.now) }
-        ensures begun { IfOk result (λ sink. (stream D.seen sink).progress
-            ≡ begun counts counts.wires) }
-        ensures stands { IfOk result (λ sink. Stands (stream D.seen sink) []) }
+        ensures begins { IfOk result (λ sink. Begins name.now counts counts.wires
+            (stream D.seen sink)) }
         ensures err_same { IfErr result (λ refused. refused.files.ghost_name
             ≡ files.entry.ghost_name) }
         ensures err_creates { IfErr result (λ refused. NotCreated (D.seen files.old)
@@ -69,9 +67,7 @@ impl<'a, D: Files> StreamSink<'a, D> {
         ensures ok_same { IfOk result (λ sink. sink.files.ghost_name ≡ files.entry.ghost_name) }
         ensures ok_creates { IfOk result (λ sink. Creates (D.seen files.old) (D.seen sink.files.now)
             name.now (Ok tt)) }
-        ensures name { IfOk result (λ sink. sink.name.now ≡ name.now) }
-        ensures begun { IfOk result (λ sink. (stream D.seen sink).progress ≡ begun counts labels) }
-        ensures stands { IfOk result (λ sink. Stands (stream D.seen sink) []) }
+        ensures begins { IfOk result (λ sink. Begins name.now counts labels (stream D.seen sink)) }
         ensures err_same { IfErr result (λ refused. refused.files.ghost_name
             ≡ files.entry.ghost_name) }
         ensures err_creates { IfErr result (λ refused. NotCreated (D.seen files.old)

@@ -23,9 +23,9 @@ begun : (g : given.Over) (c : In-Ok g) →
     (system_of g.row.W c.args.net c.args.image.now c.args.n c.args.t).wires
 begun g c = record {
   creates = c.in-Ok.ensures.ok_creates;
-  named = c.in-Ok.ensures.name;
-  begins = c.in-Ok.ensures.begun ∙ ap (λ (counts : Counts). streams.begun c.sizes-counts.result counts.wires) c.sizes-counts.ensures.counts;
-  stands = c.in-Ok.ensures.stands;
+  named = c.in-Ok.ensures.begins.name;
+  begins = c.in-Ok.ensures.begins.begun ∙ ap (λ (counts : Counts). streams.begun c.sizes-counts.result counts.wires) c.sizes-counts.ensures.counts;
+  stands = c.in-Ok.ensures.begins.stands;
   counted = c.sizes-counts.ensures.counts;
   list = refl;
   next = refl;

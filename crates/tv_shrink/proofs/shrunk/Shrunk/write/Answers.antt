@@ -45,9 +45,9 @@ is_begun g c =
     let first : ℕ = 1 + c.self.inside.outputs + c.self.inside.inputs in
     record {
       creates = c.in-Ok.ensures.ok_creates;
-      named = c.in-Ok.ensures.name;
-      begins = c.in-Ok.ensures.begun ∙ ap (λ labels. begun (counts_in g c) labels) c.from-labels.ensures;
-      stands = c.in-Ok.ensures.stands;
+      named = c.in-Ok.ensures.begins.name;
+      begins = c.in-Ok.ensures.begins.begun ∙ ap (λ labels. begun (counts_in g c) labels) c.from-labels.ensures;
+      stands = c.in-Ok.ensures.begins.stands;
       counted = rw (c.count_rows-tally.ensures.constraints, c.count_rows-tally.ensures.terms) refl;
       list = circuit_list (private_in g c) c.self.inside.rows first;
       next = circuit_next (private_in g c) c.self.inside.rows first ∙ omega (arith, c.self.invariant.0);
@@ -70,7 +70,7 @@ returns g c =
     let puts = puts_then (stream_meaning seen) (wires_circuit (private_in g ok))
     (λ _. rows_circuit rows (length rows)) c.in-Ok.sink c.make_wires.new.s c.put_rows.new.s tt tt c.make_wires.ensures.puts more in
     let labels : c.put_rows.new.s.labels ≡ c.self.inside.wires = puts.keeps.labels
-    ∙ ap (λ (p : Progress). p.labels) c.in-Ok.ensures.begun ∙ c.from-labels.ensures in
+    ∙ ap (λ (p : Progress). p.labels) c.in-Ok.ensures.begins.begun ∙ c.from-labels.ensures in
     let written = streamed_all _ _ _ _ _ _ _ _ (λ _. others c.self.inside.wires c.self.inside.gone.items) (is_begun g ok)
     c.put_rows.new.s _ tt c.finish_without.result (sym c.self.invariant.1) puts
     (rw (ap₂ others labels c.deref.ensures.value) at c.finish_without.ensures) in
