@@ -1,16 +1,26 @@
 -- A combination in place of a wire.
-use Rattle.std.specs.Prelude.{ℕ, ◌-◌, ◌==◌, nat_lt, nat_le, Bool, not, ◌||◌, ◌&&◌, max, [], ◌∷◌, ◌++◌, length, Option, None, Some, if◌then◌else◌}
+use Rattle.std.specs.Prelude.{◌≡◌, ℕ, ◌-◌, ◌==◌, nat_lt, nat_le, Bool, false, not, ◌||◌, ◌&&◌, max, [], ◌∷◌, ◌++◌, length, Option, None, Some, if◌then◌else◌}
 use Rattle.std.specs.List.{filter, list_any, list_all}
 use Rattle.std.specs.Option.{option_or}
 use Rattle.tv_core.specs.Combinations.{scaled, less}
 use Rattle.tv_core.specs.Constraints.{Combination, Constraint}
 use Rattle.tv_core.specs.Inverse.{inverse_of}
 use Rattle.tv_core.specs.declared.field.TheConstants.{P}
-use Rattle.tv_core.specs.Normal.{coefficient, normal}
+use Rattle.tv_core.specs.Normal.{coefficient, normal, IsNormalFrom}
 
 -- whether a wire stands in a combination
 unfoldable pub has_wire : ℕ → Combination → Bool
 has_wire w x = list_any (λ t. t.1 == w) x
+
+-- a wire, and the terms that take its place
+pub record Replacement : Type 0 where
+  pub wire : ℕ
+  pub terms : Combination
+
+-- the terms are normal, and the wire is not among them
+pub record IsReplacement (wire : ℕ) (terms : Combination) : Type 0 where
+  pub normal : IsNormalFrom 0 terms
+  pub lacks : has_wire wire terms ≡ false
 
 -- a combination without a wire
 unfoldable pub without : ℕ → Combination → Combination

@@ -85,13 +85,12 @@ fn append_part(
     by: &Substitution<'_>,
 ) -> Result<u8, AllocError>
     requires normal { IsNormalFrom 0 terms.now }
-    requires by { IsNormalFrom 0 by.now.replacement.now }
     requires few { length terms.now < 256 }
-    requires fits { fits by.now.wire by.now.replacement.now terms.now ≡ true }
+    requires fits { fits by.now.wire by.now.terms terms.now ≡ true }
     ensures out { OnOk result (out.new.items
-        ≡ out.old.items ++ replaced by.now.wire by.now.replacement.now terms.now) }
+        ≡ out.old.items ++ replaced by.now.wire by.now.terms terms.now) }
     ensures size { IfOk result (λ size. size
-        ≡ length (replaced by.now.wire by.now.replacement.now terms.now)) }
+        ≡ length (replaced by.now.wire by.now.terms terms.now)) }
 {
     let start = out.len();
     append_replaced(out, terms, by)?;
@@ -105,14 +104,13 @@ pub(crate) fn put_replaced(
     by: &Substitution<'_>,
 ) -> Result<Span, AllocError>
     requires normal { IsNormalConstraint row.now }
-    requires by { IsNormalFrom 0 by.now.replacement.now }
     requires few { (length row.now.a < 256) × (length row.now.b < 256)
         × (length row.now.c < 256) }
-    requires fits { fits_in by.now.wire by.now.replacement.now row.now ≡ true }
+    requires fits { fits_in by.now.wire by.now.terms row.now ≡ true }
     ensures out { OnOk result (out.new.items
-        ≡ row_terms (replaced_in by.now.wire by.now.replacement.now row.now)) }
+        ≡ row_terms (replaced_in by.now.wire by.now.terms row.now)) }
     ensures made { IfOk result (λ made. made
-        ≡ span_of 0 (replaced_in by.now.wire by.now.replacement.now row.now)) }
+        ≡ span_of 0 (replaced_in by.now.wire by.now.terms row.now)) }
 {
     out.clear();
     let a = append_part(out, row.a, by)?;

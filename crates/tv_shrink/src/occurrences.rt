@@ -6,7 +6,6 @@ ghost use Rattle.std.specs.Prelude.{IfOk};
 ghost use Rattle.std.specs.Prelude.{◌^◌, false, None, Ok, IfSome};
 ghost use Rattle.std.specs.Prelude.{if◌then◌else◌};
 ghost use Rattle.std.specs.List.{list_any};
-ghost use Rattle.tv_core.specs.Normal.{IsNormalFrom};
 ghost use Rattle.tv_shrink.specs.Passing.{row_fits};
 ghost use Rattle.tv_shrink.specs.Occurring.{rows_from, rows_of, with_row, LeadBack};
 ghost use Rattle.tv_shrink.specs.Replacing.{has_wire};
@@ -121,14 +120,13 @@ impl Occurrences {
         scratch: &mut Vec<(F, Wire)>,
         by: &Substitution<'_>,
     ) -> Result<Option<u32>, AllocError>
-        requires normal { RowsAreNormal rows.now }
-        requires by { IsNormalFrom 0 by.now.replacement.now }
+        requires { RowsAreNormal rows.now }
         ensures some { IfOk result (λ found. IfSome found (λ row.
-            row_fits by.now.wire by.now.replacement.now
+            row_fits by.now.wire by.now.terms
             (slice_index_or (slice_set rows.now but None) row None) ≡ false)) }
         ensures none { result ≡ Ok None → (i : ℕ)
             → list_any (λ p. p == i) (rows_of self.now by.now.wire) ≡ true
-            → row_fits by.now.wire by.now.replacement.now
+            → row_fits by.now.wire by.now.terms
             (slice_index_or (slice_set rows.now but None) i None) ≡ true }
     {
         let mut number = self.heads[by.wire.0 as usize % self.heads.len()];

@@ -153,10 +153,9 @@ pub(crate) fn append_replaced(
     terms: &[(F, Wire)],
     by: &Substitution<'_>,
 ) -> Result<(), AllocError>
-    requires normal { IsNormalFrom 0 terms.now }
-    requires by { IsNormalFrom 0 by.now.replacement.now }
+    requires { IsNormalFrom 0 terms.now }
     ensures { OnOk result (out.new.items
-        ≡ out.old.items ++ replaced by.now.wire by.now.replacement.now terms.now) }
+        ≡ out.old.items ++ replaced by.now.wire by.now.terms terms.now) }
 {
     let Some(coefficient) = coefficient_of(terms, by.wire) else {
         return out.extend_from_slice(terms);
@@ -177,9 +176,8 @@ fn fits(
     terms: &[(F, Wire)],
     by: &Substitution<'_>,
 ) -> Result<bool, AllocError>
-    requires normal { IsNormalFrom 0 terms.now }
-    requires by { IsNormalFrom 0 by.now.replacement.now }
-    ensures { IfOk result (λ answer. answer ≡ fits by.now.wire by.now.replacement.now terms.now) }
+    requires { IsNormalFrom 0 terms.now }
+    ensures { IfOk result (λ answer. answer ≡ fits by.now.wire by.now.terms terms.now) }
 {
     if terms.len() + by.replacement.len() <= TERMS || !has_wire(terms, by.wire) {
         return Ok(true);
@@ -214,10 +212,8 @@ impl Row<'_> {
         scratch: &mut Vec<(F, Wire)>,
         by: &Substitution<'_>,
     ) -> Result<bool, AllocError>
-        requires normal { IsNormalConstraint self.now }
-        requires by { IsNormalFrom 0 by.now.replacement.now }
-        ensures { IfOk result (λ answer. answer
-            ≡ fits_in by.now.wire by.now.replacement.now self.now) }
+        requires { IsNormalConstraint self.now }
+        ensures { IfOk result (λ answer. answer ≡ fits_in by.now.wire by.now.terms self.now) }
     {
         Ok(fits(scratch, self.a, by)? && fits(scratch, self.b, by)? && fits(scratch, self.c, by)?)
     }

@@ -6,7 +6,7 @@ ghost use Rattle.std.specs.Option.{option_map};
 ghost use Rattle.tv_r1cs_read.specs.Rows.{constraint_of};
 ghost use Rattle.tv_shrink.specs.Answers.{wide_in, IsTooWide};
 ghost use Rattle.tv_shrink.specs.Moving.{moved_in, moved_rows};
-ghost use Rattle.tv_core.specs.Normal.{normal_constraint, IsNormalFrom};
+ghost use Rattle.tv_core.specs.Normal.{normal_constraint};
 ghost use Rattle.tv_shrink.specs.Passing.{row_fits};
 ghost use Rattle.tv_shrink.specs.Replacing.{replaced_in};
 ghost use Rattle.tv_shrink.specs.Spans.{row_at, IsInside};
@@ -171,9 +171,8 @@ impl Rows {
         scratch: &mut Vec<(F, Wire)>,
         by: &Substitution<'_>,
     ) -> Result<bool, AllocError>
-        requires normal { RowsAreNormal self.now }
-        requires by { IsNormalFrom 0 by.now.replacement.now }
-        ensures { IfOk result (λ answer. answer ≡ row_fits by.now.wire by.now.replacement.now
+        requires { RowsAreNormal self.now }
+        ensures { IfOk result (λ answer. answer ≡ row_fits by.now.wire by.now.terms
             (slice_index_or (slice_set self.now but None) at None)) }
     {
         let at = at as usize;
@@ -195,12 +194,9 @@ impl Rows {
     ) -> Result<(), AllocError>
         requires inside { at < length self.old }
         requires normal { RowIsNormal (slice_index_or self.old at None) }
-        requires by { IsNormalFrom 0 by.now.replacement.now }
-        requires fits { row_fits by.now.wire by.now.replacement.now
-            (slice_index_or self.old at None) ≡ true }
+        requires fits { row_fits by.now.wire by.now.terms (slice_index_or self.old at None) ≡ true }
         ensures replaces { OnOk result (self.new ≡ slice_set self.old at
-            (option_map (replaced_in by.now.wire by.now.replacement.now)
-            (slice_index_or self.old at None))) }
+            (option_map (replaced_in by.now.wire by.now.terms) (slice_index_or self.old at None))) }
         ensures err { OnErr result (self.new ≡ self.old) }
     {
         let Some(span) = self.spans[at] else {

@@ -4,9 +4,8 @@ ghost use Rattle.std.specs.Prelude.{◌≡◌, ◌+◌, ◌≤◌, ◌<◌, ◌^
 ghost use Rattle.std.specs.Prelude.{slice_index_or, slice_set, None, Some, IfOk, IfSome, OnOk};
 ghost use Rattle.std.specs.List.{list_all};
 ghost use Rattle.std.specs.Option.{option_map};
-ghost use Rattle.tv_core.specs.Normal.{IsNormalFrom};
 ghost use Rattle.tv_shrink.specs.Passing.{dropped, row_fits, substituted};
-ghost use Rattle.tv_shrink.specs.Replacing.{has_wire, replaced_in};
+ghost use Rattle.tv_shrink.specs.Replacing.{replaced_in};
 ghost use Rattle.tv_shrink.specs.Tidy.{marked, row_has, RowsAreNormal, RowIsNormal};
 
 use crate::occurrences::Occurrences;
@@ -111,11 +110,10 @@ impl State {
         scratch: &mut Vec<(F, Wire)>,
         by: &Substitution<'_>,
     ) -> Result<bool, AllocError>
-        requires private { self.old.publics ≤ by.now.wire }
-        requires by { IsNormalFrom 0 by.now.replacement.now }
+        requires { self.old.publics ≤ by.now.wire }
         ensures same { self.new ≡ self.old }
         ensures fit { IfOk result (λ fit. fit
-            ≡ list_all (row_fits by.now.wire by.now.replacement.now)
+            ≡ list_all (row_fits by.now.wire by.now.terms)
             (slice_set self.old.pass.rows but None)) }
     {
         let misfit = self.occurrences.misfit(&self.rows, but, scratch, by)?;
@@ -134,16 +132,13 @@ impl State {
         scratch: &mut Vec<(F, Wire)>,
         by: &Substitution<'_>,
     ) -> Result<(), AllocError>
-        requires by { IsNormalFrom 0 by.now.replacement.now }
-        requires lacks { has_wire by.now.wire by.now.replacement.now ≡ false }
-        requires fits { row_fits by.now.wire by.now.replacement.now
+        requires { row_fits by.now.wire by.now.terms
             (slice_index_or self.old.pass.rows at None) ≡ true }
         ensures { OnOk result (self.new ≡ record {
           publics = self.old.publics;
           pass = record {
             rows = slice_set self.old.pass.rows at (option_map
-                (replaced_in by.now.wire by.now.replacement.now)
-                (slice_index_or self.old.pass.rows at None));
+                (replaced_in by.now.wire by.now.terms) (slice_index_or self.old.pass.rows at None));
             gone = self.old.pass.gone;
           };
         }) }
@@ -167,13 +162,10 @@ impl State {
         by: &Substitution<'_>,
     ) -> Result<(), AllocError>
         requires private { self.old.publics ≤ by.now.wire }
-        requires by { IsNormalFrom 0 by.now.replacement.now }
-        requires lacks { has_wire by.now.wire by.now.replacement.now ≡ false }
-        requires fit { list_all (row_fits by.now.wire by.now.replacement.now)
-            self.old.pass.rows ≡ true }
+        requires fit { list_all (row_fits by.now.wire by.now.terms) self.old.pass.rows ≡ true }
         ensures { OnOk result (self.new ≡ record {
           publics = self.old.publics;
-          pass = substituted by.now.wire by.now.replacement.now self.old.pass;
+          pass = substituted by.now.wire by.now.terms self.old.pass;
         }) }
     {
         self.occurrences.rows_of(by.wire.0, named)?;

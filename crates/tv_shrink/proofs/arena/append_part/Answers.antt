@@ -8,7 +8,7 @@ pub overflow_cast-result : goal.overflow_cast-result
 overflow_cast-result c =
     omega (
       arith,
-      part_short c.args.by.now.wire c.args.by.now.replacement.now c.args.terms.now c.requires.fits c.requires.few,
+      part_short c.args.by.now.wire c.args.by.now.terms c.args.terms.now c.requires.fits c.requires.few,
       ap length c.in_ok-append_replaced.ensures,
-      length-append c.args.out.now.items (replaced c.args.by.now.wire c.args.by.now.replacement.now c.args.terms.now),
+      length-append c.args.out.now.items (replaced c.args.by.now.wire c.args.by.now.terms c.args.terms.now),
     )

@@ -2,7 +2,8 @@ use Rattle.std.proofs.Common.{◌≡◌, ◌≤◌, ◌%◌, ◌∙◌, None, tr
 use Rattle.std.specs.List.{list_any}
 use Rattle.std.proofs.lemmas.Bool.{or_cases}
 use Rattle.tv_shrink.specs.Passing.{row_fits}
-use Rattle.tv_shrink.specs.declared.substitution.Substitution.{Substitution}
+use Rattle.tv_shrink.specs.Replacing.{Replacement}
+use Rattle.tv_shrink.specs.declared.substitution.Substitution.TheInside.{Inside}
 use Rattle.std.proofs.lemmas.Nat.{mod_below}
 use Rattle.tv_shrink.specs.Occurring.{rows_from, rows_of}
 use Rattle.tv_shrink.proofs.Occurring.{head_inside, rows_from-at, rows_from-none, rows_seen}
@@ -13,14 +14,15 @@ use Rattle.tv_shrink.proofs.occurrences.Occurrences.misfit.Goals.{After-index-nu
 head : (c : After-index-number) → (c.index-number.result.now ≤ length c.self.inside.entries.items)
     × (rows_from (reverse c.self.inside.entries.items) c.index-number.result.now ≡ rows_of c.args.self.now c.args.by.now.wire)
 head c =
-    let is = head_inside c.self.inside.entries.items c.self.inside.heads.items (c.by.inside.0.0.0 % length c.self.inside.heads.items) c.index-number.result.now
-    c.self.invariant (mod_below c.by.inside.0.0.0 (length c.self.inside.heads.items) c.self.invariant.some)
-    (subst (λ n. c.index-number.result.now ≡ get_or c.self.inside.heads.items (c.by.inside.0.0.0 % n) c.index-number.result.now)
+    let is = head_inside c.self.inside.entries.items c.self.inside.heads.items (c.by-inside.inside.0.0.0 % length c.self.inside.heads.items)
+    c.index-number.result.now c.self.invariant (mod_below c.by-inside.inside.0.0.0 (length c.self.inside.heads.items) c.self.invariant.some)
+    (subst (λ n. c.index-number.result.now ≡ get_or c.self.inside.heads.items (c.by-inside.inside.0.0.0 % n) c.index-number.result.now)
     (omega (arith, c.len.ensures)) c.index-number.ensures) in (
       is.0,
       ap (rows_from (reverse c.self.inside.entries.items)) is.1
-          ∙ sym (rows_seen c.self.inside.entries.items c.self.inside.heads.items c.args.self.now c.by.inside.0.0.0 c.self.view_is c.self.invariant.some)
-          ∙ ap (λ (s : Substitution). rows_of c.args.self.now s.wire) c.by.view_is,
+          ∙ sym (rows_seen c.self.inside.entries.items c.self.inside.heads.items c.args.self.now c.by-inside.inside.0.0.0 c.self.view_is c.self.invariant.some)
+          ∙ ap (λ (s : Inside). rows_of c.args.self.now s.wire) c.by-inside.view_is
+          ∙ ap (λ (s : Replacement). rows_of c.args.self.now s.wire) c.by.view_is,
     )
 
 pub loop-number-init : goal.loop-number-init
@@ -35,14 +37,14 @@ pub loop-number-preserved : goal.loop-number-preserved
 loop-number-preserved c =
     let found = rows_from-at c.self.inside.entries.items c.self.inside.heads.items c.loop-number.number c.index-entry.result.now
     (omega (arith, c.loop-number-test.true)) c.loop-number.invariant.inside c.self.invariant c.index-entry.ensures in
-    let here : row_fits c.args.by.now.wire c.args.by.now.replacement.now (get_or (set c.args.rows.now c.args.but None) c.index-entry.result.now.row None)
+    let here : row_fits c.args.by.now.wire c.args.by.now.terms (get_or (set c.args.rows.now c.args.but None) c.index-entry.result.now.row None)
     ≡ true = sym c.in_ok-other_fits.ensures ∙ c.if-not-branch.false in
     record {
       inside = omega (arith, found.1, c.loop-number.invariant.inside);
       seen = λ i e. elim (c.loop-number.invariant.seen i e) [
         | inl fits ↦ inl fits
         | inr later ↦ elim (or_cases _ _ (sym (ap (list_any (λ p. eqb p i)) found.0) ∙ later)) [
-          | inl same ↦ inl (subst (λ j. row_fits c.args.by.now.wire c.args.by.now.replacement.now (get_or (set c.args.rows.now c.args.but None) j None) ≡ true)
+          | inl same ↦ inl (subst (λ j. row_fits c.args.by.now.wire c.args.by.now.terms (get_or (set c.args.rows.now c.args.but None) j None) ≡ true)
               (eqb-true c.index-entry.result.now.row i same) here)
           | inr rest ↦ inr rest
         ]

@@ -8,7 +8,7 @@ abbrev pub invariant-loop-number : goal.invariant-loop-number
 invariant-loop-number l = record {
   inside : l.number ≤ length l.self-inside.entries.items;
   seen : (i : ℕ) → list_any (λ p. eqb p i) (rows_from (reverse l.self-inside.entries.items) l.initial.number) ≡ true
-      → (row_fits l.by.wire l.by.replacement.now (get_or (set l.rows l.but None) i None) ≡ true)
+      → (row_fits l.by.wire l.by.terms (get_or (set l.rows l.but None) i None) ≡ true)
       ⊎ (list_any (λ p. eqb p i) (rows_from (reverse l.self-inside.entries.items) l.number) ≡ true);
 }
 

@@ -14,7 +14,7 @@ pub invariant_of-self-2 : goal.invariant_of-self-2
 invariant_of-self-2 c =
     let f = row_at c.self.inside.terms.items in
     let found = row_found f c.self.inside.spans.items c.args.self.now c.args.at c.index.result.now c.self.view_is c.requires.inside c.index.ensures in
-    let row = replaced_in c.args.by.now.wire c.args.by.now.replacement.now c.row-row.result in
+    let row = replaced_in c.args.by.now.wire c.args.by.now.terms c.row-row.result in
     let made = c.in_ok-made.ensures.made in
     let put : c.deref-2.result.now ≡ row_terms row = c.deref-2.ensures.value ∙ c.in_ok-made.ensures.out in
     (rows_laid c.self.inside.terms.items c.lay.new.terms.items c.deref-2.result.now c.self.inside.spans.items c.args.self.now c.args.at c.in_ok-start.start
@@ -27,7 +27,7 @@ pub returns-clause-replaces : goal.returns-clause-replaces
 returns-clause-replaces c =
     let f = row_at c.self.inside.terms.items in
     let found = row_found f c.self.inside.spans.items c.args.self.now c.args.at c.index.result.now c.self.view_is c.requires.inside c.index.ensures in
-    let row = replaced_in c.args.by.now.wire c.args.by.now.replacement.now c.row-row.result in
+    let row = replaced_in c.args.by.now.wire c.args.by.now.terms c.row-row.result in
     let made = c.in_ok-made.ensures.made in
     let put : c.deref-2.result.now ≡ row_terms row = c.deref-2.ensures.value ∙ c.in_ok-made.ensures.out in
     let here : get_or c.args.self.now c.args.at None ≡ Some (f c.in-Some.span) = found.1 ∙ ap (option_map f) c.in-Some.is in
@@ -37,5 +37,5 @@ returns-clause-replaces c =
     c.self.invariant c.self.view_is found.0 (held_at c.self.inside.spans.items c.args.at c.index.result.now c.in-Some.span found.0 c.index.ensures c.in-Some.is)
     put c.in_ok-start.ensures.free c.in_ok-start.ensures.puts
     (ap (λ (s : Span). let at : Span = record { start = c.in_ok-start.start; a = s.a; b = s.b; c = s.c } in at) made)).1
-    ∙ ap (λ row. set c.args.self.now c.args.at (option_map (replaced_in c.args.by.now.wire c.args.by.now.replacement.now) row))
+    ∙ ap (λ row. set c.args.self.now c.args.at (option_map (replaced_in c.args.by.now.wire c.args.by.now.terms) row))
     (sym (here ∙ ap Some (sym same)))

@@ -11,6 +11,6 @@ invariant-loop-at l = record {
   each : length l.self.pass.rows ≡ length l.initial.self.pass.rows;
   so_far : (i : ℕ) → get_or l.self.pass.rows i None
       ≡ cond (list_any (λ p. eqb p i) (take l.at-index l.at-items))
-      (option_map (replaced_in l.by.wire l.by.replacement.now) (get_or l.initial.self.pass.rows i None))
+      (option_map (replaced_in l.by.wire l.by.terms) (get_or l.initial.self.pass.rows i None))
       (get_or l.initial.self.pass.rows i None);
 }
