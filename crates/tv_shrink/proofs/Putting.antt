@@ -9,7 +9,7 @@ use Rattle.tv_shrink.proofs.Read.{each_at}
 use Rattle.tv_core.specs.Circuits.{Circuit, fresh, pure, put, turns, ◌>>=◌}
 use Rattle.tv_core.specs.Constraints.{Constraint}
 use Rattle.tv_core.specs.Meanings.{terms_in}
-use Rattle.tv_shrink.specs.Emitting.{row_circuit, row_count, rows_circuit, wires_circuit}
+use Rattle.tv_shrink.specs.Emission.{row_circuit, row_count, rows_circuit, wires_circuit}
 use Rattle.tv_shrink.specs.Tidy.{AreWithin, IsWithin, RowIsWithin}
 
 pub row_count_few : (row : Option Constraint) → row_count row ≤ 1

@@ -1,5 +1,5 @@
 pub mod Answers
-pub mod Emitting
+pub mod Emission
 pub mod Laws
 pub mod Merging
 pub mod Moving

@@ -5,22 +5,22 @@
 #![tactic(auto)]
 
 mod arena;
-mod emitting;
+mod emission;
 mod fault;
 mod laws;
 mod merge;
 mod normal;
+mod normal_system;
 mod numbers;
 mod occurrences;
+mod output;
 mod pass;
-mod reading;
 mod row;
 mod rows;
 mod shrinking;
 mod shrunk;
 mod state;
 mod substitution;
-mod writing;
 
 pub use fault::ShrinkFault;
 pub use laws::{keeps_publics, keeps_solutions, solutions_are_one, systems_are_over};

@@ -5,7 +5,7 @@ ghost use Rattle.tv_shrink.specs.Answers.{HaltsBy, Shrinks, Tells};
 ghost use Rattle.tv_shrink.specs.declared.fault.ShrinkFault.{ShrinkFault};
 
 use crate::fault::ShrinkFault;
-use crate::reading::read;
+use crate::normal_system::read;
 use crate::shrunk::{Shrunk, settle};
 use std::alloc::Global;
 use tv_files::Files;

@@ -4,9 +4,9 @@ ghost use Rattle.tv_core.specs.Constraints.{Constraint};
 ghost use Rattle.tv_shrink.specs.Answers.{counted_system, start_rows, IsReady};
 ghost use Rattle.tv_shrink.specs.Shrinking.{shrink};
 
+use crate::normal_system::NormalSystem;
 use crate::numbers::Numbers;
 use crate::pass::Pass;
-use crate::reading::NormalSystem;
 use crate::rows::Rows;
 use std::alloc::{AllocError, Global};
 use std::marker::Model;

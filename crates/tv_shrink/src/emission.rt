@@ -2,7 +2,7 @@
 
 ghost use Rattle.std.specs.Prelude.{◌≡◌, ◌≤◌, false, length, IfOk};
 ghost use Rattle.tv_core.specs.Sinks.{PutsAll, PutsIn, Grows, Room};
-ghost use Rattle.tv_shrink.specs.Emitting.{row_circuit, row_count, rows_circuit, wires_circuit};
+ghost use Rattle.tv_shrink.specs.Emission.{row_circuit, row_count, rows_circuit, wires_circuit};
 ghost use Rattle.tv_shrink.specs.Tidy.{RowIsWithin, AreWithin};
 
 use crate::row::Row;

@@ -1,7 +1,7 @@
 use Rattle.std.proofs.Common.{◌≡◌, ◌≤◌, ◌*◌, length, take}
 use Rattle.std.specs.List.{filter_map}
 use Rattle.tv_core.specs.Meanings.{terms_in}
-use Rattle.tv_shrink.proofs.writing.count_rows.Given as goal
+use Rattle.tv_shrink.proofs.output.count_rows.Given as goal
 
 abbrev pub invariant-loop-at : goal.invariant-loop-at
 invariant-loop-at l = record {

@@ -2,10 +2,10 @@ use Rattle.std.proofs.Common.{◌≤◌, sym, ◌∙◌, ap, subst}
 use Rattle.tv_core.proofs.Chain.{puts_nothing}
 use Rattle.tv_core.specs.Combinations.{top}
 use Rattle.tv_core.specs.Sinks.{PutsAll}
-use Rattle.tv_shrink.specs.Emitting.{row_circuit}
+use Rattle.tv_shrink.specs.Emission.{row_circuit}
 use Rattle.tv_shrink.specs.Tidy.{IsWithin, RowIsWithin}
 use Rattle.tv_shrink.proofs.Read.{top_within}
-use Rattle.tv_shrink.proofs.emitting.put_row.Goals as goal
+use Rattle.tv_shrink.proofs.emission.put_row.Goals as goal
 
 pub put-requires-clause-a_made : goal.put-requires-clause-a_made
 put-requires-clause-a_made g c =

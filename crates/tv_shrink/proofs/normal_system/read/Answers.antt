@@ -12,7 +12,7 @@ use Rattle.tv_core.specs.Normal.{normal_constraint}
 use Rattle.tv_shrink.specs.Tidy.{RowsAreNormal, AreWithin, RowIsWithin}
 use Rattle.tv_shrink.proofs.Read.{few_terms, halted, narrow_within, no_wide, pushed_normal, rows-push, start_more, tells_read, wide_halted, wide_more}
 use Rattle.tv_shrink.proofs.Read.{wide_read}
-use Rattle.tv_shrink.proofs.reading.read.Goals as goal
+use Rattle.tv_shrink.proofs.normal_system.read.Goals as goal
 
 pub loop-scratch-init : goal.loop-scratch-init
 loop-scratch-init g c = record {

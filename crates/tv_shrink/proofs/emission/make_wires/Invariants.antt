@@ -1,6 +1,6 @@
 use Rattle.tv_core.specs.Sinks.{PutsAll, Grows}
-use Rattle.tv_shrink.specs.Emitting.{wires_circuit}
-use Rattle.tv_shrink.proofs.emitting.make_wires.Given as goal
+use Rattle.tv_shrink.specs.Emission.{wires_circuit}
+use Rattle.tv_shrink.proofs.emission.make_wires.Given as goal
 
 abbrev pub invariant-loop : goal.invariant-loop
 invariant-loop g l = record {

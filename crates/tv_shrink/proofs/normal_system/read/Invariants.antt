@@ -4,7 +4,7 @@ use Rattle.tv_container.specs.Reading.{Known}
 use Rattle.tv_r1cs_read.specs.Places.{IsAt}
 use Rattle.tv_shrink.specs.Answers.{first_wide, start_rows}
 use Rattle.tv_shrink.specs.Tidy.{RowsAreNormal, AreWithin}
-use Rattle.tv_shrink.proofs.reading.read.Given as goal
+use Rattle.tv_shrink.proofs.normal_system.read.Given as goal
 
 abbrev pub invariant-loop-scratch : goal.invariant-loop-scratch
 invariant-loop-scratch g l = record {

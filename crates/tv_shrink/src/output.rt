@@ -5,7 +5,7 @@ ghost use Rattle.tv_core.specs.Meanings.{terms_in};
 ghost use Rattle.tv_shrink.specs.Tidy.{AreWithin};
 ghost use Rattle.tv_shrink.specs.Written.{Writes};
 
-use crate::emitting::{make_wires, put_rows};
+use crate::emission::{make_wires, put_rows};
 use crate::row::Row;
 use crate::rows::Rows;
 use crate::shrunk::Shrunk;

@@ -1,8 +1,8 @@
 use Rattle.std.proofs.Common.{ℕ, arith}
 use Rattle.tv_core.proofs.Chain.{puts_no_turn, puts_nothing, puts_then, puts_turn}
 use Rattle.tv_core.specs.Circuits.{Circuit, fresh, pure}
-use Rattle.tv_shrink.specs.Emitting.{one_wire}
-use Rattle.tv_shrink.proofs.emitting.make_wires.Goals as goal
+use Rattle.tv_shrink.specs.Emission.{one_wire}
+use Rattle.tv_shrink.proofs.emission.make_wires.Goals as goal
 
 pub loop-init : goal.loop-init
 loop-init g c = record {

@@ -1,7 +1,7 @@
 use Rattle.std.proofs.Common.{◌≡◌, ◌≤◌, ◌+◌, false}
 use Rattle.tv_core.specs.Sinks.{PutsAll}
-use Rattle.tv_shrink.specs.Emitting.{rows_circuit}
-use Rattle.tv_shrink.proofs.emitting.put_rows.Given as goal
+use Rattle.tv_shrink.specs.Emission.{rows_circuit}
+use Rattle.tv_shrink.proofs.emission.put_rows.Given as goal
 
 abbrev pub invariant-loop-at : goal.invariant-loop-at
 invariant-loop-at g l = record {
