@@ -19,7 +19,7 @@ use Rattle.tv_isa.specs.Instruction.{decode}
 use Rattle.tv_isa.specs.Opcodes.{among}
 use Rattle.tv_isa.specs.declared.instr.Instr.{Instr}
 use Rattle.tv_numbers.specs.Laws.{AtNumbers}
-use Rattle.tv_numbers.specs.Numbers.{Did, did_of, operand_word, other_word, found}
+use Rattle.tv_numbers.specs.Numbers.{Did, did_of, operand_word, other_word, found, step_words}
 use Rattle.tv_numbers.specs.Tables.{store_ops}
 use Rattle.tv_numbers.specs.Views.{View, flag_of}
 use Rattle.tv_regs.proofs.TripleLaws.{triple_complete, triple_sizes}
@@ -135,7 +135,7 @@ module _ (w : ℕ) (z : List ℕ) (n : ℕ) (state : StateWires) (at head tail :
     pub rest : HasFrom z (made w n state at).next (later_values w n now instr takes low_at high_at (slice_index z (test w n state at)))
 
 pub front : (w : ℕ) → IsWidth w → (z : List ℕ) (n : ℕ) (state : StateWires) (at head tail o : ℕ) (takes : Bool) → Assigns z
-    → AtNumbers w n (state_in z state) head tail o takes → HasFrom z at (block_values w n (state_in z state) head tail o takes)
+    → AtNumbers w n (state_in z state) (step_words head tail o takes) → HasFrom z at (block_values w n (state_in z state) (step_words head tail o takes))
     → Front w z n state at head tail o takes
 front w width z n state at head tail o takes assigns in_range has =
     let v = state_in z state in
@@ -241,7 +241,7 @@ shown : (w : ℕ) (z : List ℕ) (n : ℕ) (state : StateWires) (time at head ta
     (is : IsStep w z n time state (block_of w n state time at).answer) → Assigns z
     → slice_index z (instruction w n state at).answer.head ≡ head → slice_index z (instruction w n state at).answer.tail ≡ tail
     → slice_index z (made w n state at).answer.row.low ≡ low → took z (tapes w n state at).answer ≡ takes
-    → did z state (block_of w n state time at).answer ≡ did_of w n time (state_in z state) head tail low takes
+    → did z state (block_of w n state time at).answer ≡ did_of w n time (state_in z state) (step_words head tail low takes)
 unfolding block_of computed_of effects_of fresh pure ◌>>=◌
 shown w z n state time at head tail low takes is assigns head_at tail_at low_at takes_at =
     let v = state_in z state in
@@ -250,9 +250,9 @@ shown w z n state time at head tail low takes is assigns head_at tail_at low_at 
     let word_is : is.word ≡ low = sym (ap (λ (b : Did). b.word) is.same) ∙ low_at in
     let takes_is : is.takes ≡ takes = sym (ap (λ (b : Did). b.takes) is.same) ∙ takes_at in
     is.same
-    ∙ ap (λ k. did_of w n time v k is.tail is.word is.takes) head_is
-    ∙ ap (λ k. did_of w n time v head k is.word is.takes) tail_is
-    ∙ ap₂ (λ k b. did_of w n time v head tail k b) word_is takes_is
+    ∙ ap (λ k. did_of w n time v (step_words k is.tail is.word is.takes)) head_is
+    ∙ ap (λ k. did_of w n time v (step_words head k is.word is.takes)) tail_is
+    ∙ ap₂ (λ k b. did_of w n time v (step_words head tail k b)) word_is takes_is
 
 -- an assignment that has the values of the parts after the arithmetic meets these
 record Back (w : ℕ) (z : List ℕ) (n : ℕ) (state : StateWires) (at : ℕ) (takes : Bool) : Type 0 where
@@ -266,7 +266,7 @@ record Back (w : ℕ) (z : List ℕ) (n : ℕ) (state : StateWires) (at : ℕ) (
   pub takes_is : took z (tapes w n state at).answer ≡ takes
 
 back : (w : ℕ) → IsWidth w → (z : List ℕ) (n : ℕ) (state : StateWires) (at head tail o : ℕ) (takes : Bool) → Assigns z
-    → AtNumbers w n (state_in z state) head tail o takes → Front w z n state at head tail o takes → Back w z n state at takes
+    → AtNumbers w n (state_in z state) (step_words head tail o takes) → Front w z n state at head tail o takes → Back w z n state at takes
 back w width z n state at head tail o takes assigns in_range fore =
     let v = state_in z state in
     let range = in_range.range in

@@ -4,7 +4,7 @@ use Rattle.tv_bits.specs.ZeroSign.{sign_at_zero}
 use Rattle.tv_decode.specs.Instructions.{instruction_values}
 use Rattle.tv_isa.specs.Instruction.{decode}
 use Rattle.tv_isa.specs.declared.instr.Instr.{Instr}
-use Rattle.tv_numbers.specs.Numbers.{operand_word, other_word, found}
+use Rattle.tv_numbers.specs.Numbers.{operand_word, other_word, found, step_words}
 use Rattle.tv_numbers.specs.Views.{View}
 use Rattle.tv_parts.specs.Arithmetic.{arithmetic_values}
 use Rattle.tv_parts.specs.Flag.{sign_at}
@@ -54,7 +54,7 @@ module _ (w n : ℕ) (v : View) (head tail word : ℕ) (takes : Bool) (step : St
 
   pub filled : step.n ≡ n → step.instr ≡ decode w head tail → step.aux ≡ takes → step.low ≡ row_low w v (decode w head tail) word
       → step.high ≡ row_high w v (decode w head tail) → AreNumbers w v step → test ≡ test_by w step.instr.op step.operand step.low step.high step.found
-      → computed_by w v head tail step test ++ effects_by w v step test ≡ block_values w n v head tail word takes
+      → computed_by w v head tail step test ++ effects_by w v step test ≡ block_values w n v (step_words head tail word takes)
   filled count instr aux low high numbers by =
       let registers = triple_values (other_register step.instr) (tail % 16) step.instr.dest v.regs in
       let tests : test ≡ test_at step.n step.instr step.aux step.low step.high =

@@ -12,7 +12,7 @@ use Rattle.tv_isa.specs.declared.instr.Instr.{Instr}
 use Rattle.tv_isa.specs.declared.opcode.TheConstants.{STORE_B, STORE_W, READ}
 use Rattle.tv_mem.proofs.WordLaws.{words_are_small}
 use Rattle.tv_numbers.proofs.ShownLaws.{machine_shows, seen_in_range}
-use Rattle.tv_numbers.specs.Numbers.{other_word, operand_word, touches, takes_primary, asks, with_byte_in, data_line, Did, did_of, lines_in}
+use Rattle.tv_numbers.specs.Numbers.{other_word, operand_word, touches, takes_primary, asks, with_byte_in, data_line, Did, did_of, lines_in, step_words}
 use Rattle.tv_numbers.specs.Shown.{handed, head_at, tail_at, data_at}
 use Rattle.tv_numbers.specs.Tables.{memory_ops}
 use Rattle.tv_numbers.specs.Views.{View, seen}
@@ -86,9 +86,10 @@ same_data_line w n v i o takes time = by (among data_ops i.op) refl
         none.memory (ap (λ r. (r && (operand_word v i == 0)) && nat_lt v.taken n) none.read) none.word none.byte
 
 same_lines : (w n time : ℕ) (v : View) (head tail o : ℕ) (takes : Bool)
-    → lines_in (did_of w n time v head tail (row_low w v (decode w head tail) o) takes) ≡ lines_in (did_of w n time v head tail o takes)
+    → lines_in (did_of w n time v (step_words head tail (row_low w v (decode w head tail) o) takes))
+    ≡ lines_in (did_of w n time v (step_words head tail o takes))
 same_lines w n time v head tail o takes =
-    let b = did_of w n time v head tail o takes in
+    let b = did_of w n time v (step_words head tail o takes) in
     ap (λ (line : Line). b.first ∷ b.second ∷ line ∷ []) (same_data_line w n v (decode w head tail) o takes (time + 2))
 
 -- ---- the machine's step

@@ -17,7 +17,7 @@ use Rattle.tv_isa.specs.Opcodes.{among}
 use Rattle.tv_isa.specs.declared.instr.Instr.{Instr}
 use Rattle.tv_numbers.proofs.Cases.{chosen_in}
 use Rattle.tv_numbers.proofs.RangeLaws.{some_words, results_small}
-use Rattle.tv_numbers.specs.Numbers.{operand_word, other_word, found, writes, result_in, stepped}
+use Rattle.tv_numbers.specs.Numbers.{operand_word, other_word, found, writes, result_in, stepped, step_words}
 use Rattle.tv_numbers.specs.Tables.{results}
 use Rattle.tv_numbers.specs.Views.{View, flag_of, ViewInRange}
 use Rattle.tv_regs.proofs.TripleLaws.{triple_sizes}
@@ -71,7 +71,7 @@ one_more y ys n e = let k = e.is in record { is = omega (arith, k) }
 
 -- the values of a part fill its circuit whatever wires that is of, so those of other wires serve here
 block_length : (w : ℕ) → IsWidth w → (n : ℕ) (state : StateWires) (v : View) (head tail o : ℕ) (takes : Bool) → length v.regs ≡ 16
-    → length (block_values w n v head tail o takes) ≡ block_made w
+    → length (block_values w n v (step_words head tail o takes)) ≡ block_made w
 block_length w width n state v head tail o takes size =
     let i : Instr = decode w head tail in
     let x = other_word v i in
@@ -114,13 +114,13 @@ block_length w width n state v head tail o takes size =
     counted (next_flag_of w state 0 m.x 0 t) (flag_values w (input_of n v i low) takes f) 3 (flag_sizes.end w state 0 m.x 0 t)
     (flag_sizes.fills w state 0 m.x 0 t n v i low takes f) in
     let e11 = counted (pc_of w state 0 b) (pc_values w v i) 4 (pc_sizes.end w state 0 b) (pc_sizes.fills w state 0 b v i) in
-    let all : HasLength (block_values w n v head tail o takes) _ =
+    let all : HasLength (block_values w n v (step_words head tail o takes)) _ =
     joined _ _ _ _ e1 (joined _ _ _ _ e2 (joined _ _ _ _ e3 (one_more f _ _ (joined _ _ _ _ e4 (joined _ _ _ _ e5
     (joined _ _ _ _ e6 (joined _ _ _ _ e7 (joined _ _ _ _ e8 (joined _ _ _ _ e9 (joined _ _ _ _ e10 e11)))))))))) in
     all.is ∙ omega (arith, width)
 
 block_fills : (w : ℕ) → IsWidth w → (n : ℕ) (state : StateWires) (time : ℕ) (v : View) (head tail o : ℕ) (takes : Bool) → length v.regs ≡ 16
-    → Fills (block_of w n state time) (block_values w n v head tail o takes)
+    → Fills (block_of w n state time) (block_values w n v (step_words head tail o takes))
 block_fills w width n state time v head tail o takes size next =
     block_end w width n state time next ∙ ap (λ m. next + m) (sym (block_length w width n state v head tail o takes size))
 
@@ -134,7 +134,7 @@ test_small k y =
     (λ _. omega arith)
 
 block_in_field : (w : ℕ) → IsWidth w → (n : ℕ) (v : View) (head tail o : ℕ) (takes : Bool) → n < 2 ^ 29 → ViewInRange w n v
-    → head < 2 ^ w → tail < 2 ^ w → o < 2 ^ w → InField (block_values w n v head tail o takes)
+    → head < 2 ^ w → tail < 2 ^ w → o < 2 ^ w → InField (block_values w n v (step_words head tail o takes))
 block_in_field w width n v head tail o takes short range head_word tail_word o_word =
     let i : Instr = decode w head tail in
     let x = other_word v i in

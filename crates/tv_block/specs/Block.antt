@@ -14,7 +14,7 @@ use Rattle.tv_isa.specs.declared.opcode.TheConstants.{ANSWER}
 use Rattle.tv_lines.specs.Packing.{line_value}
 use Rattle.tv_lines.specs.Placed.{line_in}
 use Rattle.tv_numbers.specs.Laws.{AtNumbers, DoesStep}
-use Rattle.tv_numbers.specs.Numbers.{Did, did_of}
+use Rattle.tv_numbers.specs.Numbers.{Did, did_of, step_words}
 use Rattle.tv_numbers.specs.Tables.{store_ops}
 use Rattle.tv_numbers.specs.Views.{flag_of, ViewInRange}
 use Rattle.tv_regs.specs.Triple.{triple_of}
@@ -133,8 +133,8 @@ pub record IsStep (w : ℕ) (z : List ℕ) (n time : ℕ) (state : StateWires) (
   pub tail : ℕ
   pub word : ℕ
   pub takes : Bool
-  pub at_numbers : AtNumbers w n (state_in z state) head tail word takes
-  pub same : did z state made ≡ did_of w n time (state_in z state) head tail word takes
+  pub at_numbers : AtNumbers w n (state_in z state) (step_words head tail word takes)
+  pub same : did z state made ≡ did_of w n time (state_in z state) (step_words head tail word takes)
   pub taken : slice_index z made.spot.taken ≡ flag_of takes
   pub answers : slice_index z made.answers ≡ flag_of ((decode w head tail).op == ANSWER)
 

@@ -4,7 +4,7 @@ use Rattle.tv_core.specs.Laws.{Assigns, Meets, HasFrom, Fills, InField}
 use Rattle.tv_core.specs.Lines.{Line}
 use Rattle.tv_isa.specs.Instruction.{decode}
 use Rattle.tv_numbers.specs.Laws.{AtNumbers}
-use Rattle.tv_numbers.specs.Numbers.{lines_in, did_of}
+use Rattle.tv_numbers.specs.Numbers.{lines_in, StepWords, step_words, did_of}
 use Rattle.tv_numbers.specs.Shown.{handed, MayTake}
 use Rattle.tv_numbers.specs.Views.{View, seen, ViewInRange, Matches}
 use Rattle.tv_step.specs.Range.{InRange}
@@ -19,23 +19,31 @@ use Rattle.tv_block.specs.Block.{block_of, did}
 use Rattle.tv_block.specs.Values.{row_low, block_values}
 
 -- ---- of numbers
+-- where a block stands: the wires of the state before it, the time of its first line, and the first wire that it makes
+pub record BlockPlace : Type 0 where
+  pub state : StateWires
+  pub time : ℕ
+  pub next : ℕ
+
 -- z satisfies a block's constraints, and the numbers in its wires are the step by these words: the data word that they
--- show is the low half of the row, which is o where the instruction loads, stores or reads
-pub record MeetsStep (w : ℕ) (z : List ℕ) (n : ℕ) (state : StateWires) (time next head tail o : ℕ) (takes : Bool) : Type 0 where
-  pub met : Meets z (block_of w n state time next).list
-  pub shows : did z state (block_of w n state time next).answer
-      ≡ did_of w n time (state_in z state) head tail (row_low w (state_in z state) (decode w head tail) o) takes
+-- show is the low half of the row, which is that of these words where the instruction loads, stores or reads
+pub record MeetsStep (w : ℕ) (z : List ℕ) (n : ℕ) (at : BlockPlace) (by : StepWords) : Type 0 where
+  pub met : Meets z (block_of w n at.state at.time at.next).list
+  pub shows : did z at.state (block_of w n at.state at.time at.next).answer
+      ≡ did_of w n at.time (state_in z at.state)
+      (step_words by.head by.tail (row_low w (state_in z at.state) (decode w by.head by.tail) by.word) by.takes)
 
 -- so it is of an assignment that has a step's values at the wires that are made, the step being in range
 abbrev pub BlockIsComplete : Type 0
 BlockIsComplete = (w : ℕ) → IsWidth w → (z : List ℕ) (n : ℕ) (state : StateWires) (time next head tail o : ℕ) (takes : Bool) → time + 2 < 2 ^ 32 → Assigns z
-    → AtNumbers w n (state_in z state) head tail o takes → HasFrom z next (block_values w n (state_in z state) head tail o takes)
-    → MeetsStep w z n state time next head tail o takes
+    → AtNumbers w n (state_in z state) (step_words head tail o takes)
+    → HasFrom z next (block_values w n (state_in z state) (step_words head tail o takes))
+    → MeetsStep w z n (record { state = state; time = time; next = next }) (step_words head tail o takes)
 
 -- ---- of the machine
 -- the values by the olds of the step's three lines, and the word that it takes of the auxiliary tape
 abbrev pub step_values : ℕ → ℕ → View → List ℕ → Option ℕ → List ℕ
-step_values w n v olds word = block_values w n v (slice_index olds 0) (slice_index olds 1) (handed (slice_index olds 2) word) (is_some word)
+step_values w n v olds word = block_values w n v (step_words (slice_index olds 0) (slice_index olds 1) (handed (slice_index olds 2) word) (is_some word))
 
 -- the olds of a machine's step
 abbrev pub olds_of : ℕ → ℕ → State → ℕ → List ℕ
@@ -43,28 +51,29 @@ olds_of w n st time = map (λ (line : Line). line.old) (step_lines w n st time)
 
 -- the state's wires hold a state of the machine that goes on or answers, and z has the values of its step, with a word
 -- that it may take
-pub record HasMachineStep (w : ℕ) (z x : List ℕ) (state : StateWires) (time next : ℕ) (st : State) (word : Option ℕ) : Type 0 where
+pub record HasMachineStep (w : ℕ) (z x : List ℕ) (at : BlockPlace) (st : State) (word : Option ℕ) : Type 0 where
   pub short : length x < 2 ^ 29
-  pub early : time + 2 < 2 ^ 32
+  pub early : at.time + 2 < 2 ^ 32
   pub assigns : Assigns z
-  pub range : ViewInRange w (length x) (state_in z state)
+  pub range : ViewInRange w (length x) (state_in z at.state)
   pub machine : InRange w st
-  pub matches : Matches x (state_in z state) st
+  pub matches : Matches x (state_in z at.state) st
   pub defined : IsDefined w st
-  pub may : MayTake w (state_in z state) st word
-  pub has : HasFrom z next (step_values w (length x) (state_in z state) (olds_of w (length x) st time) word)
+  pub may : MayTake w (state_in z at.state) st word
+  pub has : HasFrom z at.next (step_values w (length x) (state_in z at.state) (olds_of w (length x) st at.time) word)
 
 -- z satisfies a block's constraints; the lines are those of the machine's step, and the word is the one that was passed
-pub record MeetsMachineStep (w : ℕ) (z x : List ℕ) (state : StateWires) (time next : ℕ) (st : State) (word : Option ℕ) : Type 0 where
-  pub met : Meets z (block_of w (length x) state time next).list
-  pub lines : lines_in (did z state (block_of w (length x) state time next).answer) ≡ step_lines w (length x) st time
-  pub takes : (did z state (block_of w (length x) state time next).answer).takes ≡ is_some word
-  pub same : (v : ℕ) → word ≡ Some v → (did z state (block_of w (length x) state time next).answer).word ≡ v
+pub record MeetsMachineStep (w : ℕ) (z x : List ℕ) (at : BlockPlace) (st : State) (word : Option ℕ) : Type 0 where
+  pub met : Meets z (block_of w (length x) at.state at.time at.next).list
+  pub lines : lines_in (did z at.state (block_of w (length x) at.state at.time at.next).answer) ≡ step_lines w (length x) st at.time
+  pub takes : (did z at.state (block_of w (length x) at.state at.time at.next).answer).takes ≡ is_some word
+  pub same : (v : ℕ) → word ≡ Some v → (did z at.state (block_of w (length x) at.state at.time at.next).answer).word ≡ v
 
 -- an assignment that has the values of a machine's step satisfies the constraints, and has that step in its wires
 abbrev pub MachineStepIsMet : Type 0
 MachineStepIsMet = (w : ℕ) → IsWidth w → (z x : List ℕ) (state : StateWires) (time next : ℕ) (st : State) (word : Option ℕ)
-    → HasMachineStep w z x state time next st word → MeetsMachineStep w z x state time next st word
+    → HasMachineStep w z x (record { state = state; time = time; next = next }) st word
+    → MeetsMachineStep w z x (record { state = state; time = time; next = next }) st word
 
 -- ---- sizes
 -- how many wires and constraints a step makes: for what it works out, for what it does, and in all
@@ -91,9 +100,9 @@ pub record BlockSizes : Type 0 where
   pub end : (w : ℕ) → IsWidth w → (n : ℕ) (state : StateWires) (time next : ℕ) → (block_of w n state time next).next ≡ next + block_made w
   pub three : (w n : ℕ) (state : StateWires) (time next : ℕ) → length (block_of w n state time next).answer.lines ≡ 3
   pub fills : (w : ℕ) → IsWidth w → (n : ℕ) (state : StateWires) (time : ℕ) (v : View) (head tail o : ℕ) (takes : Bool) → length v.regs ≡ 16
-      → Fills (block_of w n state time) (block_values w n v head tail o takes)
+      → Fills (block_of w n state time) (block_values w n v (step_words head tail o takes))
   pub in_field : (w : ℕ) → IsWidth w → (n : ℕ) (v : View) (head tail o : ℕ) (takes : Bool) → n < 2 ^ 29 → ViewInRange w n v
-      → head < 2 ^ w → tail < 2 ^ w → o < 2 ^ w → InField (block_values w n v head tail o takes)
+      → head < 2 ^ w → tail < 2 ^ w → o < 2 ^ w → InField (block_values w n v (step_words head tail o takes))
 
 -- the values of a machine's step, from a state in range of which `gone` words of the primary tape are taken, with the
 -- word that it takes of the auxiliary tape, are one number of the field for each wire, whatever its opcode is.

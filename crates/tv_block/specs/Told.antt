@@ -1,6 +1,7 @@
 -- What the values of a machine's step are worked out from: the numbers of its state, the olds of its lines, and the word
 -- that it takes.
 use Rattle.std.specs.Prelude.{◌≡◌, ℕ, ◌-◌, ◌^◌, ◌<◌, Bool, length, is_some, slice_index}
+use Rattle.tv_numbers.specs.Numbers.{step_words}
 use Rattle.tv_numbers.specs.Shown.{handed}
 use Rattle.tv_numbers.specs.Views.{flag_of, seen, ViewInRange}
 use Rattle.tv_step.specs.Range.{InRange}
@@ -29,7 +30,7 @@ pub record GivesStep (w n m time : ℕ) (st : State) (ended : Bool) : Type 0 whe
   pub head_word : head_told w n st time < 2 ^ w
   pub tail_word : tail_told w n st time < 2 ^ w
   pub data_word : data_told w n st time < 2 ^ w
-  pub values : block_values w n (traced_view (told_of n m st ended)) (head_told w n st time) (tail_told w n st time) (data_told w n st time) (is_some (word_taken w st))
+  pub values : block_values w n (traced_view (told_of n m st ended)) (step_words (head_told w n st time) (tail_told w n st time) (data_told w n st time) (is_some (word_taken w st)))
       ≡ step_values w n (seen st (n - length st.primary) (flag_of ended)) (olds_of w n st time) (word_taken w st)
 
 -- so it is of each step from a state in range

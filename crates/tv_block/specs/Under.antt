@@ -6,6 +6,7 @@ use Rattle.tv_decode.specs.declared.records.InstructionWires.{InstructionWires}
 use Rattle.tv_regs.specs.Reading.{wires_top}
 use Rattle.tv_parts.specs.States.{StateUnder, TripleUnder, OperandUnder, ArithmeticUnder, TapesUnder, StoreUnder}
 use Rattle.tv_parts.specs.declared.records.Spot.{Spot}
+use Rattle.tv_parts.specs.declared.records.StateWires.{StateWires}
 use Rattle.tv_block.specs.declared.records.Block.{Block}
 use Rattle.tv_block.specs.declared.records.Computed.{Computed}
 use Rattle.tv_block.specs.declared.records.Effects.{Effects}
@@ -42,6 +43,11 @@ pub record ComputedUnder (w wires : ℕ) (c : Computed) : Type 0 where
   pub operand : OperandUnder w wires c.operand
   pub test : c.test < wires
   pub made : ArithmeticUnder w wires c.made
+
+-- the state before a step, and what the step works out
+pub record BeforeUnder (w wires : ℕ) (from : StateWires) (c : Computed) : Type 0 where
+  pub state : StateUnder wires from
+  pub computed : ComputedUnder w wires c
 
 -- what it does
 pub record EffectsUnder (wires : ℕ) (e : Effects) : Type 0 where

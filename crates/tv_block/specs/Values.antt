@@ -1,12 +1,12 @@
 -- The values of a step's wires, in order: from the view before it, its instruction i of the words head and tail, its data
 -- word o, and whether it takes that of the auxiliary tape.
-use Rattle.std.specs.Prelude.{ℕ, ◌%◌, Bool, if◌then◌else◌, List, ◌∷◌, ◌++◌}
+use Rattle.std.specs.Prelude.{◌≡◌, ℕ, ◌%◌, Bool, if◌then◌else◌, List, ◌∷◌, ◌++◌}
 use Rattle.tv_bits.specs.ZeroSign.{sign_at_zero, zero_sign_values}
 use Rattle.tv_decode.specs.Instructions.{instruction_values}
 use Rattle.tv_isa.specs.Instruction.{decode}
 use Rattle.tv_isa.specs.Opcodes.{among}
 use Rattle.tv_isa.specs.declared.instr.Instr.{Instr}
-use Rattle.tv_numbers.specs.Numbers.{operand_word, other_word, found}
+use Rattle.tv_numbers.specs.Numbers.{operand_word, other_word, found, StepWords}
 use Rattle.tv_numbers.specs.Tables.{store_ops}
 use Rattle.tv_numbers.specs.Views.{View, flag_of}
 use Rattle.tv_regs.specs.Triple.{triple_values}
@@ -18,7 +18,9 @@ use Rattle.tv_parts.specs.Operand.{operand_values}
 use Rattle.tv_parts.specs.Pc.{pc_values}
 use Rattle.tv_parts.specs.Results.{result_number, tested_number, results_values}
 use Rattle.tv_parts.specs.Tapes.{tapes_values}
+use Rattle.tv_parts.specs.Traced.{AreNumbers}
 use Rattle.tv_parts.specs.Written.{written_values}
+use Rattle.tv_parts.specs.declared.step_numbers.StepNumbers.{StepNumbers}
 use Rattle.tv_block.specs.declared.records.StateNum.{StateNum}
 
 -- the view of a state in numbers
@@ -31,6 +33,19 @@ row_low w v i o = low_number w i.op (other_word v i) (operand_word v i) o
 
 abbrev pub row_high : ℕ → View → Instr → ℕ
 row_high w v i = high_number w i.op (other_word v i) (operand_word v i)
+
+-- the numbers of a step from a view, and the word whose bits stand beside its row
+pub record AreStepNumbers (w : ℕ) (v : View) (step : StepNumbers) : Type 0 where
+  pub spelled : step.spelled ≡ spelled_word w step.instr.op step.other step.operand
+  pub numbers : AreNumbers w v step
+
+-- they are by these words, the primary tape having n words
+pub record AreBy (w n : ℕ) (v : View) (by : StepWords) (step : StepNumbers) : Type 0 where
+  pub count : step.n ≡ n
+  pub instr : step.instr ≡ decode w by.head by.tail
+  pub aux : step.aux ≡ by.takes
+  pub low : step.low ≡ row_low w v (decode w by.head by.tail) by.word
+  pub high : step.high ≡ row_high w v (decode w by.head by.tail)
 
 -- from a view by an instruction, with a row of these halves, and whether a word of the auxiliary tape is taken
 module _ (w n : ℕ) (v : View) (i : Instr) (low high : ℕ) (takes : Bool) where
@@ -58,17 +73,17 @@ module _ (w n : ℕ) (v : View) (i : Instr) (low high : ℕ) (takes : Bool) wher
 abbrev pub other_register : Instr → ℕ
 other_register i = if among store_ops i.op then i.dest else i.source
 
--- the values of a step's wires: from the view before it, its instruction of the words head and tail, its data word o, and
--- whether it takes that of the auxiliary tape
-abbrev pub block_values : ℕ → ℕ → View → ℕ → ℕ → ℕ → Bool → List ℕ
-block_values w n v head tail o takes =
-    let i = decode w head tail in
-    let low = row_low w v i o in
+-- the values of a step's wires: from the view before it, by the words of its instruction, its data word, and whether it
+-- takes that of the auxiliary tape
+abbrev pub block_values : ℕ → ℕ → View → StepWords → List ℕ
+block_values w n v by =
+    let i = decode w by.head by.tail in
+    let low = row_low w v i by.word in
     let high = row_high w v i in
-    let f = test_in w n v i low high takes in
-    instruction_values w head tail
-    ++ (triple_values (other_register i) (tail % 16) i.dest v.regs
+    let f = test_in w n v i low high by.takes in
+    instruction_values w by.head by.tail
+    ++ (triple_values (other_register i) (by.tail % 16) i.dest v.regs
     ++ (operand_values w (operand_word v i)
     ++ f ∷ (arithmetic_values w (operation_of i.op (other_word v i) (operand_word v i)) f low high
-    ++ (tapes_values w n v i low takes
-    ++ effects_values w n v i low high takes f))))
+    ++ (tapes_values w n v i low by.takes
+    ++ effects_values w n v i low high by.takes f))))

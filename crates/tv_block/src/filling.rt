@@ -3,12 +3,13 @@ ghost use Rattle.std.specs.Prelude.{◌≡◌, ◌%◌, ◌<◌, ◌^◌, ◌∷
 ghost use Rattle.tv_bits.specs.ZeroSign.{sign_at_zero};
 ghost use Rattle.tv_block.specs.Complete.{step_values};
 ghost use Rattle.tv_block.specs.Values.{numbers_view, other_register, effects_values};
-ghost use Rattle.tv_block.specs.Values.{block_values};
+ghost use Rattle.tv_block.specs.Values.{AreStepNumbers, block_values};
 ghost use Rattle.tv_core.specs.Giving.{GivesIn};
 ghost use Rattle.tv_decode.specs.Instructions.{instruction_values};
+ghost use Rattle.tv_numbers.specs.Numbers.{step_words};
 ghost use Rattle.tv_numbers.specs.Shown.{handed};
 ghost use Rattle.tv_numbers.specs.Views.{ViewInRange};
-ghost use Rattle.tv_parts.specs.Arithmetic.{spelled_word, arithmetic_values};
+ghost use Rattle.tv_parts.specs.Arithmetic.{arithmetic_values};
 ghost use Rattle.tv_parts.specs.Flag.{sign_at};
 ghost use Rattle.tv_parts.specs.Inputs.{operation_of};
 ghost use Rattle.tv_parts.specs.Operand.{operand_values};
@@ -110,7 +111,7 @@ pub fn fill_traced_step<const W: u32, V: Values>(
     requires data_word { word < 2 ^ W }
     requires whole { V.giving.broken v.old ≡ false }
     ensures gives { GivesIn V.giving v.old v.new
-        (block_values W n (traced_view state.now) head tail word takes) result }
+        (block_values W n (traced_view state.now) (step_words head tail word takes)) result }
     ensures whole { OnOk result (V.giving.broken v.new ≡ false) }
 {
     let step = step_numbers::<W>(n, state, head, tail, word, takes);
@@ -188,9 +189,7 @@ fn fill_effects<const W: u32, V: Values>(
     requires width { IsWidth W }
     requires short { step.now.n < 2 ^ 29 }
     requires range { ViewInRange W step.now.n (traced_view state.now) }
-    requires spelled { step.now.spelled ≡ spelled_word W step.now.instr.op step.now.other
-        step.now.operand }
-    requires step { AreNumbers W (traced_view state.now) step.now }
+    requires numbers { AreStepNumbers W (traced_view state.now) step.now }
     requires results { results.now ≡ results_values W step.now.instr.op step.now.operand
         step.now.low step.now.high step.now.found }
     requires whole { V.giving.broken v.old ≡ false }

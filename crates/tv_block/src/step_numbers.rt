@@ -1,13 +1,12 @@
 //! What the values of a step's wires are computed from.
 ghost use Rattle.std.specs.Prelude.{◌≡◌, ◌<◌, ◌^◌, ◌||◌, if◌then◌else◌};
-ghost use Rattle.tv_block.specs.Values.{row_low, row_high, other_register};
-ghost use Rattle.tv_isa.specs.Instruction.{IsInstruction, decode};
+ghost use Rattle.tv_block.specs.Values.{AreStepNumbers, AreBy, other_register};
+ghost use Rattle.tv_isa.specs.Instruction.{IsInstruction};
 ghost use Rattle.tv_isa.specs.Opcodes.{among};
-ghost use Rattle.tv_numbers.specs.Numbers.{operand_word, other_word, takes_primary};
+ghost use Rattle.tv_numbers.specs.Numbers.{operand_word, other_word, takes_primary, step_words};
 ghost use Rattle.tv_numbers.specs.Tables.{memory_ops};
 ghost use Rattle.tv_numbers.specs.Views.{ViewInRange};
-ghost use Rattle.tv_parts.specs.Arithmetic.{spelled_word};
-ghost use Rattle.tv_parts.specs.Traced.{traced_view, AreNumbers};
+ghost use Rattle.tv_parts.specs.Traced.{traced_view};
 ghost use Rattle.tv_step.specs.Range.{AreWords};
 ghost use Rattle.tv_word.specs.Widths.{IsWidth};
 
@@ -31,13 +30,8 @@ pub(crate) fn step_numbers<const W: u32>(
     requires range { ViewInRange W n (traced_view state.now) }
     requires tail_word { tail < 2 ^ W }
     requires data_word { word < 2 ^ W }
-    ensures count { result.n ≡ n }
-    ensures instr { result.instr ≡ decode W head tail }
-    ensures aux { result.aux ≡ takes }
-    ensures low { result.low ≡ row_low W (traced_view state.now) (decode W head tail) word }
-    ensures high { result.high ≡ row_high W (traced_view state.now) (decode W head tail) }
-    ensures spelled { result.spelled ≡ spelled_word W result.instr.op result.other result.operand }
-    ensures numbers { AreNumbers W (traced_view state.now) result }
+    ensures by { AreBy W n (traced_view state.now) (step_words head tail word takes) result }
+    ensures numbers { AreStepNumbers W (traced_view state.now) result }
 {
     let instr = decode::<W>(head, tail);
     let operand = operand::<W>(state, &instr);

@@ -5,7 +5,8 @@ ghost use Rattle.tv_block.specs.Block.{registers_of, computed_of, data_of, sourc
 ghost use Rattle.tv_block.specs.Block.{block_of, step_of};
 ghost use Rattle.tv_block.specs.Complete.{computed_made, computed_added};
 ghost use Rattle.tv_block.specs.Complete.{effects_made, effects_added, block_made, block_added};
-ghost use Rattle.tv_block.specs.Under.{BlockUnder, InstructionUnder, ComputedUnder, EffectsUnder};
+ghost use Rattle.tv_block.specs.Under.{BlockUnder, InstructionUnder, ComputedUnder, BeforeUnder};
+ghost use Rattle.tv_block.specs.Under.{EffectsUnder};
 ghost use Rattle.tv_core.specs.Sinks.{PutsIn, Grows, Room};
 ghost use Rattle.tv_parts.specs.Memory.{memory_of};
 ghost use Rattle.tv_parts.specs.Results.{sign_of, results_of};
@@ -203,8 +204,7 @@ fn results<const W: u32, S: Sink>(
 ) -> Put<ResultWires>
     requires width { IsWidth W }
     requires room { Room S.meaning s.old 5 8 }
-    requires state_made { StateUnder (S.meaning.wires s.old) state.now }
-    requires computed_made { ComputedUnder W (S.meaning.wires s.old) c.now }
+    requires before_made { BeforeUnder W (S.meaning.wires s.old) state.now c.now }
     requires byte_made { byte < S.meaning.wires s.old }
     requires tapes_made { TapesUnder (S.meaning.wires s.old) tapes.now }
     ensures puts { PutsIn S.meaning s.old s.new (results_of W state.now c.now.instruction.op

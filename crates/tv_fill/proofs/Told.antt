@@ -11,6 +11,7 @@ use Rattle.tv_core.specs.Lines.{Line}
 use Rattle.tv_layout.specs.Values.{step_values as run_step}
 use Rattle.tv_lines.specs.Placed.{zero_line}
 use Rattle.tv_memory.proofs.FillingLaws.{joined_below-same}
+use Rattle.tv_numbers.specs.Numbers.{step_words}
 use Rattle.tv_numbers.specs.Shown.{handed}
 use Rattle.tv_step.proofs.PlaceLaws.{lines_by_place, states_by_place}
 use Rattle.tv_step.proofs.RangeLaws.{start_in_range, run_keeps_range}
@@ -102,8 +103,8 @@ module _ (w : ℕ) (image x aux : List ℕ) (t : ℕ) (width : IsWidth w) (short
 
   told_step : (i : ℕ) → i < t → told_values w (length x) run_states aux run_steps i ≡ run_step (step_values w) w image x aux i
   unfolding told_values
-  told_step i h = same_values (block_values w (length x)) (ap traced_view (state_is i (omega arith))) (head_is i h) (tail_is i h) (data_is i h)
-      (ap is_some (taken_is i h)) ∙ (given i).values
+  told_step i h = same_values (λ v head tail o takes. block_values w (length x) v (step_words head tail o takes))
+      (ap traced_view (state_is i (omega arith))) (head_is i h) (tail_is i h) (data_is i h) (ap is_some (taken_is i h)) ∙ (given i).values
 
   pub told_steps : joined_below t (told_values w (length x) run_states aux run_steps) ≡ joined_below t (run_step (step_values w) w image x aux)
   told_steps = joined_below-same t _ _ (λ i h. told_step i h)

@@ -4,6 +4,7 @@ use Rattle.tv_parts.specs.Traced.{traced_view}
 use Rattle.tv_block.specs.Values.{block_values}
 use Rattle.tv_core.specs.Lines.{Line}
 use Rattle.tv_lines.specs.Placed.{number_in}
+use Rattle.tv_numbers.specs.Numbers.{step_words}
 use Rattle.tv_numbers.specs.Views.{ViewInRange}
 use Rattle.tv_step.specs.declared.lines.TraceState.{TraceState}
 
@@ -33,7 +34,7 @@ data_at states aux lines i = unwrap_or (taken_at states aux i) (old_at lines (3 
 -- the values of step i, with a primary tape of n words
 unfoldable pub told_values : ℕ → ℕ → List TraceState → List ℕ → List Line → ℕ → List ℕ
 told_values w n states aux lines i =
-    block_values w n (traced_view (state_at states i)) (old_at lines (3 * i)) (old_at lines (3 * i + 1)) (data_at states aux lines i) (is_some (taken_at states aux i))
+    block_values w n (traced_view (state_at states i)) (step_words (old_at lines (3 * i)) (old_at lines (3 * i + 1)) (data_at states aux lines i) (is_some (taken_at states aux i)))
 
 -- what the trace has of it is in range
 pub record StepInRange (w n : ℕ) (states : List TraceState) (aux : List ℕ) (lines : List Line) (i : ℕ) : Type 0 where

@@ -7,7 +7,7 @@ use Rattle.tv_isa.specs.Opcodes.{among}
 use Rattle.tv_isa.specs.declared.instr.Instr.{Instr}
 use Rattle.tv_numbers.proofs.RangeLaws.{operand_small, some_left}
 use Rattle.tv_numbers.specs.Laws.{AtNumbers}
-use Rattle.tv_numbers.specs.Numbers.{operand_word, other_word, touches, takes_primary, with_byte_in, old_in, data_line, did_of}
+use Rattle.tv_numbers.specs.Numbers.{operand_word, other_word, touches, takes_primary, with_byte_in, old_in, data_line, did_of, step_words}
 use Rattle.tv_numbers.specs.Tables.{memory_ops}
 use Rattle.tv_numbers.specs.Views.{View}
 use Rattle.tv_step.specs.Rows.{word_size}
@@ -44,7 +44,7 @@ no_store op k is none = ne_eqb op k (λ e. true≢false (sym is ∙ ap (among me
 low_cell : (w : ℕ) → IsWidth w → (a : ℕ) → a < 2 ^ w → a / (w / 8) < 2 ^ 30
 low_cell w width a h = for_widths (λ w. a < 2 ^ w → a / (w / 8) < 2 ^ 30) (λ h. omega (arith, h)) (λ h. omega (arith, h)) w width h
 
-module _ (w : ℕ) (width : IsWidth w) (n : ℕ) (v : View) (head tail o : ℕ) (takes : Bool) (is : AtNumbers w n v head tail o takes) (time : ℕ) where
+module _ (w : ℕ) (width : IsWidth w) (n : ℕ) (v : View) (head tail o : ℕ) (takes : Bool) (is : AtNumbers w n v (step_words head tail o takes)) (time : ℕ) where
   abbrev i : Instr
   i = decode w head tail
 
@@ -77,8 +77,8 @@ module _ (w : ℕ) (width : IsWidth w) (n : ℕ) (v : View) (head tail o : ℕ) 
   data_cells : Data
   data_cells = data_by (takes_primary v i n) (touches v i) refl refl
 
-pub numbers_have_cells : (w : ℕ) → IsWidth w → (n time : ℕ) (v : View) (head tail o : ℕ) (takes : Bool) → AtNumbers w n v head tail o takes
-    → HasCells w (did_of w n time v head tail o takes)
+pub numbers_have_cells : (w : ℕ) → IsWidth w → (n time : ℕ) (v : View) (head tail o : ℕ) (takes : Bool) → AtNumbers w n v (step_words head tail o takes)
+    → HasCells w (did_of w n time v (step_words head tail o takes))
 numbers_have_cells w width n time v head tail o takes is =
     let data_ = data_cells w width n v head tail o takes is (time + 2) in
     let low = low_cell w width v.pc is.range.pc_fits in

@@ -21,6 +21,7 @@ use Rattle.tv_word.specs.Widths.{IsWidth}
 use Rattle.tv_numbers.proofs.Cases.{EachGives, chosen_in}
 use Rattle.tv_numbers.specs.Laws.{AtNumbers, NumbersStayInRange}
 use Rattle.tv_numbers.specs.Numbers.{operand_word, other_word, touches, asks, takes_primary, with_byte_in, found, writes, result_in, stepped, old_in, data_line}
+use Rattle.tv_numbers.specs.Numbers.{step_words}
 use Rattle.tv_numbers.specs.Tables.{results, flags, pcs, behind_pc, target}
 use Rattle.tv_numbers.specs.Views.{View, flag_of, ViewInRange}
 
@@ -157,7 +158,7 @@ module _ (w : ℕ) (width : IsWidth w) where
       four (suc (suc (suc (suc r)))) h k = absurd (omega arith)
 
   -- ---- the step
-  module _ (n : ℕ) (v : View) (head tail o : ℕ) (takes : Bool) (is : AtNumbers w n v head tail o takes) where
+  module _ (n : ℕ) (v : View) (head tail o : ℕ) (takes : Bool) (is : AtNumbers w n v (step_words head tail o takes)) where
     abbrev i : Instr
     i = decode w head tail
 

@@ -27,7 +27,7 @@ use Rattle.tv_numbers.proofs.OldRows.{old_row}
 use Rattle.tv_numbers.proofs.RangeLaws.{flag_small}
 use Rattle.tv_numbers.proofs.StepLaws.{op_small, read_test, seen_of, numbers_do}
 use Rattle.tv_numbers.specs.Laws.{AtNumbers, HoldsOlds}
-use Rattle.tv_numbers.specs.Numbers.{asks, operand_word, touches, takes_primary}
+use Rattle.tv_numbers.specs.Numbers.{asks, operand_word, touches, takes_primary, step_words}
 use Rattle.tv_numbers.specs.Shown.{handed, MayTake, OldsAreShown, head_at, tail_at, data_at, did_at, ShowsStep, MachineShows, SeenInRange}
 use Rattle.tv_numbers.specs.Tables.{unused_ops, memory_ops}
 use Rattle.tv_numbers.specs.Views.{View, seen, ViewInRange}
@@ -128,7 +128,7 @@ module _ (w : ℕ) (width : IsWidth w) (x : List ℕ) (time : ℕ) (st : State) 
       by None may = line_fits.old
       by (Some u) may = may.2
 
-  at_numbers : AtNumbers w (length x) now (head_at w st) (tail_at w st) (data_at w x time st word) (is_some word)
+  at_numbers : AtNumbers w (length x) now (step_words (head_at w st) (tail_at w st) (data_at w x time st word) (is_some word))
   at_numbers = record {
     short = short;
     range = view;

@@ -22,7 +22,7 @@ use Rattle.tv_numbers.proofs.NextRows.{Fits, AuxTape, next_row, answered}
 use Rattle.tv_numbers.proofs.RangeLaws.{operand_small, fetched_is_line, data_is_line}
 use Rattle.tv_numbers.proofs.ReadRow.{row30}
 use Rattle.tv_numbers.specs.Laws.{AtNumbers, HoldsOlds, AuxFits, Leads, Halts, DoesStep, NumbersDo}
-use Rattle.tv_numbers.specs.Numbers.{asks, operand_word, stepped, data_line, Did, lines_in, did_of}
+use Rattle.tv_numbers.specs.Numbers.{asks, operand_word, stepped, data_line, Did, lines_in, did_of, step_words}
 use Rattle.tv_numbers.specs.Views.{View, flag_of, seen, Matches}
 
 -- an opcode of a decoded instruction has five bits
@@ -56,9 +56,9 @@ record AtState (w : ℕ) (x : List ℕ) (time : ℕ) (b : Did) (st : State) : Ty
   pub stands : b.answers ≡ true → Halts w b st
 
 module _ (w : ℕ) (width : IsWidth w) (x : List ℕ) (time : ℕ) (st : State) (gone ended head tail o : ℕ) (takes : Bool)
-    (is : AtNumbers w (length x) (seen st gone ended) head tail o takes)
+    (is : AtNumbers w (length x) (seen st gone ended) (step_words head tail o takes))
     (bytes : AreBytes st.memory) (primary : st.primary ≡ drop gone x)
-    (holds : HoldsOlds w x (did_of w (length x) time (seen st gone ended) head tail o takes) st) where
+    (holds : HoldsOlds w x (did_of w (length x) time (seen st gone ended) (step_words head tail o takes)) st) where
   abbrev i : Instr
   i = decode w head tail
 
@@ -69,7 +69,7 @@ module _ (w : ℕ) (width : IsWidth w) (x : List ℕ) (time : ℕ) (st : State) 
   after = stepped w (length x) now i o takes
 
   abbrev did : Did
-  did = did_of w (length x) time now head tail o takes
+  did = did_of w (length x) time now (step_words head tail o takes)
 
   -- the instruction's two words are in memory
   low_cells : (st.pc / (w / 8) < TAPE_CELLS) × (st.pc / (w / 8) + 1 < TAPE_CELLS)
@@ -171,16 +171,17 @@ same_view a b c d e f g h j k p q r s t = cc
 pub seen_of : (x : List ℕ) (v : View) (st : State) → Matches x v st → v ≡ seen st v.taken v.ended
 seen_of x v st m = same_view v.pc st.pc v.regs st.regs v.flag (flag_of st.flag) v.taken v.taken v.ended v.ended (sym m.pc) (sym m.regs) (sym m.flag) refl refl
 
-module _ (w : ℕ) (width : IsWidth w) (x : List ℕ) (time : ℕ) (v : View) (head tail o : ℕ) (takes : Bool) (is : AtNumbers w (length x) v head tail o takes) where
+module _ (w : ℕ) (width : IsWidth w) (x : List ℕ) (time : ℕ) (v : View) (head tail o : ℕ) (takes : Bool)
+    (is : AtNumbers w (length x) v (step_words head tail o takes)) where
   abbrev step : View → Did
-  step u = did_of w (length x) time u head tail o takes
+  step u = did_of w (length x) time u (step_words head tail o takes)
 
   at_state : (st : State) → AreBytes st.memory → Matches x v st → HoldsOlds w x (step v) st → AtState w x time (step v) st
   at_state st bytes m holds =
       let same = seen_of x v st m in
       subst (λ u. AtState w x time (step u) st) (sym same)
-      (at_seen w width x time st v.taken v.ended head tail o takes (subst (λ u. AtNumbers w (length x) u head tail o takes) same is) bytes m.primary
-      (subst (λ u. HoldsOlds w x (step u) st) same holds))
+      (at_seen w width x time st v.taken v.ended head tail o takes (subst (λ u. AtNumbers w (length x) u (step_words head tail o takes)) same is) bytes
+      m.primary (subst (λ u. HoldsOlds w x (step u) st) same holds))
 
   not_ended : takes ≡ true → v.ended ≡ 0
   not_ended t = eqb-true v.ended 0 (and_parts (((decode w head tail).op == 30) && (operand_word v (decode w head tail) == 1)) (v.ended == 0) (is.asked t)).1

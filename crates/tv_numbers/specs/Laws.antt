@@ -9,20 +9,20 @@ use Rattle.tv_step.specs.Reads.{reads_aux}
 use Rattle.tv_step.specs.State.{State, Next}
 use Rattle.tv_step.specs.Trace.{step_lines}
 use Rattle.tv_word.specs.Widths.{IsWidth}
-use Rattle.tv_numbers.specs.Numbers.{asks, Did, lines_in, did_of}
+use Rattle.tv_numbers.specs.Numbers.{asks, Did, lines_in, StepWords, step_words, did_of}
 use Rattle.tv_numbers.specs.Tables.{unused_ops}
 use Rattle.tv_numbers.specs.Views.{View, ViewInRange, Matches}
 
 -- the range of a step in numbers: the view is in range, the instruction's words and the data word are words, the
 -- opcode is one that is used, and an auxiliary word is taken only where one is asked for
-pub record AtNumbers (w n : ℕ) (v : View) (head tail o : ℕ) (takes : Bool) : Type 0 where
+pub record AtNumbers (w n : ℕ) (v : View) (by : StepWords) : Type 0 where
   pub short : n < 2 ^ 29
   pub range : ViewInRange w n v
-  pub head_word : head < 2 ^ w
-  pub tail_word : tail < 2 ^ w
-  pub data_word : o < 2 ^ w
-  pub used : among unused_ops (decode w head tail).op ≡ false
-  pub asked : takes ≡ true → asks v (decode w head tail) ≡ true
+  pub head_word : by.head < 2 ^ w
+  pub tail_word : by.tail < 2 ^ w
+  pub data_word : by.word < 2 ^ w
+  pub used : among unused_ops (decode w by.head by.tail).op ≡ false
+  pub asked : by.takes ≡ true → asks v (decode w by.head by.tail) ≡ true
 
 -- ---- a machine's state that the numbers are of
 -- the lines' cells hold their olds
@@ -77,9 +77,9 @@ pub record DoesStep (w : ℕ) (x : List ℕ) (time : ℕ) (b : Did) : Type 0 whe
 -- the step in numbers is the machine's
 abbrev pub NumbersDo : Type 0
 NumbersDo = (w : ℕ) → IsWidth w → (x : List ℕ) (time : ℕ) (v : View) (head tail o : ℕ) (takes : Bool)
-    → AtNumbers w (length x) v head tail o takes → DoesStep w x time (did_of w (length x) time v head tail o takes)
+    → AtNumbers w (length x) v (step_words head tail o takes) → DoesStep w x time (did_of w (length x) time v (step_words head tail o takes))
 
 -- and keeps a view in range
 abbrev pub NumbersStayInRange : Type 0
 NumbersStayInRange = (w : ℕ) → IsWidth w → (n time : ℕ) (v : View) (head tail o : ℕ) (takes : Bool)
-    → AtNumbers w n v head tail o takes → ViewInRange w n (did_of w n time v head tail o takes).after
+    → AtNumbers w n v (step_words head tail o takes) → ViewInRange w n (did_of w n time v (step_words head tail o takes)).after

@@ -103,16 +103,28 @@ pub record Did : Type 0 where
 abbrev pub lines_in : Did → List Line
 lines_in b = b.first ∷ b.second ∷ b.data_line ∷ []
 
--- the step from a view whose first line has this time, by the instruction of the words head and tail
-abbrev pub did_of : ℕ → ℕ → ℕ → View → ℕ → ℕ → ℕ → Bool → Did
-did_of w n time v head tail o takes = record {
+-- the words by which a step goes: the two of its instruction, its data word, and whether it takes that of the auxiliary
+-- tape
+pub record StepWords : Type 0 where
+  pub head : ℕ
+  pub tail : ℕ
+  pub word : ℕ
+  pub takes : Bool
+
+-- these words as one
+abbrev pub step_words : ℕ → ℕ → ℕ → Bool → StepWords
+step_words head tail o takes = record { head = head; tail = tail; word = o; takes = takes }
+
+-- the step from a view by these words, whose first line has this time
+abbrev pub did_of : ℕ → ℕ → ℕ → View → StepWords → Did
+did_of w n time v by = record {
   now = v;
-  after = stepped w n v (decode w head tail) o takes;
-  first = looked_at (v.pc / word_size w) time head;
-  second = looked_at (v.pc / word_size w + 1) (time + 1) tail;
-  data_line = data_line w n v (decode w head tail) o takes (time + 2);
-  takes = takes;
-  word = o;
-  answers = (decode w head tail).op == ANSWER;
-  value = operand_word v (decode w head tail);
+  after = stepped w n v (decode w by.head by.tail) by.word by.takes;
+  first = looked_at (v.pc / word_size w) time by.head;
+  second = looked_at (v.pc / word_size w + 1) (time + 1) by.tail;
+  data_line = data_line w n v (decode w by.head by.tail) by.word by.takes (time + 2);
+  takes = by.takes;
+  word = by.word;
+  answers = (decode w by.head by.tail).op == ANSWER;
+  value = operand_word v (decode w by.head by.tail);
 }

@@ -10,7 +10,7 @@ use Rattle.tv_step.specs.State.{State}
 use Rattle.tv_step.specs.Trace.{step_lines, data_line as traced_line}
 use Rattle.tv_word.specs.Widths.{IsWidth}
 use Rattle.tv_numbers.specs.Laws.{AtNumbers}
-use Rattle.tv_numbers.specs.Numbers.{Did, lines_in, did_of}
+use Rattle.tv_numbers.specs.Numbers.{Did, lines_in, step_words, did_of}
 use Rattle.tv_numbers.specs.Views.{View, seen, ViewInRange, Matches}
 
 -- the data word: the word that is taken of the auxiliary tape, or else the old of the data line
@@ -26,9 +26,9 @@ MayTake w v st (Some word) = (reads_aux w st ≡ true) × (v.ended ≡ 0) × (wo
 -- The data line has the old word that was passed, where that is 0 for a line of the null cell.
 abbrev pub OldsAreShown : Type 0
 OldsAreShown = (w n time : ℕ) (v : View) (head tail old : ℕ) (word : Option ℕ)
-    → AtNumbers w n v head tail (handed old word) (is_some word)
-    → ((did_of w n time v head tail (handed old word) (is_some word)).data_line.cell ≡ NULL_CELL → old ≡ 0)
-    → (did_of w n time v head tail (handed old word) (is_some word)).data_line.old ≡ old
+    → AtNumbers w n v (step_words head tail (handed old word) (is_some word))
+    → ((did_of w n time v (step_words head tail (handed old word) (is_some word))).data_line.cell ≡ NULL_CELL → old ≡ 0)
+    → (did_of w n time v (step_words head tail (handed old word) (is_some word))).data_line.old ≡ old
 
 -- the words that a machine's step is made from: its instruction's two, and the data word
 abbrev pub head_at : ℕ → State → ℕ
@@ -42,11 +42,11 @@ data_at w x time st word = handed (traced_line w (length x) st (time + 2)).old w
 
 -- the step in numbers from a machine's state, of which v is the view, with the word that is passed
 abbrev pub did_at : ℕ → List ℕ → ℕ → View → State → Option ℕ → Did
-did_at w x time v st word = did_of w (length x) time v (head_at w st) (tail_at w st) (data_at w x time st word) (is_some word)
+did_at w x time v st word = did_of w (length x) time v (step_words (head_at w st) (tail_at w st) (data_at w x time st word) (is_some word))
 
 -- its numbers are in range, and its lines are those of the machine's step
 pub record ShowsStep (w : ℕ) (x : List ℕ) (time : ℕ) (v : View) (st : State) (word : Option ℕ) : Type 0 where
-  pub range : AtNumbers w (length x) v (head_at w st) (tail_at w st) (data_at w x time st word) (is_some word)
+  pub range : AtNumbers w (length x) v (step_words (head_at w st) (tail_at w st) (data_at w x time st word) (is_some word))
   pub lines : lines_in (did_at w x time v st word) ≡ step_lines w (length x) st time
 
 -- so it is of each state in range whose opcode is used

@@ -15,17 +15,20 @@ returns-clause-numbers g c =
     let a = c.operand-operand.result in
     let words = numbers_are_words g.row.W c.requires.width x a c.args.word other.word operand.word c.requires.data_word c.decode-instr.result.op instr.op in
     record {
-      fields = instr;
-      operand = operand.operand;
-      other = other.other;
-      primary = primary;
-      finds = elim c.if-primary.branch [
-        | then-primary w ↦ w.result-is ∙ w.if-primary.true ∙ ap (λ b. b || c.args.takes) (sym w.if-primary.true ∙ primary)
-        | else-primary w ↦ w.result-is ∙ ap (λ b. b || c.args.takes) (sym w.if-primary.false ∙ primary)
-      ];
-      old = c.old.ensures ∙ ap (λ (b : Bool). if among memory_ops c.decode-instr.result.op || b then c.row_halves-low.result.0 else 0) primary;
-      operand_word = operand.word;
-      other_word = other.word;
-      low_word = rw c.row_halves-low.ensures.low words.0;
-      high_word = rw c.row_halves-low.ensures.high words.1;
+      spelled = c.spelled_word.ensures;
+      numbers = record {
+        fields = instr;
+        operand = operand.operand;
+        other = other.other;
+        primary = primary;
+        finds = elim c.if-primary.branch [
+          | then-primary w ↦ w.result-is ∙ w.if-primary.true ∙ ap (λ b. b || c.args.takes) (sym w.if-primary.true ∙ primary)
+          | else-primary w ↦ w.result-is ∙ ap (λ b. b || c.args.takes) (sym w.if-primary.false ∙ primary)
+        ];
+        old = c.old.ensures ∙ ap (λ (b : Bool). if among memory_ops c.decode-instr.result.op || b then c.row_halves-low.result.0 else 0) primary;
+        operand_word = operand.word;
+        other_word = other.word;
+        low_word = rw c.row_halves-low.ensures.low words.0;
+        high_word = rw c.row_halves-low.ensures.high words.1;
+      };
     }
