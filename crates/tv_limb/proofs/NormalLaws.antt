@@ -12,7 +12,7 @@ use Rattle.tv_core.specs.Combinations.{wire, less, scaled, top}
 use Rattle.tv_core.specs.Constraints.{Combination}
 use Rattle.tv_core.specs.Normal.{IsNormal, IsNormalFrom, IsNormalConstraint, AreNormal}
 use Rattle.tv_core.specs.declared.field.TheConstants.{P}
-use Rattle.tv_limb.specs.RowDifference.{minuend, subtrahend, row_difference_of}
+use Rattle.tv_limb.specs.RowDifference.{comparing, minuend, subtrahend, row_difference_of}
 use Rattle.tv_limb.specs.RowSum.{row_sum_of}
 use Rattle.tv_word.specs.Widths.{IsWidth}
 
@@ -56,7 +56,7 @@ top-minuend w strict x below = omega (arith, top-append (scaled (P - 1) strict) 
 pub row_difference_normal : (w : ℕ) → IsWidth w → (gate by_sign strict : Combination) (x y : SignedWord) (row : DoubleRow) (next : ℕ)
     → IsNormal gate → IsNormal by_sign → IsNormalFrom 1 strict → top strict ≤ x.word → 0 < x.word
     → x.word < y.word → y.sign < x.sign → y.word < row.low → row.low < row.high → row.high < next
-    → AreNormal (row_difference_of w gate by_sign strict x y row next).list
+    → AreNormal (row_difference_of w gate (comparing by_sign strict) x y row next).list
 unfolding row_difference_of times_of gated_of fresh put pure ◌>>=◌
 row_difference_normal w width gate by_sign strict x y row next g signed n below some_x x_y signs y_low rises made =
     let some = negated_some w width in

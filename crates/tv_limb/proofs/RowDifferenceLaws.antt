@@ -20,7 +20,7 @@ use Rattle.tv_core.specs.Laws.{Assigns, Meets, HasFrom}
 use Rattle.tv_core.specs.Meanings.{terms_in}
 use Rattle.tv_core.specs.declared.field.TheConstants.{P}
 use Rattle.tv_limb.proofs.RowDifferenceNumbers.{difference_sound, difference_met, difference_row}
-use Rattle.tv_limb.specs.RowDifference.{sign_difference, minuend, subtrahend, row_difference_of, row_difference_values, RowDifferenceIsSound}
+use Rattle.tv_limb.specs.RowDifference.{comparing, sign_difference, minuend, subtrahend, row_difference_of, row_difference_values, RowDifferenceIsSound}
 use Rattle.tv_limb.specs.RowDifference.{RowDifferenceIsComplete, RowDifferenceSizes, RowDifferenceCosts}
 
 -- ---- the combinations
@@ -110,7 +110,7 @@ row_difference_complete = record {
 }
 
 pub row_difference_next : (w : ℕ) (gate by_sign strict : Combination) (x y : SignedWord) (row : DoubleRow) (next : ℕ)
-    → (row_difference_of w gate by_sign strict x y row next).next ≡ next + 1
+    → (row_difference_of w gate (comparing by_sign strict) x y row next).next ≡ next + 1
 unfolding row_difference_of times_of fresh put pure ◌>>=◌
 row_difference_next w gate by_sign strict x y row next = gated_next gate (minuend w strict x.word) (subtrahend w y.word row next) (next + 1)
 
@@ -122,7 +122,7 @@ row_difference_sizes = record {
 }
 
 row_difference_constraints : (w : ℕ) (gate by_sign strict : Combination) (x y : SignedWord) (row : DoubleRow) (next : ℕ)
-    → length (row_difference_of w gate by_sign strict x y row next).list ≡ 2
+    → length (row_difference_of w gate (comparing by_sign strict) x y row next).list ≡ 2
 unfolding row_difference_of times_of fresh put pure ◌>>=◌
 row_difference_constraints w gate by_sign strict x y row next = omega (
   arith,
@@ -131,7 +131,7 @@ row_difference_constraints w gate by_sign strict x y row next = omega (
 )
 
 row_difference_terms : (w : ℕ) (gate by_sign strict : Combination) (x y : SignedWord) (row : DoubleRow) (next : ℕ)
-    → terms_in (row_difference_of w gate by_sign strict x y row next).list ≡ length gate + length by_sign + length strict + 9
+    → terms_in (row_difference_of w gate (comparing by_sign strict) x y row next).list ≡ length gate + length by_sign + length strict + 9
 unfolding row_difference_of times_of fresh put pure ◌>>=◌
 row_difference_terms w gate by_sign strict x y row next =
     omega (

@@ -31,10 +31,20 @@ difference_low w strict a b = (a + (2 ^ w - b) - strict) % 2 ^ w
 abbrev pub difference_high : ℕ → ℕ → ℕ → ℕ → ℕ → ℕ
 difference_high w by_sign strict a b = if is_above w by_sign strict a b then 1 else 0
 
--- the row's halves are these
-pub record IsRowDifference (w : ℕ) (z : List ℕ) (row : DoubleRow) (by_sign strict a b : ℕ) : Type 0 where
-  pub low : slice_index z row.low ≡ difference_low w strict a b
-  pub high : slice_index z row.high ≡ difference_high w by_sign strict a b
+-- how two words are compared: as signed words where by_sign is 1, and strictly where strict is 1; these two as numbers, or
+-- as the combinations that have them
+pub record Comparison (A : Type 0) : Type 0 where
+  pub by_sign : A
+  pub strict : A
+
+-- a comparison by these two
+abbrev pub comparing : {A : Type 0} → A → A → Comparison A
+comparing by_sign strict = record { by_sign = by_sign; strict = strict }
+
+-- the row's halves are those of the words a and b
+pub record IsRowDifference (w : ℕ) (z : List ℕ) (row : DoubleRow) (order : Comparison ℕ) (a b : ℕ) : Type 0 where
+  pub low : slice_index z row.low ≡ difference_low w order.strict a b
+  pub high : slice_index z row.high ≡ difference_high w order.by_sign order.strict a b
 
 -- the sign of x less that of y
 abbrev pub sign_difference : SignedWord → SignedWord → Combination
@@ -50,10 +60,10 @@ subtrahend w y row signs = wire y ++ (row_number w row ++ (2 ^ w % P, signs) ∷
 
 -- under the gate, a row's number is 2 ^ w + x - y, less 1 where strict is 1; where by_sign is 1, x and y count with their
 -- highest bits crossed over, so that they are ordered as signed words
-unfoldable pub row_difference_of : ℕ → Combination → Combination → Combination → SignedWord → SignedWord → DoubleRow → Circuit (Unit {0})
-row_difference_of w gate by_sign strict x y row = do
-  signs ← times_of by_sign (sign_difference x y)
-  gated_of gate (minuend w strict x.word) (subtrahend w y.word row signs)
+unfoldable pub row_difference_of : ℕ → Combination → Comparison Combination → SignedWord → SignedWord → DoubleRow → Circuit (Unit {0})
+row_difference_of w gate order x y row = do
+  signs ← times_of order.by_sign (sign_difference x y)
+  gated_of gate (minuend w order.strict x.word) (subtrahend w y.word row signs)
 
 -- the value of the wire that is made, where the signs are those of a and b
 abbrev pub row_difference_values : ℕ → ℕ → ℕ → ℕ → List ℕ
@@ -64,8 +74,8 @@ abbrev pub RowDifferenceIsSound : Type 0
 RowDifferenceIsSound = (w : ℕ) → IsWidth w → (z : List ℕ) (next : ℕ) (gate by_sign strict : Combination) (x y : SignedWord) (row : DoubleRow) (a b : ℕ)
     → Assigns z
     → value gate z ≡ 1 → IsBit (value by_sign z) → IsBit (value strict z) → HoldsSigned w z x a → HoldsSigned w z y b
-    → IsRow w (slice_index z row.low) (slice_index z row.high) → Meets z (row_difference_of w gate by_sign strict x y row next).list
-    → IsRowDifference w z row (value by_sign z) (value strict z) a b
+    → IsRow w (slice_index z row.low) (slice_index z row.high) → Meets z (row_difference_of w gate (comparing by_sign strict) x y row next).list
+    → IsRowDifference w z row (comparing (value by_sign z) (value strict z)) a b
 
 -- the low half is 0 exactly where the words are the same, strict being 0
 abbrev pub RowDifferenceEqual : Type 0
@@ -77,23 +87,23 @@ pub record RowDifferenceIsComplete : Type 0 where
   pub row : (w : ℕ) → IsWidth w → (by_sign strict a b : ℕ) → IsRow w (difference_low w strict a b) (difference_high w by_sign strict a b)
   pub on : (w : ℕ) → IsWidth w → (z : List ℕ) (next : ℕ) (gate by_sign strict : Combination) (x y : SignedWord) (row : DoubleRow) (a b : ℕ) → Assigns z
       → IsBit (value by_sign z) → IsBit (value strict z) → HoldsSigned w z x a → HoldsSigned w z y b
-      → IsRowDifference w z row (value by_sign z) (value strict z) a b
-      → HasFrom z next (row_difference_values w (value by_sign z) a b) → Meets z (row_difference_of w gate by_sign strict x y row next).list
+      → IsRowDifference w z row (comparing (value by_sign z) (value strict z)) a b
+      → HasFrom z next (row_difference_values w (value by_sign z) a b) → Meets z (row_difference_of w gate (comparing by_sign strict) x y row next).list
   pub off : (w : ℕ) (z : List ℕ) (next : ℕ) (gate by_sign strict : Combination) (x y : SignedWord) (row : DoubleRow) (a b : ℕ) → Assigns z
       → value gate z ≡ 0 → slice_index z x.sign ≡ bit_at a (w - 1) → slice_index z y.sign ≡ bit_at b (w - 1)
-      → HasFrom z next (row_difference_values w (value by_sign z) a b) → Meets z (row_difference_of w gate by_sign strict x y row next).list
+      → HasFrom z next (row_difference_values w (value by_sign z) a b) → Meets z (row_difference_of w gate (comparing by_sign strict) x y row next).list
 
 -- where it ends, and that the values are one number of the field for each wire that is made
 pub record RowDifferenceSizes : Type 0 where
   pub end : (w : ℕ) (gate by_sign strict : Combination) (x y : SignedWord) (row : DoubleRow) (next : ℕ)
-      → (row_difference_of w gate by_sign strict x y row next).next ≡ next + 1
+      → (row_difference_of w gate (comparing by_sign strict) x y row next).next ≡ next + 1
   pub fills : (w : ℕ) (gate by_sign strict : Combination) (x y : SignedWord) (row : DoubleRow) (v a b : ℕ)
-      → Fills (row_difference_of w gate by_sign strict x y row) (row_difference_values w v a b)
+      → Fills (row_difference_of w gate (comparing by_sign strict) x y row) (row_difference_values w v a b)
   pub in_field : (w v a b : ℕ) → InField (row_difference_values w v a b)
 
 -- how many constraints and terms there are
 pub record RowDifferenceCosts : Type 0 where
   pub constraints : (w : ℕ) (gate by_sign strict : Combination) (x y : SignedWord) (row : DoubleRow) (next : ℕ)
-      → length (row_difference_of w gate by_sign strict x y row next).list ≡ 2
+      → length (row_difference_of w gate (comparing by_sign strict) x y row next).list ≡ 2
   pub terms : (w : ℕ) (gate by_sign strict : Combination) (x y : SignedWord) (row : DoubleRow) (next : ℕ)
-      → terms_in (row_difference_of w gate by_sign strict x y row next).list ≡ length gate + length by_sign + length strict + 9
+      → terms_in (row_difference_of w gate (comparing by_sign strict) x y row next).list ≡ length gate + length by_sign + length strict + 9

@@ -9,7 +9,7 @@ ghost use Rattle.tv_core.specs.Giving.{GivesIn};
 ghost use Rattle.tv_core.specs.Sinks.{PutsIn, Grows, Room};
 ghost use Rattle.tv_limb.specs.RowDifference.{is_above, difference_low, difference_high};
 ghost use Rattle.tv_limb.specs.RowDifference.{sign_difference, minuend, subtrahend};
-ghost use Rattle.tv_limb.specs.RowDifference.{row_difference_of, RowDifferenceEqual};
+ghost use Rattle.tv_limb.specs.RowDifference.{comparing, row_difference_of, RowDifferenceEqual};
 ghost use Rattle.tv_limb.specs.RowDifference.{row_difference_values, RowDifferenceIsSound};
 ghost use Rattle.tv_limb.specs.RowDifference.{RowDifferenceIsComplete, RowDifferenceSizes};
 ghost use Rattle.tv_limb.specs.RowDifference.{RowDifferenceCosts};
@@ -43,7 +43,8 @@ pub fn row_difference<const W: u32, S: Sink>(
     requires words_made { max (top_signed x.now) (top_signed y.now) ≤ S.meaning.wires s.old }
     requires row_made { top (row_number W row.now) ≤ S.meaning.wires s.old }
     ensures puts { PutsIn S.meaning s.old s.new
-        (row_difference_of W gate.now by_sign.now strict.now x.now y.now row.now) result }
+        (row_difference_of W gate.now (comparing by_sign.now strict.now) x.now y.now row.now)
+        result }
     ensures grows { IfOk result (λ _. Grows S.meaning s.old s.new 1 2) }
 {
     let signs = sign_difference(s, scratch, by_sign, x, y)?;

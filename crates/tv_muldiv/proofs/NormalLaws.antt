@@ -15,7 +15,7 @@ use Rattle.tv_core.specs.Combinations.{wire, less}
 use Rattle.tv_core.specs.Constraints.{Combination}
 use Rattle.tv_core.specs.Normal.{IsNormal, AreNormal}
 use Rattle.tv_core.specs.declared.field.TheConstants.{P}
-use Rattle.tv_muldiv.specs.RowDivision.{room_below, bits_less, row_division_of}
+use Rattle.tv_muldiv.specs.RowDivision.{dividing, room_below, bits_less, row_division_of}
 use Rattle.tv_muldiv.specs.RowProduct.{row_product_of}
 use Rattle.tv_muldiv.specs.RowSignedProduct.{row_signed_product_of, sign_weight, signed_word, signed_row}
 use Rattle.tv_word.proofs.WidthLaws.{width_short}
@@ -68,7 +68,8 @@ row_signed_product_normal w width gate x y row next g x_rises y_rises first rise
 
 -- where the other word's wire is the first, then the divisor's, that of the test, and those of the row and the bits
 pub row_division_normal : (w : ℕ) → IsWidth w → (gate : Combination) (x y by_zero : ℕ) (bits : Bits) (row : DoubleRow) (next : ℕ) → IsNormal gate
-    → 0 < x → x < y → y < by_zero → x < bits.first → by_zero < row.low → row.low < next → AreNormal (row_division_of w gate x y by_zero bits row next).list
+    → 0 < x → x < y → y < by_zero → x < bits.first → by_zero < row.low → row.low < next
+    → AreNormal (row_division_of w gate (dividing x y by_zero) bits row next).list
 unfolding row_division_of times_of gated_of fresh put pure ◌>>=◌
 row_division_normal w width gate x y f bits row next g some_x x_y y_f x_bits f_low made =
     let short = width_short w width in

@@ -24,7 +24,7 @@ use Rattle.tv_core.specs.Laws.{Assigns, Meets, HasFrom}
 use Rattle.tv_core.specs.Meanings.{terms_in}
 use Rattle.tv_core.specs.declared.field.TheConstants.{P}
 use Rattle.tv_muldiv.proofs.RowDivisionNumbers.{Divides, Divides-sound, division_row, below_word, division_met}
-use Rattle.tv_muldiv.specs.RowDivision.{IsRowDivision, below_divisor, room_below, bits_less, row_division_of, row_division_values, RowDivisionIsSound}
+use Rattle.tv_muldiv.specs.RowDivision.{dividing, IsRowDivision, below_divisor, room_below, bits_less, row_division_of, row_division_values, RowDivisionIsSound}
 use Rattle.tv_muldiv.specs.RowDivision.{RowDivisionIsComplete, RowDivisionSizes, RowDivisionCosts}
 use Rattle.tv_word.proofs.WidthLaws.{width_short}
 use Rattle.tv_word.specs.Widths.{IsWidth}
@@ -90,31 +90,31 @@ module _ (w : ℕ) (width : IsWidth w) (z : List ℕ) (next : ℕ) (gate : Combi
   sums : Combination
   sums = wire row.low ++ (wire next ++ wire (next + 1))
 
-  kept_is : Meets z (row_division_of w gate x y by_zero bits row next).list → slice_index z next ≡ slice_index z by_zero * slice_index z x % P
+  kept_is : Meets z (row_division_of w gate (dividing x y by_zero) bits row next).list → slice_index z next ≡ slice_index z by_zero * slice_index z x % P
   unfolding row_division_of times_of fresh put pure ◌>>=◌
   kept_is meets = times_sound z next (wire by_zero) (wire x) assigns (meets.0, tt) ∙ ap₂ (λ m n. m * n % P) (value-wire assigns by_zero) (value-wire assigns x)
 
-  product_is : Meets z (row_division_of w gate x y by_zero bits row next).list
+  product_is : Meets z (row_division_of w gate (dividing x y by_zero) bits row next).list
       → slice_index z (next + 1) ≡ slice_index z row.high * ((slice_index z y + slice_index z by_zero) % P) % P
   unfolding row_division_of times_of fresh put pure ◌>>=◌
   product_is meets =
       times_sound z (next + 1) (wire row.high) (wire y ++ wire by_zero) assigns (meets.1.0, tt)
       ∙ ap₂ (λ m n. m * n % P) (value-wire assigns row.high) (value-two z assigns y by_zero)
 
-  parts_are : value gate z ≡ 1 → Meets z (row_division_of w gate x y by_zero bits row next).list
+  parts_are : value gate z ≡ 1 → Meets z (row_division_of w gate (dividing x y by_zero) bits row next).list
       → slice_index z x ≡ (slice_index z row.low + slice_index z next + slice_index z (next + 1)) % P
   unfolding row_division_of times_of gated_of fresh put pure ◌>>=◌ sums
   parts_are one meets = sym (value-wire assigns x) ∙ gated_sound z (next + 2) gate (wire x) sums one (meets.1.1.0, tt)
       ∙ value-three z assigns row.low next (next + 1)
 
-  tie_is : Meets z (row_division_of w gate x y by_zero bits row next).list
+  tie_is : Meets z (row_division_of w gate (dividing x y by_zero) bits row next).list
       → value gate z * value (room_below w x y by_zero row) z % P ≡ value (bits_less w x bits) z
   unfolding row_division_of times_of gated_of fresh put pure ◌>>=◌
   tie_is meets = meets.1.1.1.0
 
   on_by : (v : ℕ) → value gate z ≡ 1 → IsBit (slice_index z by_zero) → slice_index z x < 2 ^ w → slice_index z y < 2 ^ w
       → IsRow w (slice_index z row.low) (slice_index z row.high)
-      → Spells z bits.first w v → Meets z (row_division_of w gate x y by_zero bits row next).list
+      → Spells z bits.first w v → Meets z (row_division_of w gate (dividing x y by_zero) bits row next).list
       → IsRowDivision z row by_zero (slice_index z x) (slice_index z y)
   on_by v one bit a_word b_word r s meets =
       let a = slice_index z x in
@@ -132,7 +132,8 @@ module _ (w : ℕ) (width : IsWidth w) (z : List ℕ) (next : ℕ) (gate : Combi
       once_times : (g c : Combination) → value g z ≡ 1 → value g z * value c z % P ≡ value c z
       once_times g c one = ap (λ n. n * value c z % P) one ∙ ap (λ n. n % P) (one-mul (value c z)) ∙ mod-eq_of_lt (value-below c z)
 
-  off_by : (v : ℕ) → value gate z ≡ 0 → Spells z bits.first w v → Meets z (row_division_of w gate x y by_zero bits row next).list → slice_index z x ≡ v
+  off_by : (v : ℕ) → value gate z ≡ 0 → Spells z bits.first w v → Meets z (row_division_of w gate (dividing x y by_zero) bits row next).list
+      → slice_index z x ≡ v
   off_by v none s meets =
       let nothing : value gate z * value (room_below w x y by_zero row) z % P ≡ 0 =
       ap (λ n. n * value (room_below w x y by_zero row) z % P) none ∙ ap (λ n. n % P) (zero-mul (value (room_below w x y by_zero row) z)) in
@@ -151,7 +152,7 @@ module _ (w : ℕ) (width : IsWidth w) (z : List ℕ) (next : ℕ) (gate : Combi
   met_by : HasFrom z next (row_division_values (slice_index z by_zero) (slice_index z x) (slice_index z row.high) (slice_index z y))
       → Meets z (gated_of gate (wire x) sums (next + 2)).list
       → value gate z * value (room_below w x y by_zero row) z % P ≡ value (bits_less w x bits) z
-      → Meets z (row_division_of w gate x y by_zero bits row next).list
+      → Meets z (row_division_of w gate (dividing x y by_zero) bits row next).list
   unfolding row_division_of times_of gated_of fresh put pure ◌>>=◌ sums
   met_by has parts tie = let products = products_met has in (products.0.0, (products.1.0, (parts.0, (tie, tt))))
 
@@ -176,7 +177,7 @@ module _ (w : ℕ) (width : IsWidth w) (z : List ℕ) (next : ℕ) (gate : Combi
   on_met : value gate z ≡ 1 → slice_index z x < 2 ^ w → slice_index z y < 2 ^ w → IsRowDivision z row by_zero (slice_index z x) (slice_index z y)
       → Spells z bits.first w (below_divisor w (slice_index z x) (slice_index z y))
       → HasFrom z next (row_division_values (slice_index z by_zero) (slice_index z x) (slice_index z row.high) (slice_index z y))
-      → Meets z (row_division_of w gate x y by_zero bits row next).list
+      → Meets z (row_division_of w gate (dividing x y by_zero) bits row next).list
   unfolding sums
   on_met one a_word b_word is s has =
       let a = slice_index z x in
@@ -191,25 +192,25 @@ module _ (w : ℕ) (width : IsWidth w) (z : List ℕ) (next : ℕ) (gate : Combi
 
   off_met : value gate z ≡ 0 → Spells z bits.first w (slice_index z x)
       → HasFrom z next (row_division_values (slice_index z by_zero) (slice_index z x) (slice_index z row.high) (slice_index z y))
-      → Meets z (row_division_of w gate x y by_zero bits row next).list
+      → Meets z (row_division_of w gate (dividing x y by_zero) bits row next).list
   off_met none s has =
       met_by has (gated_complete.off z (next + 2) gate (wire x) sums none)
       (ap (λ n. n * value (room_below w x y by_zero row) z % P) none ∙ ap (λ n. n % P) (zero-mul (value (room_below w x y by_zero row) z))
       ∙ tie_same (slice_index z x) (slice_index z x) refl ∙ sym (value-bits_less z assigns w width x bits (slice_index z x) s))
 
 pub row_division_answer : (w : ℕ) (gate : Combination) (x y by_zero : ℕ) (bits : Bits) (row : DoubleRow) (next : ℕ)
-    → (row_division_of w gate x y by_zero bits row next).answer ≡ next
+    → (row_division_of w gate (dividing x y by_zero) bits row next).answer ≡ next
 unfolding row_division_of times_of gated_of fresh put pure ◌>>=◌
 row_division_answer w gate x y flag bits row next = refl
 
 pub row_division_next : (w : ℕ) (gate : Combination) (x y by_zero : ℕ) (bits : Bits) (row : DoubleRow) (next : ℕ)
-    → (row_division_of w gate x y by_zero bits row next).next ≡ next + 2
+    → (row_division_of w gate (dividing x y by_zero) bits row next).next ≡ next + 2
 unfolding row_division_of times_of gated_of fresh put pure ◌>>=◌
 row_division_next w gate x y flag bits row next = omega arith
 
 kept_times : (w : ℕ) (z : List ℕ) (next : ℕ) (gate : Combination) (x y by_zero : ℕ) (bits : Bits) (row : DoubleRow) → Assigns z
-    → Meets z (row_division_of w gate x y by_zero bits row next).list
-    → slice_index z (row_division_of w gate x y by_zero bits row next).answer ≡ slice_index z by_zero * slice_index z x % P
+    → Meets z (row_division_of w gate (dividing x y by_zero) bits row next).list
+    → slice_index z (row_division_of w gate (dividing x y by_zero) bits row next).answer ≡ slice_index z by_zero * slice_index z x % P
 unfolding row_division_of times_of gated_of fresh put pure ◌>>=◌
 kept_times w z next gate x y flag bits row assigns meets = times_sound z next (wire flag) (wire x) assigns (meets.0, tt)
     ∙ ap₂ (λ m n. m * n % P) (value-wire assigns flag) (value-wire assigns x)
@@ -239,12 +240,12 @@ row_division_sizes = record {
 }
 
 row_division_constraints : (w : ℕ) (gate : Combination) (x y by_zero : ℕ) (bits : Bits) (row : DoubleRow) (next : ℕ)
-    → length (row_division_of w gate x y by_zero bits row next).list ≡ 4
+    → length (row_division_of w gate (dividing x y by_zero) bits row next).list ≡ 4
 unfolding row_division_of times_of gated_of fresh put pure ◌>>=◌
 row_division_constraints w gate x y flag bits row next = refl
 
 row_division_terms : (w : ℕ) (gate : Combination) (x y by_zero : ℕ) (bits : Bits) (row : DoubleRow) (next : ℕ)
-    → terms_in (row_division_of w gate x y by_zero bits row next).list ≡ 2 * length gate + w + 17
+    → terms_in (row_division_of w gate (dividing x y by_zero) bits row next).list ≡ 2 * length gate + w + 17
 unfolding row_division_of times_of gated_of fresh put pure ◌>>=◌
 row_division_terms w gate x y flag bits row next = omega (arith, length-weighted bits.first w (λ i. 2 ^ i % P))
 

@@ -34,14 +34,24 @@ room_below w x y by_zero row = (P - 1, 0) ∷ (P - 1, x) ∷ (1, y) ∷ (2 ^ w %
 abbrev pub bits_less : ℕ → ℕ → Bits → Combination
 bits_less w x bits = (P - 1, x) ∷ bits_combination bits.first w
 
+-- the wires of a division: the word that is divided, the one that divides it, and whether that is 0
+pub record Dividing : Type 0 where
+  pub x : ℕ
+  pub y : ℕ
+  pub by_zero : ℕ
+
+-- a division with these wires
+abbrev pub dividing : ℕ → ℕ → ℕ → Dividing
+dividing x y by_zero = record { x = x; y = y; by_zero = by_zero }
+
 -- two new wires: x where the divisor is 0, and else 0; and the high half times y, or times 1 where y is 0. Under the gate,
 -- x is the sum of both and the low half. The bits are below_divisor under the gate, and else x
-unfoldable pub row_division_of : ℕ → Combination → ℕ → ℕ → ℕ → Bits → DoubleRow → Circuit ℕ
-row_division_of w gate x y by_zero bits row = do
-  kept ← times_of (wire by_zero) (wire x)
-  product ← times_of (wire row.high) (wire y ++ wire by_zero)
-  _ ← gated_of gate (wire x) (wire row.low ++ (wire kept ++ wire product))
-  _ ← put gate (room_below w x y by_zero row) (bits_less w x bits)
+unfoldable pub row_division_of : ℕ → Combination → Dividing → Bits → DoubleRow → Circuit ℕ
+row_division_of w gate words bits row = do
+  kept ← times_of (wire words.by_zero) (wire words.x)
+  product ← times_of (wire row.high) (wire words.y ++ wire words.by_zero)
+  _ ← gated_of gate (wire words.x) (wire row.low ++ (wire kept ++ wire product))
+  _ ← put gate (room_below w words.x words.y words.by_zero row) (bits_less w words.x bits)
   pure kept
 
 -- the values of the wires that are made
@@ -52,14 +62,14 @@ row_division_values by_zero a high b = times_values by_zero a ++ times_values hi
 -- the division of the words, and where it is 0 the bits represent x
 pub record RowDivisionIsSound : Type 0 where
   pub kept : (w : ℕ) (z : List ℕ) (next : ℕ) (gate : Combination) (x y by_zero : ℕ) (bits : Bits) (row : DoubleRow) → Assigns z
-      → Meets z (row_division_of w gate x y by_zero bits row next).list
-      → slice_index z (row_division_of w gate x y by_zero bits row next).answer ≡ slice_index z by_zero * slice_index z x % P
+      → Meets z (row_division_of w gate (dividing x y by_zero) bits row next).list
+      → slice_index z (row_division_of w gate (dividing x y by_zero) bits row next).answer ≡ slice_index z by_zero * slice_index z x % P
   pub on : (w : ℕ) → IsWidth w → (z : List ℕ) (next : ℕ) (gate : Combination) (x y by_zero : ℕ) (bits : Bits) (row : DoubleRow) (v : ℕ) → Assigns z
       → value gate z ≡ 1 → IsBit (slice_index z by_zero) → slice_index z x < 2 ^ w → slice_index z y < 2 ^ w
       → IsRow w (slice_index z row.low) (slice_index z row.high) → Spells z bits.first w v
-      → Meets z (row_division_of w gate x y by_zero bits row next).list → IsRowDivision z row by_zero (slice_index z x) (slice_index z y)
+      → Meets z (row_division_of w gate (dividing x y by_zero) bits row next).list → IsRowDivision z row by_zero (slice_index z x) (slice_index z y)
   pub off : (w : ℕ) → IsWidth w → (z : List ℕ) (next : ℕ) (gate : Combination) (x y by_zero : ℕ) (bits : Bits) (row : DoubleRow) (v : ℕ) → Assigns z
-      → value gate z ≡ 0 → Spells z bits.first w v → Meets z (row_division_of w gate x y by_zero bits row next).list → slice_index z x ≡ v
+      → value gate z ≡ 0 → Spells z bits.first w v → Meets z (row_division_of w gate (dividing x y by_zero) bits row next).list → slice_index z x ≡ v
 
 -- the division of words is a row, and the bits' number a word; with the values of the wires that were made, a row that holds
 -- the division satisfies the constraints, and where the gate is 0 any row does if the bits represent x
@@ -70,25 +80,25 @@ pub record RowDivisionIsComplete : Type 0 where
       → value gate z ≡ 1 → slice_index z x < 2 ^ w → slice_index z y < 2 ^ w → IsRowDivision z row by_zero (slice_index z x) (slice_index z y)
       → Spells z bits.first w (below_divisor w (slice_index z x) (slice_index z y))
       → HasFrom z next (row_division_values (slice_index z by_zero) (slice_index z x) (slice_index z row.high) (slice_index z y))
-      → Meets z (row_division_of w gate x y by_zero bits row next).list
+      → Meets z (row_division_of w gate (dividing x y by_zero) bits row next).list
   pub off : (w : ℕ) → IsWidth w → (z : List ℕ) (next : ℕ) (gate : Combination) (x y by_zero : ℕ) (bits : Bits) (row : DoubleRow) → Assigns z
       → value gate z ≡ 0 → Spells z bits.first w (slice_index z x)
       → HasFrom z next (row_division_values (slice_index z by_zero) (slice_index z x) (slice_index z row.high) (slice_index z y))
-      → Meets z (row_division_of w gate x y by_zero bits row next).list
+      → Meets z (row_division_of w gate (dividing x y by_zero) bits row next).list
 
 -- which wire is returned, and that the values are one number of the field for each wire that is made
 pub record RowDivisionSizes : Type 0 where
   pub answer : (w : ℕ) (gate : Combination) (x y by_zero : ℕ) (bits : Bits) (row : DoubleRow) (next : ℕ)
-      → (row_division_of w gate x y by_zero bits row next).answer ≡ next
+      → (row_division_of w gate (dividing x y by_zero) bits row next).answer ≡ next
   pub end : (w : ℕ) (gate : Combination) (x y by_zero : ℕ) (bits : Bits) (row : DoubleRow) (next : ℕ)
-      → (row_division_of w gate x y by_zero bits row next).next ≡ next + 2
+      → (row_division_of w gate (dividing x y by_zero) bits row next).next ≡ next + 2
   pub fills : (w : ℕ) (gate : Combination) (x y by_zero : ℕ) (bits : Bits) (row : DoubleRow) (f a q b : ℕ)
-      → Fills (row_division_of w gate x y by_zero bits row) (row_division_values f a q b)
+      → Fills (row_division_of w gate (dividing x y by_zero) bits row) (row_division_values f a q b)
   pub in_field : (f a q b : ℕ) → InField (row_division_values f a q b)
 
 -- how many constraints and terms there are
 pub record RowDivisionCosts : Type 0 where
   pub constraints : (w : ℕ) (gate : Combination) (x y by_zero : ℕ) (bits : Bits) (row : DoubleRow) (next : ℕ)
-      → length (row_division_of w gate x y by_zero bits row next).list ≡ 4
+      → length (row_division_of w gate (dividing x y by_zero) bits row next).list ≡ 4
   pub terms : (w : ℕ) (gate : Combination) (x y by_zero : ℕ) (bits : Bits) (row : DoubleRow) (next : ℕ)
-      → terms_in (row_division_of w gate x y by_zero bits row next).list ≡ 2 * length gate + w + 17
+      → terms_in (row_division_of w gate (dividing x y by_zero) bits row next).list ≡ 2 * length gate + w + 17

@@ -7,7 +7,7 @@ ghost use Rattle.tv_core.specs.Combinations.{wire, top};
 ghost use Rattle.tv_core.specs.Giving.{GivesIn};
 ghost use Rattle.tv_core.specs.Sinks.{PutsIn, Grows, Room};
 ghost use Rattle.tv_muldiv.specs.RowDivision.{below_divisor, room_below, bits_less};
-ghost use Rattle.tv_muldiv.specs.RowDivision.{row_division_of, row_division_values};
+ghost use Rattle.tv_muldiv.specs.RowDivision.{dividing, row_division_of, row_division_values};
 ghost use Rattle.tv_muldiv.specs.RowDivision.{RowDivisionIsSound, RowDivisionIsComplete};
 ghost use Rattle.tv_muldiv.specs.RowDivision.{RowDivisionSizes, RowDivisionCosts};
 ghost use Rattle.tv_word.specs.Widths.{IsWidth};
@@ -38,7 +38,7 @@ pub fn row_division<const W: u32, S: Sink>(
     requires words_made { max (max x y) by_zero < S.meaning.wires s.old }
     requires bits_made { AreBitsBelow (S.meaning.wires s.old) W bits.now }
     ensures puts { PutsIn S.meaning s.old s.new
-        (row_division_of W gate.now x y by_zero bits.now row.now) result }
+        (row_division_of W gate.now (dividing x y by_zero) bits.now row.now) result }
     ensures grows { IfOk result (λ _. Grows S.meaning s.old s.new 2 4) }
     ensures below { IfOk result (λ kept. kept < S.meaning.wires s.new) }
 {

@@ -15,13 +15,13 @@ use Rattle.tv_core.specs.declared.field.TheConstants.{P}
 use Rattle.tv_isa.specs.Opcodes.{among}
 use Rattle.tv_limb.proofs.RowDifferenceLaws.{row_difference_sizes, row_difference_cost_laws}
 use Rattle.tv_limb.proofs.RowSumLaws.{row_sum_sizes, row_sum_cost_laws}
-use Rattle.tv_limb.specs.RowDifference.{row_difference_of}
+use Rattle.tv_limb.specs.RowDifference.{comparing, row_difference_of}
 use Rattle.tv_limb.specs.RowSum.{row_sum_of}
 use Rattle.tv_logic.proofs.DigitLaws.{bitwise_sizes, bitwise_cost_laws}
 use Rattle.tv_muldiv.proofs.RowDivisionLaws.{row_division_sizes, row_division_cost_laws}
 use Rattle.tv_muldiv.proofs.RowProductLaws.{row_product_sizes, row_product_cost_laws}
 use Rattle.tv_muldiv.proofs.RowSignedProductLaws.{row_signed_product_sizes, row_signed_product_cost_laws}
-use Rattle.tv_muldiv.specs.RowDivision.{row_division_of, row_division_values}
+use Rattle.tv_muldiv.specs.RowDivision.{dividing, row_division_of, row_division_values}
 use Rattle.tv_muldiv.specs.RowProduct.{row_product_of, row_product_values}
 use Rattle.tv_muldiv.specs.RowSignedProduct.{row_signed_product_values}
 use Rattle.tv_numbers.specs.Views.{flag_of}
@@ -75,7 +75,7 @@ module _ (w : ℕ) (width : IsWidth w) (op other f : ℕ) (operand : OperandWire
           count = row_sum_cost_laws.constraints w add other operand.word r.row;
           size = row_sum_cost_laws.terms w add other operand.word r.row;
         })
-        (λ next. sized_then (row_difference_of w subtract signed strict left right r.row) _ 1 2 19 0 2 (6 + 4 * w)
+        (λ next. sized_then (row_difference_of w subtract (comparing signed strict) left right r.row) _ 1 2 19 0 2 (6 + 4 * w)
         (record {
           end = row_difference_sizes.end w subtract signed strict left right r.row;
           count = row_difference_cost_laws.constraints w subtract signed strict left right r.row;
@@ -131,8 +131,8 @@ module _ (w : ℕ) (width : IsWidth w) (op other f : ℕ) (operand : OperandWire
         sized_as (shifts_of w op other f operand r) (2 + (w / 16 + 2 + (1 + (1 + 0)))) (4 + (w / 16 + 2 + (2 + (2 + 0))))
         (4 + w + 17 + (w / 4 + 10 + (7 + (7 + 0))))
         (w / 16 + 6) (w / 16 + 10) (w + w / 4 + 45)
-        (sized_then (row_division_of w divide other operand.word f r.x r.row) _ 2 4 (4 + w + 17) (w / 16 + 2 + (1 + (1 + 0))) (w / 16 + 2 + (2 + (2 + 0)))
-        (w / 4 + 10 + (7 + (7 + 0)))
+        (sized_then (row_division_of w divide (dividing other operand.word f) r.x r.row) _ 2 4 (4 + w + 17)
+        (w / 16 + 2 + (1 + (1 + 0))) (w / 16 + 2 + (2 + (2 + 0))) (w / 4 + 10 + (7 + (7 + 0)))
         (record {
           end = row_division_sizes.end w divide other operand.word f r.x r.row;
           count = row_division_cost_laws.constraints w divide other operand.word f r.x r.row;
@@ -187,7 +187,7 @@ pub shifts_answer : (w : ℕ) → IsWidth w → (op other f : ℕ) (operand : Op
     (shifts_of w op other f operand r next).answer ≡ next + 2
 unfolding shifts_of pure ◌>>=◌
 shifts_answer w width op other f operand r next =
-    let division = row_division_of w (opcode_sum op division_ops) other operand.word f r.x r.row next in
+    let division = row_division_of w (opcode_sum op division_ops) (dividing other operand.word f) r.x r.row next in
     ap (λ (p : ShiftPower). p.both) (shift_power_sizes.answer w width operand.bits division.next)
     ∙ row_division_sizes.end w (opcode_sum op division_ops) other operand.word f r.x r.row next
 

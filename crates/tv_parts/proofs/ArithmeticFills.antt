@@ -20,14 +20,14 @@ use Rattle.tv_core.specs.declared.field.TheConstants.{P}
 use Rattle.tv_isa.specs.Opcodes.{among}
 use Rattle.tv_limb.proofs.RowDifferenceLaws.{row_difference_complete}
 use Rattle.tv_limb.proofs.RowSumLaws.{row_sum_complete, row_sum_sizes}
-use Rattle.tv_limb.specs.RowDifference.{IsRowDifference, row_difference_of, row_difference_values}
+use Rattle.tv_limb.specs.RowDifference.{comparing, IsRowDifference, row_difference_of, row_difference_values}
 use Rattle.tv_limb.specs.RowSum.{IsRowSum, row_sum_of}
 use Rattle.tv_logic.proofs.DigitLaws.{bitwise_complete}
 use Rattle.tv_logic.specs.Digits.{bitwise_of}
 use Rattle.tv_muldiv.proofs.RowDivisionLaws.{row_division_sound, row_division_complete, row_division_sizes}
 use Rattle.tv_muldiv.proofs.RowProductLaws.{row_product_complete, row_product_sizes}
 use Rattle.tv_muldiv.proofs.RowSignedProductLaws.{row_signed_product_complete}
-use Rattle.tv_muldiv.specs.RowDivision.{IsRowDivision, below_divisor, row_division_of, row_division_values}
+use Rattle.tv_muldiv.specs.RowDivision.{dividing, IsRowDivision, below_divisor, row_division_of, row_division_values}
 use Rattle.tv_muldiv.specs.RowProduct.{IsRowProduct, row_product_of, row_product_values}
 use Rattle.tv_muldiv.specs.RowSignedProduct.{signed_in, row_signed_product_of}
 use Rattle.tv_numbers.specs.Views.{flag_of}
@@ -141,7 +141,7 @@ module _ (w : ℕ) (width : IsWidth w) (z : List ℕ) (op other f : ℕ) (operan
         let strict = opcode_sum op strict_ops in
         let bits = opcode_sum op bitwise_ops in
         let sum = row_sum_of w add other operand.word r.row next in
-        let difference = row_difference_of w subtract signed strict left right r.row sum.next in
+        let difference = row_difference_of w subtract (comparing signed strict) left right r.row sum.next in
         let is_off = off w width z op other f operand k x a has in
         let bit = gate_bit w width z op other f operand k x a has in
         let is_signed = gate w width z op other f operand k x a has signed_ops refl in
@@ -160,8 +160,8 @@ module _ (w : ℕ) (width : IsWidth w) (z : List ℕ) (op other f : ℕ) (operan
         let plain = apart_is difference_ops division_ops k refl t in
         row_difference_complete.on w width z sum.next subtract signed strict left right r.row x a has.assigns (bit signed_ops refl) (bit strict_ops refl)
         (left_word w width z op other f operand k x a has r.x.first (x_bits plain)) right_signed
-        (subst (λ n. IsRowDifference w z r.row (value signed z) n x a) (sym is_strict)
-        (subst (λ n. IsRowDifference w z r.row n (flag_of (among strict_ops k)) x a) (sym is_signed) (o.difference t)))
+        (subst (λ n. IsRowDifference w z r.row (comparing (value signed z) n) x a) (sym is_strict)
+        (subst (λ n. IsRowDifference w z r.row (comparing n (flag_of (among strict_ops k))) x a) (sym is_signed) (o.difference t)))
         (subst (λ n. HasFrom z sum.next (row_difference_values w (value signed z) n a)) (v_is_x plain) there))
         (λ t. row_difference_complete.off w z sum.next subtract signed strict left right r.row v a has.assigns
         (is_off difference_ops refl t) sign_is right_signed.sign there) in
@@ -208,7 +208,7 @@ module _ (w : ℕ) (width : IsWidth w) (z : List ℕ) (op other f : ℕ) (operan
         (subst (λ n. HasFrom z next (row_division_values (slice_index z f) x high n)) (sym has.taken.word) values))
 
     division_met : HasFrom z next (row_division_values (slice_index z f) x high a)
-        → Meets z (row_division_of w (opcode_sum op division_ops) other operand.word f r.x r.row next).list
+        → Meets z (row_division_of w (opcode_sum op division_ops) (dividing other operand.word f) r.x r.row next).list
     division_met values =
         let divide = opcode_sum op division_ops in
         let there = division_values values in
@@ -231,7 +231,7 @@ module _ (w : ℕ) (width : IsWidth w) (z : List ℕ) (op other f : ℕ) (operan
         let divide = opcode_sum op division_ops in
         let to_left = opcode_sum op (11 ∷ []) in
         let to_right = opcode_sum op (12 ∷ []) in
-        let division = row_division_of w divide other operand.word f r.x r.row next in
+        let division = row_division_of w divide (dividing other operand.word f) r.x r.row next in
         let power = shift_power_of w operand.bits division.next in
         let left = left_shift_of w to_left division.answer power.answer.power r.row power.next in
         let right = right_shift_of w to_right division.answer power.answer.power r.row left.next in

@@ -19,13 +19,13 @@ use Rattle.tv_core.specs.declared.field.TheConstants.{P}
 use Rattle.tv_isa.specs.Opcodes.{among}
 use Rattle.tv_limb.proofs.RowDifferenceLaws.{row_difference_sound}
 use Rattle.tv_limb.proofs.RowSumLaws.{row_sum_sound}
-use Rattle.tv_limb.specs.RowDifference.{IsRowDifference, row_difference_of}
+use Rattle.tv_limb.specs.RowDifference.{comparing, IsRowDifference, row_difference_of}
 use Rattle.tv_limb.specs.RowSum.{IsRowSum, row_sum_of}
 use Rattle.tv_logic.proofs.DigitLaws.{bitwise_sound}
 use Rattle.tv_muldiv.proofs.RowDivisionLaws.{row_division_sound}
 use Rattle.tv_muldiv.proofs.RowProductLaws.{row_product_sound}
 use Rattle.tv_muldiv.proofs.RowSignedProductLaws.{row_signed_product_sound}
-use Rattle.tv_muldiv.specs.RowDivision.{IsRowDivision, row_division_of}
+use Rattle.tv_muldiv.specs.RowDivision.{dividing, IsRowDivision, row_division_of}
 use Rattle.tv_muldiv.specs.RowProduct.{IsRowProduct, row_product_of}
 use Rattle.tv_muldiv.specs.RowSignedProduct.{IsRowSignedProduct}
 use Rattle.tv_numbers.specs.Views.{flag_of}
@@ -97,7 +97,7 @@ pub record ShiftsHold (w : ℕ) (z : List ℕ) (r : RowWires) (f : ℕ) (operand
 
 pub record SumsHold (w : ℕ) (z : List ℕ) (r : RowWires) (k x a : ℕ) : Type 0 where
   pub sum : among (4 ∷ []) k ≡ true → IsRowSum w z r.row x a
-  pub difference : among difference_ops k ≡ true → IsRowDifference w z r.row (flag_of (among signed_ops k)) (flag_of (among strict_ops k)) x a
+  pub difference : among difference_ops k ≡ true → IsRowDifference w z r.row (comparing (flag_of (among signed_ops k)) (flag_of (among strict_ops k))) x a
   pub bitwise : among bitwise_ops k ≡ true → (slice_index z r.row.low ≡ bit_and x a) × (slice_index z r.row.high ≡ bit_xor x a)
 
 pub record ProductsHold (w : ℕ) (z : List ℕ) (r : RowWires) (k x a : ℕ) : Type 0 where
@@ -160,7 +160,7 @@ module _ (w : ℕ) (width : IsWidth w) (z : List ℕ) (op other f : ℕ) (operan
     shifts_sound meets =
         let most = width_short w width in
         let divide = opcode_sum op division_ops in
-        let division = row_division_of w divide other operand.word f r.x r.row next in
+        let division = row_division_of w divide (dividing other operand.word f) r.x r.row next in
         let power = shift_power_of w operand.bits division.next in
         let left = left_shift_of w (opcode_sum op (11 ∷ [])) division.answer power.answer.power r.row power.next in
         let right = right_shift_of w (opcode_sum op (12 ∷ [])) division.answer power.answer.power r.row left.next in
@@ -209,7 +209,8 @@ module _ (w : ℕ) (width : IsWidth w) (z : List ℕ) (op other f : ℕ) (operan
           let left = with_sign w other r.x.first in
           let right = with_sign w operand.word operand.bits.first in
           let sum = row_sum_of w (opcode_sum op (4 ∷ [])) other operand.word r.row next in
-          let difference = row_difference_of w (opcode_sum op difference_ops) (opcode_sum op signed_ops) (opcode_sum op strict_ops) left right r.row sum.next in
+          let order = comparing (opcode_sum op signed_ops) (opcode_sum op strict_ops) in
+          let difference = row_difference_of w (opcode_sum op difference_ops) order left right r.row sum.next in
           let m1 = Meets-split z sum.list _ meets in
           let m2 = Meets-split z difference.list _ m1.1 in
           record {
@@ -223,8 +224,8 @@ module _ (w : ℕ) (width : IsWidth w) (z : List ℕ) (op other f : ℕ) (operan
                 (on difference_ops refl t) (gate_bit signed_ops refl) (gate_bit strict_ops refl)
                 (left_word r.x.first (same (apart_is difference_ops division_ops k refl t))) right_word
                 (rows.row (apart_is difference_ops (8 ∷ []) k refl t)) m2.0 in
-                subst (λ n. IsRowDifference w z r.row (flag_of (among signed_ops k)) n x a) (gate strict_ops refl)
-                (subst (λ n. IsRowDifference w z r.row n (value (opcode_sum op strict_ops) z) x a) (gate signed_ops refl) is);
+                subst (λ n. IsRowDifference w z r.row (comparing (flag_of (among signed_ops k)) n) x a) (gate strict_ops refl)
+                (subst (λ n. IsRowDifference w z r.row (comparing n (value (opcode_sum op strict_ops) z)) x a) (gate signed_ops refl) is);
             bitwise = λ t.
                 let is = bitwise_sound w width z difference.next (opcode_sum op bitwise_ops) r.x operand.bits r.row x a has.assigns
                 (same (apart_is bitwise_ops division_ops k refl t)) has.taken.bits

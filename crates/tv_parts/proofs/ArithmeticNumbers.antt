@@ -10,7 +10,7 @@ use Rattle.tv_bits.specs.declared.double_rows.DoubleRow.{DoubleRow}
 use Rattle.tv_isa.specs.Opcodes.{among, chosen}
 use Rattle.tv_limb.proofs.RowDifferenceLaws.{row_difference_complete}
 use Rattle.tv_limb.proofs.RowSumLaws.{row_sum_complete}
-use Rattle.tv_limb.specs.RowDifference.{IsRowDifference}
+use Rattle.tv_limb.specs.RowDifference.{comparing, IsRowDifference}
 use Rattle.tv_limb.specs.RowSum.{IsRowSum}
 use Rattle.tv_limb.specs.Sum.{carry}
 use Rattle.tv_logic.proofs.DigitLaws.{bitwise_complete}
@@ -67,7 +67,7 @@ each_of Q (i ∷ ks) each k t = by_test (i == k) refl each.0 (each_of Q ks each.
 pub record Operated (w : ℕ) (z : List ℕ) (row : DoubleRow) (f k x a : ℕ) : Type 0 where
   pub bitwise : among bitwise_ops k ≡ true → (slice_index z row.low ≡ bit_and x a) × (slice_index z row.high ≡ bit_xor x a)
   pub sum : among (4 ∷ []) k ≡ true → IsRowSum w z row x a
-  pub difference : among difference_ops k ≡ true → IsRowDifference w z row (flag_of (among signed_ops k)) (flag_of (among strict_ops k)) x a
+  pub difference : among difference_ops k ≡ true → IsRowDifference w z row (comparing (flag_of (among signed_ops k)) (flag_of (among strict_ops k))) x a
   pub product : among product_ops k ≡ true → IsRowProduct w z row x a
   pub signed_product : among (8 ∷ []) k ≡ true → IsRowSignedProduct w z row x a
   pub division : among division_ops k ≡ true → IsRowDivision z row f x a
@@ -315,7 +315,7 @@ module _ (w : ℕ) (width : IsWidth w) (z : List ℕ) (row : DoubleRow) (f k x a
       bitwise = at bitwise_ops (λ _. (slice_index z row.low ≡ bit_and x a) × (slice_index z row.high ≡ bit_xor x a))
           ((λ l h. (l, h)), ((λ l h. (l, h)), ((λ l h. (l, h)), tt)));
       sum = at (4 ∷ []) (λ _. IsRowSum w z row x a) ((λ l h. record { low = l; high = h }), tt);
-      difference = at difference_ops (λ j. IsRowDifference w z row (flag_of (among signed_ops j)) (flag_of (among strict_ops j)) x a) (
+      difference = at difference_ops (λ j. IsRowDifference w z row (comparing (flag_of (among signed_ops j)) (flag_of (among strict_ops j))) x a) (
         (λ l h. record { low = l; high = h }),
         (
           (λ l h. record { low = l; high = h }),

@@ -14,13 +14,13 @@ use Rattle.tv_isa.specs.declared.opcode.TheConstants.{ADD, SMULH, SHL, SHR}
 use Rattle.tv_limb.proofs.NormalLaws.{row_sum_normal, row_difference_normal}
 use Rattle.tv_limb.proofs.RowDifferenceLaws.{row_difference_sizes}
 use Rattle.tv_limb.proofs.RowSumLaws.{row_sum_sizes}
-use Rattle.tv_limb.specs.RowDifference.{row_difference_of}
+use Rattle.tv_limb.specs.RowDifference.{comparing, row_difference_of}
 use Rattle.tv_limb.specs.RowSum.{row_sum_of}
 use Rattle.tv_logic.proofs.NormalLaws.{bitwise_normal}
 use Rattle.tv_muldiv.proofs.NormalLaws.{row_product_normal, row_signed_product_normal, row_division_normal}
 use Rattle.tv_muldiv.proofs.RowDivisionLaws.{row_division_sizes}
 use Rattle.tv_muldiv.proofs.RowProductLaws.{row_product_sizes}
-use Rattle.tv_muldiv.specs.RowDivision.{row_division_of}
+use Rattle.tv_muldiv.specs.RowDivision.{dividing, row_division_of}
 use Rattle.tv_muldiv.specs.RowProduct.{row_product_of}
 use Rattle.tv_shift.proofs.NormalLaws.{shift_power_normal, left_shift_normal, right_shift_normal}
 use Rattle.tv_shift.proofs.PowerLaws.{shift_power_sizes}
@@ -73,7 +73,7 @@ module _ (w : ℕ) (width : IsWidth w) (op other f : ℕ) (operand : OperandWire
         let right = with_sign w operand.word operand.bits.first in
         let sum = row_sum_of w add other operand.word r.row next in
         let at = row_sum_sizes.end w add other operand.word r.row next in
-        let difference = row_difference_of w subtract signed strict left right r.row sum.next in
+        let difference = row_difference_of w subtract (comparing signed strict) left right r.row sum.next in
         let below : top strict ≤ other = omega (arith, opcodes_top 1 op 29 strict_ops refl) in
         let first = row_sum_normal w width add other operand.word r.row next (gate_normal op (ADD ∷ []) some refl) (omega arith) (omega arith) rises in
         let second = row_difference_normal w width subtract signed strict left right r.row sum.next (gate_normal op difference_ops some refl)
@@ -104,7 +104,7 @@ module _ (w : ℕ) (width : IsWidth w) (op other f : ℕ) (operand : OperandWire
         let divide = opcode_sum op division_ops in
         let to_left = opcode_sum op (SHL ∷ []) in
         let to_right = opcode_sum op (SHR ∷ []) in
-        let division = row_division_of w divide other operand.word f r.x r.row next in
+        let division = row_division_of w divide (dividing other operand.word f) r.x r.row next in
         let kept = row_division_sizes.answer w divide other operand.word f r.x r.row next in
         let at = row_division_sizes.end w divide other operand.word f r.x r.row next in
         let power = shift_power_of w operand.bits division.next in

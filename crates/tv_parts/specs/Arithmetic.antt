@@ -12,12 +12,12 @@ use Rattle.tv_core.specs.Meanings.{terms_in}
 use Rattle.tv_core.specs.declared.field.TheConstants.{P}
 use Rattle.tv_isa.specs.Opcodes.{among, Entry, chosen}
 use Rattle.tv_isa.specs.declared.opcode.TheConstants.{AND, OR, XOR, ADD, SUB, MULL, UMULH, SMULH, UDIV, UMOD, SHL, SHR, CMPE, CMPA, CMPAE, CMPG, CMPGE}
-use Rattle.tv_limb.specs.RowDifference.{difference_low, difference_high, row_difference_of, row_difference_values}
+use Rattle.tv_limb.specs.RowDifference.{comparing, difference_low, difference_high, row_difference_of, row_difference_values}
 use Rattle.tv_limb.specs.RowSum.{row_sum_of}
 use Rattle.tv_limb.specs.Sum.{carry}
 use Rattle.tv_logic.specs.Digits.{bitwise_of}
 use Rattle.tv_muldiv.specs.Quotient.{quotient_in, remainder_in}
-use Rattle.tv_muldiv.specs.RowDivision.{below_divisor, row_division_of, row_division_values}
+use Rattle.tv_muldiv.specs.RowDivision.{dividing, below_divisor, row_division_of, row_division_values}
 use Rattle.tv_muldiv.specs.RowProduct.{row_product_of, row_product_values}
 use Rattle.tv_muldiv.specs.RowSignedProduct.{row_signed_product_of, row_signed_product_values}
 use Rattle.tv_muldiv.specs.SignedHigh.{product_twos}
@@ -79,7 +79,7 @@ rows_of w op = do
 unfoldable pub sums_of : ℕ → ℕ → ℕ → OperandWires → RowWires → Circuit (Unit {0})
 sums_of w op other a r = do
   _ ← row_sum_of w (opcode_sum op (ADD ∷ [])) other a.word r.row
-  _ ← row_difference_of w (opcode_sum op difference_ops) (opcode_sum op signed_ops) (opcode_sum op strict_ops)
+  _ ← row_difference_of w (opcode_sum op difference_ops) (comparing (opcode_sum op signed_ops) (opcode_sum op strict_ops))
       (with_sign w other r.x.first) (with_sign w a.word a.bits.first) r.row
   bitwise_of w (opcode_sum op bitwise_ops) r.x a.bits r.row
 
@@ -93,7 +93,7 @@ products_of w op other a r = do
 -- of the operand's two lowest bits is returned
 unfoldable pub shifts_of : ℕ → ℕ → ℕ → ℕ → OperandWires → RowWires → Circuit ℕ
 shifts_of w op other f a r = do
-  kept ← row_division_of w (opcode_sum op division_ops) other a.word f r.x r.row
+  kept ← row_division_of w (opcode_sum op division_ops) (dividing other a.word f) r.x r.row
   power ← shift_power_of w a.bits
   _ ← left_shift_of w (opcode_sum op (SHL ∷ [])) kept power.power r.row
   _ ← right_shift_of w (opcode_sum op (SHR ∷ [])) kept power.power r.row
