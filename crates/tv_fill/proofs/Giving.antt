@@ -11,22 +11,39 @@ use Rattle.tv_core.specs.declared.lines.PairNum.{PairNum}
 use Rattle.tv_core.specs.declared.sink.SinkFault.{SinkFault}
 use Rattle.tv_memory.specs.Memory.{routed_values}
 use Rattle.tv_step.specs.declared.lines.TraceState.{TraceState}
-use Rattle.tv_fill.specs.Filled.{front_values, filled_values, lines_told, checks_told}
+use Rattle.tv_fill.specs.Filled.{Parts, front_values, filled_values, lines_told, checks_told}
 use Rattle.tv_fill.specs.Told.{told_values}
+
+-- these parts
+abbrev pub parts_of : (v t k : ℕ) (net : Net) (image x aux : List ℕ) (states : List TraceState) (lines : List Line) (items : List PairNum) (bits : List Bool)
+    → Parts
+parts_of v t k net image x aux states lines items bits = record {
+  answer = v;
+  image = image;
+  tape = x;
+  aux = aux;
+  t = t;
+  states = states;
+  lines = lines;
+  items = items;
+  net = net;
+  k = k;
+  bits = bits;
+}
 
 -- the same parts have the same values
 pub same_filled : (w v t k : ℕ) (net : Net)
     (image x aux : List ℕ) {states states2 : List TraceState} {lines lines2 : List Line} {items items2 : List PairNum} {bits bits2 : List Bool}
     → states ≡ states2 → lines ≡ lines2 → items ≡ items2 → bits ≡ bits2
-    → filled_values w v image x aux t states lines items net k bits ≡ filled_values w v image x aux t states2 lines2 items2 net k bits2
+    → filled_values w (parts_of v t k net image x aux states lines items bits) ≡ filled_values w (parts_of v t k net image x aux states2 lines2 items2 bits2)
 same_filled w v t k net image x aux {states} {states2} {lines} {lines2} {items} {items2} {bits} {bits2} s l p b =
-    ap₂ (λ (states : List TraceState) (lines : List Line). filled_values w v image x aux t states lines items net k bits) s l
-    ∙ ap₂ (λ (items : List PairNum) (bits : List Bool). filled_values w v image x aux t states2 lines2 items net k bits) p b
+    ap₂ (λ (states : List TraceState) (lines : List Line). filled_values w (parts_of v t k net image x aux states lines items bits)) s l
+    ∙ ap₂ (λ (items : List PairNum) (bits : List Bool). filled_values w (parts_of v t k net image x aux states2 lines2 items bits)) p b
 
 module _ {V : Type 0} (m : Giving V) (w v t k : ℕ) (net : Net) (image x aux : List ℕ) (states : List TraceState) (lines : List Line) (items : List PairNum)
     (bits : List Bool) where
   abbrev all : List ℕ
-  all = filled_values w v image x aux t states lines items net k bits
+  all = filled_values w (parts_of v t k net image x aux states lines items bits)
 
   abbrev steps : List ℕ
   steps = joined_below t (told_values w (length x) states aux lines)

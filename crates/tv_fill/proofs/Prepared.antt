@@ -18,6 +18,7 @@ use Rattle.tv_layout.proofs.Systems.{system_complete}
 use Rattle.tv_layout.proofs.Whole.{few, short, filled, spare}
 use Rattle.tv_layout.specs.Checks.{checks_of}
 use Rattle.tv_layout.specs.Places.{WithinLimits, line_count, log_of}
+use Rattle.tv_layout.specs.RunInputs.{run_on}
 use Rattle.tv_layout.specs.Sound.{padding, all_lines}
 use Rattle.tv_layout.specs.Systems.{run_values, system_of}
 use Rattle.tv_layout.specs.Values.{fill, step_values as run_step}
@@ -37,6 +38,7 @@ use Rattle.tv_step.specs.Machine.{start, Accepts}
 use Rattle.tv_step.specs.Range.{AreWords}
 use Rattle.tv_step.specs.Trace.{lines_of, states_of}
 use Rattle.tv_step.specs.declared.lines.TraceState.{TraceState}
+use Rattle.tv_fill.proofs.Giving.{parts_of}
 use Rattle.tv_fill.proofs.Told.{told_in_range, told_steps}
 use Rattle.tv_fill.specs.Filled.{front_values, filled_values, lines_told, checks_told, PartsFit}
 use Rattle.tv_fill.specs.Told.{told_values}
@@ -175,7 +177,7 @@ module _ (w : ℕ) (net : Net) (image x aux : List ℕ) (t : ℕ) (fits : Within
 
     -- and the values are those of the run
     pub values_are : (bits : List Bool) → bits ≡ route_of net (predecessors (map unpacked items)) → (v : ℕ)
-        → filled_values w v image x aux t states lines items net k bits ≡ run_values w net image x aux t v
+        → filled_values w (parts_of v t k net image x aux states lines items bits) ≡ run_values net (run_on w image x aux t) v
     unfolding filled_values fill
     values_are bits bits_are v =
         let tape_bits : List ℕ = joined_below (length x) (λ i. bits_values (slice_index x i) w) in
@@ -191,7 +193,7 @@ module _ (w : ℕ) (net : Net) (image x aux : List ℕ) (t : ℕ) (fits : Within
     -- and there are as many as the system has wires
     pub parts_fit : (bits : List Bool) → bits ≡ route_of net (predecessors (map unpacked items)) → (v : ℕ) → Accepts w image x aux t v
         → (count : ℕ) → count ≡ (system_of w net image (length x) t).wires → (spare : List PairNum) → length spare ≡ length items
-        → PartsFit w v count image x aux t states lines items spare net k bits
+        → PartsFit w (parts_of v t k net image x aux states lines items bits) spare count
     parts_fit bits bits_are v accepts count count_is spare spare_is = record {
       width = fits.width;
       short = short image (length x) t w fits;

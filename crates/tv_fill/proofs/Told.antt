@@ -13,7 +13,7 @@ use Rattle.tv_lines.specs.Placed.{zero_line}
 use Rattle.tv_memory.proofs.FillingLaws.{joined_below-same}
 use Rattle.tv_numbers.specs.Numbers.{step_words}
 use Rattle.tv_numbers.specs.Shown.{handed}
-use Rattle.tv_step.proofs.PlaceLaws.{lines_by_place, states_by_place}
+use Rattle.tv_step.proofs.PlaceLaws.{lines_by_place, lines_are_three_a_step, states_by_place, states_are_one_more}
 use Rattle.tv_step.proofs.RangeLaws.{start_in_range, run_keeps_range}
 use Rattle.tv_step.proofs.ReadLaws.{taken_by_counts}
 use Rattle.tv_step.specs.Machine.{start, state_after}
@@ -94,6 +94,8 @@ module _ (w : ℕ) (image x aux : List ℕ) (t : ℕ) (width : IsWidth w) (short
 
   pub told_in_range : (i : ℕ) → i < t → StepInRange w (length x) run_states aux run_steps i
   told_in_range i h = record {
+    after = omega (arith, states_are_one_more w (length x) (length aux) (start w image x aux) t);
+    third = omega (arith, lines_are_three_a_step w (length x) (length image + length x) (start w image x aux) t);
     view = rw (state_is i (omega arith)) (given i).range;
     head = rw (head_is i h) (given i).head_word;
     tail = rw (tail_is i h) (given i).tail_word;

@@ -1,5 +1,5 @@
 -- The values for a run, and what a call that prepares or passes them does.
-use Rattle.std.specs.Prelude.{◌≡◌, ◌⊎◌, ℕ, ◌+◌, ◌-◌, ◌*◌, ◌^◌, ◌<◌, ◌≤◌, Bool, List, [], ◌∷◌, ◌++◌, length, replicate, slice_index, Result, Ok, Err}
+use Rattle.std.specs.Prelude.{◌≡◌, ◌⊎◌, ℕ, ◌+◌, ◌-◌, ◌*◌, ◌^◌, ◌<◌, ◌≤◌, Bool, List, ◌∷◌, ◌++◌, length, replicate, slice_index, Result, Ok, Err}
 use Rattle.tv_benes.specs.Items.{bit_at}
 use Rattle.tv_benes.specs.declared.shape.Net.{Net}
 use Rattle.tv_bits.specs.Bits.{bits_values}
@@ -12,6 +12,7 @@ use Rattle.tv_fill.specs.Told.{told_values, StepInRange}
 use Rattle.tv_fill.specs.declared.fault.FillFault.{FillFault}
 use Rattle.tv_fill.specs.declared.fault.FillFault.TheVariants.{NoRun, Failed, Memory}
 use Rattle.tv_layout.specs.Checks.{least_place, line_kind}
+use Rattle.tv_layout.specs.RunInputs.{RunInput}
 use Rattle.tv_layout.specs.Sound.{padding}
 use Rattle.tv_layout.specs.Systems.{run_values}
 use Rattle.tv_layout.specs.declared.places.TheConstants.{STATE_WIRES}
@@ -44,45 +45,62 @@ lines_told image x steps k =
 abbrev pub checks_told : ℕ → ℕ → ℕ → ℕ → Checks
 checks_told words n steps k = record { count = words + n + steps; least = least_place words n; kind = line_kind k words n }
 
--- then the t steps, and the memory argument over 2 ^ k lines, whose items a network with these bits moves
-unfoldable pub filled_values : ℕ → ℕ → List ℕ → List ℕ → List ℕ → ℕ → List TraceState → List Line → List PairNum → Net → ℕ → List Bool → List ℕ
-filled_values w v image x aux t states lines items net k bits =
-    front_values w v x
-    ++ (joined_below t (told_values w (length x) states aux lines)
-    ++ routed_values net (checks_told (length image) (length x) (length lines) k) k (bit_at bits) items (lines_told image x lines k))
+-- what it is made of: the answer, the image, the tapes, the steps with their states and lines, the items of 2 ^ k lines,
+-- and the bits of the network that moves them
+pub record Parts : Type 0 where
+  pub answer : ℕ
+  pub image : List ℕ
+  pub tape : List ℕ
+  pub aux : List ℕ
+  pub t : ℕ
+  pub states : List TraceState
+  pub lines : List Line
+  pub items : List PairNum
+  pub net : Net
+  pub k : ℕ
+  pub bits : List Bool
 
--- the parts fit each other, and the count is that of their values
-pub record PartsFit (w v count : ℕ) (image x aux : List ℕ) (t : ℕ) (states : List TraceState) (lines : List Line) (items spare : List PairNum) (net : Net) (k : ℕ) (bits : List Bool) : Type 0 where
+-- the front, then the t steps, and the memory argument over 2 ^ k lines, whose items a network with these bits moves
+unfoldable pub filled_values : ℕ → Parts → List ℕ
+filled_values w parts =
+    front_values w parts.answer parts.tape
+    ++ (joined_below parts.t (told_values w (length parts.tape) parts.states parts.aux parts.lines)
+    ++ routed_values parts.net (checks_told (length parts.image) (length parts.tape) (length parts.lines) parts.k) parts.k (bit_at parts.bits) parts.items
+    (lines_told parts.image parts.tape parts.lines parts.k))
+
+-- the parts fit each other and the spare items, and the count is that of their values
+pub record PartsFit (w : ℕ) (parts : Parts) (spare : List PairNum) (count : ℕ) : Type 0 where
   pub width : IsWidth w
-  pub short : length x < 2 ^ 29
-  pub some : 1 ≤ k
-  pub few : k ≤ 20
-  pub states_many : length states ≡ t + 1
-  pub lines_many : length lines ≡ 3 * t
-  pub items_many : length items ≡ 2 ^ k
-  pub spare_many : length spare ≡ 2 ^ k
-  pub lines_fit : length image + length x + length lines ≤ 2 ^ k
-  pub steps : (i : ℕ) → i < t → StepInRange w (length x) states aux lines i
-  pub counted : count ≡ length (filled_values w v image x aux t states lines items net k bits)
+  pub short : length parts.tape < 2 ^ 29
+  pub some : 1 ≤ parts.k
+  pub few : parts.k ≤ 20
+  pub states_many : length parts.states ≡ parts.t + 1
+  pub lines_many : length parts.lines ≡ 3 * parts.t
+  pub items_many : length parts.items ≡ 2 ^ parts.k
+  pub spare_many : length spare ≡ 2 ^ parts.k
+  pub lines_fit : length parts.image + length parts.tape + length parts.lines ≤ 2 ^ parts.k
+  pub steps : (i : ℕ) → i < parts.t → StepInRange w (length parts.tape) parts.states parts.aux parts.lines i
+  pub counted : count ≡ length (filled_values w parts)
 
 -- ---- for a run
 -- the run of at most t steps answers, and the values are those of its system
-pub record IsFilling (w : ℕ) (net : Net) (image x aux : List ℕ) (t : ℕ) (filling : Filled) : Type 0 where
-  pub answer : Accepts w image x aux t filling.answer
-  pub values : filling.values ≡ run_values w net image x aux t filling.answer
+pub record IsFilling (net : Net) (run : RunInput) (filling : Filled) : Type 0 where
+  pub answer : Accepts run.width run.image run.tape run.aux run.t filling.answer
+  pub values : filling.values ≡ run_values net run filling.answer
 
 -- there are none: the run has no trace, since it ends so and answers nothing; or memory ran out
-abbrev pub IsUnfilled : ℕ → List ℕ → List ℕ → List ℕ → ℕ → FillFault → Type 0
-IsUnfilled w image x aux t (NoRun end) = IsRefused w image x aux t (traces.NoRun end)
-IsUnfilled w image x aux t Failed = ⊥
-IsUnfilled w image x aux t Memory = Unit {0}
+abbrev pub IsUnfilled : RunInput → FillFault → Type 0
+IsUnfilled run (NoRun end) = IsRefused run.width run.image run.tape run.aux run.t (traces.NoRun end)
+IsUnfilled run Failed = ⊥
+IsUnfilled run Memory = Unit {0}
 
 -- ---- to a taker
 -- what a call that passes on the values of a run did: it passed all; or the run answers nothing, and none was passed;
 -- or the taker refused one of them, and the count of the cause rose; or memory ran out before the first
-module _ {V : Type 0} (m : Giving V) (w : ℕ) (net : Net) (image x aux : List ℕ) (t : ℕ) where
+module _ {V : Type 0} (m : Giving V) (net : Net) (run : RunInput) where
   abbrev pub FillsIn : V → V → Result (Unit {0}) FillFault → Type 0
-  FillsIn old new (Ok done) = (v : ℕ) × Accepts w image x aux t v × GivesAll m old new (run_values w net image x aux t v)
-  FillsIn old new (Err (NoRun end)) = IsUnfilled w image x aux t (NoRun end) × (new ≡ old)
-  FillsIn old new (Err Failed) = (v : ℕ) × Accepts w image x aux t v × GivesSome m old new (run_values w net image x aux t v) sinks.Failed
-  FillsIn old new (Err Memory) = (new ≡ old) ⊎ ((v : ℕ) × Accepts w image x aux t v × GivesSome m old new (run_values w net image x aux t v) sinks.Memory)
+  FillsIn old new (Ok done) = (v : ℕ) × Accepts run.width run.image run.tape run.aux run.t v × GivesAll m old new (run_values net run v)
+  FillsIn old new (Err (NoRun end)) = IsUnfilled run (NoRun end) × (new ≡ old)
+  FillsIn old new (Err Failed) = (v : ℕ) × Accepts run.width run.image run.tape run.aux run.t v × GivesSome m old new (run_values net run v) sinks.Failed
+  FillsIn old new (Err Memory) = (new ≡ old)
+      ⊎ ((v : ℕ) × Accepts run.width run.image run.tape run.aux run.t v × GivesSome m old new (run_values net run v) sinks.Memory)

@@ -4,6 +4,7 @@ use Rattle.tv_benes.specs.declared.shape.Net.{Net}
 use Rattle.tv_block.specs.Block.{block_of}
 use Rattle.tv_fill.specs.Filled.{Filled, IsFilling}
 use Rattle.tv_layout.specs.Places.{WithinLimits}
+use Rattle.tv_layout.specs.RunInputs.{run_on}
 use Rattle.tv_layout.specs.Values.{IsFill}
 use Rattle.tv_step.specs.Range.{AreWords}
 
@@ -11,4 +12,4 @@ use Rattle.tv_step.specs.Range.{AreWords}
 -- take are those that the run reads
 abbrev pub FillingsSatisfy : Type 0
 FillingsSatisfy = (w : ℕ) (net : Net) (image x aux : List ℕ) (t : ℕ) (filling : Filled) → WithinLimits w image (length x) t → AreWords w x → AreWords w aux
-    → IsFilling w net image x aux t filling → IsFill w net (block_of w) image x aux t filling.answer filling.values
+    → IsFilling net (run_on w image x aux t) filling → IsFill net (block_of w) (run_on w image x aux t) filling.answer filling.values

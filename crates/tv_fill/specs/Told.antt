@@ -36,8 +36,10 @@ unfoldable pub told_values : ℕ → ℕ → List TraceState → List ℕ → Li
 told_values w n states aux lines i =
     block_values w n (traced_view (state_at states i)) (step_words (old_at lines (3 * i)) (old_at lines (3 * i + 1)) (data_at states aux lines i) (is_some (taken_at states aux i)))
 
--- what the trace has of it is in range
+-- the trace has it, and what it has of it is in range
 pub record StepInRange (w n : ℕ) (states : List TraceState) (aux : List ℕ) (lines : List Line) (i : ℕ) : Type 0 where
+  pub after : i + 1 < length states
+  pub third : 3 * i + 2 < length lines
   pub view : ViewInRange w n (traced_view (state_at states i))
   pub head : old_at lines (3 * i) < 2 ^ w
   pub tail : old_at lines (3 * i + 1) < 2 ^ w

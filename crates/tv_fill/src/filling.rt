@@ -4,6 +4,7 @@ ghost use Rattle.std.specs.Prelude.{IfErr, OnOk};
 ghost use Rattle.tv_core.specs.Giving.{GivesIn};
 ghost use Rattle.tv_fill.specs.Filled.{IsFilling, IsUnfilled, FillsIn};
 ghost use Rattle.tv_layout.specs.Places.{WithinLimits};
+ghost use Rattle.tv_layout.specs.RunInputs.{run_on};
 ghost use Rattle.tv_lines.specs.Packing.{unpacked};
 ghost use Rattle.tv_lines.specs.Placed.{LinesFrom};
 ghost use Rattle.tv_memory.specs.Order.{predecessors};
@@ -55,12 +56,34 @@ impl<'a, const W: u32> Model for Filling<'a, W> {
 
     ghost view = { λ f. record {
       answer = f.answer;
-      values = filled_values W f.answer f.image.now f.tape.now
-          f.aux.now f.t f.states f.lines f.items.items f.net f.k f.settings;
+      values = filled_values W (record {
+        answer = f.answer;
+        image = f.image.now;
+        tape = f.tape.now;
+        aux = f.aux.now;
+        t = f.t;
+        states = f.states;
+        lines = f.lines;
+        items = f.items.items;
+        net = f.net;
+        k = f.k;
+        bits = f.settings;
+      });
     } };
 
-    ghost invariant = { λ f. PartsFit W f.answer f.count f.image.now f.tape.now f.aux.now f.t
-        f.states f.lines f.items.items f.spare.items f.net f.k f.settings };
+    ghost invariant = { λ f. PartsFit W (record {
+      answer = f.answer;
+      image = f.image.now;
+      tape = f.tape.now;
+      aux = f.aux.now;
+      t = f.t;
+      states = f.states;
+      lines = f.lines;
+      items = f.items.items;
+      net = f.net;
+      k = f.k;
+      bits = f.settings;
+    }) f.spare.items f.count };
 }
 
 impl<'a, const W: u32> Filling<'a, W> {
@@ -146,8 +169,8 @@ pub fn prepare<'a, const W: u32>(
     requires tape_words { AreWords W tape.now }
     requires aux_words { AreWords W aux.now }
     requires aux { length aux.now < 2 ^ 32 }
-    ensures filling { IfOk result (IsFilling W net image.now tape.now aux.now t) }
-    ensures fault { IfErr result (IsUnfilled W image.now tape.now aux.now t) }
+    ensures filling { IfOk result (IsFilling net (run_on W image.now tape.now aux.now t)) }
+    ensures fault { IfErr result (IsUnfilled (run_on W image.now tape.now aux.now t)) }
 {
     let Trace {
         answer,
@@ -216,7 +239,8 @@ pub fn fill_system<const W: u32, V: Values>(
     requires aux_words { AreWords W aux.now }
     requires aux { length aux.now < 2 ^ 32 }
     requires whole { V.giving.broken v.old ≡ false }
-    ensures fills { FillsIn V.giving W net image.now tape.now aux.now t v.old v.new result }
+    ensures fills { FillsIn V.giving net (run_on W image.now tape.now aux.now t)
+        v.old v.new result }
     ensures whole { OnOk result (V.giving.broken v.new ≡ false) }
 {
     let filling = prepare::<W>(alloc, image, tape, aux, t, net)?;

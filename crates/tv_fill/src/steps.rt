@@ -1,5 +1,5 @@
 //! The values of the steps of a run.
-ghost use Rattle.std.specs.Prelude.{◌≡◌, ℕ, ◌+◌, ◌*◌, ◌<◌, ◌≤◌, ◌^◌, true, false, length, OnOk};
+ghost use Rattle.std.specs.Prelude.{◌≡◌, ℕ, ◌+◌, ◌*◌, ◌<◌, ◌^◌, true, false, length, OnOk};
 ghost use Rattle.tv_core.specs.Below.{joined_below};
 ghost use Rattle.tv_core.specs.Giving.{GivesIn};
 ghost use Rattle.tv_word.specs.Widths.{IsWidth};
@@ -49,8 +49,6 @@ impl<'a> Steps<'a> {
     fn fill_step<const W: u32, V: Values>(&self, v: &mut V, n: u32, i: u32) -> Put<()>
         requires width { IsWidth W }
         requires short { n < 2 ^ 29 }
-        requires states { i + 1 < length self.now.states.now }
-        requires lines { 3 * i + 2 < length self.now.lines.now }
         requires near { 3 * i + 2 < 2 ^ 32 }
         requires range { StepInRange W n self.now.states.now self.now.aux.now self.now.lines.now i }
         requires whole { V.giving.broken v.old ≡ false }
@@ -71,8 +69,6 @@ impl<'a> Steps<'a> {
     pub(crate) fn fill<const W: u32, V: Values>(&self, v: &mut V, n: u32, t: u32) -> Put<()>
         requires width { IsWidth W }
         requires short { n < 2 ^ 29 }
-        requires states { t < length self.now.states.now }
-        requires lines { 3 * t ≤ length self.now.lines.now }
         requires near { 3 * t < 2 ^ 32 }
         requires range { (i : ℕ) → i < t → StepInRange W n self.now.states.now self.now.aux.now
             self.now.lines.now i }

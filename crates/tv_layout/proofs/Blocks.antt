@@ -2,6 +2,7 @@
 -- them is proved in Systems.
 use Rattle.std.specs.Prelude.{◌≡◌, ℕ, ◌+◌, ◌/◌, ◌^◌, ◌<◌, ◌≤◌, Bool, List, length, Option, Some, is_some}
 use Rattle.tv_block.specs.Block.{did, IsMachineStep}
+use Rattle.tv_block.specs.Complete.{olds_of}
 use Rattle.tv_parts.specs.States.{state_in}
 use Rattle.tv_block.specs.declared.records.Block.{Block}
 use Rattle.tv_parts.specs.declared.records.StateWires.{StateWires}
@@ -16,7 +17,7 @@ use Rattle.tv_step.specs.Reads.{word_taken}
 use Rattle.tv_step.specs.Runs.{IsDefined}
 use Rattle.tv_step.specs.State.{State}
 use Rattle.tv_step.specs.Trace.{step_lines}
-use Rattle.tv_layout.specs.Blocks.{BlockCircuit, BlockValues, values_for, view_of}
+use Rattle.tv_layout.specs.Blocks.{BlockCircuit, BlockValues, view_of}
 
 -- it makes `made` wires, and three lines, whatever its inputs
 pub record BlockSizes (block : BlockCircuit) (made : ℕ) : Type 0 where
@@ -54,7 +55,7 @@ pub record Given (w : ℕ) (values : BlockValues) (z x : List ℕ) (state : Stat
   pub matches : Matches x (state_in z state) st
   pub defined : IsDefined w st
   pub may : MayTake w (state_in z state) st word
-  pub has : HasFrom z next (values_for w values (length x) (state_in z state) time st word)
+  pub has : HasFrom z next (values (length x) (state_in z state) (olds_of w (length x) st time) word)
 
 -- the lines are those of the machine's step, and the word is the one that was passed
 pub record ShowsStep (w n time : ℕ) (st : State) (word : Option ℕ) (b : Did) : Type 0 where
@@ -66,9 +67,9 @@ pub record ShowsStep (w n time : ℕ) (st : State) (word : Option ℕ) (b : Did)
 -- given them satisfies the block's constraints, and shows the step.
 pub record BlockIsComplete (w : ℕ) (block : BlockCircuit) (made : ℕ) (values : BlockValues) : Type 0 where
   pub many : (n time : ℕ) (st : State) (ended : Bool) → n < 2 ^ 29 → InRange w st
-      → length (values_for w values n (view_of n st ended) time st (word_taken w st)) ≡ made
+      → length (values n (view_of n st ended) (olds_of w n st time) (word_taken w st)) ≡ made
   pub below : (n time : ℕ) (st : State) (ended : Bool) → n < 2 ^ 29 → InRange w st
-      → InField (values_for w values n (view_of n st ended) time st (word_taken w st))
+      → InField (values n (view_of n st ended) (olds_of w n st time) (word_taken w st))
   pub met : (z x : List ℕ) (state : StateWires) (time next : ℕ) (st : State) (word : Option ℕ) → Given w values z x state time next st word
       → Meets z (block (length x) state time next).list
   pub shows : (z x : List ℕ) (state : StateWires) (time next : ℕ) (st : State) (word : Option ℕ) → Given w values z x state time next st word

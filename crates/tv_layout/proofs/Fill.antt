@@ -41,6 +41,7 @@ use Rattle.tv_layout.proofs.Checked.{are_of_kinds, are_near}
 use Rattle.tv_layout.specs.Checks.{checks_of}
 use Rattle.tv_layout.specs.Layout.{steps_of, lines_of, layout_of, layout, taken_of}
 use Rattle.tv_layout.specs.Places.{WithinLimits, boot_count, line_count, log_of, tape_at, zero_wires_at, first_at}
+use Rattle.tv_layout.specs.RunInputs.{run_on}
 use Rattle.tv_layout.specs.Sound.{padding, all_lines}
 use Rattle.tv_layout.specs.Values.{step_values, fill, IsFill}
 use Rattle.tv_layout.specs.declared.places.TheConstants.{STATE_WIRES}
@@ -203,7 +204,7 @@ module _ (w : ℕ) (net : Net) (block : BlockCircuit) (made : ℕ) (values : Blo
       ∙ steps_take w block made sizes values law complete image x aux z (zero_wires_at w (length x)) (first_at w (length x)) t v
       (input w image x aux t fits x_words aux_words) assigns (early image (length x) t w fits) has_parts.zero_wires has_steps runs t (omega arith)
 
-  pub is_fill : IsFill w net block image x aux t v z
+  pub is_fill : IsFill net block (run_on w image x aux t) v z
   is_fill = record {
     sat = Sat-from_Meets (layout block w net image (length x) t) z many assigns all_met;
     extends = record { publics = omega arith; values = take-append_seam (v ∷ x) _ };
@@ -214,7 +215,7 @@ abbrev pub FillIsComplete : Type 0
 FillIsComplete = (w : ℕ) (net : Net) (block : BlockCircuit) (made : ℕ) (values : BlockValues)
     → BlockSizes block made → BlockIsSound w block → BlockIsComplete w block made values
     → (image x aux : List ℕ) (t v : ℕ) → WithinLimits w image (length x) t → AreWords w x → AreWords w aux → Accepts w image x aux t v
-    → IsFill w net block image x aux t v (fill values w net image x aux t v)
+    → IsFill net block (run_on w image x aux t) v (fill values net (run_on w image x aux t) v)
 
 pub fill_complete : FillIsComplete
 unfolding fill

@@ -23,6 +23,7 @@ use Rattle.tv_layout.specs.Layout.{layout, taken_of}
 use Rattle.tv_layout.specs.Places.{WithinLimits}
 use Rattle.tv_layout.specs.Reduces.{HasSolution, HasRun, HasShortRun, Reduces}
 use Rattle.tv_layout.specs.Sound.{IsRun}
+use Rattle.tv_layout.specs.RunInputs.{run_on}
 use Rattle.tv_layout.specs.Values.{fill}
 
 has_extended : (z : List ℕ) (k : ℕ) (xs : List ℕ) → take (length xs) (drop k z) ≡ xs → HasFrom z k xs
@@ -55,7 +56,8 @@ module _ (w : ℕ) (net : Net) (block : BlockCircuit) (made : ℕ) (values : Blo
   where_run v x words e run =
       let f = fill_complete w net block made values sizes law complete image x run.aux t v
       (subst (λ m. WithinLimits w image m t) (sym e) fits) words run.words run.accepts in
-      subst (λ m. HasSolution (layout block w net image m t) (v ∷ x)) e (record { z = fill values w net image x run.aux t v; sat = f.sat; extends = f.extends })
+      subst (λ m. HasSolution (layout block w net image m t) (v ∷ x)) e
+      (record { z = fill values net (run_on w image x run.aux t) v; sat = f.sat; extends = f.extends })
 
   public_words : (z : List ℕ) → Sat (layout block w net image n t) z → AreWords w (take (1 + n) (drop 1 z))
   public_words z sat =

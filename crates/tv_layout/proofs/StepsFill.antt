@@ -25,6 +25,7 @@ use Rattle.tv_step.specs.State.{State, Next}
 use Rattle.tv_step.specs.Trace.{lines_of}
 use Rattle.std.proofs.lemmas.List.Elements.{All-head}
 use Rattle.tv_block.specs.Block.{reached}
+use Rattle.tv_block.specs.Complete.{olds_of}
 use Rattle.tv_layout.proofs.FirstState.{HoldsZeros, view_same, first_view}
 use Rattle.tv_layout.proofs.Positions.{steps_next}
 use Rattle.tv_layout.proofs.Sound.{starts}
@@ -34,7 +35,7 @@ use Rattle.tv_layout.proofs.Taking.{AuxCase.{Takes, Ends, Other}, aux_case, take
 use Rattle.tv_parts.specs.States.{state_in}
 use Rattle.tv_numbers.specs.Shown.{MayTake}
 use Rattle.tv_layout.proofs.Blocks.{BlockSizes, BlockIsSound, BlockIsComplete, Given}
-use Rattle.tv_layout.specs.Blocks.{BlockCircuit, BlockValues, view_of, values_for}
+use Rattle.tv_layout.specs.Blocks.{BlockCircuit, BlockValues, view_of}
 use Rattle.tv_layout.specs.Layout.{before_steps, step_of, steps_of}
 use Rattle.tv_layout.specs.Places.{boot_count}
 use Rattle.tv_layout.specs.Values.{step_values}
@@ -105,9 +106,10 @@ module _ (w : ℕ) (block : BlockCircuit) (made : ℕ) (sizes : BlockSizes block
     matches = before.matches;
     defined = runs.defined i h;
     may = may i before;
-    has = subst (λ at. HasFrom z at (values_for w values (length x) (here i).now (time + 3 * i) (now i) (word_taken w (now i))))
+    has = subst (λ at. HasFrom z at (values (length x) (here i).now (olds_of w (length x) (now i) (time + 3 * i)) (word_taken w (now i))))
         (sym (steps_next block made sizes (length x) time i zero_wires first))
-        (subst (λ u. HasFrom z (first + i * made) (values_for w values (length x) u (time + 3 * i) (now i) (word_taken w (now i)))) (sym (viewed i before))
+        (subst (λ u. HasFrom z (first + i * made) (values (length x) u (olds_of w (length x) (now i) (time + 3 * i)) (word_taken w (now i))))
+        (sym (viewed i before))
         (has i h));
   }
 

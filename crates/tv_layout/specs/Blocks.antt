@@ -1,6 +1,5 @@
 -- The circuit of one step, and the values of its wires, as a system takes them.
 use Rattle.std.specs.Prelude.{ℕ, ◌-◌, Bool, List, length, Option}
-use Rattle.tv_block.specs.Complete.{olds_of}
 use Rattle.tv_block.specs.declared.records.Block.{Block}
 use Rattle.tv_parts.specs.declared.records.StateWires.{StateWires}
 use Rattle.tv_core.specs.Circuits.{Circuit}
@@ -15,10 +14,6 @@ BlockCircuit = ℕ → StateWires → ℕ → Circuit Block
 -- three lines, and the word that it takes of the auxiliary tape
 abbrev pub BlockValues : Type 0
 BlockValues = ℕ → View → List ℕ → Option ℕ → List ℕ
-
--- those for a step of the machine from a state
-abbrev pub values_for : ℕ → BlockValues → ℕ → View → ℕ → State → Option ℕ → List ℕ
-values_for w values n v time st word = values n v (olds_of w n st time) word
 
 -- the numbers in a state's wires: as many words of the primary tape of n are taken as aren't left
 abbrev pub view_of : ℕ → State → Bool → View

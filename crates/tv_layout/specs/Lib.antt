@@ -5,6 +5,7 @@ pub mod Normal
 pub mod Places
 pub mod Reached
 pub mod Reduces
+pub mod RunInputs
 pub mod Sizes
 pub mod Sound
 pub mod StateBefore

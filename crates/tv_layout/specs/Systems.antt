@@ -10,6 +10,7 @@ use Rattle.tv_step.specs.Range.{AreWords}
 use Rattle.tv_layout.specs.Layout.{layout}
 use Rattle.tv_layout.specs.Places.{WithinLimits, tape_at}
 use Rattle.tv_layout.specs.Reduces.{Reduces}
+use Rattle.tv_layout.specs.RunInputs.{RunInput, run_on}
 use Rattle.tv_layout.specs.Sound.{IsRun}
 use Rattle.tv_layout.specs.Values.{fill, IsFill}
 
@@ -18,8 +19,8 @@ abbrev pub system_of : ℕ → Net → List ℕ → ℕ → ℕ → System
 system_of w net image n t = layout (block_of w) w net image n t
 
 -- the values of its wires for a run that answers v
-abbrev pub run_values : ℕ → Net → List ℕ → List ℕ → List ℕ → ℕ → ℕ → List ℕ
-run_values w net image x aux t v = fill (step_values w) w net image x aux t v
+abbrev pub run_values : Net → RunInput → ℕ → List ℕ
+run_values net run v = fill (step_values run.width) net run v
 
 -- each satisfying assignment is a run on its own tape
 abbrev pub SystemIsSound : Type 0
@@ -29,7 +30,7 @@ SystemIsSound = (w : ℕ) (net : Net) (image x z : List ℕ) (t : ℕ) → Withi
 -- the values for each run that answers are a satisfying assignment
 abbrev pub SystemIsComplete : Type 0
 SystemIsComplete = (w : ℕ) (net : Net) (image x aux : List ℕ) (t v : ℕ) → WithinLimits w image (length x) t → AreWords w x → AreWords w aux
-    → Accepts w image x aux t v → IsFill w net (block_of w) image x aux t v (run_values w net image x aux t v)
+    → Accepts w image x aux t v → IsFill net (block_of w) (run_on w image x aux t) v (run_values net (run_on w image x aux t) v)
 
 -- the system of each program, tape's length and number of steps within the limits is a reduction, over both networks
 abbrev pub SystemReduces : Type 0

@@ -12,6 +12,7 @@ use Rattle.tv_layout.proofs.Boot.{length-boot_lines}
 use Rattle.tv_layout.proofs.Systems.{system_sound}
 use Rattle.tv_layout.specs.Layout.{taken_of}
 use Rattle.tv_layout.specs.Places.{WithinLimits, boot_count}
+use Rattle.tv_layout.specs.RunInputs.{run_on}
 use Rattle.tv_layout.specs.Sound.{all_lines}
 use Rattle.tv_layout.specs.Systems.{system_of}
 use Rattle.tv_step.proofs.PlaceLaws.{lines_are_three_a_step}
@@ -68,5 +69,5 @@ satisfying_are_listed w net image z n t fits sat =
     (subst (λ m. Sat (system_of w net image m t) z) (sym is.many) sat) in
     record {
       has = has;
-      lists = subst (λ aux. ListsRun w image run.tape aux z t run.step) (ap (λ m. taken_of (block_of w) w image m t z) is.many ∙ sym is.aux) lists;
+      lists = subst (λ aux. ListsRun (run_on w image run.tape aux t) z run.step) (ap (λ m. taken_of (block_of w) w image m t z) is.many ∙ sym is.aux) lists;
     }

@@ -6,7 +6,7 @@ use Rattle.tv_top.proofs.Common.{Holds, input}
 use Rattle.tv_top.proofs.Claiming.{Promises, comes, shows_input}
 
 pub asms : Promises OnAsm
-asms words count old new result answers text image are differ files told =
+asms words count call answers text image are differ files told =
     comes (asm_plan (name_at 1 text) (name_at 2 image)) writes_bytes (input (name_at 1 text) image_in)
-    (Holds image_in (files text)) words count files old new result (rw are refl) ((differ, tt), (tt, tt)) tt refl told answers
+    (Holds image_in (files text)) words count files call (rw are refl) ((differ, tt), (tt, tt)) tt refl told answers
     (shows_input (name_at 1 text) image_in files)

@@ -126,7 +126,7 @@ assigned_fits n t files text witness assigned few some most (inl (program, holds
 assigned_fits n t files text witness assigned few some most (inr (bad, refused, e)) = cc
 
 pub assigned_shown : (net : Net) (files : Names) (text : List ℕ) (n t : ℕ) (witness : List ℕ) → n ≤ TAPE_WORDS → 0 < t → t ≤ STEPS
-    → IsHeld (assigned_of (name_at 1 text) (name_at 4 witness) files).gives (HasAssigned net files text n t witness)
+    → IsHeld (assigned_of (name_at 1 text) (name_at 4 witness) files).gives (HasAssigned net n t (files text) (files witness))
 unfolding assigned_of assigned_run program_system
 assigned_shown net files text n t witness few some most =
     shows_more _ _ _

@@ -9,9 +9,10 @@ use Rattle.tv_top.proofs.ProgramLaws.{has_image, within_limits}
 
 pub builds : Promises OnBuild
 unfolding program_system
-builds words count old new result answers text first second system last net n t are is_net is_n is_t differ few some most files told =
-    comes (build_plan net (name_at 1 text) n t (name_at 4 system)) (build_ends net n t) (input (name_at 1 text) program_in)
-    (HasSystem net n t (files text)) words count files old new result
+builds words count call answers text first second system last net n t are is_net is_n is_t differ few some most files told =
+    comes (build_plan (record { net = net; text = name_at 1 text; n = n; t = t; system = name_at 4 system })) (build_ends net n t)
+    (input (name_at 1 text) program_in)
+    (HasSystem net n t (files text)) words count files call
     (rw (are, is_net, is_n, is_t) refl) ((differ, tt), (tt, tt)) (omega arith, few, (omega arith, most, tt)) refl told answers
     (shows_more _ _ _ (shows_input (name_at 1 text) program_in files) (λ held holds. record {
       holds = holds;

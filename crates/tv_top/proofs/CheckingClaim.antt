@@ -141,7 +141,7 @@ all_shown system witness tape files =
     (assignments_below in_witness.bytes z (read_of witness_bad (assignment_of in_witness.bytes) z in_witness.reads)))))
 
 pub checks : Promises OnCheck
-checks words count old new result answers system witness tape are files told =
+checks words count call answers system witness tape are files told =
     comes (check_plan (name_at 1 system) (name_at 2 witness) (name_at 3 tape)) check_ends (check_of (name_at 1 system) (name_at 2 witness) (name_at 3 tape))
-    (HasVerdict files system witness tape) words count files old new result
+    (HasVerdict files system witness tape) words count files call
     (rw are refl) (tt, (tt, (tt, tt))) tt refl told answers (all_shown system witness tape files)

@@ -4,7 +4,7 @@ use Rattle.std.specs.Prelude.{IfOk}
 use Rattle.std.proofs.lemmas.Bool.{le-ltb, false_from_ne_true}
 use Rattle.std.proofs.lemmas.Slice.Eq.{bytes_eq-Decides}
 use Rattle.std.specs.Str.{bytes_eq}
-use Rattle.tv_top.proofs.Common.{Names, Outside, Amount, Bad, Stop, Fault, Memory, Contents, Status, Answers, IsStopped, Holds, Then, Answered}
+use Rattle.tv_top.proofs.Common.{Names, Amount, Bad, Stop, Fault, Memory, Contents, Answers, Call, IsStopped, Holds, Then}
 use Rattle.tv_top.proofs.Common.{Comes, IsAnswered, Ends, Named, Plan, Look, Outcome, AreWithin, ◌>>=◌, held_at, input, made_of, comes_by, answer_by}
 use Rattle.tv_top.proofs.Common.{answer_of, same_in, same_of, limit_of, request_of}
 use Rattle.tv_top.specs.declared.status.Status.TheVariants as status
@@ -12,36 +12,35 @@ use Rattle.tv_top.specs.Form.{form}
 
 -- ---- any plan
 
-stopped_by : (plan : Plan) (words : ℕ) (old new : Outside) (result : Status) (word : ℕ) → Answers (Ok plan) words old new result
-    → result ≡ status.FileFault word → IsStopped plan.writes old new result
-stopped_by plan words old new result word answers e =
+stopped_by : (plan : Plan) (words : ℕ) (call : Call) (word : ℕ) → Answers (Ok plan) words call.before call.after call.status
+    → call.status ≡ status.FileFault word → IsStopped plan.writes call
+stopped_by plan words call word answers e =
     inl (word, e, elim (answers.caused word e) [ inl read ↦ inl read.1 | inr (inl wrote) ↦ inr (inl wrote) | inr (inr said) ↦ inr (inr said.1) ])
 
 -- the answer that is due, or something stopped the call
-pub due_or_stopped : (plan : Plan) (words : ℕ) (files : Names) (old new : Outside) (result : Status) → Answers (Ok plan) words old new result →
-    Ends (answer_of (Ok plan) files) words files old new result → IsAnswered (answer_of (Ok plan) files) files old new result
-    ⊎ IsStopped plan.writes old new result
-due_or_stopped plan words files old new result answers (inl answered) = inl answered
-due_or_stopped plan words files old new result answers (inr (inl read)) = inr (stopped_by plan words old new result read.0 answers read.1)
-due_or_stopped plan words files old new result answers (inr (inr (inl wrote))) = inr (stopped_by plan words old new result wrote.0 answers wrote.1)
-due_or_stopped plan words files old new result answers (inr (inr (inr (inl said)))) = inr (stopped_by plan words old new result words answers said.0)
-due_or_stopped plan words files old new result answers (inr (inr (inr (inr wanting)))) = inr (inr wanting.0)
+pub due_or_stopped : (plan : Plan) (words : ℕ) (files : Names) (call : Call) → Answers (Ok plan) words call.before call.after call.status →
+    Ends (answer_of (Ok plan) files) words files call.before call.after call.status
+    → IsAnswered (answer_of (Ok plan) files) files call.before call.after call.status ⊎ IsStopped plan.writes call
+due_or_stopped plan words files call answers (inl answered) = inl answered
+due_or_stopped plan words files call answers (inr (inl read)) = inr (stopped_by plan words call read.0 answers read.1)
+due_or_stopped plan words files call answers (inr (inr (inl wrote))) = inr (stopped_by plan words call wrote.0 answers wrote.1)
+due_or_stopped plan words files call answers (inr (inr (inr (inl said)))) = inr (stopped_by plan words call words answers said.0)
+due_or_stopped plan words files call answers (inr (inr (inr (inr wanting)))) = inr (inr wanting.0)
 
 -- whatever a look finds, this is so of it
 abbrev pub IsHeld : {A : Type 0} → Result A Stop → (Result A Bad → Type 0) → Type 0
 IsHeld {A} gives Held = (held : Result A Bad) → gives ≡ made_of held → Held held
 
 ended_by : {A : Type 0} (plan : Plan) (ends : A → Outcome) (look : Look A) (gives : Result A Stop) (Held : Result A Bad → Type 0) (words : ℕ) (files : Names)
-    (old new : Outside) (result : Status) → look.gives ≡ gives →
-    Answers (Ok plan) words old new result → IsHeld gives Held → IsAnswered (answer_by plan.writes (comes_by ends look)) files old new result
-    → Comes plan.writes ends Held files old new result
-ended_by plan ends look (Ok x) Held words files old new result is answers holds answered = let due = rw is at answered in
+    (call : Call) → look.gives ≡ gives → Answers (Ok plan) words call.before call.after call.status → IsHeld gives Held
+    → IsAnswered (answer_by plan.writes (comes_by ends look)) files call.before call.after call.status → Comes plan.writes ends Held files call
+ended_by plan ends look (Ok x) Held words files call is answers holds answered = let due = rw is at answered in
     inl (record { held = Ok x; is = holds (Ok x) refl; status = due.status; contents = due.contents; read = due.read; said = due.said })
-ended_by plan ends look (Err (Contents bad)) Held words files old new result is answers holds answered = let due = rw is at answered in
+ended_by plan ends look (Err (Contents bad)) Held words files call is answers holds answered = let due = rw is at answered in
     inl (record { held = Err bad; is = holds (Err bad) refl; status = due.status; contents = due.contents; read = tt; said = due.said })
-ended_by plan ends look (Err (Fault word)) Held words files old new result is answers holds answered = let due = rw is at answered in
-    inr (stopped_by plan words old new result word answers due.status)
-ended_by plan ends look (Err Memory) Held words files old new result is answers holds answered = let due = rw is at answered in inr (inr due.status)
+ended_by plan ends look (Err (Fault word)) Held words files call is answers holds answered = let due = rw is at answered in
+    inr (stopped_by plan words call word answers due.status)
+ended_by plan ends look (Err Memory) Held words files call is answers holds answered = let due = rw is at answered in inr (inr due.status)
 
 -- ---- looks
 
@@ -115,30 +114,29 @@ within_all [] within = refl
 within_all (one ∷ more) within = rw (le-ltb one.has one.least within.0, le-ltb one.most one.has within.1) (within_all more within.2)
 
 -- words that have the form of a plan whose names are others and whose quantities are within their limits ask for it
-pub granted : (plan : Plan) (words : List (List ℕ)) (count : ℕ) (old new : Outside) (result : Status) → form words ≡ Some plan → AreOther plan.reads plan.writes
+pub granted : (plan : Plan) (words : List (List ℕ)) (count : ℕ) (call : Call) → form words ≡ Some plan → AreOther plan.reads plan.writes
     → AreWithin plan.amounts →
-    Answers (request_of (form words)) count old new result → Answers (Ok plan) count old new result
-granted plan words count old new result has other within asked = rw (has, other_of plan.reads plan.writes other, within_all plan.amounts within) at asked
+    Answers (request_of (form words)) count call.before call.after call.status → Answers (Ok plan) count call.before call.after call.status
+granted plan words count call has other within asked = rw (has, other_of plan.reads plan.writes other, within_all plan.amounts within) at asked
 
 -- ---- any command
 
 -- words that have the form of a plan, which isn't refused, end as its look finds
 pub comes : {A : Type 0} (plan : Plan) (ends : A → Outcome) (look : Names → Look A) (Held : Result A Bad → Type 0) (words : List (List ℕ)) (count : ℕ)
-    (files : Names) (old new : Outside) (result : Status) →
+    (files : Names) (call : Call) →
     form words ≡ Some plan → AreOther plan.reads plan.writes → AreWithin plan.amounts → plan.comes ≡ (λ files. comes_by ends (look files))
-    → old.contents ≡ Some files →
-    Answers (request_of (form words)) count old new result → IsHeld (look files).gives Held → Comes plan.writes ends Held files old new result
-comes plan ends look Held words count files old new result has other within is told asked shows =
-    let answers = granted plan words count old new result has other within asked in
-    elim (due_or_stopped plan count files old new result answers (answers.ends files told)) [
-      | inl answered ↦ ended_by plan ends (look files) (look files).gives Held count files old new result refl answers shows (rw is at answered)
+    → call.before.contents ≡ Some files →
+    Answers (request_of (form words)) count call.before call.after call.status → IsHeld (look files).gives Held → Comes plan.writes ends Held files call
+comes plan ends look Held words count files call has other within is told asked shows =
+    let answers = granted plan words count call has other within asked in
+    elim (due_or_stopped plan count files call answers (answers.ends files told)) [
+      | inl answered ↦ ended_by plan ends (look files) (look files).gives Held count files call refl answers shows (rw is at answered)
       | inr stopped ↦ inr stopped
     ]
 
 -- what a clause of a command says comes of what every call promises
-abbrev pub Promises : (List (List ℕ) → Outside → Outside → Status → Type 0) → Type 0
-Promises On = (words : List (List ℕ)) (count : ℕ) (old new : Outside) (result : Status) → Answers (request_of (form words)) count old new result
-    → On words old new result
+abbrev pub Promises : (List (List ℕ) → Call → Type 0) → Type 0
+Promises On = (words : List (List ℕ)) (count : ℕ) (call : Call) → Answers (request_of (form words)) count call.before call.after call.status → On words call
 
 -- what is so of each value that there is
 pub if_ok : {A : Type 0} (held : Result A Bad) (P : A → Type 0) → ((x : A) → held ≡ Ok x → P x) → IfOk held P

@@ -25,7 +25,7 @@ pub use Rattle.tv_top.specs.Finds.{IsOneOf, IsFound, Finds, Leaves, Makes, Spare
 pub use Rattle.tv_top.specs.Ends.{AreRead, files_with, IsCutAt, IsCutInWriting, Said, SaidPart, Ends, IsConcluded, IsQuiet, IsUntouched, Concludes, Writes}
 pub use Rattle.tv_top.specs.Ends.{IsCut, Completes, IsAnswered, sink_stop, streamed, HasPartOf}
 pub use Rattle.tv_top.specs.Answers.{words_of, MayStop, MayEnd, quantities_of, IsOfWords, ChangedAt, IsSaid, Answers, Does, ending_of}
-pub use Rattle.tv_top.specs.Claims.{Holds, Then, IsStopped, status_by, Answered, Comes}
+pub use Rattle.tv_top.specs.Claims.{Call, Holds, Then, IsStopped, status_by, Answered, Comes}
 pub use Rattle.tv_top.specs.Programs.{bits, program_in, program_sizes, image_words, image_bytes, program_result, HasImage, width_told, program_of}
 unfoldable pub use Rattle.tv_top.specs.Programs.{program_by, image_of}
 pub use Rattle.tv_top.specs.Status.{quantity_what, size_what, bad_status, refusal_status, stop_status, finish_status, ending_status}

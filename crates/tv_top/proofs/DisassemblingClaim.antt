@@ -6,7 +6,7 @@ use Rattle.tv_top.specs.Plan.{name_at, writes_bytes}
 use Rattle.tv_top.proofs.Claiming.{Promises, comes, shows_input}
 
 pub disasms : Promises OnDisasm
-disasms words count old new result answers image text last width are is differ files told =
+disasms words count call answers image text last width are is differ files told =
     comes (disasm_plan width (name_at 1 image) (name_at 2 text)) writes_bytes (input (name_at 1 image) (text_in width))
-    (Holds (text_in width) (files image)) words count files old new result
+    (Holds (text_in width) (files image)) words count files call
     (rw (are, is) refl) ((differ, tt), (tt, tt)) tt refl told answers (shows_input (name_at 1 image) (text_in width) files)

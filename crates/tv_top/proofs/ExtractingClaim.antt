@@ -7,8 +7,11 @@ use Rattle.tv_top.proofs.AssignedLaws.{assigned_shown}
 use Rattle.tv_top.proofs.Claiming.{Promises, comes}
 
 pub extracts : Promises OnExtract
-extracts words count old new result answers text first second witness tape aux last net n t are is_net is_n is_t a b c d e few some most files told =
-    comes (extract_plan net (name_at 1 text) n t (name_at 4 witness) (name_at 5 tape) (name_at 6 aux)) (extract_ends net n t)
-    (assigned_of (name_at 1 text) (name_at 4 witness)) (HasAssigned net files text n t witness) words count files old new result
+extracts words count call answers text first second witness tape aux last net n t are is_net is_n is_t a b c d e few some most files told =
+    comes
+    (extract_plan
+    (record { net = net; text = name_at 1 text; n = n; t = t; witness = name_at 4 witness; tape = name_at 5 tape; aux = name_at 6 aux }))
+    (extract_ends net n t)
+    (assigned_of (name_at 1 text) (name_at 4 witness)) (HasAssigned net n t (files text) (files witness)) words count files call
     (rw (are, is_net, is_n, is_t) refl) ((a, (b, tt)), ((c, (d, tt)), ((e, tt), (tt, tt)))) (omega arith, few, (omega arith, most, tt)) refl told answers
     (assigned_shown net files text n t witness few some most)

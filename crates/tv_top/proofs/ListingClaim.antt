@@ -12,9 +12,9 @@ use Rattle.tv_top.proofs.Claiming.{Promises, comes, if_ok, shows_more}
 
 pub lists : Promises OnListing
 unfolding program_system
-lists words count old new result answers text first second witness order out by n t are is_by is_n is_t a b few some most files told =
-    comes (listing_plan by (name_at 1 text) n t (name_at 4 witness) (name_at 6 out)) (listing_ends by n t) (assigned_of (name_at 1 text) (name_at 4 witness))
-    (HasListed files text n t witness) words count files old new result
+lists words count call answers text first second witness order out by n t are is_by is_n is_t a b few some most files told =
+    comes (listing_plan (record { by = by; text = name_at 1 text; n = n; t = t; witness = name_at 4 witness; out = name_at 6 out })) (listing_ends by n t)
+    (assigned_of (name_at 1 text) (name_at 4 witness)) (HasListed n t (files text) (files witness)) words count files call
     (rw (are, is_by, is_n, is_t) refl) ((a, tt), ((b, tt), (tt, tt))) (omega arith, few, (omega arith, most, tt)) refl told answers
     (shows_more _ _ _ (assigned_shown Benes files text n t witness few some most) (λ held has. record {
       assigned = has;

@@ -19,8 +19,8 @@ accepted steps inputs value step is = (
 )
 
 pub runs : Promises OnRun
-runs words count old new result answers text tape aux number steps are is some most files told =
+runs words count call answers text tape aux number steps are is some most files told =
     comes (run_plan (name_at 1 text) (name_at 2 tape) (name_at 3 aux) steps) (run_ends steps) (inputs_of (name_at 1 text) (name_at 2 tape) (name_at 3 aux))
-    (HasRun files text tape aux steps) words count files old new result
+    (HasRun files text tape aux steps) words count files call
     (rw (are, is) refl) (tt, (tt, (tt, tt))) (omega arith, most, tt) refl told answers
     (shows_more _ _ _ (inputs_shown text tape aux files) (λ held has. record { inputs = has; accepts = if_ok held _ (λ inputs _. accepted steps inputs) }))

@@ -28,9 +28,9 @@ kept_by system held false (Some has) whole e = rw (← e) tt
 
 pub shrinks : Promises OnShrink
 unfolding shrunk_look
-shrinks words count old new result answers system out are differ files told =
+shrinks words count call answers system out are differ files told =
     comes (shrink_plan (name_at 1 system) (name_at 2 out)) shrink_ends (shrunk_look (name_at 1 system))
-    (Then (Holds system_in (files system)) IsShrunk) words count files old new result (rw are refl) ((differ, tt), (tt, tt)) tt refl told answers
+    (Then (Holds system_in (files system)) IsShrunk) words count files call (rw are refl) ((differ, tt), (tt, tt)) tt refl told answers
     (shows_then (input (name_at 1 system) system_in files) (λ s. settled (shrunk_of s)) _ _ (shows_input (name_at 1 system) system_in files) (λ s holds.
     shows_more _ _ _ (shows_made (shrunk_of s))
     (λ held is. record { is = sym is; keeps = kept_by s held (ltb most (all_terms s)) (first_wide s.constraints) (whole s (files system) holds) (sym is) })))

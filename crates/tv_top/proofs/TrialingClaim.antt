@@ -9,7 +9,7 @@ use Rattle.tv_core.specs.Meanings.{holds, product_in}
 use Rattle.tv_core.specs.declared.limits.TheConstants.{DRAWS}
 use Rattle.tv_draw.proofs.RunLaws.{drawn_is}
 use Rattle.tv_draw.specs.Drawing.{image_drawn, tape_drawn, aux_drawn, IsDrawn}
-use Rattle.tv_top.proofs.Common.{Outside, Status, Answers, IsStopped, request_of}
+use Rattle.tv_top.proofs.Common.{Call, Answers, IsStopped, request_of}
 use Rattle.tv_layout.proofs.Systems.{system_complete}
 use Rattle.tv_layout.specs.Places.{WithinLimits}
 use Rattle.tv_step.specs.Machine.{Accepts}
@@ -51,23 +51,23 @@ trial_is seed k few =
     record { answers = is.answers; fills = fills; satisfied = all_hold _ _ fills.sat.holds }
 
 -- no file is read or written, so a fault is of saying
-stopped : (words seed k : ℕ) (old new : Outside) (result : Status) → Answers (Ok (trial_plan seed k)) words old new result → IsStopped [] old new result
-    → Tries words seed k old new result
-stopped words seed k old new result answers (inl fault) = elim (answers.caused fault.0 fault.1) [
+stopped : (words seed k : ℕ) (call : Call) → Answers (Ok (trial_plan seed k)) words call.before call.after call.status → IsStopped [] call
+    → Tries words seed k call
+stopped words seed k call answers (inl fault) = elim (answers.caused fault.0 fault.1) [
   | inl read ↦ absurd read.0
   | inr (inl wrote) ↦ absurd wrote.0
   | inr (inr said) ↦ inr (inl (fault.1 ∙ ap FileFault said.0, said.1))
 ]
-stopped words seed k old new result answers (inr memory) = inr (inr memory)
+stopped words seed k call answers (inr memory) = inr (inr memory)
 
-pub trials : (words : List (List ℕ)) (count : ℕ) (old new : Outside) (result : Status) → Answers (request_of (form words)) count old new result
-    → OnTrial words count old new result
-trials words count old new result asked first second seed k are is_seed is_k some most files told =
-    let answers = granted (trial_plan seed k) words count old new result (rw (are, is_seed, is_k) refl) tt (omega arith, most, tt) asked in
+pub trials : (words : List (List ℕ)) (count : ℕ) (call : Call) → Answers (request_of (form words)) count call.before call.after call.status
+    → OnTrial words count call
+trials words count call asked first second seed k are is_seed is_k some most files told =
+    let answers = granted (trial_plan seed k) words count call (rw (are, is_seed, is_k) refl) tt (omega arith, most, tt) asked in
     record {
-      ended = elim (due_or_stopped (trial_plan seed k) count files old new result answers (answers.ends files told)) [
+      ended = elim (due_or_stopped (trial_plan seed k) count files call answers (answers.ends files told)) [
         | inl answered ↦ inl (answered.status, answered.said)
-        | inr cut ↦ stopped count seed k old new result answers cut
+        | inr cut ↦ stopped count seed k call answers cut
       ];
       contents = answers.contents;
       trial = trial_is seed k most;

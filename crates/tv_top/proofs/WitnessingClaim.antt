@@ -3,6 +3,7 @@ use Rattle.std.proofs.Common.{◌≡◌, ◌≤◌, ℕ, true, List, [], ◌∷�
 use Rattle.tv_benes.specs.declared.shape.Net.{Net}
 use Rattle.tv_core.specs.declared.limits.TheConstants.{STEPS}
 use Rattle.tv_layout.proofs.Systems.{system_complete}
+use Rattle.tv_layout.specs.RunInputs.{run_on}
 use Rattle.tv_step.specs.Machine.{Accepts}
 use Rattle.tv_step.specs.declared.end.End.{End}
 use Rattle.tv_step.specs.declared.end.End.TheVariants.{Answer, Silent}
@@ -14,7 +15,7 @@ use Rattle.tv_fill.specs.Filled.{Filled, IsFilling, IsUnfilled}
 use Rattle.tv_fill.specs.declared.fault.FillFault.TheVariants as fills
 use Rattle.tv_top.specs.Kinds.{is_witness}
 use Rattle.tv_top.specs.Inputs.{inputs_of, AreInputs}
-use Rattle.tv_top.specs.Witnessing.{program_values, witness_by, witness_ends, witness_plan, IsWitness, HasWitness, OnWitness}
+use Rattle.tv_top.specs.Witnessing.{WitnessWords, program_values, witness_by, witness_ends, witness_plan, IsWitness, HasWitness, OnWitness}
 use Rattle.tv_top.proofs.Claiming.{Promises, comes, if_ok, shows_more}
 use Rattle.tv_top.proofs.InputLaws.{inputs_shown}
 use Rattle.tv_top.proofs.ProgramLaws.{within_limits, inputs_are}
@@ -38,23 +39,25 @@ witness_is net t inputs v are some most accepts =
 
 -- what is given for a run that answers: the outcome is of these values
 pub filled : (w : ℕ) (net : Net) (t : ℕ) (inputs : Inputs) (filling : Filled) → w ≡ bits inputs.program.width
-    → IsFilling w net inputs.program.words inputs.tape inputs.aux t filling →
+    → IsFilling net (run_on w inputs.program.words inputs.tape inputs.aux t) filling →
     witness_ends net t inputs ≡ record { files = Values filling.values ∷ []; finish = Quiet }
 unfolding program_values
 filled w net t inputs filling width is = let fills = rw width at is in rw (fills.answer.2, fills.values) refl
 
 -- and for one that doesn't there are none
 pub unfilled : (w : ℕ) (net : Net) (t : ℕ) (inputs : Inputs) (end : End) (places : List Named) (outside : Outside) → w ≡ bits inputs.program.width
-    → IsUnfilled w inputs.program.words inputs.tape inputs.aux t (fills.NoRun end) →
+    → IsUnfilled (run_on w inputs.program.words inputs.tape inputs.aux t) (fills.NoRun end) →
     Completes places (witness_ends net t inputs) outside outside (Ok (NoRun end))
 unfilled w net t inputs (Answer v step) places outside width is = let none = rw width at is in absurd (none.1 v (accepted t inputs v step (sym none.0)))
 unfilled w net t inputs end places outside width is = let none = rw width at is in
     rw (← none.0) (completes_nothing places (witness_by net t inputs end) (Ok (NoRun end)) outside refl)
 
 pub witnesses : Promises OnWitness
-witnesses words count old new result answers text tape aux number name last net t are is_net is first second third some most files told =
-    comes (witness_plan net (name_at 1 text) (name_at 2 tape) (name_at 3 aux) t (name_at 5 name)) (witness_ends net t)
-    (inputs_of (name_at 1 text) (name_at 2 tape) (name_at 3 aux)) (HasWitness net files text tape aux t) words count files old new result
+witnesses words count call answers text tape aux number name last net t are is_net is first second third some most files told =
+    let given : WitnessWords =
+    record { net = net; text = name_at 1 text; tape = name_at 2 tape; aux = name_at 3 aux; t = t; witness = name_at 5 name } in
+    comes (witness_plan given) (witness_ends net t) (inputs_of (name_at 1 text) (name_at 2 tape) (name_at 3 aux)) (HasWitness given files)
+    words count files call
     (rw (are, is_net, is) refl) ((first, tt), ((second, tt), ((third, tt), (tt, tt)))) (omega arith, most, tt) refl told answers
     (shows_more _ _ _ (inputs_shown text tape aux files) (λ held has. record {
       inputs = has;

@@ -1,12 +1,11 @@
 -- `asm TEXT IMAGE`: the image of a program text.
 use Rattle.std.specs.Prelude.{◌≡◌, ◌≢◌, ℕ, codes, List, [], ◌∷◌, Result}
-use Rattle.tv_files.specs.Outside.{Names, Outside, Told}
+use Rattle.tv_files.specs.Outside.{Names, Told}
 use Rattle.tv_core.specs.declared.limits.TheConstants.{TEXT_BYTES}
 use Rattle.tv_top.specs.declared.assembling.AsmArgs.{AsmArgs}
 use Rattle.tv_top.specs.declared.refusal.Bad.{Bad}
 use Rattle.tv_top.specs.declared.refusal.Size.TheVariants.{TextBytes}
-use Rattle.tv_top.specs.declared.status.Status.{Status}
-use Rattle.tv_top.specs.Claims.{Holds, Comes}
+use Rattle.tv_top.specs.Claims.{Call, Holds, Comes}
 use Rattle.tv_top.specs.Kinds.{is_quiet}
 use Rattle.tv_top.specs.Plan.{Named, Plan, named, within, input, comes_by, one_name, writes_bytes}
 use Rattle.tv_top.specs.Programs.{image_of, program_sizes}
@@ -31,10 +30,10 @@ asm_asks args = asm_plan (named args.text) (named args.image)
 
 -- What `asm` promises over files whose contents are known, the two names being different: TEXT holds a program text of
 -- this image, which IMAGE then holds, or it is refused for this.
-abbrev pub Asms : Names → List ℕ → List ℕ → Outside → Outside → Status → Type 0
+abbrev pub Asms : Names → List ℕ → List ℕ → Call → Type 0
 Asms files text image = Comes (one_name 2 image) writes_bytes (Holds image_in (files text)) files
 
 -- What a call promises that has these words, where they are those of `asm`.
-abbrev pub OnAsm : List (List ℕ) → Outside → Outside → Status → Type 0
-OnAsm words old new result = (text image : List ℕ) → words ≡ codes "asm" ∷ text ∷ image ∷ [] → text ≢ image
-    → Told old (λ files. Asms files text image old new result)
+abbrev pub OnAsm : List (List ℕ) → Call → Type 0
+OnAsm words call = (text image : List ℕ) → words ≡ codes "asm" ∷ text ∷ image ∷ [] → text ≢ image
+    → Told call.before (λ files. Asms files text image call)

@@ -1,5 +1,5 @@
 -- A program and an assignment of its system, which `extract` and `listing` read, and the run that it has.
-use Rattle.std.specs.Prelude.{◌≡◌, ℕ, ◌==◌, List, [], Result, Ok, Err, IfOk, if◌then◌else◌}
+use Rattle.std.specs.Prelude.{◌≡◌, ℕ, ◌==◌, List, [], Option, Result, Ok, Err, IfOk, if◌then◌else◌}
 use Rattle.tv_benes.specs.declared.shape.Net.{Net}
 use Rattle.tv_core.specs.Constraints.{Sat}
 use Rattle.tv_extract.specs.Extracting.{run_in}
@@ -84,7 +84,8 @@ kept_run net n t kept =
 -- the two files hold a program and an assignment, or the first of them that is refused is refused for this; the run
 -- that is found is one of the assignment, and an assignment that satisfies the program's system has one, which reads
 -- all of its auxiliary tape
-pub record HasAssigned (net : Net) (files : Names) (text : List ℕ) (n t : ℕ) (witness : List ℕ) (held : Result Assigned Bad) : Type 0 where
-  pub holds : Then (Holds program_in (files text)) (λ program. Then (Holds witness_in (files witness)) (λ z held. held ≡ Ok (record { program = program; z = z }))) held
+pub record HasAssigned (net : Net) (n t : ℕ) (text witness : Option (List ℕ)) (held : Result Assigned Bad) : Type 0 where
+  pub holds : Then (Holds program_in text) (λ program. Then (Holds witness_in witness)
+      (λ z held. held ≡ Ok (record { program = program; z = z }))) held
   pub run : IfOk held (λ assigned. (run : Run) → assigned_run net n t assigned ≡ Ok run → IsRunOf (bits assigned.program.width) assigned.program.words n t assigned.z run)
   pub satisfying : IfOk held (λ assigned. Sat (program_system net n t assigned.program) assigned.z → HasRunIn (bits assigned.program.width) net assigned.program.words n t assigned.z)

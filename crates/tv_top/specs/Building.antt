@@ -6,7 +6,7 @@ use Rattle.tv_benes.specs.declared.shape.Net.TheVariants.{Benes, Waksman}
 use Rattle.tv_core.specs.Constraints.{System}
 use Rattle.tv_core.specs.Normal.{AreNormal}
 use Rattle.tv_core.specs.declared.limits.TheConstants.{TAPE_WORDS, STEPS}
-use Rattle.tv_files.specs.Outside.{Names, Outside, Told}
+use Rattle.tv_files.specs.Outside.{Names, Told}
 use Rattle.tv_layout.specs.Reduces.{Reduces}
 use Rattle.tv_layout.specs.Systems.{system_of}
 use Rattle.tv_word.specs.Numeral.{numeral}
@@ -16,11 +16,10 @@ use Rattle.tv_top.specs.declared.programs.Program.{Program}
 use Rattle.tv_top.specs.declared.refusal.Bad.{Bad}
 use Rattle.tv_top.specs.declared.refusal.Finish.TheVariants.{Quiet}
 use Rattle.tv_top.specs.declared.refusal.Quantity.TheVariants.{TapeWords, Steps}
-use Rattle.tv_top.specs.declared.status.Status.{Status}
-use Rattle.tv_top.specs.Claims.{Holds, Comes}
+use Rattle.tv_top.specs.Claims.{Call, Holds, Comes}
 use Rattle.tv_top.specs.Contents.{Content.{Constraints}}
 use Rattle.tv_top.specs.Kinds.{is_quiet}
-use Rattle.tv_top.specs.Plan.{Named, Plan, Outcome, named, input, comes_by, one_name}
+use Rattle.tv_top.specs.Plan.{Named, Plan, Outcome, name_at, named, input, comes_by}
 use Rattle.tv_top.specs.Programs.{bits, program_in, program_sizes}
 
 -- the network that the word after those of the command names: none is Benes' one, and `waksman` is Waksman's
@@ -40,19 +39,27 @@ program_system net n t program = system_of (bits program.width) net program.word
 abbrev pub build_ends : Net → ℕ → ℕ → Program → Outcome
 build_ends net n t program = record { files = Constraints (program_system net n t program) ∷ []; finish = Quiet }
 
-abbrev pub build_plan : Net → Named → ℕ → ℕ → Named → Plan
-build_plan net text n t system = record {
-  reads = text ∷ [];
-  writes = system ∷ [];
-  amounts = size_amounts n t;
+-- what the words of `build` say: the network, N and T, and the names of the two files
+pub record BuildWords : Type 0 where
+  pub net : Net
+  pub text : Named
+  pub n : ℕ
+  pub t : ℕ
+  pub system : Named
+
+abbrev pub build_plan : BuildWords → Plan
+build_plan given = record {
+  reads = given.text ∷ [];
+  writes = given.system ∷ [];
+  amounts = size_amounts given.n given.t;
   sizes = program_sizes;
   ends_by = is_quiet;
-  comes = λ files. comes_by (build_ends net n t) (input text program_in files);
+  comes = λ files. comes_by (build_ends given.net given.n given.t) (input given.text program_in files);
 }
 
 -- the plan that the command's words ask for
 abbrev pub build_asks : BuildArgs → Plan
-build_asks args = build_plan args.net (named args.text) args.n args.t (named args.system)
+build_asks args = build_plan (record { net = args.net; text = named args.text; n = args.n; t = args.t; system = named args.system })
 
 -- The file of a program text holds a program, whose system reduces its runs and has combinations in normal form alone,
 -- or it is refused for this.
@@ -63,13 +70,14 @@ pub record HasSystem (net : Net) (n t : ℕ) (text : Option (List ℕ)) (held : 
 
 -- What `build` promises over files whose contents are known, the two names being different and N and T within their
 -- limits: TEXT holds a program, whose system SYSTEM then holds, or it is refused for this.
-abbrev pub Builds : Net → Names → List ℕ → ℕ → ℕ → List ℕ → Outside → Outside → Status → Type 0
-Builds net files text n t system = Comes (one_name 4 system) (build_ends net n t) (HasSystem net n t (files text)) files
+abbrev pub Builds : BuildWords → Names → Call → Type 0
+Builds given files =
+    Comes (given.system ∷ []) (build_ends given.net given.n given.t) (HasSystem given.net given.n given.t (files given.text.name)) files
 
 -- What a call promises that has these words, where they are those of `build`.
-abbrev pub OnBuild : List (List ℕ) → Outside → Outside → Status → Type 0
-OnBuild words old new result = (text n_word t_word system : List ℕ) (last : List (List ℕ)) (net : Net) (n t : ℕ)
+abbrev pub OnBuild : List (List ℕ) → Call → Type 0
+OnBuild words call = (text n_word t_word system : List ℕ) (last : List (List ℕ)) (net : Net) (n t : ℕ)
     → words ≡ codes "build" ∷ text ∷ n_word ∷ t_word ∷ system ∷ last
     → net_word last ≡ Some net → numeral 10 (2 ^ 64) n_word ≡ Some n → numeral 10 (2 ^ 64) t_word ≡ Some t
     → text ≢ system → n ≤ TAPE_WORDS → 0 < t → t ≤ STEPS
-    → Told old (λ files. Builds net files text n t system old new result)
+    → Told call.before (λ files. Builds (record { net = net; text = name_at 1 text; n = n; t = t; system = name_at 4 system }) files call)

@@ -4,13 +4,12 @@ use Rattle.tv_check.specs.Meaning.{Tells}
 use Rattle.tv_check.specs.Verdict.{judge}
 use Rattle.tv_check.specs.declared.verdict.Verdict.{Verdict}
 use Rattle.tv_core.specs.Constraints.{System}
-use Rattle.tv_files.specs.Outside.{Names, Outside, Told}
+use Rattle.tv_files.specs.Outside.{Names, Told}
 use Rattle.tv_top.specs.declared.checking.CheckArgs.{CheckArgs}
 use Rattle.tv_top.specs.declared.refusal.Bad.{Bad}
 use Rattle.tv_top.specs.declared.refusal.Finish.TheVariants as finishes
 use Rattle.tv_top.specs.declared.refusal.Size.TheVariants.{TapeWords}
-use Rattle.tv_top.specs.declared.status.Status.{Status}
-use Rattle.tv_top.specs.Claims.{Holds, Then, Comes}
+use Rattle.tv_top.specs.Claims.{Call, Holds, Then, Comes}
 use Rattle.tv_top.specs.Containers.{system_in, witness_in}
 use Rattle.tv_top.specs.Kinds.{is_verdict}
 use Rattle.tv_top.specs.Plan.{Named, Plan, Outcome, Look, named, settled, ◌>>=◌, input, comes_by}
@@ -58,10 +57,10 @@ HasVerdict files system witness tape =
     IsJudged s z x)))
 
 -- What `check` promises over files whose contents are known.
-abbrev pub Checks : Names → List ℕ → List ℕ → List ℕ → Outside → Outside → Status → Type 0
+abbrev pub Checks : Names → List ℕ → List ℕ → List ℕ → Call → Type 0
 Checks files system witness tape = Comes [] check_ends (HasVerdict files system witness tape) files
 
 -- What a call promises that has these words, where they are those of `check`.
-abbrev pub OnCheck : List (List ℕ) → Outside → Outside → Status → Type 0
-OnCheck words old new result = (system witness tape : List ℕ) → words ≡ codes "check" ∷ system ∷ witness ∷ tape ∷ []
-    → Told old (λ files. Checks files system witness tape old new result)
+abbrev pub OnCheck : List (List ℕ) → Call → Type 0
+OnCheck words call = (system witness tape : List ℕ) → words ≡ codes "check" ∷ system ∷ witness ∷ tape ∷ []
+    → Told call.before (λ files. Checks files system witness tape call)

@@ -15,13 +15,20 @@ use Rattle.tv_top.specs.Finds.{IsOneOf}
 use Rattle.tv_top.specs.Plan.{Named, Outcome, Write, files_of}
 use Rattle.tv_top.specs.Status.{bad_status, finish_status}
 
+-- a call: what is outside before it and after it, and its status
+pub record Call : Type 0 where
+  pub before : Outside
+  pub after : Outside
+  pub status : Status
+
 -- a file couldn't be read, or one of those that are written not be written, or the line not be said; or
 -- memory was wanting
-abbrev pub IsStopped : List Named → Outside → Outside → Status → Type 0
-IsStopped places old new result =
-    ((word : ℕ) × (result ≡ FileFault word) × (Rose old.read_faults new.read_faults
-    ⊎ (IsOneOf word (words_of places) × Rose old.write_faults new.write_faults) ⊎ Rose old.say_faults new.say_faults))
-    ⊎ (result ≡ Memory)
+abbrev pub IsStopped : List Named → Call → Type 0
+IsStopped places call =
+    ((word : ℕ) × (call.status ≡ FileFault word) × (Rose call.before.read_faults call.after.read_faults
+    ⊎ (IsOneOf word (words_of places) × Rose call.before.write_faults call.after.write_faults)
+    ⊎ Rose call.before.say_faults call.after.say_faults))
+    ⊎ (call.status ≡ Memory)
 
 -- the file is there, and what is read of it is this
 pub record Holds {A : Type 0} (read : List ℕ → Result A Bad) (file : Option (List ℕ)) (held : Result A Bad) : Type 0 where
@@ -50,17 +57,16 @@ written_by places ends (Err bad) = []
 
 -- The files held this, of which this is so: the answer and the line that was said go by it, each file that is
 -- written holds what is due and is read as that, and no other file changed.
-pub record Answered {A : Type 0} (places : List Named) (ends : A → Outcome) (Held : Result A Bad → Type 0) (files : Names)
-    (old new : Outside) (result : Status) : Type 0 where
+pub record Answered {A : Type 0} (places : List Named) (ends : A → Outcome) (Held : Result A Bad → Type 0) (files : Names) (call : Call) : Type 0 where
   pub held : Result A Bad
   pub is : Held held
-  pub status : result ≡ status_by ends held
-  pub contents : new.contents ≡ files_with (written_by places ends held) (Some files)
+  pub status : call.status ≡ status_by ends held
+  pub contents : call.after.contents ≡ files_with (written_by places ends held) (Some files)
   pub read : AreRead (written_by places ends held)
-  pub said : Said old new (line_by ends held)
+  pub said : Said call.before call.after (line_by ends held)
 
 -- How a call ends over files whose contents are known: they held something, or were refused for something, of which
 -- this is so, and the answer, the line and what the files hold after the call go by it; or it was stopped. A name has
 -- one contents, and what is read of it is a function of these: so each answer comes exactly where it is due.
-abbrev pub Comes : {A : Type 0} → List Named → (A → Outcome) → (Result A Bad → Type 0) → Names → Outside → Outside → Status → Type 0
-Comes places ends Held files old new result = Answered places ends Held files old new result ⊎ IsStopped places old new result
+abbrev pub Comes : {A : Type 0} → List Named → (A → Outcome) → (Result A Bad → Type 0) → Names → Call → Type 0
+Comes places ends Held files call = Answered places ends Held files call ⊎ IsStopped places call

@@ -4,7 +4,7 @@ use Rattle.std.specs.Str.{bytes_eq}
 use Rattle.tv_disasm.specs.Disassembly.{disassembly_of}
 use Rattle.tv_disasm.specs.declared.fault.DisFault.{DisFault}
 use Rattle.tv_disasm.specs.declared.fault.DisFault.TheVariants as dis
-use Rattle.tv_files.specs.Outside.{Names, Outside, Told}
+use Rattle.tv_files.specs.Outside.{Names, Told}
 use Rattle.tv_top.specs.declared.disassembling.DisasmArgs.{DisasmArgs}
 use Rattle.tv_top.specs.declared.programs.Width.{Width}
 use Rattle.tv_top.specs.declared.programs.Width.TheVariants.{Bits16, Bits32}
@@ -13,8 +13,7 @@ use Rattle.tv_top.specs.declared.refusal.Bad.TheVariants as bad
 use Rattle.tv_top.specs.declared.refusal.Size.TheVariants.{ImageBytes}
 use Rattle.tv_top.specs.declared.refusal.Stop.{Stop}
 use Rattle.tv_top.specs.declared.refusal.Stop.TheVariants.{Contents, Memory}
-use Rattle.tv_top.specs.declared.status.Status.{Status}
-use Rattle.tv_top.specs.Claims.{Holds, Comes}
+use Rattle.tv_top.specs.Claims.{Call, Holds, Comes}
 use Rattle.tv_top.specs.Kinds.{is_quiet}
 use Rattle.tv_top.specs.Programs.{bits, image_bytes_most}
 use Rattle.tv_top.specs.Plan.{Named, Plan, named, within, input, comes_by, one_name, writes_bytes}
@@ -54,11 +53,11 @@ disasm_asks args = disasm_plan args.width (named args.image) (named args.text)
 
 -- What `disasm` promises over files whose contents are known, the two names being different: IMAGE holds an image of
 -- words of this width with this program text, which TEXT then holds, or it is refused for this.
-abbrev pub Disasms : Width → Names → List ℕ → List ℕ → Outside → Outside → Status → Type 0
+abbrev pub Disasms : Width → Names → List ℕ → List ℕ → Call → Type 0
 Disasms width files image text = Comes (one_name 2 text) writes_bytes (Holds (text_in width) (files image)) files
 
 -- What a call promises that has these words, where they are those of `disasm`.
-abbrev pub OnDisasm : List (List ℕ) → Outside → Outside → Status → Type 0
-OnDisasm words old new result = (image text : List ℕ) (last : List (List ℕ)) (width : Width)
+abbrev pub OnDisasm : List (List ℕ) → Call → Type 0
+OnDisasm words call = (image text : List ℕ) (last : List (List ℕ)) (width : Width)
     → words ≡ codes "disasm" ∷ image ∷ text ∷ last → width_word last ≡ Some width → image ≢ text
-    → Told old (λ files. Disasms width files image text old new result)
+    → Told call.before (λ files. Disasms width files image text call)

@@ -40,17 +40,22 @@ run_form _ = None
 
 abbrev pub build_form : List (List ℕ) → Option Plan
 build_form (text ∷ n ∷ t ∷ system ∷ last) =
-    with_three (λ net n t. build_plan net (name_at 1 text) n t (name_at 4 system)) (net_word last) (numeral 10 (2 ^ 64) n) (numeral 10 (2 ^ 64) t)
+    with_three (λ net n t. build_plan (record { net = net; text = name_at 1 text; n = n; t = t; system = name_at 4 system }))
+    (net_word last) (numeral 10 (2 ^ 64) n) (numeral 10 (2 ^ 64) t)
 build_form _ = None
 
 abbrev pub witness_form : List (List ℕ) → Option Plan
 witness_form (text ∷ tape ∷ aux ∷ t ∷ witness ∷ last) =
-    with_two (λ net t. witness_plan net (name_at 1 text) (name_at 2 tape) (name_at 3 aux) t (name_at 5 witness)) (net_word last) (numeral 10 (2 ^ 64) t)
+    with_two (λ net t. witness_plan
+    (record { net = net; text = name_at 1 text; tape = name_at 2 tape; aux = name_at 3 aux; t = t; witness = name_at 5 witness }))
+    (net_word last) (numeral 10 (2 ^ 64) t)
 witness_form _ = None
 
 abbrev pub extract_form : List (List ℕ) → Option Plan
 extract_form (text ∷ n ∷ t ∷ witness ∷ tape ∷ aux ∷ last) =
-    with_three (λ net n t. extract_plan net (name_at 1 text) n t (name_at 4 witness) (name_at 5 tape) (name_at 6 aux)) (net_word last) (numeral 10 (2 ^ 64) n) (numeral 10 (2 ^ 64) t)
+    with_three (λ net n t. extract_plan
+    (record { net = net; text = name_at 1 text; n = n; t = t; witness = name_at 4 witness; tape = name_at 5 tape; aux = name_at 6 aux }))
+    (net_word last) (numeral 10 (2 ^ 64) n) (numeral 10 (2 ^ 64) t)
 extract_form _ = None
 
 abbrev pub trial_form : List (List ℕ) → Option Plan
@@ -59,7 +64,9 @@ trial_form _ = None
 
 abbrev pub listing_form : List (List ℕ) → Option Plan
 listing_form (text ∷ n ∷ t ∷ witness ∷ by ∷ out ∷ []) =
-    with_three (λ by n t. listing_plan by (name_at 1 text) n t (name_at 4 witness) (name_at 6 out)) (by_word by) (numeral 10 (2 ^ 64) n) (numeral 10 (2 ^ 64) t)
+    with_three (λ by n t. listing_plan
+    (record { by = by; text = name_at 1 text; n = n; t = t; witness = name_at 4 witness; out = name_at 6 out }))
+    (by_word by) (numeral 10 (2 ^ 64) n) (numeral 10 (2 ^ 64) t)
 listing_form _ = None
 
 abbrev pub check_form : List (List ℕ) → Option Plan

@@ -22,6 +22,8 @@ pub mod Extracting
 pub mod Trialing
 pub mod Shrinking
 pub mod Listing
+pub mod Commands
+pub mod Limits
 pub mod Form
 pub mod ComesBack
 pub use Rattle.tv_core.specs.Constraints

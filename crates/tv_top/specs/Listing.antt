@@ -5,7 +5,7 @@ use Rattle.tv_benes.specs.declared.shape.Net.TheVariants.{Benes}
 use Rattle.tv_core.specs.Constraints.{Sat}
 use Rattle.tv_core.specs.declared.limits.TheConstants.{TAPE_WORDS, STEPS}
 use Rattle.tv_extract.specs.declared.run.Run.{Run}
-use Rattle.tv_files.specs.Outside.{Names, Outside, Told}
+use Rattle.tv_files.specs.Outside.{Names, Told}
 use Rattle.tv_listing.specs.Laws.{HasListing}
 use Rattle.tv_listing.specs.Listing.{assigned_lines, text_by}
 use Rattle.tv_listing.specs.declared.row.By.{By}
@@ -13,12 +13,11 @@ use Rattle.tv_listing.specs.declared.row.By.TheVariants.{Time, Cell}
 use Rattle.tv_word.specs.Numeral.{numeral}
 use Rattle.tv_top.specs.declared.listing.ListingArgs.{ListingArgs}
 use Rattle.tv_top.specs.declared.refusal.Bad.{Bad}
-use Rattle.tv_top.specs.declared.status.Status.{Status}
 use Rattle.tv_top.specs.Building.{program_system, size_amounts}
-use Rattle.tv_top.specs.Claims.{Comes}
+use Rattle.tv_top.specs.Claims.{Call, Comes}
 use Rattle.tv_top.specs.Assigned.{Assigned, assigned_of, assigned_run, run_ends, HasAssigned}
 use Rattle.tv_top.specs.Kinds.{is_listing}
-use Rattle.tv_top.specs.Plan.{Named, Plan, Outcome, named, comes_by, one_name, writes_bytes}
+use Rattle.tv_top.specs.Plan.{Named, Plan, Outcome, name_at, named, comes_by, writes_bytes}
 use Rattle.tv_top.specs.Programs.{bits, program_sizes}
 
 -- the order that a word names
@@ -36,36 +35,54 @@ lines_written by n t assigned run = writes_bytes (assigned_text by n t run.step 
 abbrev pub listing_ends : By → ℕ → ℕ → Assigned → Outcome
 listing_ends by n t assigned = run_ends (lines_written by n t assigned) (assigned_run Benes n t assigned)
 
-abbrev pub listing_plan : By → Named → ℕ → ℕ → Named → Named → Plan
-listing_plan by text n t witness out = record {
-  reads = text ∷ witness ∷ [];
-  writes = out ∷ [];
-  amounts = size_amounts n t;
+-- what the words of `listing` say: the order, N and T, and the names of the three files
+pub record ListingWords : Type 0 where
+  pub by : By
+  pub text : Named
+  pub n : ℕ
+  pub t : ℕ
+  pub witness : Named
+  pub out : Named
+
+abbrev pub listing_plan : ListingWords → Plan
+listing_plan given = record {
+  reads = given.text ∷ given.witness ∷ [];
+  writes = given.out ∷ [];
+  amounts = size_amounts given.n given.t;
   sizes = program_sizes;
   ends_by = is_listing;
-  comes = λ files. comes_by (listing_ends by n t) (assigned_of text witness files);
+  comes = λ files. comes_by (listing_ends given.by given.n given.t) (assigned_of given.text given.witness files);
 }
 
 -- the plan that the command's words ask for
 abbrev pub listing_asks : ListingArgs → Plan
-listing_asks args = listing_plan args.by (named args.text) args.n args.t (named args.witness) (named args.out)
+listing_asks args = listing_plan (record {
+  by = args.by;
+  text = named args.text;
+  n = args.n;
+  t = args.t;
+  witness = named args.witness;
+  out = named args.out;
+})
 
 -- The two files hold what those of `extract` do. And an assignment that satisfies the program's system has a run, of
 -- which its lines are: boot lines, and the lines of the machine's steps on the run's tapes. So its listing is, byte for
 -- byte, that of the run's trace.
-pub record HasListed (files : Names) (text : List ℕ) (n t : ℕ) (witness : List ℕ) (held : Result Assigned Bad) : Type 0 where
-  pub assigned : HasAssigned Benes files text n t witness held
+pub record HasListed (n t : ℕ) (text witness : Option (List ℕ)) (held : Result Assigned Bad) : Type 0 where
+  pub assigned : HasAssigned Benes n t text witness held
   pub satisfying : IfOk held (λ assigned. Sat (program_system Benes n t assigned.program) assigned.z → HasListing (bits assigned.program.width) Benes assigned.program.words n t assigned.z)
 
 -- What `listing` promises over files whose contents are known, OUT being none of the other names and N and T within
 -- their limits.
-abbrev pub Lists : By → Names → List ℕ → ℕ → ℕ → List ℕ → List ℕ → Outside → Outside → Status → Type 0
-Lists by files text n t witness out = Comes (one_name 6 out) (listing_ends by n t) (HasListed files text n t witness) files
+abbrev pub Lists : ListingWords → Names → Call → Type 0
+Lists given files = Comes (given.out ∷ []) (listing_ends given.by given.n given.t)
+    (HasListed given.n given.t (files given.text.name) (files given.witness.name)) files
 
 -- What a call promises that has these words, where they are those of `listing`.
-abbrev pub OnListing : List (List ℕ) → Outside → Outside → Status → Type 0
-OnListing words old new result = (text first second witness order out : List ℕ) (by : By) (n t : ℕ)
+abbrev pub OnListing : List (List ℕ) → Call → Type 0
+OnListing words call = (text first second witness order out : List ℕ) (by : By) (n t : ℕ)
     → words ≡ codes "listing" ∷ text ∷ first ∷ second ∷ witness ∷ order ∷ out ∷ []
     → by_word order ≡ Some by → numeral 10 (2 ^ 64) first ≡ Some n → numeral 10 (2 ^ 64) second ≡ Some t
     → text ≢ out → witness ≢ out → n ≤ TAPE_WORDS → 0 < t → t ≤ STEPS
-    → Told old (λ files. Lists by files text n t witness out old new result)
+    → Told call.before (λ files. Lists
+    (record { by = by; text = name_at 1 text; n = n; t = t; witness = name_at 4 witness; out = name_at 6 out }) files call)

@@ -1,6 +1,6 @@
 -- `run TEXT TAPE AUX T`: the end of the machine's run on a program and two tapes.
 use Rattle.std.specs.Prelude.{◌≡◌, ◌<◌, ◌≤◌, ◌^◌, ℕ, codes, List, [], ◌∷◌, Some, Result, IfOk}
-use Rattle.tv_files.specs.Outside.{Names, Outside, Told}
+use Rattle.tv_files.specs.Outside.{Names, Told}
 use Rattle.tv_step.specs.Machine.{Accepts}
 use Rattle.tv_step.specs.declared.end.End.TheVariants.{Answer}
 use Rattle.tv_core.specs.declared.limits.TheConstants.{STEPS}
@@ -10,8 +10,7 @@ use Rattle.tv_top.specs.declared.refusal.Bad.{Bad}
 use Rattle.tv_top.specs.declared.refusal.Finish.TheVariants.{Run}
 use Rattle.tv_top.specs.declared.refusal.Quantity.TheVariants.{Steps}
 use Rattle.tv_top.specs.declared.running.RunArgs.{RunArgs}
-use Rattle.tv_top.specs.declared.status.Status.{Status}
-use Rattle.tv_top.specs.Claims.{Comes}
+use Rattle.tv_top.specs.Claims.{Call, Comes}
 use Rattle.tv_top.specs.Kinds.{is_run}
 use Rattle.tv_top.specs.Inputs.{inputs_of, input_sizes, run_end, HasInputs}
 use Rattle.tv_top.specs.Plan.{Named, Plan, Outcome, named, comes_by}
@@ -42,12 +41,12 @@ pub record HasRun (files : Names) (text tape aux : List ℕ) (steps : ℕ) (held
       → Accepts (bits inputs.program.width) inputs.program.words inputs.tape inputs.aux steps value)
 
 -- What `run` promises over files whose contents are known, T being within its limit.
-abbrev pub Runs : Names → List ℕ → List ℕ → List ℕ → ℕ → Outside → Outside → Status → Type 0
+abbrev pub Runs : Names → List ℕ → List ℕ → List ℕ → ℕ → Call → Type 0
 Runs files text tape aux steps = Comes [] (run_ends steps) (HasRun files text tape aux steps) files
 
 -- What a call promises that has these words, where they are those of `run`.
-abbrev pub OnRun : List (List ℕ) → Outside → Outside → Status → Type 0
-OnRun words old new result = (text tape aux number : List ℕ) (steps : ℕ)
+abbrev pub OnRun : List (List ℕ) → Call → Type 0
+OnRun words call = (text tape aux number : List ℕ) (steps : ℕ)
     → words ≡ codes "run" ∷ text ∷ tape ∷ aux ∷ number ∷ []
     → numeral 10 (2 ^ 64) number ≡ Some steps → 0 < steps → steps ≤ STEPS
-    → Told old (λ files. Runs files text tape aux steps old new result)
+    → Told call.before (λ files. Runs files text tape aux steps call)

@@ -2,7 +2,7 @@
 use Rattle.std.specs.Prelude.{◌≡◌, ◌≢◌, ◌↔◌, ℕ, ◌+◌, nat_lt, codes, List, [], ◌∷◌, take, Option, Some, None, Result, Ok, Err, IfOk, if◌then◌else◌}
 use Rattle.std.specs.List.{range_with_len}
 use Rattle.tv_core.specs.Constraints.{System, Sat}
-use Rattle.tv_files.specs.Outside.{Names, Outside, Told}
+use Rattle.tv_files.specs.Outside.{Names, Told}
 use Rattle.tv_shrink.specs.Answers.{most, all_terms, first_wide}
 use Rattle.tv_shrink.specs.Shrinking.{Shrunken, shrink, at_wires}
 use Rattle.tv_shrink.specs.declared.fault.ShrinkFault.{ShrinkFault}
@@ -15,8 +15,7 @@ use Rattle.tv_top.specs.declared.refusal.Size.TheVariants.{SystemTerms, Combinat
 use Rattle.tv_top.specs.declared.refusal.Stop.{Stop}
 use Rattle.tv_top.specs.declared.refusal.Stop.TheVariants as stop
 use Rattle.tv_top.specs.declared.shrinking.ShrinkArgs.{ShrinkArgs}
-use Rattle.tv_top.specs.declared.status.Status.{Status}
-use Rattle.tv_top.specs.Claims.{Holds, Then, Comes}
+use Rattle.tv_top.specs.Claims.{Call, Holds, Then, Comes}
 use Rattle.tv_top.specs.Containers.{system_in}
 use Rattle.tv_top.specs.Contents.{Content.{Rest}}
 use Rattle.tv_top.specs.Kinds.{is_quiet}
@@ -87,10 +86,10 @@ pub record IsShrunk (system : System) (held : Result Shrunken Bad) : Type 0 wher
 
 -- What `shrink` promises over files whose contents are known, the two names being different: SYSTEM holds a system, and
 -- OUT then what is left of it, or one of the two is refused for this.
-abbrev pub Shrinks : Names → List ℕ → List ℕ → Outside → Outside → Status → Type 0
+abbrev pub Shrinks : Names → List ℕ → List ℕ → Call → Type 0
 Shrinks files system out = Comes (one_name 2 out) shrink_ends (Then (Holds system_in (files system)) IsShrunk) files
 
 -- What a call promises that has these words, where they are those of `shrink`.
-abbrev pub OnShrink : List (List ℕ) → Outside → Outside → Status → Type 0
-OnShrink words old new result = (system out : List ℕ) → words ≡ codes "shrink" ∷ system ∷ out ∷ [] → system ≢ out
-    → Told old (λ files. Shrinks files system out old new result)
+abbrev pub OnShrink : List (List ℕ) → Call → Type 0
+OnShrink words call = (system out : List ℕ) → words ≡ codes "shrink" ∷ system ∷ out ∷ [] → system ≢ out
+    → Told call.before (λ files. Shrinks files system out call)

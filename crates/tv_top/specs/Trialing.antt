@@ -7,7 +7,8 @@ use Rattle.tv_core.specs.Meanings.{product_in, holds}
 use Rattle.tv_core.specs.declared.field.TheConstants.{P}
 use Rattle.tv_core.specs.declared.limits.TheConstants.{DRAWS}
 use Rattle.tv_draw.specs.Drawing.{image_drawn, tape_drawn, aux_drawn}
-use Rattle.tv_files.specs.Outside.{Names, Outside, Told}
+use Rattle.tv_files.specs.Outside.{Names, Told}
+use Rattle.tv_layout.specs.RunInputs.{RunInput, run_on}
 use Rattle.tv_layout.specs.Systems.{system_of, run_values}
 use Rattle.tv_layout.specs.Values.{IsFill}
 use Rattle.tv_step.specs.Machine.{start, end_of}
@@ -17,20 +18,23 @@ use Rattle.tv_word.specs.Numeral.{numeral}
 use Rattle.tv_top.specs.declared.refusal.Finish.TheVariants as finishes
 use Rattle.tv_top.specs.declared.refusal.Quantity.TheVariants.{Draws}
 use Rattle.tv_top.specs.declared.refusal.Trial.{Trial}
-use Rattle.tv_top.specs.declared.status.Status.{Status}
 use Rattle.tv_top.specs.declared.status.Status.TheVariants.{Done, FileFault, Memory}
 use Rattle.tv_top.specs.declared.trialing.TrialArgs.{TrialArgs}
+use Rattle.tv_top.specs.Claims.{Call}
 use Rattle.tv_top.specs.Codes.{trial_text}
 use Rattle.tv_top.specs.Ends.{Added}
 use Rattle.tv_top.specs.Kinds.{is_trial}
 use Rattle.tv_top.specs.Plan.{Plan, Outcome, Look, comes_by, settled}
 
--- the system of k drawn instructions and `answer 0` after them, for as many steps, and the values for their run
+-- the system of k drawn instructions and `answer 0` after them, for as many steps, their run, and the values for it
 abbrev pub drawn_system : ℕ → ℕ → System
 drawn_system seed k = system_of 32 Benes (image_drawn seed k) (length (tape_drawn seed k)) (k + 1)
 
+abbrev pub drawn_run : ℕ → ℕ → RunInput
+drawn_run seed k = run_on 32 (image_drawn seed k) (tape_drawn seed k) (aux_drawn seed k) (k + 1)
+
 abbrev pub drawn_values : ℕ → ℕ → List ℕ
-drawn_values seed k = run_values 32 Benes (image_drawn seed k) (tape_drawn seed k) (aux_drawn seed k) (k + 1) 0
+drawn_values seed k = run_values Benes (drawn_run seed k) 0
 
 -- A system of t steps tested on values: its counts, the sum over its constraints of the products of the values of their
 -- first two combinations, modulo P, and how many of them hold.
@@ -71,25 +75,25 @@ trial_asks args = trial_plan args.seed args.k
 -- so all constraints hold.
 pub record IsTrial (seed k : ℕ) : Type 0 where
   pub answers : end_of 32 (k + 1) (start 32 (image_drawn seed k) (tape_drawn seed k) (aux_drawn seed k)) ≡ Answer 0 (k + 1)
-  pub fills : IsFill 32 Benes (block_of 32) (image_drawn seed k) (tape_drawn seed k) (aux_drawn seed k) (k + 1) 0 (drawn_values seed k)
+  pub fills : IsFill Benes (block_of 32) (drawn_run seed k) 0 (drawn_values seed k)
   pub satisfied : (trial_of seed k).satisfied ≡ (trial_of seed k).constraints
 
 -- how a call of this many words ended: it printed the result of the trial, or printing failed, or memory ran out
-abbrev pub Tries : ℕ → ℕ → ℕ → Outside → Outside → Status → Type 0
-Tries words seed k old new result =
-    ((result ≡ Done) × Added old new (trial_text (trial_of seed k) ++ 10 ∷ []))
-    ⊎ ((result ≡ FileFault words) × Rose old.say_faults new.say_faults) ⊎ (result ≡ Memory)
+abbrev pub Tries : ℕ → ℕ → ℕ → Call → Type 0
+Tries words seed k call =
+    ((call.status ≡ Done) × Added call.before call.after (trial_text (trial_of seed k) ++ 10 ∷ []))
+    ⊎ ((call.status ≡ FileFault words) × Rose call.before.say_faults call.after.say_faults) ⊎ (call.status ≡ Memory)
 
 -- What `trial` promises over files whose contents are known, K being within its limits: it is done and has printed the
 -- result of the trial, unless printing failed or memory ran out, and no file changed.
-pub record Trials (words seed k : ℕ) (old new : Outside) (result : Status) : Type 0 where
-  pub ended : Tries words seed k old new result
-  pub contents : new.contents ≡ old.contents
+pub record Trials (words seed k : ℕ) (call : Call) : Type 0 where
+  pub ended : Tries words seed k call
+  pub contents : call.after.contents ≡ call.before.contents
   pub trial : IsTrial seed k
 
 -- What a call promises that has these words, this many of them, where they are those of `trial`.
-abbrev pub OnTrial : List (List ℕ) → ℕ → Outside → Outside → Status → Type 0
-OnTrial words count old new result = (first second : List ℕ) (seed k : ℕ)
+abbrev pub OnTrial : List (List ℕ) → ℕ → Call → Type 0
+OnTrial words count call = (first second : List ℕ) (seed k : ℕ)
     → words ≡ codes "trial" ∷ first ∷ second ∷ []
     → numeral 10 (2 ^ 64) first ≡ Some seed → numeral 10 (2 ^ 64) second ≡ Some k → 0 < k → k ≤ DRAWS
-    → Told old (λ _. Trials count seed k old new result)
+    → Told call.before (λ _. Trials count seed k call)

@@ -4,7 +4,8 @@ use Rattle.std.specs.Prelude.{◌≡◌, ◌≢◌, ◌<◌, ◌≤◌, ◌^◌,
 use Rattle.tv_benes.specs.declared.shape.Net.{Net}
 use Rattle.tv_block.specs.Block.{block_of}
 use Rattle.tv_core.specs.declared.limits.TheConstants.{STEPS}
-use Rattle.tv_files.specs.Outside.{Names, Outside, Told}
+use Rattle.tv_files.specs.Outside.{Names, Told}
+use Rattle.tv_layout.specs.RunInputs.{run_on}
 use Rattle.tv_layout.specs.Systems.{run_values}
 use Rattle.tv_layout.specs.Values.{IsFill}
 use Rattle.tv_step.specs.Machine.{Accepts}
@@ -15,19 +16,18 @@ use Rattle.tv_top.specs.declared.inputs.Inputs.{Inputs}
 use Rattle.tv_top.specs.declared.refusal.Bad.{Bad}
 use Rattle.tv_top.specs.declared.refusal.Finish.TheVariants.{Quiet, NoRun}
 use Rattle.tv_top.specs.declared.refusal.Quantity.TheVariants.{Steps}
-use Rattle.tv_top.specs.declared.status.Status.{Status}
 use Rattle.tv_top.specs.declared.witnessing.WitnessArgs.{WitnessArgs}
 use Rattle.tv_top.specs.Building.{net_word}
-use Rattle.tv_top.specs.Claims.{Comes}
+use Rattle.tv_top.specs.Claims.{Call, Comes}
 use Rattle.tv_top.specs.Contents.{Content.{Values}}
 use Rattle.tv_top.specs.Kinds.{is_witness}
 use Rattle.tv_top.specs.Inputs.{inputs_of, input_sizes, run_end, HasInputs}
-use Rattle.tv_top.specs.Plan.{Named, Plan, Outcome, named, comes_by, one_name}
+use Rattle.tv_top.specs.Plan.{Named, Plan, Outcome, name_at, named, comes_by}
 use Rattle.tv_top.specs.Programs.{bits}
 
 -- the values for a run that answers v
 unfoldable pub program_values : Net → ℕ → Inputs → ℕ → List ℕ
-program_values net t inputs v = run_values (bits inputs.program.width) net inputs.program.words inputs.tape inputs.aux t v
+program_values net t inputs v = run_values net (run_on (bits inputs.program.width) inputs.program.words inputs.tape inputs.aux t) v
 
 -- what comes of a run that ends so: its values, or nothing where it doesn't answer
 abbrev pub witness_by : Net → ℕ → Inputs → End → Outcome
@@ -38,43 +38,59 @@ witness_by net t inputs (Silent steps) = record { files = []; finish = NoRun (Si
 abbrev pub witness_ends : Net → ℕ → Inputs → Outcome
 witness_ends net t inputs = witness_by net t inputs (run_end t inputs)
 
-abbrev pub witness_plan : Net → Named → Named → Named → ℕ → Named → Plan
-witness_plan net text tape aux t witness = record {
-  reads = text ∷ tape ∷ aux ∷ [];
-  writes = witness ∷ [];
-  amounts = record { what = Steps; has = t; least = 1; most = STEPS } ∷ [];
+-- what the words of `witness` say: the network, T, and the names of the four files
+pub record WitnessWords : Type 0 where
+  pub net : Net
+  pub text : Named
+  pub tape : Named
+  pub aux : Named
+  pub t : ℕ
+  pub witness : Named
+
+abbrev pub witness_plan : WitnessWords → Plan
+witness_plan given = record {
+  reads = given.text ∷ given.tape ∷ given.aux ∷ [];
+  writes = given.witness ∷ [];
+  amounts = record { what = Steps; has = given.t; least = 1; most = STEPS } ∷ [];
   sizes = input_sizes;
   ends_by = is_witness;
-  comes = λ files. comes_by (witness_ends net t) (inputs_of text tape aux files);
+  comes = λ files. comes_by (witness_ends given.net given.t) (inputs_of given.text given.tape given.aux files);
 }
 
 -- the plan that the command's words ask for
 abbrev pub witness_asks : WitnessArgs → Plan
-witness_asks args = witness_plan args.net (named args.text) (named args.tape) (named args.aux) args.t (named args.witness)
+witness_asks args = witness_plan (record {
+  net = args.net;
+  text = named args.text;
+  tape = named args.tape;
+  aux = named args.aux;
+  t = args.t;
+  witness = named args.witness;
+})
 
 -- the machine accepts by v, and the values satisfy the system, extend v and the tape, and take the words that the run
 -- reads
 pub record IsWitness (net : Net) (t : ℕ) (inputs : Inputs) (v : ℕ) : Type 0 where
   pub accepts : Accepts (bits inputs.program.width) inputs.program.words inputs.tape inputs.aux t v
-  pub fills : IsFill (bits inputs.program.width) net (block_of (bits inputs.program.width)) inputs.program.words inputs.tape inputs.aux t v
-      (program_values net t inputs v)
+  pub fills : IsFill net (block_of (bits inputs.program.width))
+      (run_on (bits inputs.program.width) inputs.program.words inputs.tape inputs.aux t) v (program_values net t inputs v)
 
 -- the three files hold a program and two tapes, and where the run on them answers, the values are a witness of that;
 -- or the first of them that is refused is refused for this
-pub record HasWitness (net : Net) (files : Names) (text tape aux : List ℕ) (t : ℕ) (held : Result Inputs Bad) : Type 0 where
-  pub inputs : HasInputs files text tape aux held
-  pub witness : IfOk held (λ inputs. (v step : ℕ) → run_end t inputs ≡ Answer v step → IsWitness net t inputs v)
+pub record HasWitness (given : WitnessWords) (files : Names) (held : Result Inputs Bad) : Type 0 where
+  pub inputs : HasInputs files given.text.name given.tape.name given.aux.name held
+  pub witness : IfOk held (λ inputs. (v step : ℕ) → run_end given.t inputs ≡ Answer v step → IsWitness given.net given.t inputs v)
 
 -- What `witness` promises over files whose contents are known, WITNESS being none of the names that are read, and T
 -- within its limit.
-abbrev pub Witnesses : Net → Names → List ℕ → List ℕ → List ℕ → ℕ → List ℕ → Outside → Outside → Status → Type 0
-Witnesses net files text tape aux t witness =
-    Comes (one_name 5 witness) (witness_ends net t) (HasWitness net files text tape aux t) files
+abbrev pub Witnesses : WitnessWords → Names → Call → Type 0
+Witnesses given files = Comes (given.witness ∷ []) (witness_ends given.net given.t) (HasWitness given files) files
 
 -- What a call promises that has these words, where they are those of `witness`.
-abbrev pub OnWitness : List (List ℕ) → Outside → Outside → Status → Type 0
-OnWitness words old new result = (text tape aux number name : List ℕ) (last : List (List ℕ)) (net : Net) (t : ℕ)
+abbrev pub OnWitness : List (List ℕ) → Call → Type 0
+OnWitness words call = (text tape aux number name : List ℕ) (last : List (List ℕ)) (net : Net) (t : ℕ)
     → words ≡ codes "witness" ∷ text ∷ tape ∷ aux ∷ number ∷ name ∷ last
     → net_word last ≡ Some net → numeral 10 (2 ^ 64) number ≡ Some t
     → text ≢ name → tape ≢ name → aux ≢ name → 0 < t → t ≤ STEPS
-    → Told old (λ files. Witnesses net files text tape aux t name old new result)
+    → Told call.before (λ files. Witnesses
+    (record { net = net; text = name_at 1 text; tape = name_at 2 tape; aux = name_at 3 aux; t = t; witness = name_at 5 name }) files call)

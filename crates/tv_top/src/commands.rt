@@ -1,18 +1,9 @@
 //! The top call: what the words ask for is done, and one line is said.
 ghost use Rattle.std.specs.Prelude.{length, map, string_bytes};
 ghost use Rattle.tv_top.specs.Answers.{Answers};
-ghost use Rattle.tv_top.specs.Assembling.{OnAsm};
-ghost use Rattle.tv_top.specs.Building.{OnBuild};
-ghost use Rattle.tv_top.specs.Checking.{OnCheck};
-ghost use Rattle.tv_top.specs.Disassembling.{OnDisasm};
-ghost use Rattle.tv_top.specs.Extracting.{OnExtract};
+ghost use Rattle.tv_top.specs.Commands.{Commands};
 ghost use Rattle.tv_top.specs.Form.{form};
-ghost use Rattle.tv_top.specs.Listing.{OnListing};
 ghost use Rattle.tv_top.specs.Plan.{request_of};
-ghost use Rattle.tv_top.specs.Running.{OnRun};
-ghost use Rattle.tv_top.specs.Shrinking.{OnShrink};
-ghost use Rattle.tv_top.specs.Trialing.{OnTrial};
-ghost use Rattle.tv_top.specs.Witnessing.{OnWitness};
 
 use crate::job::Job;
 use crate::refusal::Ending;
@@ -59,28 +50,8 @@ fn answer<D: Files>(alloc: Global, words: &[String], files: &mut D) -> Status
 /// file that is to be written has all of its bytes, a prefix of them, or what it had, and no other
 /// file has changed.
 pub fn command<D: Files>(alloc: Global, words: &[String], files: &mut D) -> Status
-    ensures answers { Answers (request_of (form (map string_bytes words.now))) (length words.now)
-        (D.seen files.old) (D.seen files.new) result }
-    ensures asm { OnAsm (map string_bytes words.now)
-        (D.seen files.old) (D.seen files.new) result }
-    ensures disasm { OnDisasm (map string_bytes words.now)
-        (D.seen files.old) (D.seen files.new) result }
-    ensures check { OnCheck (map string_bytes words.now)
-        (D.seen files.old) (D.seen files.new) result }
-    ensures run { OnRun (map string_bytes words.now)
-        (D.seen files.old) (D.seen files.new) result }
-    ensures build { OnBuild (map string_bytes words.now)
-        (D.seen files.old) (D.seen files.new) result }
-    ensures witness { OnWitness (map string_bytes words.now)
-        (D.seen files.old) (D.seen files.new) result }
-    ensures extract { OnExtract (map string_bytes words.now)
-        (D.seen files.old) (D.seen files.new) result }
-    ensures trial { OnTrial (map string_bytes words.now) (length words.now)
-        (D.seen files.old) (D.seen files.new) result }
-    ensures shrink { OnShrink (map string_bytes words.now)
-        (D.seen files.old) (D.seen files.new) result }
-    ensures listing { OnListing (map string_bytes words.now)
-        (D.seen files.old) (D.seen files.new) result }
+    ensures { Commands (map string_bytes words.now) (length words.now)
+        (record { before = D.seen files.old; after = D.seen files.new; status = result }) }
 {
     answer(alloc, words, files)
 }

@@ -3,22 +3,17 @@
 ghost use Rattle.std.specs.Prelude.{◌≡◌, ◌≢◌, ◌≤◌, ◌+◌, ◌-◌, ◌^◌, ℕ, List, Err};
 ghost use Rattle.tv_asm.specs.Assembly.{assembled};
 ghost use Rattle.tv_asm.specs.declared.fault.AsmFault.TheVariants as asm;
-ghost use Rattle.tv_core.specs.declared.combination.TheConstants.{TERMS};
 ghost use Rattle.tv_core.specs.declared.field.TheConstants.{P};
-ghost use Rattle.tv_core.specs.declared.limits.TheConstants.{STEPS, IMAGE_WORDS, IMAGE_WORDS_16};
+ghost use Rattle.tv_core.specs.declared.limits.TheConstants.{STEPS};
 ghost use Rattle.tv_core.specs.declared.limits.TheConstants.{TAPE_WORDS, AUX_WORDS, CHECK_WORDS};
-ghost use Rattle.tv_core.specs.declared.limits.TheConstants.{TEXT_BYTES, DRAWS};
-ghost use Rattle.tv_core.specs.declared.limits.TheConstants.{TIME_BITS, CELL_BITS};
-ghost use Rattle.tv_core.specs.declared.limits.TheConstants.{TAPE_CELLS, NULL_CELL};
-ghost use Rattle.tv_shrink.specs.Answers.{most as system_terms};
 ghost use Rattle.tv_tape.specs.Tape.{tape_of};
 ghost use Rattle.tv_tape.specs.declared.items.TapeFault.TheVariants as tape;
 ghost use Rattle.tv_top.specs.ComesBack.{ImageComesBack, TapeTextsFit, TapesComeBack};
 ghost use Rattle.tv_top.specs.ComesBack.{ExtractedAreTaken};
 ghost use Rattle.tv_top.specs.Inputs.{primary_in, aux_in};
-ghost use Rattle.tv_top.specs.Programs.{bits, image_bytes_most};
+ghost use Rattle.tv_top.specs.Limits.{LimitsAre, LinesAre};
+ghost use Rattle.tv_top.specs.Programs.{bits};
 ghost use Rattle.tv_top.specs.Tapes.{publics_in};
-ghost use Rattle.tv_top.specs.declared.programs.Width.TheVariants.{Bits16, Bits32};
 
 /// The numbers of the limits: the most steps, words of an image and bytes of its file, with words
 /// of 32 and of 16 bits, words of a primary, of an auxiliary and of a checked tape, bytes of a
@@ -26,22 +21,8 @@ ghost use Rattle.tv_top.specs.declared.programs.Width.TheVariants.{Bits16, Bits3
 /// lines: the bits of a time and of a cell, the cells of the primary tape's first word and of no
 /// word; and the prime, below which the numbers of a checked tape are.
 pub fn limits_are_these()
-    ensures steps { STEPS ≡ 262144 }
-    ensures image_words { IMAGE_WORDS ≡ 131072 }
-    ensures image_words_of_16_bits { IMAGE_WORDS_16 ≡ 32768 }
-    ensures image_bytes { image_bytes_most Bits32 ≡ 524288 }
-    ensures image_bytes_of_16_bits { image_bytes_most Bits16 ≡ 65536 }
-    ensures tape_words { TAPE_WORDS ≡ 131072 }
-    ensures aux_words { AUX_WORDS ≡ 262144 }
-    ensures check_words { CHECK_WORDS ≡ 262144 }
-    ensures text_bytes { TEXT_BYTES ≡ 4194304 }
-    ensures draws { DRAWS ≡ 8191 }
-    ensures system_terms { system_terms ≡ 4194304 }
-    ensures combination_terms { TERMS ≡ 128 }
-    ensures time_bits { TIME_BITS ≡ 20 }
-    ensures cell_bits { CELL_BITS ≡ 31 }
-    ensures first_tape_cell { TAPE_CELLS ≡ 2 ^ 30 }
-    ensures null_cell { NULL_CELL ≡ 2 ^ 30 + 2 ^ 29 }
+    ensures limits { LimitsAre }
+    ensures lines { LinesAre }
     ensures prime { P ≡ 2 ^ 64 - 2 ^ 32 + 1 }
 {}
 

@@ -4,6 +4,7 @@ ghost use Rattle.std.specs.Prelude.{Some, None, MatchOption, IfOk};
 ghost use Rattle.tv_benes.specs.declared.shape.Net.TheVariants.{Benes};
 ghost use Rattle.tv_core.specs.declared.limits.TheConstants.{DRAWS};
 ghost use Rattle.tv_layout.specs.Places.{WithinLimits};
+ghost use Rattle.tv_layout.specs.RunInputs.{run_on};
 ghost use Rattle.tv_layout.specs.Systems.{system_of, run_values};
 ghost use Rattle.tv_step.specs.Machine.{Accepts};
 ghost use Rattle.tv_step.specs.Range.{AreWords};
@@ -85,7 +86,7 @@ fn values_of(
     requires aux_few { length aux.now < 2 ^ 32 }
     requires accepts { Accepts 32 image.now tape.now aux.now t 0 }
     ensures { IfOk result (λ values.
-        values.list ≡ run_values 32 Benes image.now tape.now aux.now t 0) }
+        values.list ≡ run_values Benes (run_on 32 image.now tape.now aux.now t) 0) }
 {
     let mut values = ListValues::new(alloc);
     match fill_system::<32, ListValues>(alloc, image, tape, aux, t, Net::Benes, &mut values) {

@@ -1,8 +1,10 @@
 use Rattle.std.proofs.Common.{◌≡◌, ℕ, List, length, map, ap, ap₂, ◌∙◌, arith}
 use Rattle.tv_core.specs.Lines.{Line}
+use Rattle.tv_fill.proofs.Giving.{parts_of}
 use Rattle.tv_fill.proofs.Prepared.{log_few, lines_fit, lines_in_range, items_few, items_placed, routable, parts_fit, values_are}
 use Rattle.tv_fill.specs.Filled.{filled_values, lines_told}
 use Rattle.tv_layout.specs.Places.{line_count, log_of}
+use Rattle.tv_layout.specs.RunInputs.{run_on}
 use Rattle.tv_layout.specs.Systems.{run_values}
 use Rattle.tv_lines.specs.Packing.{packed_item}
 use Rattle.tv_fill.proofs.filling.prepare.Goals as goal
@@ -90,8 +92,10 @@ returns-clause-filling g c =
     values_are g.row.W c.args.net c.args.image.now c.args.tape.now c.args.aux.now c.args.t c.requires.limits c.requires.tape_words c.requires.aux_words
     c.in_ok-answer.field-0.lines c.in_ok-answer.ensures.trace.lines c.in_ok-answer.field-0.states c.in_ok-answer.ensures.trace.states c.in_ok-items.items.items
     packed bits set v in
-    let values : filled_values w v c.args.image.now c.args.tape.now c.args.aux.now c.args.t states lines items c.args.net c.log_of-k.result bits
-    ≡ run_values w c.args.net c.args.image.now c.args.tape.now c.args.aux.now c.args.t v =
-    ap (λ (k : ℕ). filled_values w v c.args.image.now c.args.tape.now c.args.aux.now c.args.t states lines items c.args.net k bits) c.log_of-k.ensures.is
+    let values :
+    filled_values w (parts_of v c.args.t c.log_of-k.result c.args.net c.args.image.now c.args.tape.now c.args.aux.now states lines items bits)
+    ≡ run_values c.args.net (run_on w c.args.image.now c.args.tape.now c.args.aux.now c.args.t) v =
+    ap (λ (k : ℕ). filled_values w (parts_of v c.args.t k c.args.net c.args.image.now c.args.tape.now c.args.aux.now states lines items bits))
+    c.log_of-k.ensures.is
     ∙ whole in
     record { answer = c.in_ok-answer.ensures.trace.answer; values = values }

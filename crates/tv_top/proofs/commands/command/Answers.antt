@@ -8,19 +8,27 @@ use Rattle.tv_top.proofs.RunningClaim.{runs}
 use Rattle.tv_top.proofs.ShrinkingClaim.{shrinks}
 use Rattle.tv_top.proofs.TrialingClaim.{trials}
 use Rattle.tv_top.proofs.WitnessingClaim.{witnesses}
+use Rattle.std.proofs.Common.{ℕ, List}
+use Rattle.tv_top.proofs.Common.{Answers, Call, request_of}
+use Rattle.tv_top.specs.Commands.{Commands}
+use Rattle.tv_top.specs.Form.{form}
 use Rattle.tv_top.proofs.commands.command.Goals as goal
 
-pub returns : goal.returns
-returns g c = record {
-  answers = c.answer.ensures;
-  asm = asms _ _ _ _ _ c.answer.ensures;
-  disasm = disasms _ _ _ _ _ c.answer.ensures;
-  check = checks _ _ _ _ _ c.answer.ensures;
-  run = runs _ _ _ _ _ c.answer.ensures;
-  build = builds _ _ _ _ _ c.answer.ensures;
-  witness = witnesses _ _ _ _ _ c.answer.ensures;
-  extract = extracts _ _ _ _ _ c.answer.ensures;
-  trial = trials _ _ _ _ _ c.answer.ensures;
-  shrink = shrinks _ _ _ _ _ c.answer.ensures;
-  listing = lists _ _ _ _ _ c.answer.ensures;
+commands : (words : List (List ℕ)) (count : ℕ) (call : Call) → Answers (request_of (form words)) count call.before call.after call.status
+    → Commands words count call
+commands words count call answers = record {
+  answers = answers;
+  asm = asms words count call answers;
+  disasm = disasms words count call answers;
+  check = checks words count call answers;
+  run = runs words count call answers;
+  build = builds words count call answers;
+  witness = witnesses words count call answers;
+  extract = extracts words count call answers;
+  trial = trials words count call answers;
+  shrink = shrinks words count call answers;
+  listing = lists words count call answers;
 }
+
+pub returns : goal.returns
+returns g c = commands _ _ _ c.answer.ensures
