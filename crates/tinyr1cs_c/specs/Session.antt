@@ -56,27 +56,33 @@ pub record AddsWord (word : List ℕ) (old new : Session) (code : ℕ) : Type 0 
   pub text : ¬ (IsUtf8 word) → (code ≡ code_of NotUtf8) × IsSame old new
   pub added : IsUtf8 word → ((code ≡ code_of Done) × IsAdded word old new) ⊎ ((code ≡ code_of Memory) × IsSame old new)
 
+-- where a call copies to: the bytes there before and after it, and the number that it stores
+pub record Room : Type 0 where
+  pub before : List ℕ
+  pub after : List ℕ
+  pub has : ℕ
+
 -- What the bytes have from `from` on was copied, as much as there was room for, and `has` is its length.
 -- Short says that there was more.
-pub record Copies (bytes : List ℕ) (from : ℕ) (old new : List ℕ) (has code : ℕ) : Type 0 where
-  pub counted : has ≡ length bytes - from
-  pub copied : new ≡ take (length old) (drop from bytes) ++ drop (length bytes - from) old
-  pub whole : has ≤ length old → code ≡ code_of Done
-  pub short : length old < has → code ≡ code_of Short
+pub record Copies (bytes : List ℕ) (from : ℕ) (room : Room) (code : ℕ) : Type 0 where
+  pub counted : room.has ≡ length bytes - from
+  pub copied : room.after ≡ take (length room.before) (drop from bytes) ++ drop (length bytes - from) room.before
+  pub whole : room.has ≤ length room.before → code ≡ code_of Done
+  pub short : length room.before < room.has → code ≡ code_of Short
 
 -- nothing was copied
-pub record CopiesNone (old new : List ℕ) (has : ℕ) : Type 0 where
-  pub counted : has ≡ 0
-  pub copied : new ≡ old
+pub record CopiesNone (room : Room) : Type 0 where
+  pub counted : room.has ≡ 0
+  pub copied : room.after ≡ room.before
 
 -- a call that copies a file's bytes out of a session
-pub record CopiesFile (name : List ℕ) (from : ℕ) (into into' : List ℕ) (has : ℕ) (old new : Session) (code : ℕ) : Type 0 where
+pub record CopiesFile (name : List ℕ) (from : ℕ) (room : Room) (old new : Session) (code : ℕ) : Type 0 where
   pub same : new ≡ old
-  pub text : ¬ (IsUtf8 name) → (code ≡ code_of NotUtf8) × CopiesNone into into' has
-  pub absent : IsUtf8 name → files old name ≡ None → (code ≡ code_of Absent) × CopiesNone into into' has
-  pub copies : (bytes : List ℕ) → IsUtf8 name → files old name ≡ Some bytes → Copies bytes from into into' has code
+  pub text : ¬ (IsUtf8 name) → (code ≡ code_of NotUtf8) × CopiesNone room
+  pub absent : IsUtf8 name → files old name ≡ None → (code ≡ code_of Absent) × CopiesNone room
+  pub copies : (bytes : List ℕ) → IsUtf8 name → files old name ≡ Some bytes → Copies bytes from room code
 
 -- a call that copies the last line out of a session
-pub record CopiesLine (into into' : List ℕ) (has : ℕ) (old new : Session) (code : ℕ) : Type 0 where
+pub record CopiesLine (room : Room) (old new : Session) (code : ℕ) : Type 0 where
   pub same : new ≡ old
-  pub copies : Copies (line old) 0 into into' has code
+  pub copies : Copies (line old) 0 room code

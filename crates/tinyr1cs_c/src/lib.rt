@@ -98,8 +98,10 @@ pub extern "C" fn tinyr1cs_c_copy(
     has: &mut u64,
 ) -> u32
     ensures does { OnSession handle.old.owner.held handle.new.owner.held result
-        (CopiesFile name.now from into.old into.new has.new) }
-    ensures closed { handle.old.owner.held ≡ None → CopiesNone into.old into.new has.new }
+        (CopiesFile name.now from
+        (record { before = into.old; after = into.new; has = has.new })) }
+    ensures closed { handle.old.owner.held ≡ None →
+        CopiesNone (record { before = into.old; after = into.new; has = has.new }) }
 {
     *has = 0;
     let Some(session) = handle.take(alloc) else {
@@ -121,8 +123,9 @@ pub extern "C" fn tinyr1cs_c_line(
     has: &mut u64,
 ) -> u32
     ensures does { OnSession handle.old.owner.held handle.new.owner.held result
-        (CopiesLine into.old into.new has.new) }
-    ensures closed { handle.old.owner.held ≡ None → CopiesNone into.old into.new has.new }
+        (CopiesLine (record { before = into.old; after = into.new; has = has.new })) }
+    ensures closed { handle.old.owner.held ≡ None →
+        CopiesNone (record { before = into.old; after = into.new; has = has.new }) }
 {
     *has = 0;
     let Some(session) = handle.take(alloc) else {

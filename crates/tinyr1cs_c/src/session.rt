@@ -71,8 +71,9 @@ impl Session {
 
     /// Copies the file's bytes from a place on, as many as there is room for.
     pub fn copy(&self, name: &[u8], from: u64, into: &mut [u8], has: &mut u64) -> Answer
-        ensures { CopiesFile name.now from into.old into.new has.new self.now self.now
-            (code_of result) }
+        ensures { CopiesFile name.now from
+            (record { before = into.old; after = into.new; has = has.new })
+            self.now self.now (code_of result) }
     {
         *has = 0;
         let Ok(name) = str::from_utf8(name) else {
@@ -86,7 +87,8 @@ impl Session {
 
     /// Copies the last line, as much of it as there is room for.
     pub fn copy_line(&self, into: &mut [u8], has: &mut u64) -> Answer
-        ensures { CopiesLine into.old into.new has.new self.now self.now (code_of result) }
+        ensures { CopiesLine (record { before = into.old; after = into.new; has = has.new })
+            self.now self.now (code_of result) }
     {
         copy_out(self.files.said_bytes(), self.line_at as u64, into, has)
     }
@@ -94,7 +96,8 @@ impl Session {
 
 /// Copies what the bytes have from a place on, as much as there is room for, and counts it.
 fn copy_out(bytes: &[u8], from: u64, into: &mut [u8], has: &mut u64) -> Answer
-    ensures { Copies bytes.now from into.old into.new has.new (code_of result) }
+    ensures { Copies bytes.now from
+        (record { before = into.old; after = into.new; has = has.new }) (code_of result) }
 {
     if from >= bytes.len() as u64 {
         *has = 0;
