@@ -8,7 +8,7 @@ ghost use Rattle.tv_lines.specs.SortedPair.{sorted_pair_of, sorted_pair_values, 
 ghost use Rattle.tv_lines.specs.SortedPair.{SortedPairIsSound, SortedPairIsComplete};
 ghost use Rattle.tv_lines.specs.SortedPair.{SortedPairSizes, FirstLineIsSound, FirstLineIsComplete};
 ghost use Rattle.tv_lines.specs.SortedPair.{FirstLineSizes, NeighboursAreOrdered};
-ghost use Rattle.tv_lines.specs.Unpacking.{HasWidths, AreMade};
+ghost use Rattle.tv_lines.specs.Unpacking.{IsLineBelow};
 
 use crate::rising::{CHUNK, fill_rises, rises, size};
 use crate::rows::LineBits;
@@ -20,10 +20,8 @@ use tv_core::{F, Lc, LineNum, Put, Scratch, Sink, Values, Wire};
 /// the same, and else 0. It makes 18 wires and 20 constraints, of 312 terms.
 pub fn sorted_pair<S: Sink>(s: &mut S, before: &LineBits, after: &LineBits) -> Put<()>
     requires room { Room S.meaning s.old 18 20 }
-    requires before_widths { HasWidths before.now }
-    requires after_widths { HasWidths after.now }
-    requires before_made { AreMade before.now (S.meaning.wires s.old) }
-    requires after_made { AreMade after.now (S.meaning.wires s.old) }
+    requires before_line { IsLineBelow (S.meaning.wires s.old) before.now }
+    requires after_line { IsLineBelow (S.meaning.wires s.old) after.now }
     ensures puts { PutsIn S.meaning s.old s.new (sorted_pair_of before.now after.now) result }
     ensures grows { IfOk result (λ _. Grows S.meaning s.old s.new 18 20) }
 {
@@ -42,10 +40,8 @@ fn cells_apart<S: Sink>(
     after: &LineBits,
 ) -> Put<Wire>
     requires room { Room S.meaning s.old 1 1 }
-    requires before_widths { HasWidths before.now }
-    requires after_widths { HasWidths after.now }
-    requires before_made { AreMade before.now (S.meaning.wires s.old) }
-    requires after_made { AreMade after.now (S.meaning.wires s.old) }
+    requires before_line { IsLineBelow (S.meaning.wires s.old) before.now }
+    requires after_line { IsLineBelow (S.meaning.wires s.old) after.now }
     ensures puts { PutsIn S.meaning s.old s.new (apart_of before.now after.now) result }
     ensures grows { IfOk result (λ _. Grows S.meaning s.old s.new 1 1) }
     ensures below { IfOk result (λ apart. apart < S.meaning.wires s.new) }
@@ -64,10 +60,8 @@ fn carried<S: Sink>(
     after: &LineBits,
 ) -> Put<()>
     requires room { Room S.meaning s.old 2 3 }
-    requires before_widths { HasWidths before.now }
-    requires after_widths { HasWidths after.now }
-    requires before_made { AreMade before.now (S.meaning.wires s.old) }
-    requires after_made { AreMade after.now (S.meaning.wires s.old) }
+    requires before_line { IsLineBelow (S.meaning.wires s.old) before.now }
+    requires after_line { IsLineBelow (S.meaning.wires s.old) after.now }
     requires apart_made { apart < S.meaning.wires s.old }
     ensures puts { PutsIn S.meaning s.old s.new (carried_of apart before.now after.now) result }
     ensures grows { IfOk result (λ _. Grows S.meaning s.old s.new 2 3) }
@@ -97,8 +91,7 @@ fn new_size<S: Sink>(s: &mut S, scratch: &mut Scratch) -> Put<Wire>
 /// 33 terms.
 pub fn first_line<S: Sink>(s: &mut S, line: &LineBits) -> Put<()>
     requires room { Room S.meaning s.old 0 1 }
-    requires widths { HasWidths line.now }
-    requires made { AreMade line.now (S.meaning.wires s.old) }
+    requires line { IsLineBelow (S.meaning.wires s.old) line.now }
     ensures puts { PutsIn S.meaning s.old s.new (first_line_of line.now) result }
     ensures grows { IfOk result (λ _. Grows S.meaning s.old s.new 0 1) }
 {

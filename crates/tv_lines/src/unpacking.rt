@@ -4,7 +4,7 @@ ghost use Rattle.tv_core.specs.Combinations.{top};
 ghost use Rattle.tv_core.specs.Giving.{GivesIn};
 ghost use Rattle.tv_core.specs.Sinks.{PutsIn, Grows, Room};
 ghost use Rattle.tv_lines.specs.Packing.{UnpackUndoesPack};
-ghost use Rattle.tv_lines.specs.Unpacking.{HasWidths, AreMade, line_bits, unpack_of, unpack_values};
+ghost use Rattle.tv_lines.specs.Unpacking.{IsLineBelow, line_bits, unpack_of, unpack_values};
 ghost use Rattle.tv_lines.specs.Unpacking.{UnpackIsSound, UnpackIsComplete, UnpackSizes};
 
 use crate::rows::LineBits;
@@ -24,8 +24,7 @@ pub fn unpack<S: Sink>(s: &mut S, pair: &Pair) -> Put<LineBits>
     requires second_made { top pair.now.second ≤ S.meaning.wires s.old }
     ensures puts { PutsIn S.meaning s.old s.new (unpack_of pair.now) result }
     ensures grows { IfOk result (λ _. Grows S.meaning s.old s.new 115 117) }
-    ensures widths { IfOk result (λ line. HasWidths line) }
-    ensures below { IfOk result (λ line. AreMade line (S.meaning.wires s.new)) }
+    ensures below { IfOk result (λ line. IsLineBelow (S.meaning.wires s.new) line) }
 {
     let mut scratch = Scratch::new();
     let first = bits_by(s, &mut scratch, &pair.first, WORD_BITS + CELL_BITS)?;
