@@ -2,7 +2,7 @@
 ghost use Rattle.std.specs.Prelude.{◌≡◌, ℕ, ◌+◌, ◌<◌, ◌≤◌, List, [], ◌∷◌, ◌++◌, length, max, take};
 ghost use Rattle.std.specs.List.{insert, remove};
 ghost use Rattle.tv_core.specs.Constraints.{value};
-ghost use Rattle.tv_core.specs.Combinations.{wire, constant, one_less, scaled, less, top};
+ghost use Rattle.tv_core.specs.Combinations.{wire, constant, scaled, less, top};
 ghost use Rattle.tv_core.specs.Normal.{normal, place, put_at, IsNormal};
 
 use crate::field::F;
@@ -57,15 +57,6 @@ impl Lc {
     {
         let mut lc = Lc::empty();
         lc.plus(F::ONE, w);
-        lc
-    }
-
-    /// 1 less a wire.
-    pub fn one_less(w: Wire) -> Lc
-        ensures { result ≡ one_less w }
-    {
-        let mut lc = Lc::constant(F::ONE);
-        lc.plus(-F::ONE, w);
         lc
     }
 
