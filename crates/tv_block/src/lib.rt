@@ -4,21 +4,21 @@
 //! numbers, `IsMachineStep` that they are the machine's.
 #![tactic(auto)]
 
+mod constraints;
 mod costs;
-mod filling;
 mod laws;
-mod placing;
+mod places;
 mod records;
 mod step_numbers;
-mod stepping;
+mod values;
 
+pub use constraints::{block, step};
 pub use costs::{LineTerms, StepCosts, step_costs, step_terms};
-pub use filling::{fill_block, fill_traced_step};
 pub use laws::{
     block_fills, block_is_complete, block_is_counted, block_is_normal, block_is_placed,
     block_is_sound, steps_are_given,
 };
-pub use placing::{block_line, block_spot, block_wires, next_state};
+pub use places::{block_line, block_spot, block_wires, next_state};
 pub use records::{Block, Computed, Effects, Reached, StateNum};
-pub use stepping::{block, step};
 pub use tv_parts::{Spot, StateWires};
+pub use values::{fill_block, fill_traced_step};

@@ -6,7 +6,7 @@ use Rattle.tv_numbers.specs.Views.{View}
 use Rattle.tv_parts.specs.Traced.{traced_view}
 use Rattle.tv_parts.specs.declared.step_numbers.StepNumbers.{StepNumbers}
 use Rattle.tv_block.proofs.FilledValues.{effects_by, filled}
-use Rattle.tv_block.proofs.filling.fill_traced_step.Goals as goal
+use Rattle.tv_block.proofs.values.fill_traced_step.Goals as goal
 
 pub returns-in_err-fill_computed-clause-gives : goal.returns-in_err-fill_computed-clause-gives
 returns-in_err-fill_computed-clause-gives g c =

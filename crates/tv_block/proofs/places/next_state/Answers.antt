@@ -1,7 +1,7 @@
 use Rattle.std.proofs.Common.{◌∙◌, ap, arith}
 use Rattle.std.specs.List.{range_with_len}
 use Rattle.tv_block.proofs.PlaceLaws.{same_state}
-use Rattle.tv_block.proofs.placing.next_state.Goals as goal
+use Rattle.tv_block.proofs.places.next_state.Goals as goal
 
 pub returns-clause-is : goal.returns-clause-is
 returns-clause-is g c =

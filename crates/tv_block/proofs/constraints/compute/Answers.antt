@@ -1,6 +1,6 @@
 use Rattle.tv_core.proofs.Chain.{puts_then, puts_then_refused, refused_then, puts_nothing, refused}
 use Rattle.tv_block.specs.Block.{computed_of}
-use Rattle.tv_block.proofs.stepping.compute.Goals as goal
+use Rattle.tv_block.proofs.constraints.compute.Goals as goal
 
 pub returns-in_err-instruction-clause-puts : goal.returns-in_err-instruction-clause-puts
 unfolding computed_of

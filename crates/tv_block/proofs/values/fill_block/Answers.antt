@@ -3,7 +3,7 @@ use Rattle.tv_block.proofs.ToldFills.{same_values}
 use Rattle.tv_block.specs.Values.{block_values}
 use Rattle.tv_core.specs.Giving.{GivesIn}
 use Rattle.tv_numbers.specs.Numbers.{step_words}
-use Rattle.tv_block.proofs.filling.fill_block.Goals as goal
+use Rattle.tv_block.proofs.values.fill_block.Goals as goal
 
 pub returns-clause-gives : goal.returns-clause-gives
 returns-clause-gives g c =

@@ -14,7 +14,7 @@ use Rattle.tv_parts.specs.Results.{results_values}
 use Rattle.tv_parts.specs.Traced.{traced_view}
 use Rattle.tv_parts.specs.Written.{written_values}
 use Rattle.tv_block.specs.Values.{tested_in}
-use Rattle.tv_block.proofs.filling.fill_effects.Goals as goal
+use Rattle.tv_block.proofs.values.fill_effects.Goals as goal
 
 pub returns-in_err-fill_tapes-clause-gives : goal.returns-in_err-fill_tapes-clause-gives
 returns-in_err-fill_tapes-clause-gives g c =

@@ -7,7 +7,7 @@ use Rattle.tv_parts.specs.Inputs.{operation_of}
 use Rattle.tv_parts.specs.Operand.{operand_values}
 use Rattle.tv_regs.specs.Triple.{triple_values}
 use Rattle.tv_block.specs.Values.{other_register}
-use Rattle.tv_block.proofs.filling.fill_computed.Goals as goal
+use Rattle.tv_block.proofs.values.fill_computed.Goals as goal
 
 pub returns-in_err-fill_instruction-clause-gives : goal.returns-in_err-fill_instruction-clause-gives
 returns-in_err-fill_instruction-clause-gives g c =

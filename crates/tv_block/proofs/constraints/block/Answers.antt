@@ -8,7 +8,7 @@ use Rattle.tv_block.specs.Under.{BlockUnder}
 use Rattle.tv_parts.specs.States.{StateUnder}
 use Rattle.tv_core.proofs.Chain.{refused}
 use Rattle.tv_core.specs.Sinks.{PutsAll}
-use Rattle.tv_block.proofs.stepping.block.Goals as goal
+use Rattle.tv_block.proofs.constraints.block.Goals as goal
 
 pub returns-in_err-step-clause-puts : goal.returns-in_err-step-clause-puts
 returns-in_err-step-clause-puts g c =

@@ -1,6 +1,6 @@
 use Rattle.std.proofs.Common.{◌∙◌, arith}
 use Rattle.tv_block.proofs.PlaceLaws.{same_wires}
-use Rattle.tv_block.proofs.placing.block_wires.Goals as goal
+use Rattle.tv_block.proofs.places.block_wires.Goals as goal
 
 pub returns : goal.returns
 returns g c =

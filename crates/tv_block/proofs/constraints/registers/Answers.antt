@@ -1,4 +1,4 @@
-use Rattle.tv_block.proofs.stepping.registers.Goals as goal
+use Rattle.tv_block.proofs.constraints.registers.Goals as goal
 
 pub returns-clause-puts : goal.returns-clause-puts
 returns-clause-puts g c =

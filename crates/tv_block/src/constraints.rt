@@ -14,7 +14,7 @@ ghost use Rattle.tv_parts.specs.States.{StateUnder, TripleUnder, TapesUnder, Sto
 ghost use Rattle.tv_parts.specs.States.{ResultUnder};
 ghost use Rattle.tv_word.specs.Widths.{IsWidth};
 
-use crate::placing::block_wires;
+use crate::places::block_wires;
 use crate::records::{Block, Computed, Effects, Reached};
 use tv_bits::zero_sign;
 use tv_core::{Lc, Put, Scratch, Sink, Wire};

@@ -1,6 +1,6 @@
 use Rattle.tv_core.proofs.Chain.{puts_then, puts_then_refused, refused_then, puts_nothing, refused}
 use Rattle.tv_block.specs.Block.{block_of}
-use Rattle.tv_block.proofs.stepping.step.Goals as goal
+use Rattle.tv_block.proofs.constraints.step.Goals as goal
 
 pub returns-in_err-computed-clause-puts : goal.returns-in_err-computed-clause-puts
 unfolding block_of

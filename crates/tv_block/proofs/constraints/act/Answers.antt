@@ -1,6 +1,6 @@
 use Rattle.tv_core.proofs.Chain.{puts_then, puts_then_refused, refused_then, puts_nothing, refused}
 use Rattle.tv_block.specs.Block.{effects_of}
-use Rattle.tv_block.proofs.stepping.act.Goals as goal
+use Rattle.tv_block.proofs.constraints.act.Goals as goal
 
 pub returns-in_err-tapes-clause-puts : goal.returns-in_err-tapes-clause-puts
 unfolding effects_of
