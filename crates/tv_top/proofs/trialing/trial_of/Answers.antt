@@ -1,4 +1,9 @@
-use Rattle.std.proofs.Common.{arith}
+use Rattle.std.proofs.Common.{◌≡◌, ℕ, ◌+◌, List, ap, ap₂, ◌∙◌, arith}
+use Rattle.tv_benes.specs.declared.shape.Net.TheVariants.{Benes}
+use Rattle.tv_draw.specs.Drawing.{image_drawn, tape_drawn, aux_drawn}
+use Rattle.tv_layout.specs.RunInputs.{run_on}
+use Rattle.tv_layout.specs.Systems.{run_values}
+use Rattle.tv_top.specs.Trialing.{drawn_values, trial_of}
 use Rattle.tv_top.proofs.TrialingClaim.{drawn_within, drawn_accepts}
 use Rattle.tv_top.proofs.trialing.trial_of.Goals as goal
 
@@ -17,3 +22,15 @@ pub tested-requires : goal.tested-requires
 tested-requires c =
     let is = rw (← c.as_slice-image.ensures, ← c.as_slice-tape.ensures, ← c.as_slice.ensures) at c.in_ok-drawn.ensures.run in
     search (drawn_within c.args.k _ _ c.requires is.image_words is.image_count is.tape_count, is.tape_count)
+
+pub returns : goal.returns
+unfolding trial_of
+returns c =
+    let image : c.as_slice-image.result.now ≡ image_drawn c.args.seed c.args.k = c.as_slice-image.ensures ∙ c.in_ok-drawn.ensures.image in
+    let tape : c.as_slice-tape.result.now ≡ tape_drawn c.args.seed c.args.k = c.as_slice-tape.ensures ∙ c.in_ok-drawn.ensures.tape in
+    let aux : c.as_slice.result.now ≡ aux_drawn c.args.seed c.args.k = c.as_slice.ensures ∙ c.in_ok-drawn.ensures.aux in
+    let values : c.as_slice-2.result.now ≡ drawn_values c.args.seed c.args.k =
+    c.as_slice-2.ensures ∙ c.in_ok-values.ensures
+    ∙ ap₂ (λ (image tape : List ℕ). run_values Benes (run_on 32 image tape c.as_slice.result.now (c.args.k + 1)) 0) image tape
+    ∙ ap (λ (aux : List ℕ). run_values Benes (run_on 32 (image_drawn c.args.seed c.args.k) (tape_drawn c.args.seed c.args.k) aux (c.args.k + 1)) 0) aux in
+    search (image, tape, values)
