@@ -1,9 +1,10 @@
-use Rattle.std.proofs.Common.{◌≡◌, ℕ, ◌+◌, List, ap, ap₂, ◌∙◌, arith}
+use Rattle.std.proofs.Common.{◌≡◌, ℕ, ◌+◌, List, length, ap, ap₂, ◌∙◌, arith}
 use Rattle.tv_benes.specs.declared.shape.Net.TheVariants.{Benes}
+use Rattle.tv_core.specs.Constraints.{System}
 use Rattle.tv_draw.specs.Drawing.{image_drawn, tape_drawn, aux_drawn}
 use Rattle.tv_layout.specs.RunInputs.{run_on}
-use Rattle.tv_layout.specs.Systems.{run_values}
-use Rattle.tv_top.specs.Trialing.{drawn_values, trial_of}
+use Rattle.tv_layout.specs.Systems.{system_of, run_values}
+use Rattle.tv_top.specs.Trialing.{drawn_values, tested, trial_of}
 use Rattle.tv_top.proofs.TrialingClaim.{drawn_within, drawn_accepts}
 use Rattle.tv_top.proofs.trialing.trial_of.Goals as goal
 
@@ -33,4 +34,6 @@ returns c =
     c.as_slice-2.ensures ∙ c.in_ok-values.ensures
     ∙ ap₂ (λ (image tape : List ℕ). run_values Benes (run_on 32 image tape c.as_slice.result.now (c.args.k + 1)) 0) image tape
     ∙ ap (λ (aux : List ℕ). run_values Benes (run_on 32 (image_drawn c.args.seed c.args.k) (tape_drawn c.args.seed c.args.k) aux (c.args.k + 1)) 0) aux in
-    search (image, tape, values)
+    c.tested.ensures
+    ∙ ap₂ (λ (s : System) (z : List ℕ). tested (c.args.k + 1) s z)
+        (ap₂ (λ (image tape : List ℕ). system_of 32 Benes image (length tape) (c.args.k + 1)) image tape) values
