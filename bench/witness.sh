@@ -20,11 +20,11 @@ split() {
         NF < 3 { next }
         { part = "others" }
         $3 ~ /^tv_(step|mem|isa|tape|word)::/ { part = "trace" }
-        $3 ~ /sort|predecessors/ { part = "sort" }
+        $3 ~ /sort|predecessors|address_order/ { part = "sort" }
         $3 ~ /^tv_route::/ { part = "route" }
         $3 ~ /^tv_(bits|limb|cmp|logic|shift|muldiv|decode|regs|block|numbers)::/ { part = "steps" }
         $3 ~ /^tv_(benes|waksman)::/ { part = "network" }
-        $3 ~ /^tv_(memory::filling|lines|scan)|fill_prefix/ { part = "lines" }
+        $3 ~ /^tv_(argument::values|lines|scan)|fill_prefix/ { part = "lines" }
         $3 ~ /^(tv_top|tv_wtns|tv_container|tinyr1cs)::|write/ { part = "writing" }
         $2 == "[k]" { part = "system" }
         { shares[part] += $1 }

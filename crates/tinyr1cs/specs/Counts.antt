@@ -8,8 +8,8 @@ use Rattle.tinyr1cs.specs.declared.counts.Call.TheVariants.{Reading, Writing, Sa
 use Rattle.tinyr1cs.specs.declared.counts.RefusalCounts.{RefusalCounts}
 
 -- the counts as what is known of the outside
-abbrev pub told_by : RefusalCounts → Outside
-told_by counts = record {
+abbrev pub outside_of : RefusalCounts → Outside
+outside_of counts = record {
   contents = None;
   said = None;
   read_faults = counts.read_faults;

@@ -2,7 +2,7 @@
 ghost use Rattle.std.specs.Prelude.{◌≡◌, ◌≤◌};
 ghost use Rattle.std.specs.Result.{result_ok};
 ghost use Rattle.tv_files.specs.Outside.{NoneFell};
-ghost use Rattle.tinyr1cs.specs.Counts.{told_by, after, one_more, zeros};
+ghost use Rattle.tinyr1cs.specs.Counts.{outside_of, after, one_more, zeros};
 
 use std::io;
 use std::io::ErrorKind;
@@ -50,7 +50,7 @@ impl RefusalCounts {
     pub fn settle<T>(&mut self, call: Call, outcome: io::Result<T>) -> Result<T, FileRefusal>
         ensures value { result_ok result ≡ result_ok outcome }
         ensures counts { self.new ≡ after call result self.old }
-        ensures later { NoneFell (told_by self.old) (told_by self.new) }
+        ensures later { NoneFell (outside_of self.old) (outside_of self.new) }
     {
         match outcome {
             Ok(value) => Ok(value),

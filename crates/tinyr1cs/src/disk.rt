@@ -1,7 +1,7 @@
 //! The system's files and standard output as `Files`.
 ghost use Rattle.std.specs.Prelude.{◌≡◌};
 ghost use Rattle.tv_files.specs.Calls.{Reads, Creates, Appends, Says};
-ghost use Rattle.tinyr1cs.specs.Counts.{told_by, zeros, after};
+ghost use Rattle.tinyr1cs.specs.Counts.{outside_of, zeros, after};
 ghost use Rattle.tinyr1cs.specs.declared.counts.Call.TheVariants.{Reading, Writing, Saying};
 
 use crate::counts::{Call, RefusalCounts};
@@ -65,11 +65,11 @@ impl<R: rt::Files + Eprint + Drop> DiskFiles<R> {
 }
 
 impl<R: rt::Files + Print + Eprint + Drop> Files for DiskFiles<R> {
-    ghost seen = { λ files. told_by files };
+    ghost seen = { λ files. outside_of files };
 
-    #[tactic(auto, using(crate::proofs::Told::reads))]
+    #[tactic(auto, using(crate::proofs::Known::reads))]
     fn read(&mut self, name: &str, at: u64, into: &mut [u8]) -> Result<usize, FileRefusal>
-        ensures told { Reads (told_by self.old) (told_by self.new)
+        ensures told { Reads (outside_of self.old) (outside_of self.new)
             name.now at into.new result }
         ensures counts { self.new ≡ after Reading result self.old }
     {
@@ -77,9 +77,9 @@ impl<R: rt::Files + Print + Eprint + Drop> Files for DiskFiles<R> {
         self.counts.settle(Call::Reading, outcome)
     }
 
-    #[tactic(auto, using(crate::proofs::Told::creates))]
+    #[tactic(auto, using(crate::proofs::Known::creates))]
     fn create(&mut self, name: &str) -> Result<(), FileRefusal>
-        ensures told { Creates (told_by self.old) (told_by self.new) name.now result }
+        ensures told { Creates (outside_of self.old) (outside_of self.new) name.now result }
         ensures counts { self.new ≡ after Writing result self.old }
     {
         self.progress.begin();
@@ -87,9 +87,9 @@ impl<R: rt::Files + Print + Eprint + Drop> Files for DiskFiles<R> {
         self.counts.settle(Call::Writing, outcome)
     }
 
-    #[tactic(auto, using(crate::proofs::Told::appends))]
+    #[tactic(auto, using(crate::proofs::Known::appends))]
     fn append(&mut self, name: &str, bytes: &[u8]) -> Result<(), FileRefusal>
-        ensures told { Appends (told_by self.old) (told_by self.new)
+        ensures told { Appends (outside_of self.old) (outside_of self.new)
             name.now bytes.now result }
         ensures counts { self.new ≡ after Writing result self.old }
     {
@@ -100,9 +100,9 @@ impl<R: rt::Files + Print + Eprint + Drop> Files for DiskFiles<R> {
         self.counts.settle(Call::Writing, outcome)
     }
 
-    #[tactic(auto, using(crate::proofs::Told::says))]
+    #[tactic(auto, using(crate::proofs::Known::says))]
     fn say(&mut self, bytes: &[u8]) -> Result<(), FileRefusal>
-        ensures told { Says (told_by self.old) (told_by self.new) bytes.now result }
+        ensures told { Says (outside_of self.old) (outside_of self.new) bytes.now result }
         ensures counts { self.new ≡ after Saying result self.old }
     {
         self.progress.clear(&self.rt);

@@ -1,5 +1,5 @@
 pub mod Answer
 pub mod Session
-pub mod Running
+pub mod Command
 pub mod Owner
 pub mod Calls

@@ -1,14 +1,14 @@
 -- What the calls do to a session.
 use Rattle.std.specs.Prelude.{◌≡◌, ℕ, ◌-◌, ◌≤◌, ◌<◌, ◌⊎◌, List, [], ◌∷◌, ◌++◌, map, length, take, drop, Some, None, string_bytes, IsUtf8}
 use Rattle.tv_files.specs.Outside.{Outside, Names, with_bytes}
-use Rattle.tv_files.specs.MemFiles.{told_by, names_of, said_of, nothing}
+use Rattle.tv_files.specs.MemFiles.{outside_of, names_of, said_of, nothing}
 use Rattle.tinyr1cs_c.specs.declared.session.Session.{Session}
 use Rattle.tinyr1cs_c.specs.declared.answer.Answer.TheVariants.{Done, Memory, NotUtf8, Short, Absent}
 use Rattle.tinyr1cs_c.specs.Answer.{code_of}
 
 -- all that is outside of a command: its files, what was printed, and the counts
 abbrev pub outside : Session → Outside
-outside session = told_by session.files
+outside session = outside_of session.files
 
 -- the files
 abbrev pub files : Session → Names

@@ -4,7 +4,7 @@
 
 ghost use Rattle.std.specs.Prelude.{◌≡◌, None};
 ghost use Rattle.tinyr1cs_c.specs.Calls.{Opens, OnSession};
-ghost use Rattle.tinyr1cs_c.specs.Running.{Runs};
+ghost use Rattle.tinyr1cs_c.specs.Command.{Runs};
 ghost use Rattle.tinyr1cs_c.specs.Session.{Sets, AddsWord, CopiesFile, CopiesLine, CopiesNone};
 
 mod answer;

@@ -8,7 +8,7 @@ use Rattle.std.specs.Str.{bytes_eq}
 use Rattle.tv_asm.specs.Assembly.{assembled, image_of, line_words}
 use Rattle.tv_asm.specs.Header.{header_fields, is_good_field, is_good_header, is_header, is_header_of_16, width_field, width_of}
 use Rattle.tv_asm.specs.Labels.{address, is_defined}
-use Rattle.tv_asm.specs.Law.{TextsOf16AreRefused}
+use Rattle.tv_asm.specs.Laws.{TextsOf16AreRefused}
 use Rattle.tv_asm.specs.Line.{code_of}
 use Rattle.tv_asm.specs.Text.{lines}
 use Rattle.tv_asm.specs.declared.fault.AsmFault.TheVariants.{Bad}

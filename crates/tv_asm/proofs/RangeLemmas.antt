@@ -21,7 +21,7 @@ use Rattle.tv_asm.specs.Assembly.{Context, at_line, assembled, context_after, im
 use Rattle.tv_asm.specs.Header.{is_good_header}
 use Rattle.tv_asm.specs.Instruction.{counted, fields, name_of, operand_at, operand_count, operands_in, raw_words, table_words, words_of}
 use Rattle.tv_asm.specs.Labels.{address, defines, has_instruction, is_defined}
-use Rattle.tv_asm.specs.Law.{ImagesAreShort, ImagesAreWords}
+use Rattle.tv_asm.specs.Laws.{ImagesAreShort, ImagesAreWords}
 use Rattle.tv_asm.specs.Line.{code_of, is_text, said}
 use Rattle.tv_asm.specs.Operand.{number, operand, register}
 use Rattle.tv_asm.specs.Steps.{◌>>=◌, check}

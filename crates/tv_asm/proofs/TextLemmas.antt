@@ -6,17 +6,18 @@ use Rattle.std.proofs.lemmas.List.Sums.{fails_before_first}
 use Rattle.std.proofs.lemmas.List.Splits.{slice_split_first, slice_split_none, length-slice_split}
 use Rattle.std.specs.List.{position_or_len, before_first, after_first, slice_split}
 use Rattle.std.specs.Str.Lines.{strip_carriage_return}
-use Rattle.tv_asm.specs.Text.{lines, lines_of}
+use Rattle.tv_asm.specs.Text.{lines, text_lines}
 
-pub lines_of-cons : (piece : List ℕ) (pieces : List (List ℕ)) → 0 < length pieces → lines_of (piece ∷ pieces) ≡ strip_carriage_return piece ∷ lines_of pieces
-lines_of-cons piece [] h = absurd (omega arith)
-lines_of-cons piece (next ∷ more) h = refl
+pub text_lines-cons : (piece : List ℕ) (pieces : List (List ℕ)) → 0 < length pieces
+    → text_lines (piece ∷ pieces) ≡ strip_carriage_return piece ∷ text_lines pieces
+text_lines-cons piece [] h = absurd (omega arith)
+text_lines-cons piece (next ∷ more) h = refl
 
 -- without a separator, the text is its one piece
 pub slice_split_whole : (p : ℕ → Bool) (text : List ℕ) → length text ≤ position_or_len p text → slice_split p text ≡ text ∷ []
 slice_split_whole p text h = slice_split_none p text (λ k d l. fails_before_first p text k d (omega arith))
 
-whole : (text : List ℕ) → 0 < length text → lines_of (text ∷ []) ≡ strip_carriage_return text ∷ []
+whole : (text : List ℕ) → 0 < length text → text_lines (text ∷ []) ≡ strip_carriage_return text ∷ []
 whole [] h = absurd (omega arith)
 whole (c ∷ cs) h = refl
 
@@ -24,12 +25,12 @@ abbrev is_line_feed : ℕ → Bool
 is_line_feed c = c == 10
 
 lines_more_at : (text : List ℕ) → 0 < length text → (position_or_len is_line_feed text < length text) ⊎ (length text ≤ position_or_len is_line_feed text)
-    → lines_of (slice_split is_line_feed text)
-    ≡ strip_carriage_return (before_first is_line_feed text) ∷ lines_of (slice_split is_line_feed (after_first is_line_feed text))
+    → text_lines (slice_split is_line_feed text)
+    ≡ strip_carriage_return (before_first is_line_feed text) ∷ text_lines (slice_split is_line_feed (after_first is_line_feed text))
 lines_more_at text h (inl l) =
     let pieces = slice_split is_line_feed (after_first is_line_feed text) in
     let some : 0 < length pieces = omega (arith, length-slice_split is_line_feed (after_first is_line_feed text)) in
-    ap lines_of (slice_split_first is_line_feed text 0 l) ∙ lines_of-cons (before_first is_line_feed text) pieces some
+    ap text_lines (slice_split_first is_line_feed text 0 l) ∙ text_lines-cons (before_first is_line_feed text) pieces some
 lines_more_at text h (inr l) =
     let all = take_all (position_or_len is_line_feed text) text l in
     let none = drop_all (position_or_len is_line_feed text + 1) text (omega arith) in

@@ -2,7 +2,7 @@ pub mod Assembly
 pub mod Header
 pub mod Instruction
 pub mod Labels
-pub mod Law
+pub mod Laws
 pub mod Line
 pub mod Operand
 pub mod Steps

@@ -24,11 +24,11 @@ last_line [] = []
 last_line (c ∷ cs) = strip_carriage_return (c ∷ cs) ∷ []
 
 -- pieces between line feeds as lines: one carriage return at a line's end is dropped
-abbrev pub lines_of : List (List ℕ) → List (List ℕ)
-lines_of [] = []
-lines_of (piece ∷ []) = last_line piece
-lines_of (piece ∷ next ∷ more) = strip_carriage_return piece ∷ lines_of (next ∷ more)
+abbrev pub text_lines : List (List ℕ) → List (List ℕ)
+text_lines [] = []
+text_lines (piece ∷ []) = last_line piece
+text_lines (piece ∷ next ∷ more) = strip_carriage_return piece ∷ text_lines (next ∷ more)
 
 -- the lines of a text
 unfoldable pub lines : List ℕ → List (List ℕ)
-lines text = lines_of (slice_split (λ c. c == 10) text)
+lines text = text_lines (slice_split (λ c. c == 10) text)

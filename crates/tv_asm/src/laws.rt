@@ -1,5 +1,5 @@
 //! What holds of every text and its image, by the definitions alone.
-ghost use Rattle.tv_asm.specs.Law.{ImagesAreShort, ImagesAreWords, TextsOf16AreRefused};
+ghost use Rattle.tv_asm.specs.Laws.{ImagesAreShort, ImagesAreWords, TextsOf16AreRefused};
 
 /// An image has at most as many words as are allowed.
 #[tactic(auto, using(crate::proofs::RangeLemmas::images_short))]

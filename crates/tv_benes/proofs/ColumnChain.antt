@@ -1,8 +1,8 @@
 -- Columns of values, given one after another.
 use Rattle.std.proofs.Common.{◌≡◌, ℕ, zero, suc, ◌+◌, ◌-◌, ◌*◌, ◌^◌, ◌<◌, Bool, List, ◌++◌, refl, sym, ◌∙◌, ap, ap₂, subst, arith, add-one, Result}
-use Rattle.tv_core.proofs.GivingChain.{gives_then, gives_then_refused, gives_refused_then, gives_nothing}
-use Rattle.tv_core.proofs.GivingTails.{gives_in_then}
-use Rattle.tv_core.specs.Giving.{Giving, GivesAll, GivesSome, GivesIn}
+use Rattle.tv_core.proofs.ValuesChain.{gives_then, gives_then_refused, gives_refused_then, gives_nothing}
+use Rattle.tv_core.proofs.ValuesTails.{gives_in_then}
+use Rattle.tv_core.specs.Values.{ValuesMeaning, GivesAll, GivesSome, GivesIn}
 use Rattle.tv_core.specs.declared.lines.PairNum.{PairNum}
 use Rattle.tv_core.specs.declared.sink.SinkFault.{SinkFault}
 use Rattle.tv_benes.specs.Levels.{other, innermost}
@@ -11,7 +11,7 @@ use Rattle.tv_benes.specs.declared.shape.Form.{Form}
 use Rattle.tv_benes.specs.declared.shape.Net.{Net}
 use Rattle.tv_benes.specs.Through.{switches, from, to_upper, to_lower}
 
-module _ {V : Type 0} (m : Giving V) (form : Form) (bit : ℕ → Bool) (item : ℕ → PairNum) where
+module _ {V : Type 0} (m : ValuesMeaning V) (form : Form) (bit : ℕ → Bool) (item : ℕ → PairNum) where
   pub no_switch : (v : V) → GivesAll m v v (column_values form 0 bit item)
   unfolding column_values
   no_switch v = gives_nothing m v
@@ -69,7 +69,7 @@ pub values_as : (form : Form) (b b' : Bool) (x x' y y' : PairNum) → b ≡ b' �
 values_as form b b' x x' y y' p q r = ap (λ c. switch_values form c x y) p ∙ ap₂ (λ m n. switch_values form b' m n) q r
 
 -- ---- a level, put together from its four parts
-module _ {V : Type 0} (m : Giving V) (net : Net) (form : Form) (h k : ℕ) (bit : ℕ → Bool) (item : ℕ → PairNum) (level : h ≡ suc k) where
+module _ {V : Type 0} (m : ValuesMeaning V) (net : Net) (form : Form) (h k : ℕ) (bit : ℕ → Bool) (item : ℕ → PairNum) (level : h ≡ suc k) where
   pub column_refused : (old new : V) (fault : SinkFault) → GivesSome m old new (column_values form (2 ^ h) bit item) fault
       → GivesSome m old new (level_values net form h bit item) fault
   column_refused old new fault p = subst (λ l. GivesSome m old new l fault) (sym (level_values-suc net form h k bit item level))

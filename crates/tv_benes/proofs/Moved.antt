@@ -22,8 +22,8 @@ use Rattle.tv_benes.specs.Through.{switches, missing, from, passed, to_upper, to
 use Rattle.tv_benes.specs.Through.{joined, last_bit, through, places}
 use Rattle.tv_benes.specs.declared.shape.Form.{Form}
 use Rattle.tv_benes.specs.declared.shape.Net.{Net}
-use Rattle.tv_core.proofs.GivingChain.{gives_then}
-use Rattle.tv_core.specs.Giving.{Giving, GivesAll, GivesSome}
+use Rattle.tv_core.proofs.ValuesChain.{gives_then}
+use Rattle.tv_core.specs.Values.{ValuesMeaning, GivesAll, GivesSome}
 use Rattle.tv_core.specs.declared.lines.PairNum.{PairNum}
 use Rattle.tv_core.specs.declared.sink.SinkFault.{SinkFault}
 
@@ -120,10 +120,10 @@ join_more bit u l xs j p q within first second before k h =
 
 -- ---- one more switch of a last column, unless it is left out
 -- a call that passes nothing is not refused
-no_refusal : {V : Type 0} (m : Giving V) (old new : V) (fault : SinkFault) → GivesSome m old new [] fault → ⊥
+no_refusal : {V : Type 0} (m : ValuesMeaning V) (old new : V) (fault : SinkFault) → GivesSome m old new [] fault → ⊥
 no_refusal m old new fault p = let long = ap length p.at ∙ length-append p.front (p.refused ∷ p.back) in omega (arith, long)
 
-module _ {V : Type 0} (m : Giving V) (net : Net) (form : Form) (bit : ℕ → Bool) (u l : ℕ → PairNum) where
+module _ {V : Type 0} (m : ValuesMeaning V) (net : Net) (form : Form) (bit : ℕ → Bool) (u l : ℕ → PairNum) where
   -- the values of switch j of them all
   abbrev pub values_of : ℕ → List ℕ
   values_of j = if nat_lt j (missing net) then [] else switch_values form (last_bit net bit j) (u j) (l j)

@@ -14,7 +14,7 @@ use Rattle.tv_core.specs.Combinations.{wire, constant, less}
 use Rattle.tv_core.specs.Constraints.{Combination}
 use Rattle.tv_core.specs.Laws.{Assigns, Meets, HasFrom, Fills, InField}
 use Rattle.tv_core.specs.Lines.{pair_value}
-use Rattle.tv_core.specs.Loops.{times}
+use Rattle.tv_core.specs.Loops.{sequence}
 use Rattle.tv_core.specs.Normal.{normal, AreNormal}
 use Rattle.tv_core.specs.declared.field.TheConstants.{P}
 use Rattle.tv_core.specs.declared.lines.Pair.{Pair}
@@ -51,7 +51,7 @@ switch_of Open x y = do
 
 -- n switches, of which number j takes items 2 j and 2 j + 1
 unfoldable pub column_of : Form → ℕ → (ℕ → Pair) → Circuit (Unit {0})
-column_of form n item = times n (λ j. switch_of form (item (2 * j)) (item (2 * j + 1)))
+column_of form n item = sequence n (λ j. switch_of form (item (2 * j)) (item (2 * j + 1)))
 
 -- the last column of a network of level h, over the outputs of two networks; it returns its outputs
 unfoldable pub last_column_of : (net : Net) (form : Form) → ℕ → EndsOf (other form) → EndsOf (other form) → Circuit (EndsOf form)

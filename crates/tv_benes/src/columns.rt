@@ -122,8 +122,8 @@ pub(crate) fn bound_column<S: Sink, T: Pairs>(
     ensures grows { IfOk result (λ _. Grows S.meaning s.old s.new (5 * n) (5 * n)) }
 {
     for j in 0..n {
-        items.fill(2 * j, &mut buffers.x);
-        items.fill(2 * j + 1, &mut buffers.y);
+        items.set_item(2 * j, &mut buffers.x);
+        items.set_item(2 * j + 1, &mut buffers.y);
         bound_switch(s, &mut buffers.scratch, &buffers.x, &buffers.y)?;
     }
     Ok(())

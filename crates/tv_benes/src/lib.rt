@@ -9,7 +9,6 @@
 
 mod columns;
 mod costs;
-mod filling;
 mod items;
 mod laws;
 mod networks;
@@ -17,9 +16,9 @@ mod open_switches;
 mod places;
 mod routing;
 mod shape;
+mod values;
 
 pub use costs::{inner_terms, switch_terms};
-pub use filling::{fill_network, fill_routing_network};
 pub use laws::{
     network_fills, network_is_complete, network_is_counted, network_is_normal, network_is_sound,
     places_tell, through_is_a_permutation,
@@ -28,3 +27,4 @@ pub use networks::{network, routing_network};
 pub use places::{Inputs, Outputs};
 pub use routing::route_items;
 pub use shape::{Net, network_wires, routing_switches, switches};
+pub use values::{fill_network, fill_routing_network};

@@ -25,7 +25,7 @@ pub trait Inputs {
 
     /// Makes `item` the item at place `i`. A network reuses the same two pairs for each switch, so
     /// an input that can write its combinations in place does so here.
-    fn fill(&self, i: u32, item: &mut Pair)
+    fn set_item(&self, i: u32, item: &mut Pair)
         requires { i < count self.now }
         ensures { item.new ≡ pair self.now i }
     {
@@ -40,7 +40,7 @@ pub(crate) trait Pairs {
     ghost count: { Self → ℕ };
 
     // Makes `item` the item at place `i`.
-    fn fill(&self, i: u32, item: &mut Pair)
+    fn set_item(&self, i: u32, item: &mut Pair)
         requires within { i < count self.now }
         requires first { top (pair self.now i).first ≤ 2 ^ 32 }
         requires second { top (pair self.now i).second ≤ 2 ^ 32 }
@@ -58,8 +58,8 @@ impl<'a, I: Inputs> Pairs for Given<'a, I> {
 
     ghost count = { λ given. I.count given.inputs.now };
 
-    fn fill(&self, i: u32, item: &mut Pair) {
-        self.inputs.fill(i, item);
+    fn set_item(&self, i: u32, item: &mut Pair) {
+        self.inputs.set_item(i, item);
     }
 }
 
@@ -77,7 +77,7 @@ impl Pairs for Passed {
 
     ghost count = { λ _. 2 ^ 30 };
 
-    fn fill(&self, i: u32, item: &mut Pair) {
+    fn set_item(&self, i: u32, item: &mut Pair) {
         let switch = self.first.offset(3 * i);
         if self.lower {
             set_second(item, switch, self.from.offset(5 * (2 * i + 1)));
@@ -146,7 +146,7 @@ impl Pairs for Row {
 
     ghost count = { λ _. 2 ^ 28 };
 
-    fn fill(&self, i: u32, item: &mut Pair) {
+    fn set_item(&self, i: u32, item: &mut Pair) {
         set_wires(item, self.0.offset(5 * i));
     }
 }
@@ -178,7 +178,7 @@ impl Outputs {
     }
 
     /// Makes `item` output `i`.
-    pub fn fill(&self, i: u32, item: &mut Pair)
+    pub fn set_item(&self, i: u32, item: &mut Pair)
         requires { output_wire self.now i + 1 < 2 ^ 32 }
         ensures { item.new ≡ output self.now i }
     {
@@ -224,7 +224,7 @@ pub(crate) struct Sums {
 
 impl Sums {
     // Makes `item` output `i`.
-    fn fill(&self, net: Net, i: u32, item: &mut Pair)
+    fn set_item(&self, net: Net, i: u32, item: &mut Pair)
         requires few { i ≤ 2 ^ 30 }
         requires first { top (sum_at net self.now i).first ≤ 2 ^ 32 }
         requires second { top (sum_at net self.now i).second ≤ 2 ^ 32 }
@@ -295,12 +295,12 @@ impl<'a> Pairs for LastSums<'a> {
 
     ghost count = { λ _. 2 ^ 31 };
 
-    fn fill(&self, i: u32, item: &mut Pair) {
+    fn set_item(&self, i: u32, item: &mut Pair) {
         let i = i + 2 * self.net.missing();
         if i % 2 == 0 {
-            self.upper.fill(self.net, i / 2, item);
+            self.upper.set_item(self.net, i / 2, item);
         } else {
-            self.lower.fill(self.net, i / 2, item);
+            self.lower.set_item(self.net, i / 2, item);
         }
     }
 }

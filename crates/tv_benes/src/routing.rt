@@ -6,11 +6,11 @@ ghost use Rattle.tv_benes.specs.Network.{switch_values, column_values, level_val
 ghost use Rattle.tv_benes.specs.Network.{network_values};
 ghost use Rattle.tv_benes.specs.Through.{switches, missing, from, passed, to_upper, to_lower};
 ghost use Rattle.tv_benes.specs.Through.{alternating, joined, last_bit, through, places};
-ghost use Rattle.tv_core.specs.Giving.{GivesIn};
+ghost use Rattle.tv_core.specs.Values.{GivesIn};
 
-use crate::filling::fill_switch;
 use crate::items::{bit, last_bit};
 use crate::shape::{Form, Net, level_switches, long_power};
+use crate::values::fill_switch;
 use tv_core::{PairNum, Put, Values};
 
 /// Assigns the values of the wires that `routing_network` makes, as `fill_routing_network` does,

@@ -11,19 +11,19 @@ use Rattle.tv_core.specs.Circuits.{fresh, put, pure, here, turns, ◌>>=◌}
 use Rattle.tv_core.specs.Combinations.{wire, scaled}
 use Rattle.tv_core.specs.Constraints.{Combination, Constraint, value}
 use Rattle.tv_core.specs.Laws.{Assigns, Meets, HasFrom}
-use Rattle.tv_core.specs.Loops.{times}
+use Rattle.tv_core.specs.Loops.{sequence}
 use Rattle.tv_core.specs.Meanings.{terms_in}
 use Rattle.tv_core.specs.declared.field.TheConstants.{P}
 use Rattle.tv_bits.proofs.GateLaws.{length-scaled, terms-append}
 use Rattle.tv_bits.proofs.NewBitsLaws.{bits_spell, bits_met}
 use Rattle.tv_bits.proofs.RowNumbers.{row_sound, row_edge_met}
 use Rattle.tv_bits.proofs.SizeLaws.{length-bits, bits_in_field}
-use Rattle.tv_bits.proofs.SpelledNumbers.{Spells-below, Spells-low, Spells-high, Spells-join, Spells-from_values, value-bits_below}
-use Rattle.tv_bits.proofs.SpellingLaws.{new_bits_next}
+use Rattle.tv_bits.proofs.BitNumbers.{HasBits-below, HasBits-low, HasBits-high, HasBits-join, HasBits-from_values, value-bits_below}
+use Rattle.tv_bits.proofs.BitsLaws.{new_bits_next}
 use Rattle.tv_bits.proofs.TimesLaws.{kept_sound, kept_complete, ratio_sound, ratio_complete, ratio_divides, ratio_sizes}
 use Rattle.tv_bits.specs.Bit.{IsBit, bit_of}
-use Rattle.tv_bits.specs.Bits.{Spells, spelled, bits_combination, bits_values, new_bit, new_bits_of}
-use Rattle.tv_bits.specs.DoubleRow.{SpellsRow, whole, row_number, row_wires_of, above_edge, above_edge_in, double_row_of, double_row_values}
+use Rattle.tv_bits.specs.Bits.{HasBits, binary_value, bits_combination, bits_values, new_bit, new_bits_of}
+use Rattle.tv_bits.specs.DoubleRow.{HasRowBits, whole, row_number, row_wires_of, above_edge, above_edge_in, double_row_of, double_row_values}
 use Rattle.tv_bits.specs.DoubleRow.{DoubleRowIsSound, DoubleRowIsComplete, DoubleRowSizes, DoubleRowCosts}
 use Rattle.tv_bits.specs.Ratio.{ratio, ratio_of, ratio_values}
 use Rattle.tv_bits.specs.Times.{kept_of, times_of}
@@ -55,19 +55,19 @@ double_row_next w signed next = omega (arith, row_wires_next w next)
 twice : (w : ℕ) → 2 * w ≡ w + w
 twice w = omega arith
 
-row_wires_sound : (w : ℕ) → IsWidth w → (z : List ℕ) (next : ℕ) → Assigns z → Meets z (row_wires_of w next).list → SpellsRow w z (row_wires_of w next).answer
+row_wires_sound : (w : ℕ) → IsWidth w → (z : List ℕ) (next : ℕ) → Assigns z → Meets z (row_wires_of w next).list → HasRowBits w z (row_wires_of w next).answer
 unfolding row_wires_of times_of new_bits_of here fresh put pure ◌>>=◌
 row_wires_sound w width z next assigns meets =
     let short = width_short w width in
     let made = new_bits_of (2 * w) next in
-    let v = spelled z next (2 * w) in
+    let v = binary_value z next (2 * w) in
     let both = Meets-split z made.list _ meets in
-    let s : Spells z next (w + w) v = subst (λ n. Spells z next n v) (twice w) (bits_spell z (2 * w) next assigns both.0) in
-    let low = Spells-low z next w w v s in
-    let high = Spells-high z next w w v s in
+    let s : HasBits z next (w + w) v = subst (λ n. HasBits z next n v) (twice w) (bits_spell z (2 * w) next assigns both.0) in
+    let low = HasBits-low z next w w v s in
+    let high = HasBits-high z next w w v s in
     let low_is = kept_sound z made.next (bits_combination next w) assigns (both.1.0, tt) ∙ value-bits_below low (omega arith) in
     let high_is = kept_sound z (made.next + 1) (bits_combination (next + w) w) assigns (both.1.1.0, tt) ∙ value-bits_below high (omega arith) in
-    record { low = subst (λ n. Spells z next w n) (sym low_is) low; high = subst (λ n. Spells z (next + w) w n) (sym high_is) high }
+    record { low = subst (λ n. HasBits z next w n) (sym low_is) low; high = subst (λ n. HasBits z (next + w) w n) (sym high_is) high }
 
 -- the combination of the edge
 pub value-above_edge : (w : ℕ) → IsWidth w → (z : List ℕ) (signed : Combination) (high : ℕ) → Assigns z → IsBit (value signed z)
@@ -93,7 +93,7 @@ double_row_sound = record {
       let bit : IsBit (value signed z) = omega arith in
       let number = value-above_edge w width z signed row.high assigns bit ∙ ap (λ n. above_edge_in w (slice_index z row.high) n) plain in
       row_sound w width (slice_index z row.low) (slice_index z row.high) (slice_index z
-      (ratio_of (above_edge w signed row.high) (wire row.low) (row_wires_of w next).next).answer) (Spells-below s.low) (Spells-below s.high)
+      (ratio_of (above_edge w signed row.high) (wire row.low) (row_wires_of w next).next).answer) (HasBits-below s.low) (HasBits-below s.high)
       (ap (λ n. n * slice_index z (ratio_of (above_edge w signed row.high) (wire row.low) (row_wires_of w next).next).answer % P) (sym number) ∙ edge
       ∙ value-wire assigns row.low);
 }
@@ -110,14 +110,14 @@ module _ (w : ℕ) (width : IsWidth w) (z : List ℕ) (next : ℕ) (assigns : As
   words_has : HasFrom z (next + 2 * w) (low ∷ high ∷ ratio_values (above_edge_in w high v) low)
   words_has = let same : next + w + w ≡ next + 2 * w = omega arith in rw same at high_has.1
 
-  low_spells : Spells z next w low
-  low_spells = Spells-from_values z next w low l low_has.0
+  low_spells : HasBits z next w low
+  low_spells = HasBits-from_values z next w low l low_has.0
 
-  high_spells : Spells z (next + w) w high
-  high_spells = Spells-from_values z (next + w) w high h high_has.0
+  high_spells : HasBits z (next + w) w high
+  high_spells = HasBits-from_values z (next + w) w high h high_has.0
 
   bits_met' : Meets z (new_bits_of (2 * w) next).list
-  bits_met' = bits_met z (2 * w) next assigns (λ i h. (Spells-join z next w w low high low_spells high_spells).bits i (omega arith))
+  bits_met' = bits_met z (2 * w) next assigns (λ i h. (HasBits-join z next w w low high low_spells high_spells).bits i (omega arith))
 
   row_wires_met : Meets z (row_wires_of w next).list
   unfolding row_wires_of times_of new_bits_of here fresh put pure ◌>>=◌
@@ -177,27 +177,32 @@ double_row_sizes = record {
 }
 
 -- new bits have a constraint each, of three terms
-turns_constraints : (n next : ℕ) → length (times n (λ _. new_bit) next).list ≡ n
+turns_constraints : (n next : ℕ) → length (sequence n (λ _. new_bit) next).list ≡ n
 unfolding turns new_bit bit_of fresh put pure ◌>>=◌
 turns_constraints zero next = refl
 turns_constraints (suc n) next = omega (
   arith,
-  length-append (times n (λ _. new_bit) next).list (new_bit (times n (λ _. new_bit) next).next).list,
+  length-append (sequence n (λ _. new_bit) next).list (new_bit (sequence n (λ _. new_bit) next).next).list,
   turns_constraints n next,
 )
 
 pub new_bits_constraints : (n next : ℕ) → length (new_bits_of n next).list ≡ n
 unfolding new_bits_of here pure ◌>>=◌
-new_bits_constraints n next = omega (arith, length-append (times n (λ _. new_bit) next).list [], turns_constraints n next)
+new_bits_constraints n next = omega (arith, length-append (sequence n (λ _. new_bit) next).list [], turns_constraints n next)
 
-turns_terms : (n next : ℕ) → terms_in (times n (λ _. new_bit) next).list ≡ 3 * n
+turns_terms : (n next : ℕ) → terms_in (sequence n (λ _. new_bit) next).list ≡ 3 * n
 unfolding turns new_bit bit_of fresh put pure ◌>>=◌
 turns_terms zero next = refl
-turns_terms (suc n) next = omega (arith, terms-append (times n (λ _. new_bit) next).list (new_bit (times n (λ _. new_bit) next).next).list, turns_terms n next)
+turns_terms (suc n) next = omega (
+  arith,
+  terms-append (sequence n (λ _. new_bit) next).list (new_bit (sequence n
+      (λ _. new_bit) next).next).list,
+  turns_terms n next,
+)
 
 pub new_bits_terms : (n next : ℕ) → terms_in (new_bits_of n next).list ≡ 3 * n
 unfolding new_bits_of here pure ◌>>=◌
-new_bits_terms n next = omega (arith, terms-append (times n (λ _. new_bit) next).list [], turns_terms n next)
+new_bits_terms n next = omega (arith, terms-append (sequence n (λ _. new_bit) next).list [], turns_terms n next)
 
 module _ (w : ℕ) (signed : Combination) (next : ℕ) where
   words_list : List Constraint

@@ -13,8 +13,8 @@ pub mod ProductChain
 pub mod RowNumbers
 pub mod SelectLaws
 pub mod SizeLaws
-pub mod SpelledNumbers
-pub mod SpellingLaws
+pub mod BitNumbers
+pub mod BitsLaws
 pub mod TimesLaws
 pub mod ZeroLaws
 pub mod ZeroSignLaws

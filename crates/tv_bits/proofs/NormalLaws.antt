@@ -11,7 +11,7 @@ use Rattle.tv_core.specs.Below.{weighted}
 use Rattle.tv_core.specs.Circuits.{here, fresh, put, pure, ◌>>=◌}
 use Rattle.tv_core.specs.Combinations.{wire, constant, scaled, less, top}
 use Rattle.tv_core.specs.Constraints.{Combination}
-use Rattle.tv_core.specs.Loops.{times}
+use Rattle.tv_core.specs.Loops.{sequence}
 use Rattle.tv_core.specs.Normal.{IsNormal, IsNormalFrom, AreNormal}
 use Rattle.tv_core.specs.declared.field.TheConstants.{P}
 use Rattle.tv_word.proofs.WidthLaws.{width_short}
@@ -104,7 +104,7 @@ new_bit_normal at = bit_normal at (at + 1)
 
 pub new_bits_normal : (n next : ℕ) → AreNormal (new_bits_of n next).list
 unfolding new_bits_of here pure ◌>>=◌
-new_bits_normal n next = normal_both (times n (λ _. new_bit) next).list [] (normal_turns (λ _ _. new_bit) tt next n (λ i h. new_bit_normal _)) tt
+new_bits_normal n next = normal_both (sequence n (λ _. new_bit) next).list [] (normal_turns (λ _ _. new_bit) tt next n (λ i h. new_bit_normal _)) tt
 
 pub bits_of_normal : (x : Combination) (n next : ℕ) → n ≤ 63 → IsNormal x → AreNormal (bits_of x n next).list
 unfolding bits_of new_bits_of here put pure ◌>>=◌

@@ -16,9 +16,9 @@ use Rattle.tv_core.specs.Circuits.{here, fresh, put, pure, ◌>>=◌}
 use Rattle.tv_core.specs.Combinations.{wire, constant, less}
 use Rattle.tv_core.specs.Constraints.{Combination, value}
 use Rattle.tv_core.specs.Laws.{Assigns, Meets, HasFrom}
-use Rattle.tv_core.specs.Loops.{times}
+use Rattle.tv_core.specs.Loops.{sequence}
 use Rattle.tv_core.specs.declared.field.TheConstants.{P}
-use Rattle.tv_bits.proofs.SpelledNumbers.{Spells-below, Spells-small, value-bits}
+use Rattle.tv_bits.proofs.BitNumbers.{HasBits-below, HasBits-small, value-bits}
 use Rattle.tv_bits.specs.Bits.{bits_combination}
 use Rattle.tv_bits.specs.OneHot.{IsOneHot, row_sum, one_at, onehot_values, mark_of, onehot_of, OneHotIsSound, OneHotIsComplete}
 use Rattle.tv_bits.specs.declared.bit_wires.Bits.{Bits}
@@ -41,7 +41,7 @@ mark-next : (x : Combination) (i at : ℕ) → (mark_of x i at).next ≡ at + 1
 unfolding mark_of fresh put ◌>>=◌
 mark-next x i at = refl
 
-turn-next : (x : Combination) (next n : ℕ) → (times n (mark_of x) next).next ≡ next + n
+turn-next : (x : Combination) (next n : ℕ) → (sequence n (mark_of x) next).next ≡ next + n
 turn-next x next n = turns-next (λ i _. mark_of x i) tt next 1 n (λ i a at. mark-next x i at) ∙ ap (λ k. next + k) (mul-one n)
 
 mark_value : (z : List ℕ) (x : Combination) (i at : ℕ) → Assigns z
@@ -95,11 +95,11 @@ onehot_sound z next x v short assigns s meets =
     let number = bits_combination x.first x.n in
     let count = 2 ^ x.n in
     let power : count ≤ 2 ^ 63 = pow-le-pow_right (omega arith) short in
-    let within : v < count = Spells-below s in
-    let is : value number z ≡ v = value-bits s ∙ mod-eq_of_lt (Spells-small s short) in
-    let both = Meets-split z (times count (mark_of number) next).list _ meets in
+    let within : v < count = HasBits-below s in
+    let is : value number z ≡ v = value-bits s ∙ mod-eq_of_lt (HasBits-small s short) in
+    let both = Meets-split z (sequence count (mark_of number) next).list _ meets in
     let cold : (i : ℕ) → i < count → i ≢ v → slice_index z (next + i) ≡ 0 =
-    λ i h apart. rw turn-next at (mark_sound z number i (times i (mark_of number) next).next assigns (omega arith) (λ same. apart (same ∙ is))
+    λ i h apart. rw turn-next at (mark_sound z number i (sequence i (mark_of number) next).next assigns (omega arith) (λ same. apart (same ∙ is))
     (turn_met z (λ i _. mark_of number i) tt next count i h both.0)) in
     let sum = ap₂ (λ a b. a * b % P) (sym (value-cold z next count v (λ _. 1) within cold)) (sym (value-constant assigns 1)) ∙ both.1.0
     ∙ value-constant assigns 1 in
@@ -122,9 +122,9 @@ unfolding onehot_of here put pure ◌>>=◌
 onehot_complete z next x v assigns s has =
     let number = bits_combination x.first x.n in
     let count = 2 ^ x.n in
-    let row = IsOneHot-from_values z next x.n v (Spells-below s) has in
+    let row = IsOneHot-from_values z next x.n v (HasBits-below s) has in
     let marks = turns_met z (λ i _. mark_of number i) tt next count
-    (λ i h. mark_complete z number i (times i (mark_of number) next).next v assigns (value-bits s) (λ apart. rw turn-next (row.cold i h apart))) in
+    (λ i h. mark_complete z number i (sequence i (mark_of number) next).next v assigns (value-bits s) (λ apart. rw turn-next (row.cold i h apart))) in
     let one : value (row_sum next count) z ≡ 1 % P = value-onehot z next count v (λ _. 1) row in
     let sum = ap₂ (λ a b. a * b % P) one (value-constant assigns 1) ∙ sym (value-constant assigns 1) in
-    Meets-join z (times count (mark_of number) next).list _ marks (sum, tt)
+    Meets-join z (sequence count (mark_of number) next).list _ marks (sum, tt)

@@ -17,8 +17,8 @@ use Rattle.tv_core.specs.Combinations.{less}
 use Rattle.tv_core.specs.Constraints.{Combination, value}
 use Rattle.tv_core.specs.Laws.{Assigns, Meets, HasFrom, InField}
 use Rattle.tv_core.specs.declared.field.TheConstants.{P}
-use Rattle.tv_bits.proofs.SpelledNumbers.{Spells-high, value-bits_below}
-use Rattle.tv_bits.specs.Bits.{Spells}
+use Rattle.tv_bits.proofs.BitNumbers.{HasBits-high, value-bits_below}
+use Rattle.tv_bits.specs.Bits.{HasBits}
 use Rattle.tv_bits.specs.Order.{prefix_difference}
 use Rattle.tv_bits.specs.Prefixes.{next_product, zero_product_of, product_below, products_values, prefix, prefix_less, prefix_less_in, prefix_difference_of}
 use Rattle.tv_bits.specs.Prefixes.{PrefixDifferenceIsSound, PrefixDifferenceIsComplete, PrefixDifferenceSizes}
@@ -128,13 +128,13 @@ zero_product_complete z factor f t i next two assigns is within none has =
     whole z products (λ product. put product (factor (t - 1)) []) next rest.0 (product, tt)
 
 -- ---- a difference of two prefixes
-value-prefix : (z : List ℕ) (x : Bits) (p v : ℕ) → p ≤ x.n → x.n ≤ 63 → Spells z x.first x.n v → value (prefix x p) z ≡ v / 2 ^ p
+value-prefix : (z : List ℕ) (x : Bits) (p v : ℕ) → p ≤ x.n → x.n ≤ 63 → HasBits z x.first x.n v → value (prefix x p) z ≡ v / 2 ^ p
 value-prefix z x p v within short s =
     let whole : x.n ≡ p + (x.n - p) = omega arith in
-    value-bits_below (Spells-high z x.first p (x.n - p) v (subst (λ n. Spells z x.first n v) whole s)) (omega arith)
+    value-bits_below (HasBits-high z x.first p (x.n - p) v (subst (λ n. HasBits z x.first n v) whole s)) (omega arith)
 
-module _ (z : List ℕ) (x y : Bits) (d : Combination) (v w : ℕ) (x_short : x.n ≤ 63) (y_short : y.n ≤ 63) (s : Spells z x.first x.n v)
-    (r : Spells z y.first y.n w) where
+module _ (z : List ℕ) (x y : Bits) (d : Combination) (v w : ℕ) (x_short : x.n ≤ 63) (y_short : y.n ≤ 63) (s : HasBits z x.first x.n v)
+    (r : HasBits z y.first y.n w) where
   value-prefix_less : (p : ℕ) → p ≤ x.n → p ≤ y.n → value (prefix_less x y d p) z ≡ prefix_less_in v w (value d z) p
   value-prefix_less p h k =
       value-less (less (prefix x p) (prefix y p)) d z

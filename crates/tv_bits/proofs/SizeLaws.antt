@@ -13,7 +13,7 @@ use Rattle.tv_bits.proofs.BitLaws.{bit_next}
 use Rattle.tv_bits.proofs.OneHotLaws.{onehot_answer, onehot_next}
 use Rattle.tv_bits.proofs.PairLaws.{two_ands_next}
 use Rattle.tv_bits.proofs.SelectLaws.{pick_answer, pick_next, select_answer, select_next}
-use Rattle.tv_bits.proofs.SpellingLaws.{new_bits_answer, new_bits_next, bits_answer, bits_next}
+use Rattle.tv_bits.proofs.BitsLaws.{new_bits_answer, new_bits_next, bits_answer, bits_next}
 use Rattle.tv_bits.proofs.ZeroLaws.{zero_answer, zero_next}
 use Rattle.tv_bits.specs.Bit.{BitSizes}
 use Rattle.tv_bits.specs.Bits.{bits_values, NewBitsSizes, BitsSizes}

@@ -8,7 +8,7 @@ use Rattle.tv_core.specs.Circuits.{Circuit, here, fresh, put, pure, ◌>>=◌}
 use Rattle.tv_core.specs.Combinations.{constant}
 use Rattle.tv_core.specs.Constraints.{Combination, value}
 use Rattle.tv_core.specs.Laws.{Assigns, Meets, HasFrom, Fills, InField}
-use Rattle.tv_core.specs.Loops.{times}
+use Rattle.tv_core.specs.Loops.{sequence}
 use Rattle.tv_core.specs.declared.field.TheConstants.{P}
 
 -- n wires from a first one on, lowest first, each times its power of 2
@@ -16,14 +16,14 @@ abbrev pub bits_combination : ℕ → ℕ → Combination
 bits_combination first n = weighted first n (λ i. 2 ^ i % P)
 
 -- the sum of those powers, as a whole number
-abbrev pub spelled : List ℕ → ℕ → ℕ → ℕ
-spelled z first n = sum_below n (λ i. 2 ^ i * slice_index z (first + i))
+abbrev pub binary_value : List ℕ → ℕ → ℕ → ℕ
+binary_value z first n = sum_below n (λ i. 2 ^ i * slice_index z (first + i))
 
 -- n wires from a first one on are the binary expansion of v: each holds 0 or 1, and v is the sum of the powers of those
 -- that hold 1
-pub record Spells (z : List ℕ) (first n v : ℕ) : Type 0 where
+pub record HasBits (z : List ℕ) (first n v : ℕ) : Type 0 where
   pub bits : (i : ℕ) → i < n → IsBit (slice_index z (first + i))
-  pub number : v ≡ spelled z first n
+  pub number : v ≡ binary_value z first n
 
 -- the bits x are n, and their wires are below a number
 pub record AreBitsBelow (wires n : ℕ) (x : Bits) : Type 0 where
@@ -48,7 +48,7 @@ new_bit = do
 unfoldable pub new_bits_of : ℕ → Circuit Bits
 new_bits_of n = do
   first ← here
-  _ ← times n (λ _. new_bit)
+  _ ← sequence n (λ _. new_bit)
   pure (record { first = first; n = n })
 
 -- n new wires, the n-bit decomposition of x: each is held to 0 or 1, and the sum of their powers of 2 is x
@@ -61,7 +61,7 @@ bits_of x n = do
 -- an assignment that satisfies the constraints has 0 or 1 at each wire: the bits of some number
 abbrev pub NewBitsAreSound : Type 0
 NewBitsAreSound = (z : List ℕ) (next n : ℕ) → Assigns z → Meets z (new_bits_of n next).list
-    → Spells z (new_bits_of n next).answer.first n (spelled z (new_bits_of n next).answer.first n)
+    → HasBits z (new_bits_of n next).answer.first n (binary_value z (new_bits_of n next).answer.first n)
 
 -- an assignment that has some number's bits at the wires that were made satisfies the constraints
 abbrev pub NewBitsAreComplete : Type 0
@@ -71,7 +71,7 @@ NewBitsAreComplete = (z : List ℕ) (next n x : ℕ) → Assigns z → HasFrom z
 -- in an assignment that satisfies the constraints the wires have the bits of the value, as a whole number
 abbrev pub BitsAreSound : Type 0
 BitsAreSound = (z : List ℕ) (next : ℕ) (x : Combination) (n : ℕ) → n ≤ 63 → Assigns z → Meets z (bits_of x n next).list
-    → Spells z (bits_of x n next).answer.first n (value x z)
+    → HasBits z (bits_of x n next).answer.first n (value x z)
 
 -- where the value is below 2 ^ n, an assignment that has its bits at the wires that were made satisfies the constraints
 abbrev pub BitsAreComplete : Type 0

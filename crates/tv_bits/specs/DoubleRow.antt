@@ -7,7 +7,7 @@ use Rattle.tv_core.specs.Laws.{Assigns, Meets, HasFrom, Fills, InField}
 use Rattle.tv_core.specs.Meanings.{terms_in}
 use Rattle.tv_core.specs.declared.field.TheConstants.{P}
 use Rattle.tv_bits.specs.Bit.{IsBit}
-use Rattle.tv_bits.specs.Bits.{Spells, bits_combination, bits_values, new_bits_of}
+use Rattle.tv_bits.specs.Bits.{HasBits, bits_combination, bits_values, new_bits_of}
 use Rattle.tv_bits.specs.Ratio.{ratio_of, ratio_values}
 use Rattle.tv_bits.specs.Times.{kept_of}
 use Rattle.tv_bits.specs.declared.double_rows.DoubleRow.{DoubleRow}
@@ -27,9 +27,9 @@ abbrev pub row_number : ℕ → DoubleRow → Combination
 row_number w row = (1, row.low) ∷ (2 ^ w % P, row.high) ∷ []
 
 -- the bits of a row represent the words that its wires hold
-pub record SpellsRow (w : ℕ) (z : List ℕ) (row : DoubleRow) : Type 0 where
-  pub low : Spells z row.first w (slice_index z row.low)
-  pub high : Spells z (row.first + w) w (slice_index z row.high)
+pub record HasRowBits (w : ℕ) (z : List ℕ) (row : DoubleRow) : Type 0 where
+  pub low : HasBits z row.first w (slice_index z row.low)
+  pub high : HasBits z (row.first + w) w (slice_index z row.high)
 
 -- 2 w new bits, and the two words that they represent as wires
 unfoldable pub row_wires_of : ℕ → Circuit DoubleRow
@@ -60,7 +60,7 @@ double_row_values w low high signed = bits_values low w ++ (bits_values high w +
 -- in an assignment that satisfies the constraints the bits represent the wires' words, which are a row unless it is signed
 pub record DoubleRowIsSound : Type 0 where
   pub spells : (w : ℕ) → IsWidth w → (z : List ℕ) (next : ℕ) (signed : Combination) → Assigns z → Meets z (double_row_of w signed next).list
-      → SpellsRow w z (double_row_of w signed next).answer
+      → HasRowBits w z (double_row_of w signed next).answer
   pub row : (w : ℕ) → IsWidth w → (z : List ℕ) (next : ℕ) (signed : Combination) → Assigns z → value signed z ≡ 0 → Meets z (double_row_of w signed next).list
       → IsRow w (slice_index z (double_row_of w signed next).answer.low) (slice_index z (double_row_of w signed next).answer.high)
 

@@ -14,5 +14,5 @@ pub mod Times
 pub mod Zero
 pub mod ZeroSign
 pub use Rattle.tv_core.specs.Combinations
-pub use Rattle.tv_core.specs.Giving
+pub use Rattle.tv_core.specs.Values
 pub use Rattle.tv_core.specs.Sinks

@@ -1,13 +1,13 @@
 -- A row of wires of which one is 1.
 use Rattle.std.specs.Prelude.{◌≡◌, ◌≢◌, ℕ, ◌+◌, ◌%◌, ◌^◌, ◌<◌, ◌≤◌, ◌==◌, if◌then◌else◌, List, [], slice_index}
-use Rattle.tv_bits.specs.Bits.{Spells, bits_combination}
+use Rattle.tv_bits.specs.Bits.{HasBits, bits_combination}
 use Rattle.tv_bits.specs.declared.bit_wires.Bits.{Bits}
 use Rattle.tv_core.specs.Below.{each_below, weighted}
 use Rattle.tv_core.specs.Circuits.{Circuit, here, fresh, put, pure, ◌>>=◌}
 use Rattle.tv_core.specs.Combinations.{wire, constant, less}
 use Rattle.tv_core.specs.Constraints.{Combination}
 use Rattle.tv_core.specs.Laws.{Assigns, Meets, HasFrom, Fills, InField}
-use Rattle.tv_core.specs.Loops.{times}
+use Rattle.tv_core.specs.Loops.{sequence}
 use Rattle.tv_core.specs.declared.field.TheConstants.{P}
 
 -- of `count` wires from a first one on, number v holds 1 and each other one 0
@@ -38,18 +38,18 @@ mark_of x i = do
 unfoldable pub onehot_of : Bits → Circuit ℕ
 onehot_of x = do
   first ← here
-  _ ← times (2 ^ x.n) (mark_of (bits_combination x.first x.n))
+  _ ← sequence (2 ^ x.n) (mark_of (bits_combination x.first x.n))
   _ ← put (row_sum first (2 ^ x.n)) (constant 1) (constant 1)
   pure first
 
 -- in an assignment that satisfies the constraints, the wire of the number that is represented is 1, and each other one 0
 abbrev pub OneHotIsSound : Type 0
-OneHotIsSound = (z : List ℕ) (next : ℕ) (x : Bits) (v : ℕ) → x.n ≤ 63 → Assigns z → Spells z x.first x.n v → Meets z (onehot_of x next).list
+OneHotIsSound = (z : List ℕ) (next : ℕ) (x : Bits) (v : ℕ) → x.n ≤ 63 → Assigns z → HasBits z x.first x.n v → Meets z (onehot_of x next).list
     → IsOneHot z (onehot_of x next).answer (2 ^ x.n) v
 
 -- an assignment that has these values at the wires that were made satisfies the constraints
 abbrev pub OneHotIsComplete : Type 0
-OneHotIsComplete = (z : List ℕ) (next : ℕ) (x : Bits) (v : ℕ) → Assigns z → Spells z x.first x.n v → HasFrom z next (onehot_values v x.n)
+OneHotIsComplete = (z : List ℕ) (next : ℕ) (x : Bits) (v : ℕ) → Assigns z → HasBits z x.first x.n v → HasFrom z next (onehot_values v x.n)
     → Meets z (onehot_of x next).list
 
 -- which wire is returned, and that the values are one number of the field for each wire that is made

@@ -1,6 +1,6 @@
 -- A product that is 0, and by it a number that is the difference of two prefixes.
 use Rattle.std.specs.Prelude.{◌≡◌, ℕ, zero, suc, ◌+◌, ◌-◌, ◌*◌, ◌%◌, ◌≤◌, List, []}
-use Rattle.tv_bits.specs.Bits.{Spells, bits_combination}
+use Rattle.tv_bits.specs.Bits.{HasBits, bits_combination}
 use Rattle.tv_bits.specs.Order.{prefix_difference, IsPrefixDifference}
 use Rattle.tv_bits.specs.Times.{times_of}
 use Rattle.tv_bits.specs.declared.bit_wires.Bits.{Bits}
@@ -57,14 +57,14 @@ prefix_difference_values x y d c t = products_values (λ j. prefix_less_in x y d
 abbrev pub PrefixDifferenceIsSound : Type 0
 PrefixDifferenceIsSound = (z : List ℕ) (next : ℕ) (x y : Bits) (d : Combination) (c t v w : ℕ)
     → 2 ≤ t → c * (t - 1) ≤ x.n → c * (t - 1) ≤ y.n → x.n ≤ 63 → y.n ≤ 63
-    → Assigns z → Spells z x.first x.n v → Spells z y.first y.n w → Meets z (prefix_difference_of x y d c t next).list
+    → Assigns z → HasBits z x.first x.n v → HasBits z y.first y.n w → Meets z (prefix_difference_of x y d c t next).list
     → IsPrefixDifference c t v w (value d z)
 
 -- where d is one, an assignment that has these values at the wires that were made satisfies the constraints
 abbrev pub PrefixDifferenceIsComplete : Type 0
 PrefixDifferenceIsComplete = (z : List ℕ) (next : ℕ) (x y : Bits) (d : Combination) (c t v w : ℕ)
     → 2 ≤ t → c * (t - 1) ≤ x.n → c * (t - 1) ≤ y.n → x.n ≤ 63 → y.n ≤ 63
-    → Assigns z → Spells z x.first x.n v → Spells z y.first y.n w → IsPrefixDifference c t v w (value d z)
+    → Assigns z → HasBits z x.first x.n v → HasBits z y.first y.n w → IsPrefixDifference c t v w (value d z)
     → HasFrom z next (prefix_difference_values v w (value d z) c t) → Meets z (prefix_difference_of x y d c t next).list
 
 -- the values are one number of the field for each wire that is made

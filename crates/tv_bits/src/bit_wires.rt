@@ -25,12 +25,12 @@ impl Bits {
         ensures len { length result ≡ self.now.n }
     {
         let mut lc = Lc::empty();
-        self.fill(&mut lc);
+        self.set_number(&mut lc);
         lc
     }
 
     /// Makes `lc` the number whose bits they are, as `n` terms, at most 63.
-    pub fn fill(&self, lc: &mut Lc)
+    pub fn set_number(&self, lc: &mut Lc)
         requires short { self.now.n ≤ 63 }
         requires within { self.now.first + self.now.n < 2 ^ 32 }
         ensures terms { lc.new ≡ bits_combination self.now.first self.now.n }

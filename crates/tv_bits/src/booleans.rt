@@ -1,7 +1,7 @@
 //! A wire that is constrained to 0 or 1.
 ghost use Rattle.std.specs.Prelude.{◌≡◌, ◌<◌, [], false, IfOk, OnOk};
 ghost use Rattle.tv_bits.specs.Bit.{bit_of, BitIsSound, BitIsComplete, BitSizes};
-ghost use Rattle.tv_core.specs.Giving.{GivesIn};
+ghost use Rattle.tv_core.specs.Values.{GivesIn};
 ghost use Rattle.tv_core.specs.Sinks.{PutsIn, Grows, Room};
 
 use tv_core::{F, Lc, Put, Sink, Values, Wire};

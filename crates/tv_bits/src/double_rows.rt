@@ -8,13 +8,13 @@ ghost use Rattle.tv_bits.specs.DoubleRow.{DoubleRowIsComplete, DoubleRowSizes, D
 ghost use Rattle.tv_bits.specs.Ratio.{ratio};
 ghost use Rattle.tv_bits.specs.Times.{kept_of};
 ghost use Rattle.tv_core.specs.Combinations.{top};
-ghost use Rattle.tv_core.specs.Giving.{GivesIn};
+ghost use Rattle.tv_core.specs.Values.{GivesIn};
 ghost use Rattle.tv_core.specs.Sinks.{PutsIn, Grows, Room};
 ghost use Rattle.tv_word.specs.Widths.{IsWidth};
 
 use crate::bit_wires::Bits;
+use crate::decomposition::{fill_bits, new_bits_by};
 use crate::products::{kept_by, ratio_by};
-use crate::spelling::{fill_bits, new_bits_by};
 use tv_core::{F, Lc, Put, Scratch, Sink, Values, Wire, give_values};
 
 /// A row of bits of twice a word's width, and the two words that its halves hold. Its number is
@@ -58,7 +58,7 @@ pub fn double_row<const W: u32, S: Sink>(
     ensures words_below { IfOk result (λ row. max row.low row.high < S.meaning.wires s.new) }
 {
     let row = row_wires::<W, S>(s, scratch)?;
-    fill_above_edge::<W>(&mut scratch.a, signed, row.high);
+    set_above_edge::<W>(&mut scratch.a, signed, row.high);
     scratch.b.set_wire(row.low);
     ratio_by(s, &mut scratch.c, &scratch.a, &scratch.b)?;
     Ok(row)
@@ -88,12 +88,12 @@ fn word<const W: u32, S: Sink>(s: &mut S, scratch: &mut Scratch, first: Wire) ->
     ensures grows { IfOk result (λ _. Grows S.meaning s.old s.new 1 1) }
     ensures below { IfOk result (λ w. w < S.meaning.wires s.new) }
 {
-    Bits { first, n: W }.fill(&mut scratch.a);
+    Bits { first, n: W }.set_number(&mut scratch.a);
     kept_by(s, &mut scratch.b, &mut scratch.c, &scratch.a)
 }
 
 // Makes `lc` the high word less 2^`W` - 1, and less 1 more where the row is signed.
-fn fill_above_edge<const W: u32>(lc: &mut Lc, signed: &[(F, Wire)], high: Wire)
+fn set_above_edge<const W: u32>(lc: &mut Lc, signed: &[(F, Wire)], high: Wire)
     requires width { IsWidth W }
     requires short { length signed.now ≤ 64 }
     ensures terms { lc.new ≡ above_edge W signed.now high }

@@ -3,7 +3,7 @@
 //! gate, a row of twice a word's width, a sign where a wire is 0, two ands in one constraint, and
 //! an order by prefixes.
 //!
-//! Contracts above cite `Spells`, which says that wires are the decomposition of a number into
+//! Contracts above cite `HasBits`, which says that wires are the decomposition of a number into
 //! bits, `IsOneHot`, that one wire of a row is 1, and `IsRow`, that two words are the halves of a
 //! number below P. The law `.._fills` of a gadget says which wires it returns, where it ends, and
 //! that its values, those that its generator `fill_..` assigns, are one number of the field for
@@ -15,6 +15,7 @@
 
 mod bit_wires;
 mod booleans;
+mod decomposition;
 mod double_rows;
 mod gates;
 mod nonzeros;
@@ -24,12 +25,15 @@ mod products;
 mod rows;
 mod selection;
 mod signed_words;
-mod spelling;
 mod zero_signs;
 mod zeros;
 
 pub use bit_wires::Bits;
 pub use booleans::{bit, bit_by, bit_fills, bit_is_complete, bit_is_sound, fill_bit};
+pub use decomposition::{
+    bits, bits_are_complete, bits_are_sound, bits_by, bits_fill, fill_bits, new_bits,
+    new_bits_are_complete, new_bits_are_sound, new_bits_by, new_bits_fill,
+};
 pub use double_rows::{
     DoubleRow, double_row, double_row_costs, double_row_fills, double_row_is_complete,
     double_row_is_sound, fill_double_row,
@@ -55,10 +59,6 @@ pub use selection::{
     select_is_complete, select_is_normal, select_is_sound, select_terms, select_wires,
 };
 pub use signed_words::{SignedWord, sign_of};
-pub use spelling::{
-    bits, bits_are_complete, bits_are_sound, bits_by, bits_fill, fill_bits, new_bits,
-    new_bits_are_complete, new_bits_are_sound, new_bits_by, new_bits_fill,
-};
 pub use zero_signs::{
     fill_zero_sign, zero_sign, zero_sign_costs, zero_sign_fills, zero_sign_is_complete,
     zero_sign_is_sound,

@@ -31,9 +31,9 @@ pub fn two_ands<S: Sink>(
         (two_ands_of x_a.now y_a.now x_b.now y_b.now gamma m.now) result }
     ensures grows { IfOk result (λ _. Grows S.meaning s.old s.new 0 1) }
 {
-    fill_side(&mut scratch.a, x_a, y_a, x_b, y_b, gamma, F::ONE);
-    fill_side(&mut scratch.b, x_a, y_a, x_b, y_b, -gamma, F::ONE);
-    fill_side(
+    set_side(&mut scratch.a, x_a, y_a, x_b, y_b, gamma, F::ONE);
+    set_side(&mut scratch.b, x_a, y_a, x_b, y_b, -gamma, F::ONE);
+    set_side(
         &mut scratch.c,
         x_a,
         y_a,
@@ -47,7 +47,7 @@ pub fn two_ands<S: Sink>(
 }
 
 // Makes `lc` x_a + y_a + c (1 + k x_b - y_b).
-fn fill_side(
+fn set_side(
     lc: &mut Lc,
     x_a: &[(F, Wire)],
     y_a: &[(F, Wire)],

@@ -6,7 +6,7 @@ ghost use Rattle.tv_bits.specs.Prefixes.{prefix_less, prefix_less_in, prefix_dif
 ghost use Rattle.tv_bits.specs.Prefixes.{prefix_difference_values, PrefixDifferenceIsSound};
 ghost use Rattle.tv_bits.specs.Prefixes.{PrefixDifferenceIsComplete, PrefixDifferenceSizes};
 ghost use Rattle.tv_core.specs.Combinations.{top};
-ghost use Rattle.tv_core.specs.Giving.{GivesIn};
+ghost use Rattle.tv_core.specs.Values.{GivesIn};
 ghost use Rattle.tv_core.specs.Sinks.{PutsIn, Grows, Room};
 
 use crate::bit_wires::Bits;
@@ -39,19 +39,19 @@ pub fn prefix_difference_by<S: Sink>(
         result }
     ensures grows { IfOk result (λ _. Grows S.meaning s.old s.new (count - 2) (count - 1)) }
 {
-    fill_prefix_less(&mut scratch.a, x, y, d, 0);
+    set_prefix_less(&mut scratch.a, x, y, d, 0);
     for i in 0..count - 2 {
-        fill_prefix_less(&mut scratch.b, x, y, d, chunk * (i + 1));
+        set_prefix_less(&mut scratch.b, x, y, d, chunk * (i + 1));
         let w = times_by(s, &mut scratch.c, &scratch.a, &scratch.b)?;
         scratch.a.set_wire(w);
     }
-    fill_prefix_less(&mut scratch.b, x, y, d, chunk * (count - 1));
+    set_prefix_less(&mut scratch.b, x, y, d, chunk * (count - 1));
     scratch.c.clear();
     s.put(&scratch.a, &scratch.b, &scratch.c)
 }
 
 // Makes `lc` the difference of the prefixes from place `from` on, less `d`.
-fn fill_prefix_less(lc: &mut Lc, x: &Bits, y: &Bits, d: &Lc, from: u32)
+fn set_prefix_less(lc: &mut Lc, x: &Bits, y: &Bits, d: &Lc, from: u32)
     requires long { from ≤ min x.now.n y.now.n }
     requires short { max x.now.n y.now.n ≤ 63 }
     requires d_short { x.now.n + y.now.n + length d.now ≤ 128 }

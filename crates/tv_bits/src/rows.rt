@@ -5,7 +5,7 @@ ghost use Rattle.tv_bits.specs.Bits.{bits_combination};
 ghost use Rattle.tv_bits.specs.OneHot.{row_sum, onehot_values, mark_of, onehot_of, OneHotIsSound};
 ghost use Rattle.tv_bits.specs.OneHot.{OneHotIsComplete, OneHotSizes};
 ghost use Rattle.tv_core.specs.Combinations.{top};
-ghost use Rattle.tv_core.specs.Giving.{GivesIn};
+ghost use Rattle.tv_core.specs.Values.{GivesIn};
 ghost use Rattle.tv_core.specs.Sinks.{PutsIn, Grows, Room};
 
 use crate::bit_wires::Bits;
@@ -70,7 +70,7 @@ fn mark<S: Sink>(s: &mut S, scratch: &mut Scratch, x: &Bits, i: u32) -> Put<()>
 {
     let w = s.fresh();
     scratch.a.set_wire(w);
-    x.fill(&mut scratch.b);
+    x.set_number(&mut scratch.b);
     scratch.b.plus(-F::from(i), Wire(0));
     scratch.c.clear();
     s.put(&scratch.a, &scratch.b, &scratch.c)

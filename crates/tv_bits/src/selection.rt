@@ -4,7 +4,7 @@ ghost use Rattle.tv_bits.specs.Select.{selected, select_of, select_values, Selec
 ghost use Rattle.tv_bits.specs.Select.{SelectIsComplete, SelectIsNormal, SelectSizes};
 ghost use Rattle.tv_bits.specs.Select.{wire_less, pick_of, PickIsSound, PickIsComplete, PickSizes};
 ghost use Rattle.tv_core.specs.Combinations.{wire, less, top};
-ghost use Rattle.tv_core.specs.Giving.{GivesIn};
+ghost use Rattle.tv_core.specs.Values.{GivesIn};
 ghost use Rattle.tv_core.specs.Normal.{normal};
 ghost use Rattle.tv_core.specs.Sinks.{PutsIn, Grows, Room};
 
@@ -83,14 +83,14 @@ pub fn pick_by<S: Sink>(
     ensures below { IfOk result (λ w. w < S.meaning.wires s.new) }
 {
     let w = s.fresh();
-    fill_difference(factor, x, y);
-    fill_wire_less(product, w, y);
+    set_terms_less(factor, x, y);
+    set_wire_less(product, w, y);
     s.put(b, factor, product)?;
     Ok(w)
 }
 
 // Makes `lc` the difference of `x` and `y`, in normal form.
-fn fill_difference(lc: &mut Lc, x: &[(F, Wire)], y: &[(F, Wire)])
+fn set_terms_less(lc: &mut Lc, x: &[(F, Wire)], y: &[(F, Wire)])
     requires x_short { length x.now ≤ 64 }
     requires y_short { length y.now ≤ 64 }
     ensures terms { lc.new ≡ normal (less x.now y.now) }
@@ -102,7 +102,7 @@ fn fill_difference(lc: &mut Lc, x: &[(F, Wire)], y: &[(F, Wire)])
 }
 
 // Makes `lc` the wire `w` less `y`.
-fn fill_wire_less(lc: &mut Lc, w: Wire, y: &[(F, Wire)])
+fn set_wire_less(lc: &mut Lc, w: Wire, y: &[(F, Wire)])
     requires short { length y.now ≤ 64 }
     ensures terms { lc.new ≡ wire_less w y.now }
     ensures top { top lc.new ≤ max (top y.now) (w + 1) }

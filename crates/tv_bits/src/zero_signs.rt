@@ -3,7 +3,7 @@ ghost use Rattle.std.specs.Prelude.{◌≡◌, ◌≤◌, ◌<◌, false, length
 ghost use Rattle.tv_bits.specs.ZeroSign.{zero_sign_of, zero_sign_values, ZeroSignIsSound};
 ghost use Rattle.tv_bits.specs.ZeroSign.{ZeroSignIsComplete, ZeroSignSizes, ZeroSignCosts};
 ghost use Rattle.tv_core.specs.Combinations.{top};
-ghost use Rattle.tv_core.specs.Giving.{GivesIn};
+ghost use Rattle.tv_core.specs.Values.{GivesIn};
 ghost use Rattle.tv_core.specs.Sinks.{PutsIn, Grows, Room};
 
 use tv_core::{F, Put, Scratch, Sink, Values, Wire};

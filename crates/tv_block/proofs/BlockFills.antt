@@ -2,10 +2,10 @@
 use Rattle.std.proofs.Common.{◌≡◌, ℕ, ◌+◌, ◌-◌, ◌/◌, ◌%◌, ◌^◌, ◌<◌, ◌==◌, nat_lt, Bool, true, false, if◌then◌else◌, List, [], ◌∷◌, ◌++◌, length, refl}
 use Rattle.std.proofs.Common.{sym, ◌∙◌, ap, ap₂, subst, arith}
 use Rattle.std.specs.Prelude.{slice_index}
-use Rattle.tv_bits.proofs.SpelledNumbers.{Spells-below, Spells-bit_at, Spells-from_values}
+use Rattle.tv_bits.proofs.BitNumbers.{HasBits-below, HasBits-bit_at, HasBits-from_values}
 use Rattle.tv_bits.proofs.ZeroSignLaws.{zero_sign_complete, zero_sign_sizes}
 use Rattle.tv_bits.specs.Bit.{IsBit}
-use Rattle.tv_bits.specs.Bits.{Spells, bits_values}
+use Rattle.tv_bits.specs.Bits.{HasBits, bits_values}
 use Rattle.tv_bits.specs.DoubleRow.{double_row_values}
 use Rattle.tv_bits.specs.ZeroSign.{sign_at_zero, zero_sign_values}
 use Rattle.tv_core.proofs.CombinationLaws.{value-wire}
@@ -37,7 +37,7 @@ use Rattle.tv_parts.proofs.ResultFills.{results_complete, results_sizes}
 use Rattle.tv_parts.proofs.TapeFills.{tapes_filled, tapes_sizes}
 use Rattle.tv_parts.proofs.TapeLaws.{flag_small}
 use Rattle.tv_parts.proofs.WrittenFills.{written_complete, written_sizes}
-use Rattle.tv_parts.specs.Arithmetic.{shift_ops, division_ops, spelled_word, arithmetic_values, sums_values, products_values, shifts_values}
+use Rattle.tv_parts.specs.Arithmetic.{shift_ops, division_ops, decomposed_word, arithmetic_values, sums_values, products_values, shifts_values}
 use Rattle.tv_parts.specs.Arithmetic.{HasArithmetic, IsArithmetic}
 use Rattle.tv_parts.specs.Flag.{sign_at, flag_values}
 use Rattle.tv_parts.specs.Inputs.{input_of, operation_of}
@@ -130,7 +130,7 @@ module _ (w : ℕ) (z : List ℕ) (n : ℕ) (state : StateWires) (at head tail :
     pub is : IsOperand w z (operand w n state at).answer a_of
     pub tests : slice_index z (test w n state at) ≡ test_in w n now instr low_at high_at takes
     pub does : IsArithmetic w z (made w n state at).answer (test w n state at) (operand w n state at).answer (operation_of instr.op x_of a_of)
-    pub spelled : Spells z (made w n state at).answer.x.first w (spelled_word w instr.op x_of a_of)
+    pub spelled : HasBits z (made w n state at).answer.x.first w (decomposed_word w instr.op x_of a_of)
     pub low : low_at ≡ row_low w now instr o
     pub rest : HasFrom z (made w n state at).next (later_values w n now instr takes low_at high_at (slice_index z (test w n state at)))
 
@@ -214,11 +214,11 @@ front w width z n state at head tail o takes assigns in_range has =
     let does = arithmetic_sound w width z (taken.next + 1) ins.answer.op regs.answer.other_word taken.next taken.answer i.op x a operation m4.0 in
     let row_bits : List ℕ = double_row_values w low high (flag_of (among (8 ∷ []) i.op)) in
     let after_row : List ℕ = sums_values w i.op x a ++ (products_values w i.op x a ++ shifts_values w x a f low high) in
-    let bits_had = HasFrom-split z (taken.next + 1) (bits_values (spelled_word w i.op x a) w ++ row_bits) after_row h4.0 in
-    let bits_at = HasFrom-split z (taken.next + 1) (bits_values (spelled_word w i.op x a) w) row_bits bits_had.0 in
+    let bits_had = HasFrom-split z (taken.next + 1) (bits_values (decomposed_word w i.op x a) w ++ row_bits) after_row h4.0 in
+    let bits_at = HasFrom-split z (taken.next + 1) (bits_values (decomposed_word w i.op x a) w) row_bits bits_had.0 in
     let first_is = arithmetic_sizes.answer w width ins.answer.op regs.answer.other_word taken.next taken.answer (taken.next + 1) in
-    let bits_from : Spells z (taken.next + 1) w (spelled_word w i.op x a) =
-    Spells-from_values z (taken.next + 1) w (spelled_word w i.op x a) (row_spelled w width i.op x a x_word (Spells-below is.bits)) bits_at.0 in
+    let bits_from : HasBits z (taken.next + 1) w (decomposed_word w i.op x a) =
+    HasBits-from_values z (taken.next + 1) w (decomposed_word w i.op x a) (row_spelled w width i.op x a x_word (HasBits-below is.bits)) bits_at.0 in
     record {
       met1 = first.0;
       met2 = m2;
@@ -230,7 +230,7 @@ front w width z n state at head tail o takes assigns in_range has =
       is = is;
       tests = f_is ∙ ap₂ (λ l h. test_in w n v i l h takes) (sym m4.1) (sym m4.2);
       does = does;
-      spelled = subst (λ k. Spells z k w (spelled_word w i.op x a)) (sym (ap (λ m. m.x.first) first_is)) bits_from;
+      spelled = subst (λ k. HasBits z k w (decomposed_word w i.op x a)) (sym (ap (λ m. m.x.first) first_is)) bits_from;
       low = m4.1;
       rest = had_later w n v i takes z does_made.next low high f _ _ _ m4.1 m4.2 f_is h4.1;
     }
@@ -283,7 +283,7 @@ back w width z n state at head tail o takes assigns in_range fore =
     let arith_made = made w n state at in
     let low = slice_index z arith_made.answer.row.low in
     let high = slice_index z arith_made.answer.row.high in
-    let spelled = spelled_word w i.op x a in
+    let spelled = decomposed_word w i.op x a in
     let x_word = other_below w n v head tail range in
     let t = tapes w n state at in
     let h5 = some_had z arith_made.next t.next (tapes_values w n v i low takes) (effects_values w n v i low high takes f)
@@ -324,7 +324,7 @@ back w width z n state at head tail o takes assigns in_range fore =
       bits = fore.does.row.low;
       word = refl;
       spelled = fore.spelled;
-      stored = λ e. ap (λ k. spelled_word w k x a) e;
+      stored = λ e. ap (λ k. decomposed_word w k x a) e;
       other = fore.are.other;
       both = fore.does.both;
       tapes = are_tapes;
@@ -343,7 +343,7 @@ back w width z n state at head tail o takes assigns in_range fore =
       operand = fore.is;
       low_wire = refl;
       high_wire = refl;
-      top = Spells-bit_at fore.does.row.low (w - 1) (omega (arith, width));
+      top = HasBits-bit_at fore.does.row.low (w - 1) (omega (arith, width));
       byte = stored.byte;
       other = x_word;
       halves = fore.does.halves;
@@ -391,9 +391,9 @@ back w width z n state at head tail o takes assigns in_range fore =
       flag = refl;
       opcode = fore.row;
       other = x_word;
-      operand = Spells-below fore.is.bits;
-      lowest = λ e. ap (slice_index z) (plus_none arith_made.answer.x.first) ∙ Spells-bit_at (fore.does.same (no_division e)) 0 (omega (arith, width));
-      top = λ e. Spells-bit_at (fore.does.same (no_division e)) (w - 1) (omega (arith, width));
+      operand = HasBits-below fore.is.bits;
+      lowest = λ e. ap (slice_index z) (plus_none arith_made.answer.x.first) ∙ HasBits-bit_at (fore.does.same (no_division e)) 0 (omega (arith, width));
+      top = λ e. HasBits-bit_at (fore.does.same (no_division e)) (w - 1) (omega (arith, width));
       test = tests ∙ ap (λ k. sign_at_zero k (sign_at i.op)) (sym tested_at);
       tested = are_results.tested;
       result_word = zero_word known head tail fore.row fore.is fore.does are_tapes res.answer are_results;

@@ -5,7 +5,7 @@ use Rattle.std.specs.Prelude.{slice_index}
 use Rattle.std.proofs.lemmas.Bool.{cases_eq, eq-eqb, ne_eqb}
 use Rattle.std.proofs.lemmas.List.{length-map}
 use Rattle.std.proofs.lemmas.List.Elements.{All-get_or}
-use Rattle.tv_bits.proofs.SpelledNumbers.{Spells-below, Spells-bit_at}
+use Rattle.tv_bits.proofs.BitNumbers.{HasBits-below, HasBits-bit_at}
 use Rattle.tv_bits.proofs.ZeroSignLaws.{zero_sign_sound}
 use Rattle.tv_bits.specs.Bit.{IsBit}
 use Rattle.tv_bits.specs.ZeroSign.{zero_sign_of}
@@ -219,7 +219,7 @@ module _ {w : ℕ} {z : List ℕ} {n : ℕ} {state : StateWires} (known : Before
             operand = is;
             low_wire = refl;
             high_wire = refl;
-            top = Spells-bit_at does.row.low (w - 1) (omega (arith, width));
+            top = HasBits-bit_at does.row.low (w - 1) (omega (arith, width));
             byte = is_byte;
             other = other_below w n v head tail known.range;
             halves = does.halves;
@@ -248,9 +248,9 @@ module _ {w : ℕ} {z : List ℕ} {n : ℕ} {state : StateWires} (known : Before
             flag = refl;
             opcode = row;
             other = other_below w n v head tail known.range;
-            operand = Spells-below is.bits;
-            lowest = λ e. ap (slice_index z) (plus_none made.x.first) ∙ Spells-bit_at (does.same (no_division e)) 0 (omega (arith, width));
-            top = λ e. Spells-bit_at (does.same (no_division e)) (w - 1) (omega (arith, width));
+            operand = HasBits-below is.bits;
+            lowest = λ e. ap (slice_index z) (plus_none made.x.first) ∙ HasBits-bit_at (does.same (no_division e)) 0 (omega (arith, width));
+            top = λ e. HasBits-bit_at (does.same (no_division e)) (w - 1) (omega (arith, width));
             test = test;
             tested = results.tested;
             result_word = zero_word r results;

@@ -10,4 +10,4 @@ pub mod PlaceLaws
 pub mod Placed
 pub mod SizeFills
 pub mod StepLaws
-pub mod ToldFills
+pub mod StepFills

@@ -13,7 +13,7 @@ use Rattle.tv_isa.specs.declared.opcode.TheConstants.{STORE_B, STORE_W, READ}
 use Rattle.tv_mem.proofs.WordLaws.{words_are_small}
 use Rattle.tv_numbers.proofs.ShownLaws.{machine_shows, seen_in_range}
 use Rattle.tv_numbers.specs.Numbers.{other_word, operand_word, touches, takes_primary, asks, with_byte_in, data_line, Did, did_of, lines_in, step_words}
-use Rattle.tv_numbers.specs.Shown.{handed, head_at, tail_at, data_at}
+use Rattle.tv_numbers.specs.Shown.{data_word_of, head_at, tail_at, data_at}
 use Rattle.tv_numbers.specs.Tables.{memory_ops}
 use Rattle.tv_numbers.specs.Views.{View, seen}
 use Rattle.tv_step.proofs.CellLaws.{lines_in_range}
@@ -109,7 +109,7 @@ machine_step_met w width z x state time next st word given =
       takes = ap (λ (b : Did). b.takes) is.shows;
       same = λ u e.
           ap (λ (b : Did). b.word) is.shows ∙ low_is_data w v i o (asks_data v i (shown.range.asked (ap is_some e)))
-          ∙ ap (handed (traced_line w n st (time + 2)).old) e;
+          ∙ ap (data_word_of (traced_line w n st (time + 2)).old) e;
     }
 
 -- ---- sizes
@@ -118,11 +118,11 @@ first_small w [] h v e = cc
 first_small w (u ∷ us) h v e = let same : u ≡ v = cc in subst (λ k. k < 2 ^ w) same (All-head (λ v. v < 2 ^ w) u us h)
 
 pub taken_small : (w : ℕ) (st : State) (reads : Bool) (old : ℕ) → AreWords w st.aux → old < 2 ^ w
-    → handed old (if reads then slice_get st.aux 0 else None) < 2 ^ w
+    → data_word_of old (if reads then slice_get st.aux 0 else None) < 2 ^ w
 taken_small w st false old aux h = h
 taken_small w st true old aux h = by (slice_get st.aux 0) refl
   where
-    by : (found : Option ℕ) → slice_get st.aux 0 ≡ found → handed old found < 2 ^ w
+    by : (found : Option ℕ) → slice_get st.aux 0 ≡ found → data_word_of old found < 2 ^ w
     by None e = h
     by (Some v) e = first_small w st.aux aux v e
 
@@ -131,7 +131,7 @@ machine_values_fit w width n time st gone ended short within bit range =
     let now : View = seen st gone ended in
     let line : Line = traced_line w n st (time + 2) in
     let word : Option ℕ = word_taken w st in
-    let o : ℕ = handed line.old word in
+    let o : ℕ = data_word_of line.old word in
     let view = seen_in_range w n st gone ended range within bit in
     let fits : IsLine w line = lines_in_range w width n st time short range 2 line (omega arith) in
     let head_small = words_are_small w width st.memory range.bytes (st.pc / (w / 8)) in

@@ -25,9 +25,9 @@ use Rattle.tv_numbers.specs.Tables.{unused_ops, store_ops, writer_ops}
 use Rattle.tv_numbers.specs.Views.{View, flag_of}
 use Rattle.tv_regs.proofs.TripleLaws.{triple_sound}
 use Rattle.tv_regs.proofs.UpdateLaws.{update_sound}
-use Rattle.tv_regs.specs.Reading.{words_at}
+use Rattle.tv_regs.specs.Reads.{words_at}
 use Rattle.tv_regs.specs.Triple.{AreNumbers}
-use Rattle.tv_regs.specs.Writing.{written_regs}
+use Rattle.tv_regs.specs.Writes.{written_regs}
 use Rattle.tv_regs.specs.declared.triple.Triple.{Triple}
 use Rattle.tv_word.proofs.WidthLaws.{for_widths}
 use Rattle.tv_word.specs.Widths.{IsWidth}

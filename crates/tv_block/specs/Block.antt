@@ -11,7 +11,7 @@ use Rattle.tv_decode.specs.Instructions.{instruction_of, dest_bits, source_bits,
 use Rattle.tv_decode.specs.declared.records.InstructionWires.{InstructionWires}
 use Rattle.tv_isa.specs.Instruction.{decode}
 use Rattle.tv_isa.specs.declared.opcode.TheConstants.{ANSWER}
-use Rattle.tv_lines.specs.Packing.{line_value}
+use Rattle.tv_lines.specs.PackedLines.{line_value}
 use Rattle.tv_lines.specs.Placed.{line_in}
 use Rattle.tv_numbers.specs.Laws.{AtNumbers, DoesStep}
 use Rattle.tv_numbers.specs.Numbers.{Did, did_of, step_words}

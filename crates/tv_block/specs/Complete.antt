@@ -5,7 +5,7 @@ use Rattle.tv_core.specs.Lines.{Line}
 use Rattle.tv_isa.specs.Instruction.{decode}
 use Rattle.tv_numbers.specs.Laws.{AtNumbers}
 use Rattle.tv_numbers.specs.Numbers.{lines_in, StepWords, step_words, did_of}
-use Rattle.tv_numbers.specs.Shown.{handed, MayTake}
+use Rattle.tv_numbers.specs.Shown.{data_word_of, MayTake}
 use Rattle.tv_numbers.specs.Views.{View, seen, ViewInRange, Matches}
 use Rattle.tv_step.specs.Range.{InRange}
 use Rattle.tv_step.specs.Reads.{word_taken}
@@ -43,7 +43,7 @@ BlockIsComplete = (w : ℕ) → IsWidth w → (z : List ℕ) (n : ℕ) (state : 
 -- ---- of the machine
 -- the values by the olds of the step's three lines, and the word that it takes of the auxiliary tape
 abbrev pub step_values : ℕ → ℕ → View → List ℕ → Option ℕ → List ℕ
-step_values w n v olds word = block_values w n v (step_words (slice_index olds 0) (slice_index olds 1) (handed (slice_index olds 2) word) (is_some word))
+step_values w n v olds word = block_values w n v (step_words (slice_index olds 0) (slice_index olds 1) (data_word_of (slice_index olds 2) word) (is_some word))
 
 -- the olds of a machine's step
 abbrev pub olds_of : ℕ → ℕ → State → ℕ → List ℕ

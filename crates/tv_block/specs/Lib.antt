@@ -3,6 +3,6 @@ pub mod Complete
 pub mod Costs
 pub mod Normal
 pub mod Places
-pub mod Told
+pub mod StepWords
 pub mod Under
 pub mod Values

@@ -3,7 +3,7 @@ use Rattle.std.specs.Prelude.{◌≡◌, ℕ, ◌+◌, ◌-◌, ◌≤◌, ◌<�
 use Rattle.tv_core.specs.Combinations.{top}
 use Rattle.tv_core.specs.declared.lines.LineLc.{LineLc}
 use Rattle.tv_decode.specs.declared.records.InstructionWires.{InstructionWires}
-use Rattle.tv_regs.specs.Reading.{wires_top}
+use Rattle.tv_regs.specs.Reads.{wires_top}
 use Rattle.tv_parts.specs.States.{StateUnder, TripleUnder, OperandUnder, ArithmeticUnder, TapesUnder, StoreUnder}
 use Rattle.tv_parts.specs.declared.records.Spot.{Spot}
 use Rattle.tv_parts.specs.declared.records.StateWires.{StateWires}

@@ -10,7 +10,7 @@ use Rattle.tv_numbers.specs.Numbers.{operand_word, other_word, found, StepWords}
 use Rattle.tv_numbers.specs.Tables.{store_ops}
 use Rattle.tv_numbers.specs.Views.{View, flag_of}
 use Rattle.tv_regs.specs.Triple.{triple_values}
-use Rattle.tv_parts.specs.Arithmetic.{spelled_word, low_number, high_number, arithmetic_values}
+use Rattle.tv_parts.specs.Arithmetic.{decomposed_word, low_number, high_number, arithmetic_values}
 use Rattle.tv_parts.specs.Flag.{sign_at, flag_values}
 use Rattle.tv_parts.specs.Inputs.{input_of, operation_of}
 use Rattle.tv_parts.specs.Memory.{memory_values}
@@ -36,7 +36,7 @@ row_high w v i = high_number w i.op (other_word v i) (operand_word v i)
 
 -- the numbers of a step from a view, and the word whose bits stand beside its row
 pub record AreStepNumbers (w : ℕ) (v : View) (step : StepNumbers) : Type 0 where
-  pub spelled : step.spelled ≡ spelled_word w step.instr.op step.other step.operand
+  pub spelled : step.spelled ≡ decomposed_word w step.instr.op step.other step.operand
   pub numbers : AreNumbers w v step
 
 -- they are by these words, the primary tape having n words
@@ -62,7 +62,7 @@ module _ (w n : ℕ) (v : View) (i : Instr) (low high : ℕ) (takes : Bool) wher
   -- written, the flag and the program counter
   abbrev pub effects_values : ℕ → List ℕ
   effects_values f =
-      memory_values w (input_of n v i low) (spelled_word w i.op (other_word v i) (operand_word v i)) takes
+      memory_values w (input_of n v i low) (decomposed_word w i.op (other_word v i) (operand_word v i)) takes
       ++ (results_values w i.op (operand_word v i) low high (found w n v i low takes)
       ++ (zero_sign_values tested_in (sign_at i.op)
       ++ (written_values w n v i low takes

@@ -5,7 +5,7 @@ ghost use Rattle.tv_block.specs.Complete.{MachineStepIsMet, MachineValuesFit};
 ghost use Rattle.tv_block.specs.Costs.{BlockIsCounted};
 ghost use Rattle.tv_block.specs.Normal.{BlockIsNormal};
 ghost use Rattle.tv_block.specs.Places.{BlockPlaces};
-ghost use Rattle.tv_block.specs.Told.{StepsAreGiven};
+ghost use Rattle.tv_block.specs.StepWords.{StepsAreGiven};
 
 /// A step's circuit is sound. Where an assignment satisfies the constraints of a step and has a
 /// state in range at the wires before it, the numbers in its wires are those of a step, by the

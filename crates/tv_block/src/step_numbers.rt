@@ -12,7 +12,7 @@ ghost use Rattle.tv_word.specs.Widths.{IsWidth};
 
 use tv_isa::opcode::{READ, STORE_B, STORE_W};
 use tv_isa::{Instr, decode};
-use tv_parts::{StepNumbers, row_halves, spelled_word, touches};
+use tv_parts::{StepNumbers, decomposed_word, row_halves, touches};
 use tv_step::TraceState;
 
 /// Returns the numbers of a step from a state: `n` is the number of the primary tape's words,
@@ -43,7 +43,7 @@ pub(crate) fn step_numbers<const W: u32>(
         instr,
         operand,
         other,
-        spelled: spelled_word::<W>(instr.op, other, operand),
+        spelled: decomposed_word::<W>(instr.op, other, operand),
         low,
         high,
         primary,

@@ -4,10 +4,10 @@ ghost use Rattle.tv_bits.specs.ZeroSign.{sign_at_zero};
 ghost use Rattle.tv_block.specs.Complete.{step_values};
 ghost use Rattle.tv_block.specs.Values.{numbers_view, other_register, effects_values};
 ghost use Rattle.tv_block.specs.Values.{AreStepNumbers, block_values};
-ghost use Rattle.tv_core.specs.Giving.{GivesIn};
+ghost use Rattle.tv_core.specs.Values.{GivesIn};
 ghost use Rattle.tv_decode.specs.Instructions.{instruction_values};
 ghost use Rattle.tv_numbers.specs.Numbers.{step_words};
-ghost use Rattle.tv_numbers.specs.Shown.{handed};
+ghost use Rattle.tv_numbers.specs.Shown.{data_word_of};
 ghost use Rattle.tv_numbers.specs.Views.{ViewInRange};
 ghost use Rattle.tv_parts.specs.Arithmetic.{arithmetic_values};
 ghost use Rattle.tv_parts.specs.Flag.{sign_at};
@@ -54,7 +54,7 @@ pub fn fill_block<const W: u32, V: Values>(
     requires short { n < 2 ^ 29 }
     requires range { ViewInRange W n (numbers_view state.now) }
     requires tail_word { slice_index olds.now 1 < 2 ^ W }
-    requires data_word { handed (slice_index olds.now 2) aux < 2 ^ W }
+    requires data_word { data_word_of (slice_index olds.now 2) aux < 2 ^ W }
     requires whole { V.giving.broken v.old ≡ false }
     ensures gives { GivesIn V.giving v.old v.new
         (step_values W n (numbers_view state.now) olds.now aux) result }
@@ -67,7 +67,7 @@ pub fn fill_block<const W: u32, V: Values>(
 
 // The data word: the one that is taken of the auxiliary tape, or else the one in the cell.
 fn data_word(old: u32, aux: Option<u32>) -> u32
-    ensures { result ≡ handed old aux }
+    ensures { result ≡ data_word_of old aux }
 {
     match aux {
         Some(word) => word,

@@ -1,7 +1,7 @@
 //! A state at the first wires, and a step after it.
 ghost use Rattle.std.specs.Prelude.{◌≡◌, ◌<◌, ◌^◌, true, false, slice_index, IfOk};
 ghost use Rattle.tv_block.specs.Values.{numbers_view};
-ghost use Rattle.tv_numbers.specs.Shown.{handed};
+ghost use Rattle.tv_numbers.specs.Shown.{data_word_of};
 ghost use Rattle.tv_numbers.specs.Views.{ViewInRange};
 ghost use Rattle.tv_parts.specs.States.{StateUnder};
 ghost use Rattle.tv_step.specs.Range.{AreWords};
@@ -82,7 +82,7 @@ fn is_in_range<const W: u32>(n: u32, state: &StateNum) -> bool
 // Whether the data word is a word.
 fn has_data_word<const W: u32>(given: &Given) -> bool
     requires width { IsWidth W }
-    ensures { result ≡ true → handed (slice_index given.now.olds 2) given.now.aux < 2 ^ W }
+    ensures { result ≡ true → data_word_of (slice_index given.now.olds 2) given.now.aux < 2 ^ W }
 {
     match given.aux {
         Some(word) => is_word::<W>(word),

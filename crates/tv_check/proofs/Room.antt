@@ -8,7 +8,7 @@ use Rattle.tv_container.specs.declared.why.ReadWhy.{ReadWhy}
 use Rattle.tv_container.specs.declared.why.ReadWhy.TheVariants.{BadCount}
 use Rattle.tv_container.specs.Places.{Fault, ◌>>=◌, unless}
 use Rattle.tv_r1cs_read.specs.R1cs as r1cs
-use Rattle.tv_r1cs_read.specs.R1cs.{checked, counted, header_in, header_of, constraints_from, system_of}
+use Rattle.tv_r1cs_read.specs.R1cs.{checked, counted, header_in, header_of, constraints_from, r1cs_system}
 use Rattle.tv_container.specs.Field.{this_field}
 use Rattle.tv_container.specs.Sections.{section_of, sections_of, wanted}
 use Rattle.tv_check.specs.Verdict.{HasRoom}
@@ -48,8 +48,8 @@ header_has (Err fault) found is roomy = cc
 pub roomy : (file : List ℕ) (header : Header) → header_of file ≡ Ok header → r1cs.HasRoom header
 roomy file header is = header_has (header_of file) header is (header_roomy file)
 
-pub has_room : (file : List ℕ) → IfOk (system_of file) HasRoom
-unfolding system_of
+pub has_room : (file : List ℕ) → IfOk (r1cs_system file) HasRoom
+unfolding r1cs_system
 has_room file =
     bind_if (header_of file) _ HasRoom (λ header is.
     bind_if (constraints_from file header.wires header.rows header.constraints header.rows.at) _ HasRoom (λ list _.

@@ -5,10 +5,10 @@ use Rattle.tv_core.specs.Constraints.{System, Constraint}
 use Rattle.tv_core.specs.Meanings.{holds, first_failure}
 use Rattle.tv_r1cs_read.specs.declared.header.Header.{Header}
 use Rattle.tv_container.specs.declared.why.ReadRefusal.{ReadRefusal}
-use Rattle.tv_container.specs.Reading.{Refuses, Gives}
+use Rattle.tv_container.specs.Reading.{Refuses, ReadsAs}
 use Rattle.tv_r1cs_read.specs.Places.{IsAll, system_with}
 use Rattle.tv_r1cs_read.specs.Progress.{Reached}
-use Rattle.tv_r1cs_read.specs.R1cs.{system_of}
+use Rattle.tv_r1cs_read.specs.R1cs.{r1cs_system}
 use Rattle.tv_r1cs_read.specs.Steps.{Failed}
 use Rattle.tv_container.proofs.Chain.{refuses_first}
 use Rattle.tv_check.specs.declared.verdict.Verdict.{Verdict}
@@ -29,11 +29,11 @@ judge-failure header z x done first decides is =
     (length z) header.wires decides is
 
 -- the verdict on a system that was read, and what is refused of it
-pub verdict_of-read : (file z x : List ℕ) (system : System) → system_of file ≡ Ok system → verdict_of file z x ≡ Ok (judge system z x)
+pub verdict_of-read : (file z x : List ℕ) (system : System) → r1cs_system file ≡ Ok system → verdict_of file z x ≡ Ok (judge system z x)
 unfolding verdict_of
 verdict_of-read file z x system is = rw is refl
 
-pub verdict_of-refuses : (file z x : List ℕ) (why : ReadRefusal) → Refuses why (system_of file) → Refuses why (verdict_of file z x)
+pub verdict_of-refuses : (file z x : List ℕ) (why : ReadRefusal) → Refuses why (r1cs_system file) → Refuses why (verdict_of file z x)
 unfolding verdict_of
 verdict_of-refuses file z x why refuses = refuses_first why _ _ refuses
 
@@ -66,7 +66,7 @@ judge-stays header z x done rest other =
 
 -- the verdict on constraints that are all, or the file's first fault
 pub read_ends : (stopped : Option ReadRefusal) (file z x : List ℕ) (reached : Reached) (header : Header) (rows : List Constraint) (verdict : Verdict) →
-    MatchOption stopped (IsAll reached file rows) (λ why. Refuses why (system_of file)) → reached.header ≡ header
+    MatchOption stopped (IsAll reached file rows) (λ why. Refuses why (r1cs_system file)) → reached.header ≡ header
     → verdict ≡ judge (system_with header rows) z x →
     MatchOption stopped (verdict_of file z x ≡ Ok verdict) (λ why. Refuses why (verdict_of file z x))
 read_ends None file z x reached header rows verdict all same is =
@@ -76,7 +76,7 @@ read_ends (Some why) file z x reached header rows verdict refuses same is = verd
 
 -- the same where all of them were tried, and hold
 pub read_holds : (stopped : Option ReadRefusal) (file z x : List ℕ) (reached : Reached) (header : Header) (verdict : Verdict) →
-    MatchOption stopped (Failed None z reached file []) (λ why. Refuses why (system_of file)) → reached.header ≡ header →
+    MatchOption stopped (Failed None z reached file []) (λ why. Refuses why (r1cs_system file)) → reached.header ≡ header →
     judge (system_with header []) z x ≡ Yes → verdict ≡ Yes → MatchOption stopped (verdict_of file z x ≡ Ok verdict) (λ why. Refuses why (verdict_of file z x))
 read_holds None file z x reached header verdict all same decides is =
     read_ends None file z x reached header all.0 verdict all.1 same (is ∙ sym (judge-failure header z x all.0 None decides all.2))
@@ -84,7 +84,7 @@ read_holds (Some why) file z x reached header verdict refuses same decides is = 
 
 -- and on those that were tried, where the verdict is the same whatever was passed after them
 pub read_passes : (stopped : Option ReadRefusal) (file z x : List ℕ) (reached : Reached) (header : Header) (done : List Constraint) (verdict : Verdict) →
-    MatchOption stopped ((rest : List Constraint) × IsAll reached file (done ++ rest)) (λ why. Refuses why (system_of file)) → reached.header ≡ header →
+    MatchOption stopped ((rest : List Constraint) × IsAll reached file (done ++ rest)) (λ why. Refuses why (r1cs_system file)) → reached.header ≡ header →
     ((rest : List Constraint) → verdict ≡ judge (system_with header (done ++ rest)) z x) →
     MatchOption stopped (verdict_of file z x ≡ Ok verdict) (λ why. Refuses why (verdict_of file z x))
 read_passes None file z x reached header done verdict all same is =
@@ -94,6 +94,6 @@ read_passes (Some why) file z x reached header done verdict refuses same is = ve
 -- what is so of the verdict or of why reading stopped is so of the answer
 pub answers : (stopped : Option ReadRefusal) (answer : Result Verdict ReadRefusal) (verdict : Verdict) (file z x : List ℕ) →
     MatchOption stopped (answer ≡ Ok verdict) (λ why. answer ≡ Err why) →
-    MatchOption stopped (verdict_of file z x ≡ Ok verdict) (λ why. Refuses why (verdict_of file z x)) → Gives answer (verdict_of file z x)
+    MatchOption stopped (verdict_of file z x ≡ Ok verdict) (λ why. Refuses why (verdict_of file z x)) → ReadsAs answer (verdict_of file z x)
 answers None answer verdict file z x is so = rw is so
 answers (Some why) answer verdict file z x is so = rw is so

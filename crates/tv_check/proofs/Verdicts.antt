@@ -10,7 +10,7 @@ use Rattle.tv_core.specs.declared.field.TheConstants.{P}
 use Rattle.tv_check.specs.declared.verdict.Verdict.{Verdict}
 use Rattle.tv_check.specs.declared.verdict.Verdict.TheVariants.{Yes, WireCount, NoPublic, NoConstraint}
 use Rattle.tv_check.specs.Verdict.{HasRoom, first_difference, constraint_verdict, public_verdict, judge}
-use Rattle.tv_check.specs.Meaning.{Tells}
+use Rattle.tv_check.specs.Meaning.{VerdictMeans}
 use Rattle.tv_check.proofs.Firsts.{all_hold, none_fails, fails_at, failing_of, same_lists, no_difference, differ, difference_of}
 
 -- z begins with 1 and x
@@ -71,11 +71,11 @@ tells_yes system z x sat extends =
     let constraints = none_fails z system.constraints (recursion_from_All _ system.constraints sat.holds) in
     rw (wires, public, constraints) refl
 
-pub yes_exactly : (system : System) (z x : List ℕ) → HasRoom system → All (λ v. v < P) z → (judge system z x ≡ Yes) ↔ Tells Yes system z x
+pub yes_exactly : (system : System) (z x : List ℕ) → HasRoom system → All (λ v. v < P) z → (judge system z x ≡ Yes) ↔ VerdictMeans Yes system z x
 yes_exactly system z x room below = (yes_tells system z x room below, λ both. tells_yes system z x both.0 both.1)
 
 -- a no is true
-no_tells : (s : System) (z x : List ℕ) (verdict : Verdict) → verdict ≢ Yes → judge s z x ≡ verdict → Tells verdict s z x
+no_tells : (s : System) (z x : List ℕ) (verdict : Verdict) → verdict ≢ Yes → judge s z x ≡ verdict → VerdictMeans verdict s z x
 no_tells s z x Yes other e = absurd (other refl)
 no_tells s z x (WireCount has wants) other e =
     let chose = judge_chose s z x (WireCount has wants) e in
@@ -93,7 +93,7 @@ no_tells s z x (NoConstraint at) other e =
     )
 
 -- a true no is the verdict
-tells_no : (s : System) (z x : List ℕ) (verdict : Verdict) → verdict ≢ Yes → Tells verdict s z x → judge s z x ≡ verdict
+tells_no : (s : System) (z x : List ℕ) (verdict : Verdict) → verdict ≢ Yes → VerdictMeans verdict s z x → judge s z x ≡ verdict
 tells_no s z x Yes other wrong = absurd (other refl)
 tells_no s z x (WireCount has wants) other wrong =
     let test : length z == s.wires ≡ false = ne_eqb (length z) s.wires (λ same. wrong.2 (sym wrong.0 ∙ same ∙ wrong.1)) in
@@ -108,5 +108,5 @@ tells_no s z x (NoConstraint at) other wrong =
     let failing = failing_of z s.constraints at wrong.2.failing wrong.2.there wrong.2.fails (recursion_from_All _ (take at s.constraints) wrong.2.before) in
     rw (test, public, failing) refl
 
-pub no_exactly : (s : System) (z x : List ℕ) (verdict : Verdict) → verdict ≢ Yes → (judge s z x ≡ verdict) ↔ Tells verdict s z x
+pub no_exactly : (s : System) (z x : List ℕ) (verdict : Verdict) → verdict ≢ Yes → (judge s z x ≡ verdict) ↔ VerdictMeans verdict s z x
 no_exactly s z x verdict other = (no_tells s z x verdict other, tells_no s z x verdict other)

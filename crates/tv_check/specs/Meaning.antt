@@ -20,10 +20,10 @@ pub record FailsFirst (system : System) (z : List ℕ) (at : ℕ) : Type 0 where
 -- the numbers; or there are not as many values as wires; or there are, and this is the first place where the constant 1
 -- and the public numbers differ from the values of the public wires; or they agree, and this is the first constraint
 -- that doesn't hold.
-abbrev pub Tells : Verdict → System → List ℕ → List ℕ → Type 0
-Tells Yes s z x = Sat s z × Extends s z x
-Tells (WireCount has wants) s z x = (length z ≡ has) × (s.wires ≡ wants) × (has ≢ wants)
-Tells (NoPublic at) s z x =
+abbrev pub VerdictMeans : Verdict → System → List ℕ → List ℕ → Type 0
+VerdictMeans Yes s z x = Sat s z × Extends s z x
+VerdictMeans (WireCount has wants) s z x = (length z ≡ has) × (s.wires ≡ wants) × (has ≢ wants)
+VerdictMeans (NoPublic at) s z x =
     (length z ≡ s.wires) × DifferFirst (1 ∷ x) (take (1 + s.outputs + s.inputs) z) at
-Tells (NoConstraint at) s z x =
+VerdictMeans (NoConstraint at) s z x =
     (length z ≡ s.wires) × (1 ∷ x ≡ take (1 + s.outputs + s.inputs) z) × FailsFirst s z at

@@ -5,7 +5,7 @@ use Rattle.std.specs.Option.{option_map}
 use Rattle.tv_core.specs.Constraints.{System}
 use Rattle.tv_core.specs.Meanings.{first_failure}
 use Rattle.tv_container.specs.Places.{Fault, ◌>>=◌}
-use Rattle.tv_r1cs_read.specs.R1cs.{system_of}
+use Rattle.tv_r1cs_read.specs.R1cs.{r1cs_system}
 use Rattle.tv_check.specs.declared.verdict.Verdict.{Verdict}
 use Rattle.tv_check.specs.declared.verdict.Verdict.TheVariants.{Yes, WireCount, NoPublic, NoConstraint}
 
@@ -42,5 +42,5 @@ judge system z x =
 -- the verdict by the system that a file holds, or the file's first fault
 unfoldable pub verdict_of : List ℕ → List ℕ → List ℕ → Result Verdict Fault
 verdict_of file z x = do
-  system ← system_of file
+  system ← r1cs_system file
   Ok (judge system z x)

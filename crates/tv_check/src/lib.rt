@@ -3,11 +3,11 @@
 //! the whole file is, or the file's first fault.
 #![tactic(auto)]
 
-mod checking;
+mod checker;
 mod laws;
 mod publics;
 mod verdict;
 
-pub use checking::check;
+pub use checker::check;
 pub use laws::{systems_have_room, verdicts_tell};
 pub use verdict::Verdict;

@@ -6,10 +6,10 @@ use Rattle.std.specs.Prelude.{slice_index}
 use Rattle.tv_bits.proofs.BitLaws.{bit_sound, bit_complete}
 use Rattle.tv_bits.proofs.PrefixLaws.{prefix_difference_sound, prefix_difference_complete, prefix_difference_next, length-products, products_in_field}
 use Rattle.tv_bits.proofs.SizeLaws.{length-bits, bits_in_field}
-use Rattle.tv_bits.proofs.SpelledNumbers.{Spells-below, Spells-bit_at, Spells-from_values, value-bits_below, value-plus_one}
-use Rattle.tv_bits.proofs.SpellingLaws.{new_bits_sound, new_bits_complete, new_bits_next}
+use Rattle.tv_bits.proofs.BitNumbers.{HasBits-below, HasBits-bit_at, HasBits-from_values, value-bits_below, value-plus_one}
+use Rattle.tv_bits.proofs.BitsLaws.{new_bits_sound, new_bits_complete, new_bits_next}
 use Rattle.tv_bits.specs.Bit.{bit_of}
-use Rattle.tv_bits.specs.Bits.{Spells, spelled, bits_combination, bits_values, new_bits_of}
+use Rattle.tv_bits.specs.Bits.{HasBits, binary_value, bits_combination, bits_values, new_bits_of}
 use Rattle.tv_bits.specs.Order.{IsPrefixDifference}
 use Rattle.tv_bits.specs.Prefixes.{prefix_less_in, prefix_difference_of, prefix_difference_values}
 use Rattle.tv_bits.specs.declared.bit_wires.Bits.{Bits}
@@ -39,7 +39,7 @@ module _ (z : List ℕ) (assigns : Assigns z) where
   value-but_for_signs a x y = let small = wire-below assigns x in omega arith
 
   -- ---- the flags
-  module _ (w : ℕ) (short : w ≤ 32) (e a : ℕ) (x y : Bits) (at u v : ℕ) (s : Spells z x.first w u) (r : Spells z y.first w v) where
+  module _ (w : ℕ) (short : w ≤ 32) (e a : ℕ) (x y : Bits) (at u v : ℕ) (s : HasBits z x.first w u) (r : HasBits z y.first w v) where
     apart_value : value (wire e) z * value (less (bits_combination x.first w) (bits_combination y.first w)) z % P ≡ slice_index z e * ((u + (P - v)) % P) % P
     apart_value = ap₂ (λ m n. m * n % P) (value-wire assigns e)
         (value-less (bits_combination x.first w) (bits_combination y.first w) z
@@ -70,13 +70,13 @@ module _ (z : List ℕ) (assigns : Assigns z) where
       let s = new_bits_sound z at c assigns both.0 in
       let number = value-plus_one s assigns short in
       let product = ap₂ (λ m n. m * n % P) (sym (value-sign e a)) (sym number) ∙ both.1.0 ∙ value-wire assigns _ in
-      (spelled z at c + 1, omega arith, omega (arith, Spells-below s), product)
+      (binary_value z at c + 1, omega arith, omega (arith, HasBits-below s), product)
 
   signed_size_complete : (c e a at n : ℕ) → c ≤ 62 → n < 2 ^ c → HasFrom z at (bits_values n c)
       → sign_in (slice_index z e) (slice_index z a) * (n + 1) % P ≡ slice_index z (at + c) → Meets z (signed_size_of c e a at).list
   unfolding signed_size_of new_bits_of here fresh put pure ◌>>=◌
   signed_size_complete c e a at n short small has product =
-      let number = value-plus_one (Spells-from_values z at c n small has) assigns short in
+      let number = value-plus_one (HasBits-from_values z at c n small has) assigns short in
       let place = new_bits_next c at in
       Meets-join z (new_bits_of c at).list _ (new_bits_complete z at c n assigns has)
       (ap₂ (λ m n. m * n % P) (value-sign e a) number ∙ product ∙ ap (λ k. slice_index z k) (sym place) ∙ sym (value-wire assigns _), tt)
@@ -152,7 +152,7 @@ compare_sound w width z next x y u v assigns s r meets =
     let difference = prefix_difference_sound z made.next (word_bits w x) (word_bits w y) (wire made.answer) (w / 4) 4 u v (omega arith) (omega arith)
     (omega arith) (omega arith) (omega arith) assigns
     s r third.0 in
-    let decision = decided w width u v (slice_index z e) (slice_index z a) sized.0 (slice_index z made.answer) (Spells-below s) (Spells-below r)
+    let decision = decided w width u v (slice_index z e) (slice_index z a) sized.0 (slice_index z made.answer) (HasBits-below s) (HasBits-below r)
     (wire-below assigns e) sized.1 sized.2 (record {
       bit = held.0;
       apart = held.1;
@@ -164,8 +164,8 @@ compare_sound w width z next x y u v assigns s r meets =
     record {
       equal = decision.0;
       above = decision.1;
-      greater = sign_bits w width _ _ _ _ u v (Spells-below s) (Spells-below r) decision.1 (Spells-bit_at s (w - 1) (grind arith))
-          (Spells-bit_at r (w - 1) (grind arith)) (wire-below assigns prefix.next) signs;
+      greater = sign_bits w width _ _ _ _ u v (HasBits-below s) (HasBits-below r) decision.1 (HasBits-bit_at s (w - 1) (grind arith))
+          (HasBits-bit_at r (w - 1) (grind arith)) (wire-below assigns prefix.next) signs;
     }
 
 pub compare_complete : CompareIsComplete
@@ -178,7 +178,7 @@ compare_complete w width z next x y u v assigns s r has =
     let flags = order_flags_of w e a x y at in
     let made = signed_size_of (w / 4) e a flags.next in
     let prefix = prefix_difference_of (word_bits w x) (word_bits w y) (wire made.answer) (w / 4) 4 made.next in
-    let held = settled w width u v (Spells-below s) (Spells-below r) in
+    let held = settled w width u v (HasBits-below s) (HasBits-below r) in
     let sizes = HasFrom-split z at (bits_values (size w u v - 1) (w / 4)) _ has.1.1 in
     let rest = rw length-each_below at sizes.1 in
     let products = HasFrom-split z (at + w / 4 + 1) (prefix_difference_values u v (signed_size w u v) (w / 4) 4) _ rest.1 in
@@ -200,8 +200,8 @@ compare_complete w width z next x y u v assigns s r has =
     (subst (λ n. HasFrom z n (prefix_difference_values u v (value (wire made.answer) z) (w / 4) 4)) (sym made_end)
     (subst (λ n. HasFrom z (at + w / 4 + 1) (prefix_difference_values u v n (w / 4) 4)) (sym difference) products.0)) in
     let greater : slice_index z prefix.next ≡ greater_flag w u v = ap (λ n. slice_index z n) prefix_end ∙ last.0 in
-    let signs = but_for_bits w width (slice_index z a) (slice_index z (x.first + (w - 1))) (slice_index z (y.first + (w - 1))) u v (Spells-below s)
-    (Spells-below r) has.1.0 (Spells-bit_at s (w - 1) (grind arith)) (Spells-bit_at r (w - 1) (grind arith)) in
+    let signs = but_for_bits w width (slice_index z a) (slice_index z (x.first + (w - 1))) (slice_index z (y.first + (w - 1))) u v (HasBits-below s)
+    (HasBits-below r) has.1.0 (HasBits-bit_at s (w - 1) (grind arith)) (HasBits-bit_at r (w - 1) (grind arith)) in
     let greater_met = greater_value z assigns prefix.next ∙ greater ∙ signs ∙ sym (value-but_for_signs z assigns a (x.first + (w - 1)) (y.first + (w - 1))) in
     Meets-join z flags.list _ flags_met (Meets-join z made.list _ made_met (Meets-join z prefix.list _ prefix_met (greater_met, tt)))
 

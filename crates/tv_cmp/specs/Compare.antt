@@ -1,7 +1,7 @@
 -- Two words compared.
 use Rattle.std.specs.Prelude.{◌≡◌, ℕ, ◌+◌, ◌-◌, ◌/◌, ◌%◌, ◌==◌, nat_lt, int_lt, if◌then◌else◌, List, [], ◌∷◌, ◌++◌, slice_index}
 use Rattle.tv_bits.specs.Bit.{bit_of}
-use Rattle.tv_bits.specs.Bits.{Spells, bits_combination, bits_values, new_bits_of}
+use Rattle.tv_bits.specs.Bits.{HasBits, bits_combination, bits_values, new_bits_of}
 use Rattle.tv_bits.specs.Order.{first_difference}
 use Rattle.tv_bits.specs.Prefixes.{prefix_difference_of, prefix_difference_values}
 use Rattle.tv_bits.specs.declared.bit_wires.Bits.{Bits}
@@ -95,12 +95,12 @@ compare_values w x y =
 -- ---- the laws
 -- an assignment that satisfies the constraints for bits that represent two words has their flags
 abbrev pub CompareIsSound : Type 0
-CompareIsSound = (w : ℕ) → IsWidth w → (z : List ℕ) (next : ℕ) (x y : Bits) (a b : ℕ) → Assigns z → Spells z x.first w a → Spells z y.first w b
+CompareIsSound = (w : ℕ) → IsWidth w → (z : List ℕ) (next : ℕ) (x y : Bits) (a b : ℕ) → Assigns z → HasBits z x.first w a → HasBits z y.first w b
     → Meets z (compare_of w x y next).list → IsCompared w z (compare_of w x y next).answer a b
 
 -- an assignment that has the values of two words at the wires that were made satisfies the constraints
 abbrev pub CompareIsComplete : Type 0
-CompareIsComplete = (w : ℕ) → IsWidth w → (z : List ℕ) (next : ℕ) (x y : Bits) (a b : ℕ) → Assigns z → Spells z x.first w a → Spells z y.first w b
+CompareIsComplete = (w : ℕ) → IsWidth w → (z : List ℕ) (next : ℕ) (x y : Bits) (a b : ℕ) → Assigns z → HasBits z x.first w a → HasBits z y.first w b
     → HasFrom z next (compare_values w a b) → Meets z (compare_of w x y next).list
 
 -- what the circuit returns and where it ends; it has one value for each wire that it makes, all in the field

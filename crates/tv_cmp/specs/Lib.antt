@@ -1,5 +1,5 @@
 pub mod Compare
-pub use Rattle.tv_core.specs.Giving
+pub use Rattle.tv_core.specs.Values
 pub use Rattle.tv_core.specs.Sinks
 pub use Rattle.tv_word.specs.Widths
 pub use Rattle.tv_word.specs.Word

@@ -5,7 +5,7 @@ ghost use Rattle.tv_bits.specs.Bits.{AreBitsBelow};
 ghost use Rattle.tv_cmp.specs.Compare.{sign, but_for_signs, order_flags_of, signed_size_of};
 ghost use Rattle.tv_cmp.specs.Compare.{greater_of, compare_of, size, signed_size, compare_values};
 ghost use Rattle.tv_cmp.specs.Compare.{CompareIsSound, CompareIsComplete, CompareSizes};
-ghost use Rattle.tv_core.specs.Giving.{GivesIn};
+ghost use Rattle.tv_core.specs.Values.{GivesIn};
 ghost use Rattle.tv_core.specs.Sinks.{PutsIn, Grows, Room};
 ghost use Rattle.tv_word.specs.Widths.{IsWidth};
 ghost use Rattle.tv_word.specs.Word.{signed};
@@ -78,7 +78,7 @@ fn order_flags<const W: u32, S: Sink>(
 {
     bit_by(s, &mut scratch.a, above)?;
     scratch.a.set_wire(equal);
-    x.fill(&mut scratch.b);
+    x.set_number(&mut scratch.b);
     y.plus_to(&mut scratch.b, -F::ONE);
     scratch.c.clear();
     s.put(&scratch.a, &scratch.b, &scratch.c)?;
@@ -105,7 +105,7 @@ fn signed_size<const W: u32, S: Sink>(
     let size = new_bits_by(s, &mut scratch.a, W / CHUNKS)?;
     let difference = s.fresh();
     set_sign(&mut scratch.a, equal, above);
-    size.fill(&mut scratch.b);
+    size.set_number(&mut scratch.b);
     scratch.b.plus(F::ONE, Wire(0));
     scratch.c.set_wire(difference);
     s.put(&scratch.a, &scratch.b, &scratch.c)?;

@@ -1,7 +1,7 @@
 //! What `check` says of files that are written out byte by byte: right, malformed and cut.
 
-use crate::assigned::{changed, shortened};
-use crate::calling::{CHECK, says};
+use crate::calls::{CHECK, says};
+use crate::witnesses::{changed, shortened};
 use std::alloc::Global;
 use std::process::Abort;
 use std::test::Fail;

@@ -2,8 +2,8 @@
 //! They are no tests, so they are proved where the crate is proved without its tests too.
 ghost use Rattle.std.specs.Prelude.{◌≡◌, [], ◌∷◌, codes, Some, None};
 ghost use Rattle.tv_benes.specs.declared.shape.Net.TheVariants.{Benes, Waksman};
-ghost use Rattle.tv_top.specs.Building.{net_word};
-ghost use Rattle.tv_top.specs.Disassembling.{width_word};
+ghost use Rattle.tv_top.specs.Build.{net_word};
+ghost use Rattle.tv_top.specs.Disasm.{width_word};
 ghost use Rattle.tv_top.specs.declared.programs.Width.TheVariants.{Bits16, Bits32};
 
 /// No further word means Benes' network, `waksman` Waksman's, and another word none.

@@ -1,6 +1,6 @@
 //! A fault of each file call in turn: what the commands return, and what the names hold then.
 
-use crate::calling::{BEFORE, WRITTEN, call, files_of, filled};
+use crate::calls::{BEFORE, WRITTEN, call, files_of, filled};
 use crate::checks;
 use crate::rounds::TWO_READS;
 use std::alloc::Global;

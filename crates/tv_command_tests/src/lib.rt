@@ -6,11 +6,9 @@
 #![tactic(auto)]
 
 #[cfg(test)]
-mod altered;
+mod alterations;
 #[cfg(test)]
-mod assigned;
-#[cfg(test)]
-mod calling;
+mod calls;
 #[cfg(test)]
 mod checks;
 pub mod examples;
@@ -26,3 +24,5 @@ mod refusals;
 mod rounds;
 #[cfg(test)]
 mod trials;
+#[cfg(test)]
+mod witnesses;

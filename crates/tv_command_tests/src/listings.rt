@@ -1,7 +1,7 @@
 //! What `listing` writes of assignments, right and altered.
 
-use crate::assigned::alter;
-use crate::calling::{filled, says};
+use crate::calls::{filled, says};
+use crate::witnesses::alter;
 use std::alloc::Global;
 use std::process::Abort;
 use std::test::*;

@@ -1,6 +1,6 @@
 //! What `asm` and `disasm` write of texts and images, and what they refuse.
 
-use crate::calling::{BEFORE, USAGE, says};
+use crate::calls::{BEFORE, USAGE, says};
 use std::alloc::Global;
 use std::process::Abort;
 use std::test::Fail;

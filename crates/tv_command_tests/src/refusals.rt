@@ -1,6 +1,6 @@
 //! What the commands refuse and how runs end without an answer, and that nothing is written then.
 
-use crate::calling::{BEFORE, USAGE, WRITTEN, call, files_of, says};
+use crate::calls::{BEFORE, USAGE, WRITTEN, call, files_of, says};
 use crate::checks::{SYSTEM, WITNESS};
 use crate::rounds::{PAST_THE_END, TWO_READS};
 use std::alloc::Global;

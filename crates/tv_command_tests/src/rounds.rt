@@ -1,6 +1,6 @@
 //! Programs that are run, built, filled, checked and extracted.
 
-use crate::calling::{CHECK, files_of, says};
+use crate::calls::{CHECK, files_of, says};
 use std::alloc::Global;
 use std::process::Abort;
 use std::test::Fail;

@@ -1,6 +1,6 @@
 //! Drawn programs, whose systems hold on the values of their runs.
 
-use crate::calling::says;
+use crate::calls::says;
 use std::alloc::Global;
 use std::process::Abort;
 use std::test::*;

@@ -5,14 +5,14 @@ use Rattle.std.proofs.lemmas.Bool.Decides.{nat_tests}
 use Rattle.std.proofs.lemmas.List.{length-append}
 use Rattle.std.proofs.Math.Seq.{drop-append_seam, take-append_seam}
 use Rattle.tv_core.specs.declared.field.TheConstants.{P}
-use Rattle.tv_word.specs.Word.{low_bytes, spelled}
+use Rattle.tv_word.specs.Word.{low_bytes, little_endian}
 use Rattle.tv_container.specs.Bytes.{four_bytes, eight_bytes, front_bytes, section_bytes, section_head, field_bytes}
 use Rattle.tv_container.specs.Field.{this_field}
 use Rattle.tv_container.specs.Places.{number, places}
 use Rattle.tv_container.specs.Sections.{stands_already, sections_from, sections_of}
 use Rattle.tv_container.specs.declared.sections.Section.{Section}
 use Rattle.tv_container.proofs.SectionLemmas.{fit-within, section_at-read, sections_from-next, sections_in-version, sections_of-counted, this_field-prime}
-use Rattle.tv_word.proofs.ByteLaws.{spelled-low_bytes}
+use Rattle.tv_word.proofs.ByteLaws.{little_endian-low_bytes}
 
 -- a file has these bytes at a place
 pub record At (file : List ℕ) (at : ℕ) (bytes : List ℕ) : Type 0 where
@@ -47,9 +47,9 @@ pub at_within : (file : List ℕ) (at : ℕ) (bytes : List ℕ) → At file at b
 at_within file at bytes a = omega (arith, a.place, ap length a.whole, length-append a.front (bytes ++ a.back), length-append bytes a.back)
 
 -- the number that is read there is the one that they represent
-number_at : (file : List ℕ) (at size : ℕ) (bytes : List ℕ) → At file at bytes → length bytes ≡ size → number file size at ≡ spelled bytes
+number_at : (file : List ℕ) (at size : ℕ) (bytes : List ℕ) → At file at bytes → length bytes ≡ size → number file size at ≡ little_endian bytes
 number_at file at size bytes a is =
-    ap spelled (
+    ap little_endian (
     ap (λ l. take size (drop at l)) a.whole
     ∙ ap (λ n. take size (drop n (a.front ++ (bytes ++ a.back)))) a.place
     ∙ ap (take size) (drop-append_seam a.front (bytes ++ a.back))
@@ -88,11 +88,11 @@ length-field_bytes = omega (arith, length-append (four_bytes 8) (eight_bytes P),
 -- numbers that were written are read
 pub number_of_four : (file : List ℕ) (at v : ℕ) → At file at (four_bytes v) → v < 2 ^ 32 → number file 4 at ≡ v
 unfolding four_bytes
-number_of_four file at v a short = number_at file at 4 (low_bytes 4 v) a refl ∙ spelled-low_bytes 4 v (omega arith)
+number_of_four file at v a short = number_at file at 4 (low_bytes 4 v) a refl ∙ little_endian-low_bytes 4 v (omega arith)
 
 pub number_of_eight : (file : List ℕ) (at v : ℕ) → At file at (eight_bytes v) → v < 2 ^ 64 → number file 8 at ≡ v
 unfolding eight_bytes
-number_of_eight file at v a short = number_at file at 8 (low_bytes 8 v) a refl ∙ spelled-low_bytes 8 v (omega arith)
+number_of_eight file at v a short = number_at file at 8 (low_bytes 8 v) a refl ∙ little_endian-low_bytes 8 v (omega arith)
 
 -- the front that was written says how many sections there are
 pub sections_counted : (singles magic version count : ℕ) (file : List ℕ) → At file 0 (front_bytes magic version count) → magic < 2 ^ 32 → version < 2 ^ 32 →

@@ -7,7 +7,7 @@ use Rattle.tv_container.specs.declared.why.ReadRefusal.TheVariants.{Bad, Fault, 
 use Rattle.tv_container.specs.declared.why.ReadWhy.{ReadWhy}
 use Rattle.tv_container.specs.Places as places
 use Rattle.tv_container.specs.Places.{wrong, ◌>>=◌}
-use Rattle.tv_container.specs.Reading.{Refuses, IsTold, Stopped, Looks}
+use Rattle.tv_container.specs.Reading.{Refuses, IsNotFault, Stopped, Looks}
 
 -- a step that was made gave what the answer was made of
 pub made : {A B : Type 0} (first : Result A places.Fault) (next : A → Result B places.Fault) (value : B) → first >>= next ≡ Ok value →
@@ -29,12 +29,12 @@ pub refuses_any : {A B : Type 0} (why : ReadRefusal) (value : A) (answer : Resul
 refuses_any why value answer refuses = record { bad = λ at what e. let none : Ok value ≡ wrong at what = refuses.bad at what e in cc }
 
 -- a refusal that isn't a failed read may stop where nothing was read
-pub stopped_here : (outside : Outside) (name : List ℕ) (why : ReadRefusal) → IsTold why → Stopped outside outside name why
+pub stopped_here : (outside : Outside) (name : List ℕ) (why : ReadRefusal) → IsNotFault why → Stopped outside outside name why
 stopped_here outside name (Bad at what) told = record { only = search rules; there = search rules; leaves = refl }
 stopped_here outside name Fault told = absurd (told.told refl)
 stopped_here outside name Memory told = record { only = search rules; there = search rules; leaves = inl refl }
 
 -- and so may a step that read nothing
-pub looks_here : {A : Type 0} (outside : Outside) (name : List ℕ) (result : Result A ReadRefusal) → IfErr result IsTold → Looks outside outside name result
+pub looks_here : {A : Type 0} (outside : Outside) (name : List ℕ) (result : Result A ReadRefusal) → IfErr result IsNotFault → Looks outside outside name result
 looks_here outside name (Ok value) told = refl
 looks_here outside name (Err why) told = stopped_here outside name why told

@@ -8,7 +8,7 @@ use Rattle.std.proofs.Math.Seq.{take-add, take-append-add}
 use Rattle.std.proofs.lemmas.List.Edits.{take-paste}
 use Rattle.std.specs.List.{copy_within}
 use Rattle.std.specs.Option.{option_and_then}
-use Rattle.tv_word.specs.Word.{spelled}
+use Rattle.tv_word.specs.Word.{little_endian}
 use Rattle.tv_files.specs.Outside.{Outside, Names}
 use Rattle.tv_files.specs.Calls.{Reads, Gives}
 use Rattle.tv_container.specs.Places.{number, places}
@@ -60,8 +60,8 @@ bytes_held buffer file held from at size room piece holds =
 -- and so are the numbers that they represent
 pub number_held : (buffer file : List ℕ) (held from at size : ℕ) → held ≤ length buffer →
     IsPiece (record { at = from; bytes = take held buffer }) file → Holds (record { at = from; bytes = take held buffer }) at size →
-    spelled (take size (drop (at - from) buffer)) ≡ number file size at
-number_held buffer file held from at size room piece holds = ap spelled (bytes_held buffer file held from at size room piece holds)
+    little_endian (take size (drop (at - from) buffer)) ≡ number file size at
+number_held buffer file held from at size room piece holds = ap little_endian (bytes_held buffer file held from at size room piece holds)
 
 -- all the bytes from a place on that a piece holds
 pub rest_held : (buffer file : List ℕ) (held from at size : ℕ) → held ≤ length buffer →

@@ -1,6 +1,6 @@
 -- Reading numbers at places of a file, the whole of which is at hand.
 use Rattle.std.specs.Prelude.{ℕ, Bool, ◌+◌, ◌-◌, ◌^◌, min, List, length, take, drop, Result, Ok, Err, nat_le, if◌then◌else◌}
-use Rattle.tv_word.specs.Word.{spelled}
+use Rattle.tv_word.specs.Word.{little_endian}
 use Rattle.tv_container.specs.declared.why.ReadWhy.{ReadWhy}
 use Rattle.tv_container.specs.declared.why.ReadWhy.TheVariants.{Truncated}
 
@@ -23,7 +23,7 @@ unless test at why = if test then wrong at why else Ok tt
 
 -- the number in n bytes of a file from a place on, the lowest first
 abbrev pub number : List ℕ → ℕ → ℕ → ℕ
-number file size at = spelled (take size (drop at file))
+number file size at = little_endian (take size (drop at file))
 
 -- how many bytes of a file have a place below the bound of places: all, unless the file is longer than that
 abbrev pub places : List ℕ → ℕ

@@ -44,15 +44,15 @@ pub record Refuses {A : Type 0} (why : ReadRefusal) (answer : Result A Fault) : 
   pub bad : (at : ℕ) (what : ReadWhy) → why ≡ refusal.Bad at what → answer ≡ wrong at what
 
 -- a reader returns what the definition does, as `view` sees it, unless a read failed or memory ran out
-abbrev pub GivesBy : {Y A : Type 0} → Result Y ReadRefusal → (Y → A) → Result A Fault → Type 0
-GivesBy result view answer = MatchResult result (λ value. answer ≡ Ok (view value)) (λ why. Refuses why answer)
+abbrev pub ReadsAsBy : {Y A : Type 0} → Result Y ReadRefusal → (Y → A) → Result A Fault → Type 0
+ReadsAsBy result view answer = MatchResult result (λ value. answer ≡ Ok (view value)) (λ why. Refuses why answer)
 
 -- the same of what needs no view
-abbrev pub Gives : {A : Type 0} → Result A ReadRefusal → Result A Fault → Type 0
-Gives result answer = GivesBy result (λ value. value) answer
+abbrev pub ReadsAs : {A : Type 0} → Result A ReadRefusal → Result A Fault → Type 0
+ReadsAs result answer = ReadsAsBy result (λ value. value) answer
 
 -- a refusal that isn't a failed read
-pub record IsTold (why : ReadRefusal) : Type 0 where
+pub record IsNotFault (why : ReadRefusal) : Type 0 where
   pub told : why ≢ refusal.Fault
 
 -- bytes of a file, from a place on

@@ -4,22 +4,22 @@ use Rattle.tv_container.specs.Faults.{sink_fault}
 use Rattle.tv_core.specs.declared.sink.SinkFault.{SinkFault}
 use Rattle.tv_core.specs.declared.sink.SinkFault.TheVariants.{Failed, Memory}
 use Rattle.tv_files.specs.Calls.{Creates}
-use Rattle.tv_files.specs.Outside.{Outside, Told, RanOut, SameCounts, OnlyWrites}
+use Rattle.tv_files.specs.Outside.{Outside, WhereKnown, RanOut, SameCounts, OnlyWrites}
 use Rattle.tv_files.specs.Whole.{HasBytes, HasPart}
 use Rattle.tv_files.specs.declared.calls.FileRefusal.{FileRefusal}
 use Rattle.tv_word.specs.Counts.{Rose}
 
 -- where contents are known, the name has these bytes
 abbrev pub HasNow : Outside → List ℕ → List ℕ → Type 0
-HasNow outside name bytes = Told outside (λ files. files name ≡ Some bytes)
+HasNow outside name bytes = WhereKnown outside (λ files. files name ≡ Some bytes)
 
 -- where contents are known, the name has a first part of these bytes, and the rest of them is held
 abbrev pub HasBut : Outside → List ℕ → List ℕ → List ℕ → Type 0
-HasBut outside name held bytes = Told outside (λ files. (front : List ℕ) × (files name ≡ Some front) × (front ++ held ≡ bytes))
+HasBut outside name held bytes = WhereKnown outside (λ files. (front : List ℕ) × (files name ≡ Some front) × (front ++ held ≡ bytes))
 
 -- where contents are known, the name has the first few of these bytes
 abbrev pub HasFront : Outside → List ℕ → List ℕ → Type 0
-HasFront outside name bytes = Told outside (λ files. (n : ℕ) × (files name ≡ Some (take n bytes)))
+HasFront outside name bytes = WhereKnown outside (λ files. (n : ℕ) × (files name ≡ Some (take n bytes)))
 
 -- the creation of a name was refused with this fault
 pub record NotCreated (old new : Outside) (name : List ℕ) (fault : SinkFault) : Type 0 where

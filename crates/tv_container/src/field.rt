@@ -2,7 +2,7 @@
 ghost use Rattle.std.specs.Prelude.{◌≡◌, ◌+◌, ◌≤◌, OnOk};
 ghost use Rattle.tv_container.specs.Field.{this_field};
 ghost use Rattle.tv_container.specs.Places.{places};
-ghost use Rattle.tv_container.specs.Reading.{Gives, ReadsIn};
+ghost use Rattle.tv_container.specs.Reading.{ReadsAs, ReadsIn};
 
 use crate::sections::Section;
 use crate::why::{ReadRefusal, ReadWhy};
@@ -24,7 +24,7 @@ pub fn this_field<D: Files>(
     ensures reads { ReadsIn (D.seen files.old) (D.seen files.new) name.now window.old window.new
         result
         (λ file. one.now.at + one.now.size ≤ places file
-        → Gives result (this_field file wants one.now)) }
+        → ReadsAs result (this_field file wants one.now)) }
     ensures size { OnOk result (one.now.size ≡ wants) }
 {
     let miscounted = ReadRefusal::Bad {

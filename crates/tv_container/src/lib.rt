@@ -4,7 +4,6 @@
 //! `Window` yields these from a file of any size, a piece at a time.
 #![tactic(auto)]
 
-mod begin;
 mod buffer;
 mod faults;
 mod field;
@@ -12,16 +11,17 @@ mod heads;
 mod numbers;
 mod pending;
 mod place;
+mod refusal;
 mod sections;
 mod why;
 mod window;
 
-pub use begin::NotBegun;
 pub use buffer::Buffer;
 pub use faults::sink_fault;
 pub use field::this_field;
 pub use numbers::{long_bytes, short_bytes};
 pub use pending::Pending;
+pub use refusal::NotBegun;
 pub use sections::{Form, Found, Section, find_sections, wanted};
 pub use why::{ReadRefusal, ReadWhy};
 pub use window::Window;

@@ -2,7 +2,7 @@
 ghost use Rattle.std.specs.Prelude.{◌≡◌, ℕ, ◌+◌, ◌≤◌, ◌<◌, ◌^◌, true, nat_le, List, [], ◌∷◌, ◌++◌};
 ghost use Rattle.std.specs.Prelude.{length, Some, Ok, IfOk, IfErr, OnOk, ok_or};
 ghost use Rattle.tv_container.specs.Places.{places};
-ghost use Rattle.tv_container.specs.Reading.{Looks, Gives, IsMissing, IsTold, Known, InPiece};
+ghost use Rattle.tv_container.specs.Reading.{Looks, ReadsAs, IsMissing, IsNotFault, Known, InPiece};
 ghost use Rattle.tv_container.specs.Reading.{ReadsIn};
 ghost use Rattle.tv_container.specs.Sections.{section_at, sections_in, sections_from, sections_of};
 ghost use Rattle.tv_container.specs.Sections.{section_of, stands_already, wanted};
@@ -126,7 +126,7 @@ pub fn find_sections<D: Files>(
 // Whether the file has no byte at a place.
 fn ends<D: Files>(files: &mut D, name: &str, at: u64) -> Result<bool, ReadRefusal>
     ensures gives { Known (D.seen files.old) name.now
-        (λ file. Gives result (Ok (nat_le (length file) at))) }
+        (λ file. ReadsAs result (Ok (nat_le (length file) at))) }
     ensures looks { Looks (D.seen files.old) (D.seen files.new) name.now result }
 {
     let mut byte = [0];
@@ -143,7 +143,7 @@ fn section_count<D: Files>(
 ) -> Result<u32, ReadRefusal>
     ensures reads { ReadsIn (D.seen files.old) (D.seen files.new) name.now window.old window.new
         result
-        (λ file. Gives result (sections_in form.now.magic form.now.version file)) }
+        (λ file. ReadsAs result (sections_in form.now.magic form.now.version file)) }
     ensures start { InPiece (D.seen files.old) name.now window.old
         (λ file. OnOk result (12 ≤ places file)) }
     ensures missing { IsMissing (D.seen files.old) name.now → window.old.bytes ≡ [] → result
@@ -212,7 +212,7 @@ fn next_section<D: Files>(
     ensures reads { ReadsIn (D.seen files.old) (D.seen files.new) name.now window.old window.new
         result
         (λ file. (sections : List Section) → found.now ≡ first_of sections
-        → Gives result (section_at singles file at sections)) }
+        → ReadsAs result (section_at singles file at sections)) }
     ensures place { IfOk result (λ section. section.at + section.size < 2 ^ 64) }
 {
     window.fit(files, name, at, 12)?;
@@ -247,7 +247,7 @@ fn reaches_end<D: Files>(
 ) -> Result<bool, ReadRefusal>
     ensures reads { ReadsIn (D.seen files.old) (D.seen files.new) name.now window.old window.new
         result
-        (λ file. section.now.at ≤ places file → Gives result
+        (λ file. section.now.at ≤ places file → ReadsAs result
         (Ok (nat_le (section.now.at + section.now.size) (places file)))) }
     ensures place { IfOk result (λ there. there ≡ true → section.now.at + section.now.size
         < 2 ^ 64) }
@@ -266,9 +266,9 @@ fn reaches_end<D: Files>(
 pub fn wanted(section: Option<Section>, kind: u32, end: u64) -> Result<Section, ReadRefusal>
     ensures is { result ≡ ok_or section (ReadRefusal.Bad end (ReadWhy.Missing kind)) }
     ensures gives { (file : List ℕ) → end ≡ length file → (sections : List Section) →
-        section ≡ section_of kind sections → Gives result (wanted kind file sections) }
+        section ≡ section_of kind sections → ReadsAs result (wanted kind file sections) }
     ensures same { IfOk result (λ found. section ≡ Some found) }
-    ensures told { IfErr result IsTold }
+    ensures told { IfErr result IsNotFault }
 {
     section.ok_or(ReadRefusal::Bad {
         at: end,

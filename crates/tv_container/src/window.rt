@@ -3,10 +3,10 @@ ghost use Rattle.std.specs.Prelude.{◌≡◌, ℕ, ◌+◌, ◌*◌, ◌≤◌,
 ghost use Rattle.std.specs.Prelude.{MatchResult, ◌↔◌};
 ghost use Rattle.std.specs.Prelude.{List, [], length, take, drop};
 ghost use Rattle.tv_container.specs.Places.{fit, number, places};
-ghost use Rattle.tv_container.specs.Reading.{Stopped, Gives, Holds, IsMissing, IsPiece, Known};
+ghost use Rattle.tv_container.specs.Reading.{Stopped, ReadsAs, Holds, IsMissing, IsPiece, Known};
 ghost use Rattle.tv_container.specs.Reading.{ReadsIn};
 ghost use Rattle.tv_container.specs.Refusals.{read_refusal};
-ghost use Rattle.tv_word.specs.Word.{spelled};
+ghost use Rattle.tv_word.specs.Word.{little_endian};
 
 use crate::why::{ReadRefusal, ReadWhy};
 use std::marker::Model;
@@ -117,7 +117,7 @@ impl Window {
         ensures place { IfOk result (λ there. there ≡ true → at + size < 2 ^ 64) }
         ensures reads { ReadsIn (D.seen files.old) (D.seen files.new) name.now self.old self.new
             result
-            (λ file. Gives result (Ok (nat_le (at + size) (places file)))) }
+            (λ file. ReadsAs result (Ok (nat_le (at + size) (places file)))) }
         ensures missing { IsMissing (D.seen files.old) name.now → self.old.bytes ≡ [] → at + size
             < 2 ^ 64 → result ≡ Err ReadRefusal.Fault }
     {
@@ -164,7 +164,7 @@ impl Window {
         ensures place { OnOk result (at + size < 2 ^ 64) }
         ensures reads { ReadsIn (D.seen files.old) (D.seen files.new) name.now self.old self.new
             result
-            (λ file. Gives result (fit size at (places file))) }
+            (λ file. ReadsAs result (fit size at (places file))) }
         ensures missing { IsMissing (D.seen files.old) name.now → self.old.bytes ≡ [] → at + size
             < 2 ^ 64 → result ≡ Err ReadRefusal.Fault }
     {
@@ -218,7 +218,7 @@ fn fill<D: Files>(
 #[inline(always)]
 fn long_at(bytes: &[u8], at: usize) -> u64
     requires { at + 8 ≤ length bytes.now }
-    ensures { result ≡ spelled (take 8 (drop at bytes.now)) }
+    ensures { result ≡ little_endian (take 8 (drop at bytes.now)) }
 {
     u64::from_le_bytes([
         bytes[at],

@@ -6,10 +6,10 @@ use Rattle.std.proofs.lemmas.Bool.{cases_eq}
 use Rattle.std.proofs.lemmas.Grind.{flat_map-append}
 use Rattle.std.proofs.lemmas.List.{append-nil}
 use Rattle.tv_core.proofs.BelowLaws.{range-more}
-use Rattle.tv_core.proofs.GivingChain.{gives_then, gives_then_refused, gives_refused_then, gives_nothing}
+use Rattle.tv_core.proofs.ValuesChain.{gives_then, gives_then_refused, gives_refused_then, gives_nothing}
 use Rattle.tv_core.proofs.Meeting.{HasFrom-split}
 use Rattle.tv_core.specs.Below.{joined_below}
-use Rattle.tv_core.specs.Giving.{Giving, GivesAll, GivesSome}
+use Rattle.tv_core.specs.Values.{ValuesMeaning, GivesAll, GivesSome}
 use Rattle.tv_core.specs.Laws.{HasFrom}
 use Rattle.tv_core.specs.declared.sink.SinkFault.{SinkFault}
 
@@ -44,7 +44,7 @@ has_each_list z first (suc n) made f each has i h =
     ]
 
 -- each turn makes a list
-module _ {V : Type 0} (m : Giving V) (f : ℕ → List ℕ) where
+module _ {V : Type 0} (m : ValuesMeaning V) (f : ℕ → List ℕ) where
   pub gives_no_list : (v : V) → GivesAll m v v (joined_below 0 f)
   gives_no_list v = rw joined_below-zero (gives_nothing m v)
 

@@ -8,8 +8,8 @@ pub mod DifferenceLaws
 pub mod Euclid
 pub mod FieldLaws
 pub mod Fitting
-pub mod GivingChain
-pub mod GivingTails
+pub mod ValuesChain
+pub mod ValuesTails
 pub mod Having
 pub mod InverseLaws
 pub mod JoinedLaws

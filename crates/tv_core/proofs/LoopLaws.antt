@@ -3,11 +3,11 @@ use Rattle.std.proofs.Common.{◌≡◌, ℕ, zero, suc, ◌+◌, ◌-◌, ◌*�
 use Rattle.std.proofs.lemmas.Bool.{cases_eq}
 use Rattle.tv_core.proofs.BelowLaws.{each_below-zero, each_below-suc}
 use Rattle.tv_core.proofs.Chain.{puts_here}
-use Rattle.tv_core.proofs.GivingChain.{gives_then, gives_then_refused, gives_refused_then, gives_nothing}
+use Rattle.tv_core.proofs.ValuesChain.{gives_then, gives_then_refused, gives_refused_then, gives_nothing}
 use Rattle.tv_core.proofs.Meeting.{parts, whole}
 use Rattle.tv_core.specs.Below.{each_below}
 use Rattle.tv_core.specs.Circuits.{Circuit, here, turns, pure, ◌>>=◌}
-use Rattle.tv_core.specs.Giving.{Giving, GivesAll, GivesSome}
+use Rattle.tv_core.specs.Values.{ValuesMeaning, GivesAll, GivesSome}
 use Rattle.tv_core.specs.Laws.{Meets}
 use Rattle.tv_core.specs.Sinks.{Meaning, PutsAll}
 use Rattle.tv_core.specs.declared.sink.SinkFault.{SinkFault}
@@ -44,7 +44,7 @@ pub puts_here_as : {S : Type 0} (m : Meaning S) (s : S) (w : ℕ) → w ≡ m.wi
 puts_here_as m s w same = rw same (puts_here m s)
 
 -- each turn passes a number
-module _ {V : Type 0} (m : Giving V) (f : ℕ → ℕ) where
+module _ {V : Type 0} (m : ValuesMeaning V) (f : ℕ → ℕ) where
   pub gives_no_turn : (v : V) → GivesAll m v v (each_below 0 f)
   gives_no_turn v = rw each_below-zero (gives_nothing m v)
 

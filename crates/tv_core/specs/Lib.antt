@@ -2,7 +2,7 @@ pub mod Below
 pub mod Circuits
 pub mod Combinations
 pub mod Constraints
-pub mod Giving
+pub mod Values
 pub mod Inverse
 pub mod Laws
 pub mod Lines

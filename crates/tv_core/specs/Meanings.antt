@@ -5,7 +5,7 @@ use Rattle.std.specs.List.{AllByRecursion}
 use Rattle.tv_core.specs.Combinations.{top}
 use Rattle.tv_core.specs.Constraints.{Constraint, Combination, System, value}
 use Rattle.tv_core.specs.Sinks.{Meaning}
-use Rattle.tv_core.specs.Giving.{Giving}
+use Rattle.tv_core.specs.Values.{ValuesMeaning}
 use Rattle.tv_core.specs.declared.field.TheConstants.{P}
 use Rattle.tv_core.specs.declared.lines.Counts.{Counts}
 
@@ -136,7 +136,7 @@ pub record Kept : Type 0 where
   pub broken : Bool
 
 -- the list is the one kept; after a refusal, of which there is one, it tried one number more
-abbrev pub kept_giving : Giving Kept
+abbrev pub kept_giving : ValuesMeaning Kept
 kept_giving = record {
   stands = λ taker list. (taker.list ≡ list) × (taker.broken ≡ false);
   tried = λ taker list. (refused : ℕ) × (list ≡ taker.list ++ refused ∷ []);

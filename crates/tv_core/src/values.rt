@@ -1,6 +1,6 @@
 //! The trait of what takes the values of wires.
 ghost use Rattle.std.specs.Prelude.{◌≡◌, ℕ, [], ◌∷◌, OnOk, false, List};
-ghost use Rattle.tv_core.specs.Giving.{Giving, GivesIn};
+ghost use Rattle.tv_core.specs.Values.{ValuesMeaning, GivesIn};
 
 use crate::field::F;
 use crate::sink::Put;
@@ -9,7 +9,7 @@ use crate::sink::Put;
 ///
 /// It records the list of numbers that were passed. A refusal breaks it, as it does a sink.
 pub trait Values {
-    ghost giving: { Giving Self };
+    ghost giving: { ValuesMeaning Self };
 
     /// Appends a value. Returns `Failed` only where the taker's count of faults rose, and `Memory`
     /// only where its count of allocation failures rose.

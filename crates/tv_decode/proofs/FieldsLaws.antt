@@ -4,8 +4,8 @@ use Rattle.std.specs.Prelude.{slice_index}
 use Rattle.tv_bits.proofs.BitLaws.{bit_cases}
 use Rattle.tv_bits.proofs.OneHotLaws.{onehot_sound, onehot_complete, onehot_answer, onehot_next}
 use Rattle.tv_bits.proofs.SizeLaws.{onehot_in_field}
-use Rattle.tv_bits.proofs.SpelledNumbers.{Spells-low, Spells-high, Spells-bit_at}
-use Rattle.tv_bits.specs.Bits.{Spells, part}
+use Rattle.tv_bits.proofs.BitNumbers.{HasBits-low, HasBits-high, HasBits-bit_at}
+use Rattle.tv_bits.specs.Bits.{HasBits, part}
 use Rattle.tv_bits.specs.OneHot.{onehot_of, onehot_values, one_at}
 use Rattle.tv_bits.specs.declared.bit_wires.Bits.{Bits}
 use Rattle.tv_core.proofs.BelowLaws.{length-each_below}
@@ -20,29 +20,29 @@ use Rattle.tv_isa.specs.declared.instr.Instr.{Instr}
 use Rattle.tv_word.specs.Widths.{IsWidth}
 
 -- some of a word's bits represent a field of it
-pub field_spelled : (z : List ℕ) (w first low count more v : ℕ) → low + (count + more) ≡ w → Spells z first w v
-    → Spells z (first + low) count (field low count v)
+pub field_spelled : (z : List ℕ) (w first low count more v : ℕ) → low + (count + more) ≡ w → HasBits z first w v
+    → HasBits z (first + low) count (field low count v)
 field_spelled z w first low count more v size s =
-    Spells-low z (first + low) count more (v / 2 ^ low) (Spells-high z first low (count + more) v (subst (λ n. Spells z first n v) (sym size) s))
+    HasBits-low z (first + low) count more (v / 2 ^ low) (HasBits-high z first low (count + more) v (subst (λ n. HasBits z first n v) (sym size) s))
 
-module _ (w : ℕ) (width : IsWidth w) (z : List ℕ) (h a : Bits) (v u : ℕ) (s : Spells z h.first w v) (r : Spells z a.first w u) where
-  op_spelled : Spells z (h.first + (w - 5)) 5 (field (w - 5) 5 v)
+module _ (w : ℕ) (width : IsWidth w) (z : List ℕ) (h a : Bits) (v u : ℕ) (s : HasBits z h.first w v) (r : HasBits z a.first w u) where
+  op_spelled : HasBits z (h.first + (w - 5)) 5 (field (w - 5) 5 v)
   op_spelled = field_spelled z w h.first (w - 5) 5 0 v (omega arith) s
 
-  dest_spelled : Spells z (h.first + (w - 10)) 4 (field (w - 10) 4 v)
+  dest_spelled : HasBits z (h.first + (w - 10)) 4 (field (w - 10) 4 v)
   dest_spelled = field_spelled z w h.first (w - 10) 4 6 v (omega arith) s
 
-  source_spelled : Spells z (h.first + (w - 14)) 4 (field (w - 14) 4 v)
+  source_spelled : HasBits z (h.first + (w - 14)) 4 (field (w - 14) 4 v)
   source_spelled = field_spelled z w h.first (w - 14) 4 10 v (omega arith) s
 
-  reg_spelled : Spells z (a.first + 0) 4 (u % 16)
+  reg_spelled : HasBits z (a.first + 0) 4 (u % 16)
   reg_spelled =
       let same : a.first ≡ a.first + 0 = omega arith in
       let size : w ≡ 4 + (w - 4) = omega arith in
-      subst (λ k. Spells z k 4 (u % 16)) same (Spells-low z a.first 4 (w - 4) u (subst (λ n. Spells z a.first n u) size r))
+      subst (λ k. HasBits z k 4 (u % 16)) same (HasBits-low z a.first 4 (w - 4) u (subst (λ n. HasBits z a.first n u) size r))
 
   imm_bit : slice_index z (h.first + (w - 6)) ≡ (if field (w - 6) 1 v == 1 then 1 else 0)
-  imm_bit = let b = Spells-bit_at s (w - 6) (omega arith) in b ∙ by_parity (v / 2 ^ (w - 6) % 2) (omega arith)
+  imm_bit = let b = HasBits-bit_at s (w - 6) (omega arith) in b ∙ by_parity (v / 2 ^ (w - 6) % 2) (omega arith)
     where
       by_parity : (n : ℕ) → n < 2 → n ≡ (if n == 1 then 1 else 0)
       by_parity n small = elim (bit_cases n small) [ inl none ↦ rw none refl | inr one ↦ rw one refl ]

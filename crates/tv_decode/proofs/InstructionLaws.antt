@@ -10,11 +10,11 @@ use Rattle.tv_bits.proofs.BitLaws.{bit_cases}
 use Rattle.tv_bits.proofs.NewBitsLaws.{bits_spell, bits_met}
 use Rattle.tv_bits.proofs.OneHotLaws.{value-onehot, one_at-same, one_at-other}
 use Rattle.tv_bits.proofs.SizeLaws.{bits_in_field, length-bits}
-use Rattle.tv_bits.proofs.SpelledNumbers.{Spells-low, Spells-bit_at, Spells-below, Spells-from_values, value-bits_below}
-use Rattle.tv_bits.proofs.SpellingLaws.{new_bits_next, new_bits_complete}
+use Rattle.tv_bits.proofs.BitNumbers.{HasBits-low, HasBits-bit_at, HasBits-below, HasBits-from_values, value-bits_below}
+use Rattle.tv_bits.proofs.BitsLaws.{new_bits_next, new_bits_complete}
 use Rattle.tv_bits.proofs.TimesLaws.{kept_sound, kept_complete, kept_answer, kept_next}
 use Rattle.tv_bits.specs.Bit.{IsBit, bit_of}
-use Rattle.tv_bits.specs.Bits.{Spells, spelled, bits_combination, bits_values, new_bit, new_bits_of}
+use Rattle.tv_bits.specs.Bits.{HasBits, binary_value, bits_combination, bits_values, new_bit, new_bits_of}
 use Rattle.tv_bits.specs.OneHot.{IsOneHot, row_sum, one_at}
 use Rattle.tv_bits.specs.Times.{kept_of, times_of}
 use Rattle.tv_core.proofs.BelowLaws.{sum_below-zero, sum_below-suc, sum_below-add, sum_below-same, sum_below-single, sum_below-zeros, value-weighted}
@@ -165,7 +165,7 @@ opcode_wire z first op k is u = elim (cases_eq k op) [
 zero_both : (a b : ℕ) → 0 * a * b ≡ 0
 zero_both a b = ap (λ n. n * b) (zero-mul a) ∙ zero-mul b
 
-module _ (z : List ℕ) (w : ℕ) (width : IsWidth w) (low op v p : ℕ) (s : Spells z low (w - 5) v) (row : IsOneHot z op 29 p) where
+module _ (z : List ℕ) (w : ℕ) (width : IsWidth w) (low op v p : ℕ) (s : HasBits z low (w - 5) v) (row : IsOneHot z op 29 p) where
   weight_small : opcode_weight w p < P
   weight_small = let h = at_below p row.within in grind arith
 
@@ -197,7 +197,7 @@ module _ (z : List ℕ) (w : ℕ) (width : IsWidth w) (low op v p : ℕ) (s : Sp
   value-head =
       let number = value-bits_below s short in
       let weights = value-weighted (op + 1) 28 (λ j. opcode_weight w (j + 1)) z ∙ ap (λ n. n % P) sum_weights in
-      let below = Spells-below s in
+      let below = HasBits-below s in
       let op_below = at_below p row.within in
       let fits : v + opcode_weight w p < 2 ^ w = whole_below w width v (opcode_at p) below op_below in
       let word : 2 ^ w < P = grind arith in
@@ -208,35 +208,35 @@ module _ (z : List ℕ) (w : ℕ) (width : IsWidth w) (low op v p : ℕ) (s : Sp
       joined a b h = omega arith
 
 -- ---- what two words and their row say of the wires
-reg_spelled : (z : List ℕ) (w : ℕ) → IsWidth w → (first a : ℕ) → Spells z first w a → Spells z (first + 0) 4 (a % 16)
+reg_spelled : (z : List ℕ) (w : ℕ) → IsWidth w → (first a : ℕ) → HasBits z first w a → HasBits z (first + 0) 4 (a % 16)
 reg_spelled z w width first a r =
     let same : first ≡ first + 0 = omega arith in
     let size : w ≡ 4 + (w - 4) = omega arith in
-    subst (λ k. Spells z k 4 (a % 16)) same (Spells-low z first 4 (w - 4) a (subst (λ n. Spells z first n a) size r))
+    subst (λ k. HasBits z k 4 (a % 16)) same (HasBits-low z first 4 (w - 4) a (subst (λ n. HasBits z first n a) size r))
 
 by_parity : (n : ℕ) → n < 2 → n ≡ (if n == 1 then 1 else 0)
 by_parity n small = elim (bit_cases n small) [ inl none ↦ rw none refl | inr one ↦ rw one refl ]
 
-module _ (z : List ℕ) (w : ℕ) (width : IsWidth w) (made : InstructionWires) (v p a : ℕ) (low : Spells z made.low.first (w - 5) v)
-    (row : IsOneHot z made.op 29 p) (second : Spells z made.second.first w a) where
+module _ (z : List ℕ) (w : ℕ) (width : IsWidth w) (made : InstructionWires) (v p a : ℕ) (low : HasBits z made.low.first (w - 5) v)
+    (row : IsOneHot z made.op 29 p) (second : HasBits z made.second.first w a) where
   abbrev h : ℕ
   h = v + opcode_weight w p
 
   decoded : slice_index z made.head ≡ h → slice_index z made.tail ≡ a → IsDecoded z w made h a
   decoded head tail =
-      let below = Spells-below low in
+      let below = HasBits-below low in
       let k = opcode_at p in
       let op_below = at_below p row.within in
       let op = whole_op w width v k below op_below in
       let used : is_used k ≡ true = at_used p row.within in
       let row_at : IsOneHot z made.op 29 (place k) = subst (IsOneHot z made.op 29) (sym (place_at p row.within)) row in
-      let bit = Spells-bit_at low (w - 6) (omega arith) in
+      let bit = HasBits-bit_at low (w - 6) (omega arith) in
       let imm_small : field (w - 6) 1 h < 2 = omega arith in
       let dest = value-bits_below (field_spelled z (w - 5) made.low.first (w - 10) 4 1 v (omega arith) low) (omega arith) in
       let source = value-bits_below (field_spelled z (w - 5) made.low.first (w - 14) 4 5 v (omega arith) low) (omega arith) in
       record {
         head_word = whole_below w width v k below op_below;
-        tail_word = Spells-below second;
+        tail_word = HasBits-below second;
         head = head;
         tail = tail;
         opcode = subst (IsOpcodeRow z made.op) (sym op) (record { used = used; row = row_at });
@@ -266,10 +266,10 @@ instruction_sound w width z next assigns meets =
     let m4 = Meets-split z (kept_of (head_of w next low.next) head_at).list _ m3.1.1 in
     let tail_at = (kept_of (head_of w next low.next) head_at).next in
     let m5 = Meets-split z (kept_of (bits_combination row.next w) tail_at).list _ m4.1 in
-    let v = spelled z next (w - 5) in
-    let a = spelled z row.next w in
-    let low_spells : Spells z next (w - 5) v = bits_spell z (w - 5) next assigns m1.0 in
-    let second_spells : Spells z row.next w a = bits_spell z w row.next assigns m3.0 in
+    let v = binary_value z next (w - 5) in
+    let a = binary_value z row.next w in
+    let low_spells : HasBits z next (w - 5) v = bits_spell z (w - 5) next assigns m1.0 in
+    let second_spells : HasBits z row.next w a = bits_spell z w row.next assigns m3.0 in
     let row_bits = (bits_spell z 29 low.next assigns m2.0).bits in
     let product = ap (λ n. value (row_sum low.next 29) z * n % P) (sym (value-constant assigns 1)) ∙ ones ∙ value-constant assigns 1 in
     let one = row_of z low.next assigns row_bits (one_times (value (row_sum low.next 29) z) sum product) in
@@ -314,8 +314,8 @@ instruction_met w width z next head tail assigns head_word tail_word used has =
           ∙ one_at-other p i apart;
     } in
     let v_below : v < 2 ^ (w - 5) = mod-lt head (pow_pos (w - 5)) in
-    let low_spells = Spells-from_values z next (w - 5) v v_below h1.0 in
-    let second_spells = Spells-from_values z row.next w tail tail_word h3.0 in
+    let low_spells = HasBits-from_values z next (w - 5) v v_below h1.0 in
+    let second_spells = HasBits-from_values z row.next w tail tail_word h3.0 in
     let m1 = new_bits_complete z next (w - 5) v assigns h1.0 in
     let m2 = bits_met z 29 low.next assigns (λ i h. subst IsBit (sym (each i h)) (one_at-bit p i)) in
     let m3 = new_bits_complete z row.next w tail assigns h3.0 in

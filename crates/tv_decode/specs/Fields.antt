@@ -1,6 +1,6 @@
 -- The fields of an instruction, as one-hot rows and a bit.
 use Rattle.std.specs.Prelude.{◌≡◌, ℕ, ◌+◌, ◌-◌, ◌%◌, if◌then◌else◌, List, ◌++◌, slice_index}
-use Rattle.tv_bits.specs.Bits.{Spells, part}
+use Rattle.tv_bits.specs.Bits.{HasBits, part}
 use Rattle.tv_bits.specs.OneHot.{IsOneHot, onehot_of, onehot_values}
 use Rattle.tv_bits.specs.declared.bit_wires.Bits.{Bits}
 use Rattle.tv_core.specs.Circuits.{Circuit, pure, ◌>>=◌}
@@ -38,12 +38,12 @@ pub record AreFields (z : List ℕ) (fields : Fields) (i : Instr) : Type 0 where
 
 -- in an assignment that satisfies the constraints the result is the fields of the two words' instruction
 abbrev pub FieldsAreSound : Type 0
-FieldsAreSound = (w : ℕ) → IsWidth w → (z : List ℕ) (next : ℕ) (h a : Bits) (v u : ℕ) → Assigns z → Spells z h.first w v → Spells z a.first w u
+FieldsAreSound = (w : ℕ) → IsWidth w → (z : List ℕ) (next : ℕ) (h a : Bits) (v u : ℕ) → Assigns z → HasBits z h.first w v → HasBits z a.first w u
     → Meets z (fields_of w h a next).list → AreFields z (fields_of w h a next).answer (decode w v u)
 
 -- an assignment that has these values at the wires that were made satisfies the constraints
 abbrev pub FieldsAreComplete : Type 0
-FieldsAreComplete = (w : ℕ) → IsWidth w → (z : List ℕ) (next : ℕ) (h a : Bits) (v u : ℕ) → Assigns z → Spells z h.first w v → Spells z a.first w u
+FieldsAreComplete = (w : ℕ) → IsWidth w → (z : List ℕ) (next : ℕ) (h a : Bits) (v u : ℕ) → Assigns z → HasBits z h.first w v → HasBits z a.first w u
     → HasFrom z next (fields_values (decode w v u)) → Meets z (fields_of w h a next).list
 
 -- what the circuit returns and where it ends; it has one value for each wire that it makes, all in the field

@@ -1,6 +1,6 @@
 -- The two words of an instruction, with a one-hot row of the used opcodes in place of the opcode's bits.
 use Rattle.std.specs.Prelude.{◌≡◌, ℕ, ◌+◌, ◌-◌, ◌*◌, ◌%◌, ◌^◌, ◌<◌, ◌==◌, true, nat_lt, if◌then◌else◌, List, [], ◌∷◌, ◌++◌, length, slice_index}
-use Rattle.tv_bits.specs.Bits.{Spells, part, bits_combination, bits_values, new_bits_of}
+use Rattle.tv_bits.specs.Bits.{HasBits, part, bits_combination, bits_values, new_bits_of}
 use Rattle.tv_bits.specs.OneHot.{IsOneHot, row_sum, one_at}
 use Rattle.tv_bits.specs.Times.{kept_of}
 use Rattle.tv_bits.specs.declared.bit_wires.Bits.{Bits}
@@ -101,7 +101,7 @@ pub record IsDecoded (z : List ℕ) (w : ℕ) (made : InstructionWires) (h a : �
   pub dest : value (number_of (dest_bits w made)) z ≡ (decode w h a).dest
   pub source : value (number_of (source_bits w made)) z ≡ (decode w h a).source
   pub register : value (number_of (register_bits made)) z ≡ a % 16
-  pub second : Spells z made.second.first w a
+  pub second : HasBits z made.second.first w a
 
 -- in an assignment that satisfies the constraints the wires hold two words and their instruction
 abbrev pub InstructionIsSound : Type 0

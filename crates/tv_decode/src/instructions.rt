@@ -8,7 +8,7 @@ ghost use Rattle.tv_bits.specs.OneHot.{row_sum};
 ghost use Rattle.tv_core.specs.Below.{weighted};
 ghost use Rattle.tv_core.specs.Circuits.{put};
 ghost use Rattle.tv_core.specs.Combinations.{constant, top};
-ghost use Rattle.tv_core.specs.Giving.{GivesIn};
+ghost use Rattle.tv_core.specs.Values.{GivesIn};
 ghost use Rattle.tv_core.specs.Sinks.{PutsIn, Grows, Room};
 ghost use Rattle.tv_decode.specs.Instructions.{place, opcode_at, opcode_weight, head_of};
 ghost use Rattle.tv_decode.specs.Instructions.{opcode_values, instruction_of};
@@ -46,10 +46,10 @@ pub fn instruction<const W: u32, S: Sink>(s: &mut S, scratch: &mut Scratch) -> P
     let row = new_bits_by(s, &mut scratch.a, OPCODES)?;
     let second = new_bits_by(s, &mut scratch.a, W)?;
     one_opcode(s, scratch, row.first)?;
-    low.fill(&mut scratch.a);
+    low.set_number(&mut scratch.a);
     plus_opcodes::<W>(&mut scratch.a, row.first);
     let head = kept_by(s, &mut scratch.b, &mut scratch.c, &scratch.a)?;
-    second.fill(&mut scratch.a);
+    second.set_number(&mut scratch.a);
     let tail = kept_by(s, &mut scratch.b, &mut scratch.c, &scratch.a)?;
     Ok(InstructionWires {
         low,

@@ -3,11 +3,11 @@
 //! returns and how many wires it makes stand in `FieldsSizes`.
 #![tactic(auto)]
 
-mod decoding;
+mod decoder;
 mod instructions;
 mod records;
 
-pub use decoding::{fields, fields_are_complete, fields_are_sound, fields_fill, fill_fields};
+pub use decoder::{fields, fields_are_complete, fields_are_sound, fields_fill, fill_fields};
 pub use instructions::{
     fill_instruction, instruction, instruction_costs, instruction_fills, instruction_is_complete,
     instruction_is_sound, opcode_wire_is_right,

@@ -15,7 +15,7 @@ use Rattle.tv_word.specs.Widths.{IsWidth}
 use Rattle.tv_word.specs.Word.{word_at}
 use Rattle.tv_asm.specs.Instruction.{operand_count}
 use Rattle.tv_disasm.specs.Disassembly.{disassembly_of, line_of, instruction_text, last_text, raw_text, register_text, row_text, tells_all, two_words_text}
-use Rattle.tv_disasm.specs.Law.{DisassemblyIsShort, DisassemblyOf32IsShorter}
+use Rattle.tv_disasm.specs.Laws.{DisassemblyIsShort, DisassemblyOf32IsShorter}
 use Rattle.tv_disasm.proofs.InstructionLemmas.{with_opcode-IsRow}
 use Rattle.tv_disasm.proofs.NumberLemmas.{IsHexadecimal-hexadecimal}
 use Rattle.tv_disasm.proofs.TextLemmas.{chunks-IsTwo, IsTwo, length-chunks, text_of}

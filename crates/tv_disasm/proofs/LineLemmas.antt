@@ -16,7 +16,7 @@ use Rattle.tv_asm.specs.Header.{is_good_header}
 use Rattle.tv_asm.specs.Line.{code_of, code_says, is_text}
 use Rattle.tv_asm.specs.Text.{is_blank, trimmed, trimmed_end}
 use Rattle.tv_word.proofs.DecimalLemmas.{all_weaker}
-use Rattle.tv_disasm.specs.Disassembly.{joined}
+use Rattle.tv_disasm.specs.Disassembly.{comma_separated}
 use Rattle.tv_disasm.proofs.WordLemmas.{is_word_byte, is_line_byte, IsWord, AreWords, apart, apart_from, none_passes, word-not_blank, line-is_text, word-line}
 use Rattle.tv_disasm.proofs.WordLemmas.{first-word}
 
@@ -86,19 +86,19 @@ spaced-no_comma text h =
 
 -- operands that are words are cut where they were joined
 operands-split : (operand : List ℕ) (more : List (List ℕ)) → AreWords (operand ∷ more)
-    → map trimmed (slice_split is_comma (32 ∷ joined (operand ∷ more))) ≡ operand ∷ more
+    → map trimmed (slice_split is_comma (32 ∷ comma_separated (operand ∷ more))) ≡ operand ∷ more
 operands-split operand [] h =
     rw (append-nil operand, slice_split_none is_comma (32 ∷ operand) (spaced-no_comma operand h.0.bytes))
     (ap (λ text. text ∷ []) (trimmed-space operand (first-word operand h.0) (is_ended-word operand h.0)))
 operands-split operand (next ∷ more) h =
-    ap (map trimmed) (slice_split_at is_comma (32 ∷ operand) 44 (32 ∷ joined (next ∷ more)) (spaced-no_comma operand h.0.bytes) refl)
-    ∙ ap (λ text. text ∷ map trimmed (slice_split is_comma (32 ∷ joined (next ∷ more))))
+    ap (map trimmed) (slice_split_at is_comma (32 ∷ operand) 44 (32 ∷ comma_separated (next ∷ more)) (spaced-no_comma operand h.0.bytes) refl)
+    ∙ ap (λ text. text ∷ map trimmed (slice_split is_comma (32 ∷ comma_separated (next ∷ more))))
     (trimmed-space operand (first-word operand h.0) (is_ended-word operand h.0))
     ∙ ap (λ texts. operand ∷ texts) (operands-split next more h.1)
 
 -- an instruction's name, and its operands
 abbrev pub spelled_line : List ℕ → List (List ℕ) → List ℕ
-spelled_line name operands = name ++ codes " " ++ joined operands
+spelled_line name operands = name ++ codes " " ++ comma_separated operands
 
 name-no_blank : (name : List ℕ) → IsWord name → list_any is_blank name ≡ false
 name-no_blank name h =
@@ -114,7 +114,7 @@ pub words_of-line : (w : ℕ) (address : List ℕ → Option ℕ) (name : List �
 unfolding words_of
 words_of-line w address name [] n h = absurd (omega (arith, h.some))
 words_of-line w address name (operand ∷ more) n h =
-    let rest = joined (operand ∷ more) in
+    let rest = comma_separated (operand ∷ more) in
     rw (
       append_assoc name (codes " ") rest,
       before_first-append_none is_blank name 32 rest (name-no_blank name n) refl,
@@ -123,18 +123,20 @@ words_of-line w address name (operand ∷ more) n h =
     ) refl
 
 -- a line is made of bytes of lines, and ends in a word
-pub joined-bytes : (operand : List ℕ) (more : List (List ℕ)) → AreWords (operand ∷ more) → list_all is_line_byte (joined (operand ∷ more)) ≡ true
-joined-bytes operand [] h =
+pub comma_separated-bytes : (operand : List ℕ) (more : List (List ℕ)) → AreWords (operand ∷ more)
+    → list_all is_line_byte (comma_separated (operand ∷ more)) ≡ true
+comma_separated-bytes operand [] h =
     rw (append-nil operand) (all_weaker is_word_byte is_line_byte word-line operand h.0.bytes)
-joined-bytes operand (next ∷ more) h =
+comma_separated-bytes operand (next ∷ more) h =
     let front = all_weaker is_word_byte is_line_byte word-line operand h.0.bytes in
-    list_all-append is_line_byte operand (44 ∷ 32 ∷ joined (next ∷ more))
-    ∙ and_from (list_all is_line_byte operand) (list_all is_line_byte (joined (next ∷ more))) front (joined-bytes next more h.1)
+    list_all-append is_line_byte operand (44 ∷ 32 ∷ comma_separated (next ∷ more))
+    ∙ and_from (list_all is_line_byte operand) (list_all is_line_byte (comma_separated (next ∷ more))) front (comma_separated-bytes next more h.1)
 
-pub joined-ended : (operand : List ℕ) (more : List (List ℕ)) → AreWords (operand ∷ more) → is_ended (joined (operand ∷ more)) ≡ true
-joined-ended operand [] h = rw (append-nil operand) (is_ended-word operand h.0)
-joined-ended operand (next ∷ more) h =
-    is_ended-append operand (44 ∷ 32 ∷ joined (next ∷ more)) (is_ended-append (44 ∷ 32 ∷ []) (joined (next ∷ more)) (joined-ended next more h.1))
+pub comma_separated-ended : (operand : List ℕ) (more : List (List ℕ)) → AreWords (operand ∷ more) → is_ended (comma_separated (operand ∷ more)) ≡ true
+comma_separated-ended operand [] h = rw (append-nil operand) (is_ended-word operand h.0)
+comma_separated-ended operand (next ∷ more) h =
+    is_ended-append operand (44 ∷ 32 ∷ comma_separated (next ∷ more)) (is_ended-append (44 ∷ 32 ∷ []) (comma_separated (next ∷ more))
+    (comma_separated-ended next more h.1))
 
 pub record IsLine (line : List ℕ) : Type 0 where
   pub first : is_word_byte (slice_index line 0) ≡ true
@@ -148,14 +150,14 @@ first-append (c ∷ cs) rest h = first-word (c ∷ cs) h
 pub spelled-IsLine : (name : List ℕ) (operands : List (List ℕ)) → IsWord name → AreOperands operands → IsLine (spelled_line name operands)
 spelled-IsLine name [] n h = absurd (omega (arith, h.some))
 spelled-IsLine name (operand ∷ more) n h =
-    let rest = joined (operand ∷ more) in
+    let rest = comma_separated (operand ∷ more) in
     let front = all_weaker is_word_byte is_line_byte word-line name n.bytes in
     let whole : IsLine (name ++ 32 ∷ rest) = record {
       first = first-append name (32 ∷ rest) n;
       bytes =
           list_all-append is_line_byte name (32 ∷ rest)
-          ∙ and_from (list_all is_line_byte name) (list_all is_line_byte rest) front (joined-bytes operand more h.words);
-      ended = is_ended-append name (32 ∷ rest) (is_ended-append (32 ∷ []) rest (joined-ended operand more h.words));
+          ∙ and_from (list_all is_line_byte name) (list_all is_line_byte rest) front (comma_separated-bytes operand more h.words);
+      ended = is_ended-append name (32 ∷ rest) (is_ended-append (32 ∷ []) rest (comma_separated-ended operand more h.words));
     } in
     rw (append_assoc name (codes " ") rest) whole
 

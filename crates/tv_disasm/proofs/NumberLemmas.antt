@@ -18,14 +18,14 @@ use Rattle.tv_disasm.specs.Disassembly.{hexadecimal, register_text}
 use Rattle.tv_disasm.proofs.WordLemmas.{is_word_byte, IsWord, apart_from}
 
 -- digits of a base that represent a number
-pub record Spells (base n : ℕ) (text : List ℕ) : Type 0 where
+pub record IsNumeral (base n : ℕ) (text : List ℕ) : Type 0 where
   pub some : 0 < length text
   pub digits : list_all (λ c. is_digit c base) text ≡ true
   pub value : positional base text ≡ n
 
 -- they are read as that number
-pub Spells-numeral : (base bound n : ℕ) (text : List ℕ) → Spells base n text → n < bound → numeral base bound text ≡ Some n
-Spells-numeral base bound n text h below =
+pub IsNumeral-numeral : (base bound n : ℕ) (text : List ℕ) → IsNumeral base n text → n < bound → numeral base bound text ≡ Some n
+IsNumeral-numeral base bound n text h below =
     rw (h.digits, h.value, lt-ltb 0 (length text) h.some, lt-ltb n bound below) refl
 
 decimal-word : (c : ℕ) → is_decimal_byte c ≡ true → is_word_byte c ≡ true
@@ -35,8 +35,8 @@ pub IsDecimal-IsWord : (n : ℕ) (text : List ℕ) → IsDecimal n text → IsWo
 IsDecimal-IsWord n text h =
     record { some = h.some; bytes = all_weaker is_decimal_byte is_word_byte decimal-word text h.bytes }
 
-pub IsDecimal-Spells : (n : ℕ) (text : List ℕ) → IsDecimal n text → Spells 10 n text
-IsDecimal-Spells n text h =
+pub IsDecimal-IsNumeral : (n : ℕ) (text : List ℕ) → IsDecimal n text → IsNumeral 10 n text
+IsDecimal-IsNumeral n text h =
     record { some = h.some; digits = IsDecimal-digits n text h; value = h.value }
 
 pub first-decimal : (n : ℕ) (text : List ℕ) → IsDecimal n text → is_decimal_byte (slice_index text 0) ≡ true
@@ -57,7 +57,7 @@ pub number-decimal : (w n : ℕ) → n < 2 ^ w → n < 2 ^ 64 → number w (deci
 unfolding number
 number-decimal w n below h =
     let d = IsDecimal-decimal n h in
-    rw (not_hexadecimal (decimal n) d.bytes, Spells-numeral 10 (2 ^ w) n (decimal n) (IsDecimal-Spells n (decimal n) d) below) refl
+    rw (not_hexadecimal (decimal n) d.bytes, IsNumeral-numeral 10 (2 ^ w) n (decimal n) (IsDecimal-IsNumeral n (decimal n) d) below) refl
 
 digit_char-digit : (d : ℕ) → d < 16 → is_digit (digit_char d) 16 ≡ true
 digit_char-digit d h = rw (digit_value-digit_char d (omega arith)) (lt-ltb d 16 h)
@@ -103,13 +103,13 @@ pub number-hexadecimal : (w : ℕ) → IsWidth w → (v : ℕ) → v < 2 ^ w →
 unfolding number
 number-hexadecimal w width v h =
     let x = IsHexadecimal-hexadecimal (w / 4) v in
-    let spells : Spells 16 v (hexadecimal (w / 4) v) = record {
+    let spells : IsNumeral 16 v (hexadecimal (w / 4) v) = record {
       some = omega (arith, x.count, width);
       digits = x.digits;
       value = x.value
           ∙ all_digits w width v h;
     } in
-    rw (Spells-numeral 16 (2 ^ w) v (hexadecimal (w / 4) v) spells h) refl
+    rw (IsNumeral-numeral 16 (2 ^ w) v (hexadecimal (w / 4) v) spells h) refl
 
 -- a word is below 2 ^ 64
 abbrev IsWide : ℕ → Type 0
@@ -134,8 +134,8 @@ pub register-register_text : (n : ℕ) → n < 16 → register (register_text n)
 unfolding register
 register-register_text n h =
     let wide : n < 2 ^ 64 = omega arith in
-    let spells = IsDecimal-Spells n (decimal n) (IsDecimal-decimal n wide) in
-    rw (no_leading_zero n wide, Spells-numeral 10 16 n (decimal n) spells h) refl
+    let spells = IsDecimal-IsNumeral n (decimal n) (IsDecimal-decimal n wide) in
+    rw (no_leading_zero n wide, IsNumeral-numeral 10 16 n (decimal n) spells h) refl
 
 pub register-word : (n : ℕ) → n < 2 ^ 64 → IsWord (register_text n)
 register-word n h =

@@ -9,17 +9,17 @@ use Rattle.std.proofs.lemmas.List.Splits.{length-slice_split, slice_split_at}
 use Rattle.std.specs.List.{All, AllByRecursion, flat_map, slice_split}
 use Rattle.std.specs.Simd.{first_chunks}
 use Rattle.std.specs.Str.Lines.{strip_carriage_return}
-use Rattle.tv_asm.proofs.TextLemmas.{lines-nil, lines_of-cons}
+use Rattle.tv_asm.proofs.TextLemmas.{lines-nil, text_lines-cons}
 use Rattle.tv_asm.specs.Assembly.{Context, assembled, context_after, image_of, line_words, with_line}
 use Rattle.tv_asm.specs.Header.{is_good_header, is_header_of_16, width_of}
 use Rattle.tv_asm.specs.Labels.{address, is_defined}
 use Rattle.tv_asm.specs.Line.{code_says}
-use Rattle.tv_asm.specs.Text.{lines, lines_of, trimmed}
+use Rattle.tv_asm.specs.Text.{lines, text_lines, trimmed}
 use Rattle.tv_word.proofs.WidthLaws.{for_widths, word_bits}
 use Rattle.tv_word.specs.Widths.{IsWidth}
-use Rattle.tv_word.specs.Word.{low_bytes, spelled, word_at}
+use Rattle.tv_word.specs.Word.{low_bytes, little_endian, word_at}
 use Rattle.tv_disasm.specs.Disassembly.{disassembly_of, header_of, two_words_text}
-use Rattle.tv_disasm.specs.Law.{DisassemblyAssembles, DisassemblyTellsWidth, WordsSpellImage}
+use Rattle.tv_disasm.specs.Laws.{DisassemblyAssembles, DisassemblyTellsWidth, WordsSpellImage}
 use Rattle.tv_disasm.proofs.InstructionLemmas.{IsLineOf, two_words-IsLineOf}
 use Rattle.tv_disasm.proofs.LineLemmas.{IsLine, last-word, line_words-line}
 use Rattle.tv_disasm.proofs.WordLemmas.{apart, apart_from, is_line_byte, is_word_byte, none_passes}
@@ -37,9 +37,9 @@ unfolding lines
 lines-cons line rest whole same =
     let pieces = slice_split is_line_feed rest in
     let some : 0 < length pieces = omega (arith, length-slice_split is_line_feed rest) in
-    ap lines_of (slice_split_at is_line_feed line 10 rest whole refl)
-    ∙ lines_of-cons line pieces some
-    ∙ ap (λ l. l ∷ lines_of pieces) same
+    ap text_lines (slice_split_at is_line_feed line 10 rest whole refl)
+    ∙ text_lines-cons line pieces some
+    ∙ ap (λ l. l ∷ text_lines pieces) same
 
 lines-line : (line rest : List ℕ) → IsLine line → lines (line ++ 10 ∷ rest) ≡ line ∷ lines rest
 lines-line line rest h =
@@ -91,12 +91,12 @@ image_of-texts w width most all before words (two ∷ more) h room =
     ∙ ap (λ l. Ok l) (append_assoc words (two_words w two) (flat_map (two_words w) more)))
 
 -- n bytes represent a number below 256 ^ n
-spelled-below : (n : ℕ) (bytes : List ℕ) → All (λ b. b < 256) bytes → spelled (take n bytes) < 256 ^ n
-spelled-below zero bytes h = one-le-pow zero 256 (omega arith)
-spelled-below (suc n) [] h = one-le-pow (suc n) 256 (omega arith)
-spelled-below (suc n) (b ∷ bs) h =
+little_endian-below : (n : ℕ) (bytes : List ℕ) → All (λ b. b < 256) bytes → little_endian (take n bytes) < 256 ^ n
+little_endian-below zero bytes h = one-le-pow zero 256 (omega arith)
+little_endian-below (suc n) [] h = one-le-pow (suc n) 256 (omega arith)
+little_endian-below (suc n) (b ∷ bs) h =
     let byte = All-head (λ c. c < 256) b bs h in
-    let more = spelled-below n bs (All-tail (λ c. c < 256) b bs h) in
+    let more = little_endian-below n bs (All-tail (λ c. c < 256) b bs h) in
     rw (pow-succ' 256 n) (omega arith)
 
 take-IsTwo : (w : ℕ) → IsWidth w → (bytes : List ℕ) → All (λ b. b < 256) bytes → IsTwo w (take (w / 4) bytes)
@@ -104,8 +104,8 @@ take-IsTwo w width bytes h =
     let two = All-take (λ b. b < 256) (w / 4) bytes h in
     let behind = All-drop (λ b. b < 256) (w / 8) (take (w / 4) bytes) two in
     record {
-      first = rw (word_bits w width) at (spelled-below (w / 8) (take (w / 4) bytes) two);
-      second = rw (word_bits w width) at (spelled-below (w / 8) (drop (w / 8) (take (w / 4) bytes)) behind);
+      first = rw (word_bits w width) at (little_endian-below (w / 8) (take (w / 4) bytes) two);
+      second = rw (word_bits w width) at (little_endian-below (w / 8) (drop (w / 8) (take (w / 4) bytes)) behind);
     }
 
 pub chunks-IsTwo : (w : ℕ) → IsWidth w → (k : ℕ) (bytes : List ℕ) → All (λ b. b < 256) bytes → AllByRecursion (IsTwo w) (first_chunks (w / 4) k bytes)
@@ -131,7 +131,7 @@ halves = for_widths (λ w. w / 8 + w / 8 ≡ w / 4) refl refl
 
 -- the words of each two words' bytes are the words of all bytes
 chunks-words : (w : ℕ) → IsWidth w → (k : ℕ) (bytes : List ℕ)
-    → flat_map (two_words w) (first_chunks (w / 4) k bytes) ≡ map spelled (first_chunks (w / 8) (twice k) bytes)
+    → flat_map (two_words w) (first_chunks (w / 4) k bytes) ≡ map little_endian (first_chunks (w / 8) (twice k) bytes)
 unfolding twice
 chunks-words w width zero bytes = refl
 chunks-words w width (suc k) bytes =
@@ -209,7 +209,7 @@ text_assembles w width image most bytes whole within =
     let room : 0 + 2 * length pairs ≤ most = rw (length-chunks (w / 4) k image) numbers.0 in
     let count : twice k ≡ length image / (w / 8) = twice-is k ∙ numbers.1 in
     for_widths Assembles assembles_16 assembles_32 w width most pairs are room
-    ∙ ap (λ l. Ok l) (chunks-words w width k image ∙ ap (λ n. map spelled (first_chunks (w / 8) n image)) count)
+    ∙ ap (λ l. Ok l) (chunks-words w width k image ∙ ap (λ n. map little_endian (first_chunks (w / 8) n image)) count)
 
 -- a text of lines of two words each determines the width
 abbrev Tells : ℕ → Type 0
@@ -243,23 +243,23 @@ text_tells w width image bytes =
     for_widths Tells tells_16 tells_32 w width (first_chunks (w / 4) k image) (chunks-IsTwo w width k image bytes)
 
 -- bytes are the lowest bytes of the number that they represent
-low_bytes-spelled : (n : ℕ) (bytes : List ℕ) → All (λ b. b < 256) bytes → n ≤ length bytes → low_bytes n (spelled (take n bytes)) ≡ take n bytes
-low_bytes-spelled zero bytes h fits = refl
-low_bytes-spelled (suc n) [] h fits = absurd (omega arith)
-low_bytes-spelled (suc n) (b ∷ bs) h fits =
+low_bytes-little_endian : (n : ℕ) (bytes : List ℕ) → All (λ b. b < 256) bytes → n ≤ length bytes → low_bytes n (little_endian (take n bytes)) ≡ take n bytes
+low_bytes-little_endian zero bytes h fits = refl
+low_bytes-little_endian (suc n) [] h fits = absurd (omega arith)
+low_bytes-little_endian (suc n) (b ∷ bs) h fits =
     let byte = All-head (λ c. c < 256) b bs h in
-    let low : (b + 256 * spelled (take n bs)) % 256 ≡ b = omega arith in
-    let high : (b + 256 * spelled (take n bs)) / 256 ≡ spelled (take n bs) = omega arith in
+    let low : (b + 256 * little_endian (take n bs)) % 256 ≡ b = omega arith in
+    let high : (b + 256 * little_endian (take n bs)) / 256 ≡ little_endian (take n bs) = omega arith in
     rw (low, high)
-    (ap (λ l. b ∷ l) (low_bytes-spelled n bs (All-tail (λ c. c < 256) b bs h) (omega arith)))
+    (ap (λ l. b ∷ l) (low_bytes-little_endian n bs (All-tail (λ c. c < 256) b bs h) (omega arith)))
 
 chunks-bytes : (n k : ℕ) (bytes : List ℕ) → All (λ b. b < 256) bytes → length bytes ≡ k * n
-    → flat_map (low_bytes n) (map spelled (first_chunks n k bytes)) ≡ bytes
+    → flat_map (low_bytes n) (map little_endian (first_chunks n k bytes)) ≡ bytes
 chunks-bytes n zero bytes h l = sym (nil_from_length bytes (l ∙ zero-mul n))
 chunks-bytes n (suc k) bytes h l =
     let more : length bytes ≡ k * n + n = l ∙ suc-mul k n in
     let rest : length (drop n bytes) ≡ k * n = omega (arith, length-drop n bytes) in
-    ap (λ front. front ++ flat_map (low_bytes n) (map spelled (first_chunks n k (drop n bytes)))) (low_bytes-spelled n bytes h (omega arith))
+    ap (λ front. front ++ flat_map (low_bytes n) (map little_endian (first_chunks n k (drop n bytes)))) (low_bytes-little_endian n bytes h (omega arith))
     ∙ ap (λ back. take n bytes ++ back) (chunks-bytes n k (drop n bytes) (All-drop (λ b. b < 256) n bytes h) rest)
     ∙ take-append-drop n bytes
 

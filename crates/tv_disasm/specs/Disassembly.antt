@@ -28,12 +28,12 @@ operand_texts ADest i = last_text i ∷ register_text i.dest ∷ []
 operand_texts Unused i = []
 
 -- operands with a comma and a space between each two
-abbrev pub joined : List (List ℕ) → List ℕ
-joined operands = join_by (λ operand. operand) (codes ", ") operands
+abbrev pub comma_separated : List (List ℕ) → List ℕ
+comma_separated operands = join_by (λ operand. operand) (codes ", ") operands
 
 -- an instruction by its name
 abbrev pub instruction_text : List ℕ → Shape → Instr → List ℕ
-instruction_text name shape i = name ++ codes " " ++ joined (operand_texts shape i)
+instruction_text name shape i = name ++ codes " " ++ comma_separated (operand_texts shape i)
 
 -- the n lowest hexadecimal digits of a number, the highest first
 unfoldable pub hexadecimal : ℕ → ℕ → List ℕ

@@ -1,4 +1,4 @@
 pub mod Disassembly
-pub mod Law
+pub mod Laws
 pub use Rattle.tv_asm.specs.Assembly
 pub use Rattle.tv_word.specs.Word

@@ -8,12 +8,12 @@
 
 mod disassembler;
 mod fault;
-mod law;
+mod laws;
 mod line;
 mod operands;
 
 pub use disassembler::disassemble;
 pub use fault::DisFault;
-pub use law::{
+pub use laws::{
     disassembly_assembles, disassembly_is_short, disassembly_tells_its_width, words_spell_the_image,
 };

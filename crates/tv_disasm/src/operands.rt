@@ -1,6 +1,7 @@
 //! The operands of an instruction, as its line has them.
 ghost use Rattle.std.specs.Prelude.{◌≡◌, ◌++◌, OnOk, codes, decimal};
-ghost use Rattle.tv_disasm.specs.Disassembly.{joined, last_text, operand_texts, register_text};
+ghost use Rattle.tv_disasm.specs.Disassembly.{comma_separated, last_text};
+ghost use Rattle.tv_disasm.specs.Disassembly.{operand_texts, register_text};
 
 use itoa::Buffer;
 use std::alloc::AllocError;
@@ -13,7 +14,7 @@ pub(crate) fn push_operands(
     instr: &Instr,
 ) -> Result<(), AllocError>
     ensures { OnOk result (text.new.items ≡ text.old.items
-        ++ joined (operand_texts shape instr.now)) }
+        ++ comma_separated (operand_texts shape instr.now)) }
 {
     let dest = u32::from(instr.dest);
     let source = u32::from(instr.source);

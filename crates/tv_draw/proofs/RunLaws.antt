@@ -12,9 +12,10 @@ use Rattle.tv_core.proofs.BelowLaws.{length-each_below}
 use Rattle.tv_core.proofs.JoinedLaws.{joined_below-zero, joined_below-suc, length-joined_below}
 use Rattle.tv_core.specs.Below.{each_below, joined_below}
 use Rattle.tv_draw.proofs.DrawLaws.{state_then, words_then}
-use Rattle.tv_draw.specs.Drawing.{op_in, imm_in, whole_a, dest_if, source_if, instr_in, last_instr, state_at, word_at, words_drawn, image_drawn, tape_drawn}
-use Rattle.tv_draw.specs.Drawing.{aux_drawn, IsDrawn}
-use Rattle.tv_draw.specs.Drawing as drawing
+use Rattle.tv_draw.specs.Program.{op_in, imm_in, whole_a, dest_if, source_if, instr_in}
+use Rattle.tv_draw.specs.Program.{last_instr, generator_state, word_at, words_drawn, image_drawn, tape_drawn}
+use Rattle.tv_draw.specs.Program.{aux_drawn, IsDrawn}
+use Rattle.tv_draw.specs.Program as drawing
 use Rattle.tv_isa.specs.Instruction.{field, decode, encode}
 use Rattle.tv_isa.specs.Table.{shape_of}
 use Rattle.tv_isa.specs.declared.operation.Shape.{Shape}
@@ -27,7 +28,7 @@ use Rattle.tv_step.specs.Cells.{is_store}
 use Rattle.tv_step.specs.Machine.{next, fetched, executed, operand, reg, start}
 use Rattle.tv_step.specs.Ops.{op_of}
 use Rattle.tv_step.specs.Range.{AreWords}
-use Rattle.tv_step.specs.Rows.{row, behind, takes, moves, goes_on}
+use Rattle.tv_step.specs.Rows.{row, following, takes, moves, goes_on}
 use Rattle.tv_step.specs.State.{State, Next}
 use Rattle.tv_step.specs.declared.op.Op.{Op}
 use Rattle.tv_step.specs.declared.op.Op.TheVariants as ops
@@ -48,7 +49,7 @@ stays _ = true
 
 -- the next instruction in memory comes, and the first 2^16 bytes are as they were
 abbrev Follows : State → Next → Type 0
-Follows st (Next.Gone after) = (after.pc ≡ behind 32 st) × ((j : ℕ) → j < 16384 → word_in 32 after.memory j ≡ word_in 32 st.memory j)
+Follows st (Next.Gone after) = (after.pc ≡ following 32 st) × ((j : ℕ) → j < 16384 → word_in 32 after.memory j ≡ word_in 32 st.memory j)
 Follows st (Next.Answered v) = ⊥
 Follows st (Next.Undefined op) = ⊥
 
@@ -283,12 +284,13 @@ module _ (seed : ℕ) where
           }
 
 -- what is drawn from a seed, one after another, is such a program
-pub drawn_from : (seed rng mid k : ℕ) (image tape aux : List ℕ) → k ≤ 8191 → rng ≡ state_at seed k → mid ≡ state_at rng 2 → image ≡ image_drawn seed k
+pub drawn_from : (seed rng mid k : ℕ) (image tape aux : List ℕ) → k ≤ 8191 → rng ≡ generator_state seed k → mid ≡ generator_state rng 2
+    → image ≡ image_drawn seed k
     → tape ≡ words_drawn rng 0 2 → aux ≡ words_drawn mid 0 8 → IsDrawn k image tape aux
 drawn_from seed rng mid k image tape aux few is_rng is_mid is_image is_tape is_aux =
     let none : k + 0 ≡ k = omega arith in
     let more : k + 2 + 0 ≡ k + 2 = omega arith in
     let tape_is : tape ≡ tape_drawn seed k = is_tape ∙ ap (λ s. words_drawn s 0 2) is_rng ∙ words_then seed k 0 2 ∙ ap (λ i. words_drawn seed i 2) none in
-    let mid_is : mid ≡ state_at seed (k + 2) = is_mid ∙ ap (λ s. state_at s 2) is_rng ∙ state_then seed k 2 in
+    let mid_is : mid ≡ generator_state seed (k + 2) = is_mid ∙ ap (λ s. generator_state s 2) is_rng ∙ state_then seed k 2 in
     let aux_is : aux ≡ aux_drawn seed k = is_aux ∙ ap (λ s. words_drawn s 0 8) mid_is ∙ words_then seed (k + 2) 0 8 ∙ ap (λ i. words_drawn seed i 8) more in
     rw (is_image, tape_is, aux_is) (drawn_is seed k few)

@@ -1,6 +1,6 @@
 //! The instruction of a drawn word.
 ghost use Rattle.std.specs.Prelude.{◌≡◌, ◌<◌};
-ghost use Rattle.tv_draw.specs.Drawing.{op_in, imm_in, whole_a, instr_in, dest_if, source_if};
+ghost use Rattle.tv_draw.specs.Program.{op_in, imm_in, whole_a, instr_in, dest_if, source_if};
 ghost use Rattle.tv_isa.specs.Instruction.{IsInstruction};
 
 use tv_isa::opcode::{JMP, READ, STORE_B, STORE_W};

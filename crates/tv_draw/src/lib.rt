@@ -2,7 +2,7 @@
 //! instructions, none of which jumps, and then `answer 0`, so it answers 0 at its last instruction.
 #![tactic(auto)]
 
-mod drawing;
 mod instruction;
+mod program;
 
-pub use drawing::{Drawn, draw};
+pub use program::{Drawn, draw};

@@ -21,7 +21,7 @@ use Rattle.tv_layout.proofs.Systems.{system_sound}
 use Rattle.tv_layout.specs.Layout.{taken_wires, taken_of}
 use Rattle.tv_layout.specs.Places.{WithinLimits, tape_at}
 use Rattle.tv_layout.specs.Systems.{system_of}
-use Rattle.tv_extract.specs.Extracting.{◌>>=◌, word_at, words_at, answering, run_in}
+use Rattle.tv_extract.specs.Extraction.{◌>>=◌, word_at, words_at, answering, run_in}
 use Rattle.tv_extract.specs.Runs.{IsRunOf, ExtractedIsRun, HasRunIn, SatisfyingHaveRuns}
 use Rattle.tv_extract.specs.declared.run.NotRun.{NotRun}
 use Rattle.tv_extract.specs.declared.run.Run.{Run}

@@ -10,7 +10,7 @@ use Rattle.tv_core.specs.Below.{joined_below}
 use Rattle.tv_layout.specs.Layout.{block_at, taken_wire, taken_wires}
 use Rattle.tv_layout.specs.Places.{boot_count, zero_wires_at, first_at}
 use Rattle.tv_extract.proofs.WordLaws.{words_then, words_refused}
-use Rattle.tv_extract.specs.Extracting.{word_at, words_at}
+use Rattle.tv_extract.specs.Extraction.{word_at, words_at}
 use Rattle.tv_extract.specs.declared.run.NotRun.{NotRun}
 
 -- joined lists up to n begin with those up to i

@@ -2,7 +2,7 @@
 use Rattle.std.proofs.Common.{◌≡◌, ℕ, suc, ◌+◌, ◌-◌, ◌<◌, List, [], ◌∷◌, ◌++◌, refl, ap, ◌∙◌, arith, add-one, Result, Ok, Err}
 use Rattle.std.specs.List.{range_with_len}
 use Rattle.tv_core.proofs.BelowLaws.{range-more, range-append}
-use Rattle.tv_extract.specs.Extracting.{word_at, words_at}
+use Rattle.tv_extract.specs.Extraction.{word_at, words_at}
 use Rattle.tv_extract.specs.declared.run.NotRun.{NotRun}
 
 -- what is known of the rest of a list

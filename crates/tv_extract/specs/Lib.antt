@@ -1,4 +1,4 @@
-pub mod Extracting
+pub mod Extraction
 pub mod Runs
 pub use Rattle.tv_core.specs.Constraints
 pub use Rattle.tv_layout.specs.Layout

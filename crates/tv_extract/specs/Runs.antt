@@ -11,7 +11,7 @@ use Rattle.tv_step.specs.declared.end.End.TheVariants as ends
 use Rattle.tv_layout.specs.Layout.{taken_of}
 use Rattle.tv_layout.specs.Places.{WithinLimits, tape_at}
 use Rattle.tv_layout.specs.Systems.{system_of}
-use Rattle.tv_extract.specs.Extracting.{run_in}
+use Rattle.tv_extract.specs.Extraction.{run_in}
 use Rattle.tv_extract.specs.declared.run.Run.{Run}
 
 -- A run of an assignment: its answer stands at wire 1, its tape at the n wires after it, and its auxiliary tape is the

@@ -4,10 +4,10 @@
 //! reported.
 #![tactic(auto)]
 
-mod extracting;
+mod extraction;
 mod laws;
 mod run;
 
-pub use extracting::extract;
+pub use extraction::extract;
 pub use laws::{extracted_are_runs, satisfying_have_runs};
 pub use run::{ExtractFault, NotRun, Run};

@@ -1,7 +1,7 @@
 //! What the definition of a number in a file says of a few bytes, and what files in memory count.
 ghost use Rattle.std.specs.Prelude.{◌≡◌, [], ◌∷◌};
 ghost use Rattle.tv_container.specs.Places.{number};
-ghost use Rattle.tv_files.specs.MemFiles.{told_by, calls_of, failing_of, nothing};
+ghost use Rattle.tv_files.specs.MemFiles.{outside_of, calls_of, failing_of, nothing};
 
 use tv_files::{Files, MemFiles};
 
@@ -16,13 +16,13 @@ pub fn bytes_spell_numbers()
 /// reading, `create` and `append` that of faults of writing, `say` its own. None runs out of
 /// memory.
 pub fn listed_faults_are_counted(files: &mut MemFiles)
-    requires told { told_by files.old ≡ nothing }
+    requires told { outside_of files.old ≡ nothing }
     requires calls { calls_of files.old ≡ 0 }
     requires failing { failing_of files.old ≡ 1 ∷ 2 ∷ 3 ∷ 4 ∷ [] }
-    ensures read_faults { (told_by files.new).read_faults ≡ 1 }
-    ensures write_faults { (told_by files.new).write_faults ≡ 2 }
-    ensures say_faults { (told_by files.new).say_faults ≡ 1 }
-    ensures wants { (told_by files.new).wants ≡ 0 }
+    ensures read_faults { (outside_of files.new).read_faults ≡ 1 }
+    ensures write_faults { (outside_of files.new).write_faults ≡ 2 }
+    ensures say_faults { (outside_of files.new).say_faults ≡ 1 }
+    ensures wants { (outside_of files.new).wants ≡ 0 }
 {
     let _ = files.read("none", 0, &mut []);
     let _ = files.create("none");

@@ -2,7 +2,7 @@
 use Rattle.std.proofs.Common.{◌≡◌, ℕ, ◌+◌, ◌<◌, ◌≤◌, List, ◌++◌, length, take, drop, Option, Some, None, Ok, arith, ap, refl, sym, ◌∙◌}
 use Rattle.std.proofs.lemmas.List.{take_all, length-append, length-take-le}
 use Rattle.std.proofs.Math.Seq.{take-add}
-use Rattle.tv_files.specs.Outside.{Outside, Told}
+use Rattle.tv_files.specs.Outside.{Outside, WhereKnown}
 use Rattle.tv_files.specs.Calls.{Reads, Gives}
 
 -- what was read of the file so far is its front
@@ -25,7 +25,7 @@ front_ends front bytes into at here is_front gives room =
 
 -- a name that was read is there, where contents are known
 pub held_of_read : (old new : Outside) (name : List ℕ) (at : ℕ) (into : List ℕ) (count : ℕ) → Reads old new name at into (Ok count) →
-    Told old (λ files. (bytes : List ℕ) × (files name ≡ Some bytes) × Gives bytes at count into)
+    WhereKnown old (λ files. (bytes : List ℕ) × (files name ≡ Some bytes) × Gives bytes at count into)
 held_of_read old new name at into count reads files told = by_name (files name) refl
   where
     by_name : (file : Option (List ℕ)) → (files name ≡ file) → (bytes : List ℕ) × (files name ≡ Some bytes) × Gives bytes at count into

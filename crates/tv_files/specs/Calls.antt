@@ -1,6 +1,6 @@
 -- What each of the four calls may do, from the outside before it and after it.
 use Rattle.std.specs.Prelude.{◌≡◌, ℕ, ◌-◌, ◌≤◌, ◌⊎◌, List, [], ◌++◌, length, take, drop, Some, None, option_map, Result, Err, IfOk, OnOk, OnErr}
-use Rattle.tv_files.specs.Outside.{with_bytes, with_more, Outside, Told, MissesOnly, NoneFell, RanOut, SameCounts}
+use Rattle.tv_files.specs.Outside.{with_bytes, with_more, Outside, WhereKnown, MissesOnly, NoneFell, RanOut, SameCounts}
 use Rattle.tv_files.specs.declared.calls.FileRefusal.{FileRefusal}
 use Rattle.tv_files.specs.declared.calls.FileRefusal.TheVariants.{Failed, Memory}
 use Rattle.tv_word.specs.Counts.{Rose}
@@ -17,14 +17,14 @@ pub record Reads (old new : Outside) (name : List ℕ) (at : ℕ) (into : List �
     (result : Result ℕ FileRefusal) : Type 0 where
   pub within : IfOk result (λ count. count ≤ length into)
   pub bytes : IfOk result (λ count.
-      Told old (λ files. (bytes : List ℕ) → files name ≡ Some bytes → Gives bytes at count into))
+      WhereKnown old (λ files. (bytes : List ℕ) → files name ≡ Some bytes → Gives bytes at count into))
   pub contents : new.contents ≡ old.contents
   pub said : new.said ≡ old.said
   pub counts : OnOk result (SameCounts old new)
   pub later : NoneFell old new
   pub failed : result ≡ Err Failed → Rose old.read_faults new.read_faults
   pub memory : result ≡ Err Memory → RanOut old new
-  pub missing : Told old (λ files.
+  pub missing : WhereKnown old (λ files.
       files name ≡ None → (result ≡ Err Failed) × Rose old.absent new.absent)
   pub there : MissesOnly old new name
 
@@ -52,7 +52,7 @@ pub record Appends (old new : Outside) (name bytes : List ℕ)
   pub later : NoneFell old new
   pub failed : result ≡ Err Failed → Rose old.write_faults new.write_faults
   pub memory : result ≡ Err Memory → RanOut old new
-  pub missing : Told old (λ files.
+  pub missing : WhereKnown old (λ files.
       files name ≡ None → (result ≡ Err Failed) × Rose old.absent new.absent)
   pub there : MissesOnly old new name
 

@@ -29,8 +29,8 @@ abbrev pub failing_of : MemFiles → List ℕ
 failing_of files = files.failing.items
 
 -- the outside that files in memory are: all contents are known
-abbrev pub told_by : MemFiles → Outside
-told_by files = record {
+abbrev pub outside_of : MemFiles → Outside
+outside_of files = record {
   contents = Some (names_of files);
   said = Some (said_of files);
   read_faults = files.read_faults;
@@ -96,11 +96,11 @@ no_event = record { read_fault = false; write_fault = false; say_fault = false; 
 pub record Counted (old new : MemFiles) (came : Events) : Type 0 where
   pub calls : calls_of new ≡ one_more (calls_of old)
   pub failing : failing_of new ≡ failing_of old
-  pub read_faults : (told_by new).read_faults ≡ raised came.read_fault (told_by old).read_faults
-  pub write_faults : (told_by new).write_faults ≡ raised came.write_fault (told_by old).write_faults
-  pub say_faults : (told_by new).say_faults ≡ raised came.say_fault (told_by old).say_faults
-  pub wants : (told_by new).wants ≡ raised came.want (told_by old).wants
-  pub absent : (told_by new).absent ≡ raised came.miss (told_by old).absent
+  pub read_faults : (outside_of new).read_faults ≡ raised came.read_fault (outside_of old).read_faults
+  pub write_faults : (outside_of new).write_faults ≡ raised came.write_fault (outside_of old).write_faults
+  pub say_faults : (outside_of new).say_faults ≡ raised came.say_fault (outside_of old).say_faults
+  pub wants : (outside_of new).wants ≡ raised came.want (outside_of old).wants
+  pub absent : (outside_of new).absent ≡ raised came.miss (outside_of old).absent
 
 -- what a read returns: a fault where the call is to fail or the name isn't there, and else all that fits
 abbrev pub read_answer : Bool → Option (List ℕ) → ℕ → ℕ → Result ℕ FileRefusal

@@ -27,12 +27,12 @@ pub record Outside : Type 0 where
   pub absent : ℕ
 
 -- where contents are known, this is so of them
-abbrev pub Told : Outside → (Names → Type 0) → Type 0
-Told outside P = (files : Names) → outside.contents ≡ Some files → P files
+abbrev pub WhereKnown : Outside → (Names → Type 0) → Type 0
+WhereKnown outside P = (files : Names) → outside.contents ≡ Some files → P files
 
 -- the count of absent names changed only where this name isn't there
 abbrev pub MissesOnly : Outside → Outside → List ℕ → Type 0
-MissesOnly old new name = Told old (λ files. (new.absent ≡ old.absent) ⊎ (files name ≡ None))
+MissesOnly old new name = WhereKnown old (λ files. (new.absent ≡ old.absent) ⊎ (files name ≡ None))
 
 -- no count fell
 pub record NoneFell (old new : Outside) : Type 0 where
@@ -68,5 +68,5 @@ pub record OnlyReads (old new : Outside) : Type 0 where
 -- name was missed
 pub record OnlyWrites (old new : Outside) : Type 0 where
   pub said : new.said ≡ old.said
-  pub absent : Told old (λ _. new.absent ≡ old.absent)
+  pub absent : WhereKnown old (λ _. new.absent ≡ old.absent)
   pub later : NoneFell old new

@@ -3,7 +3,7 @@ ghost use Rattle.std.specs.Prelude.{◌≡◌, ◌⊎◌, ◌||◌, ◌++◌, []
 ghost use Rattle.std.specs.Prelude.{Some, OnOk, OnErr, MatchResult, is_err, is_none, option_copied};
 ghost use Rattle.tv_files.specs.Calls.{Reads, Creates, Appends, Says};
 ghost use Rattle.tv_files.specs.Outside.{with_bytes, with_more};
-ghost use Rattle.tv_files.specs.MemFiles.{names_of, said_of, calls_of, failing_of, told_by};
+ghost use Rattle.tv_files.specs.MemFiles.{names_of, said_of, calls_of, failing_of, outside_of};
 ghost use Rattle.tv_files.specs.MemFiles.{nothing};
 ghost use Rattle.tv_files.specs.MemFiles.{Counted, is_due, is_failed, is_wanting, no_event};
 ghost use Rattle.tv_files.specs.MemFiles.{read_answer};
@@ -38,7 +38,7 @@ pub struct MemFiles {
 impl MemFiles {
     /// No names, nothing said, no call that is to fail, and counts of 0.
     pub fn new(alloc: Global) -> MemFiles
-        ensures told { told_by result ≡ nothing }
+        ensures told { outside_of result ≡ nothing }
         ensures calls { calls_of result ≡ 0 }
         ensures failing { failing_of result ≡ [] }
     {
@@ -58,10 +58,10 @@ impl MemFiles {
 
     /// Makes the name stand for these bytes. All stays as it was where memory is refused.
     pub fn set(&mut self, name: &str, bytes: &[u8]) -> Result<(), AllocError>
-        ensures ok { OnOk result (told_by self.new ≡ record (told_by self.old) {
+        ensures ok { OnOk result (outside_of self.new ≡ record (outside_of self.old) {
           contents = Some (with_bytes name.now bytes.now (names_of self.old));
         }) }
-        ensures err { OnErr result (told_by self.new ≡ told_by self.old) }
+        ensures err { OnErr result (outside_of self.new ≡ outside_of self.old) }
         ensures calls { calls_of self.new ≡ calls_of self.old }
         ensures failing { failing_of self.new ≡ failing_of self.old }
     {
@@ -72,7 +72,7 @@ impl MemFiles {
     pub fn fail_at(&mut self, number: u64) -> Result<(), AllocError>
         ensures ok { OnOk result (failing_of self.new ≡ failing_of self.old ++ number ∷ []) }
         ensures err { OnErr result (failing_of self.new ≡ failing_of self.old) }
-        ensures told { told_by self.new ≡ told_by self.old }
+        ensures told { outside_of self.new ≡ outside_of self.old }
         ensures calls { calls_of self.new ≡ calls_of self.old }
     {
         self.failing.push(number)?;
@@ -102,10 +102,11 @@ impl MemFiles {
 }
 
 impl Files for MemFiles {
-    ghost seen = { told_by };
+    ghost seen = { outside_of };
 
     fn read(&mut self, name: &str, at: u64, into: &mut [u8]) -> Result<usize, FileRefusal>
-        ensures reads { Reads (told_by self.old) (told_by self.new) name.now at into.new result }
+        ensures reads { Reads (outside_of self.old)
+            (outside_of self.new) name.now at into.new result }
         ensures answer { result ≡ read_answer (is_due self.old) (names_of self.old name.now) at
             (length into.old) }
         ensures rest { MatchResult result
@@ -132,7 +133,7 @@ impl Files for MemFiles {
     }
 
     fn create(&mut self, name: &str) -> Result<(), FileRefusal>
-        ensures creates { Creates (told_by self.old) (told_by self.new) name.now result }
+        ensures creates { Creates (outside_of self.old) (outside_of self.new) name.now result }
         ensures failed { is_failed result ≡ is_due self.old }
         ensures refused { OnErr result (names_of self.new ≡ names_of self.old) }
         ensures counted { Counted self.old self.new (record no_event {
@@ -152,7 +153,8 @@ impl Files for MemFiles {
     }
 
     fn append(&mut self, name: &str, bytes: &[u8]) -> Result<(), FileRefusal>
-        ensures appends { Appends (told_by self.old) (told_by self.new) name.now bytes.now result }
+        ensures appends { Appends (outside_of self.old)
+            (outside_of self.new) name.now bytes.now result }
         ensures failed { is_failed result ≡ (is_due self.old
             || is_none (names_of self.old name.now)) }
         ensures refused { OnErr result ((names_of self.new ≡ names_of self.old)
@@ -177,7 +179,7 @@ impl Files for MemFiles {
     }
 
     fn say(&mut self, bytes: &[u8]) -> Result<(), FileRefusal>
-        ensures says { Says (told_by self.old) (told_by self.new) bytes.now result }
+        ensures says { Says (outside_of self.old) (outside_of self.new) bytes.now result }
         ensures failed { is_failed result ≡ is_due self.old }
         ensures refused { OnErr result ((said_of self.new ≡ said_of self.old)
             ⊎ (IsTrue (is_due self.old)

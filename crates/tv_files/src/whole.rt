@@ -1,6 +1,6 @@
 //! Whole files, over any `Files`: read into memory, or written from it.
 ghost use Rattle.std.specs.Prelude.{◌≡◌, ℕ, ◌≤◌, length, Some, None, IfOk, OnOk, OnErr};
-ghost use Rattle.tv_files.specs.Outside.{OnlyReads, OnlyWrites, RanOut, SameCounts, Told};
+ghost use Rattle.tv_files.specs.Outside.{OnlyReads, OnlyWrites, RanOut, SameCounts, WhereKnown};
 ghost use Rattle.tv_files.specs.Outside.{MissesOnly};
 ghost use Rattle.tv_files.specs.Whole.{IsLonger, HasBytes, HasPart, Leaves};
 ghost use Rattle.tv_word.specs.Counts.{Rose};
@@ -26,12 +26,12 @@ pub fn slurp<D: Files>(
     name: &str,
     most: u64,
 ) -> Result<Vec<u8>, Slurp>
-    ensures whole { IfOk result (λ v. Told (D.seen files.old)
+    ensures whole { IfOk result (λ v. WhereKnown (D.seen files.old)
         (λ held. held name.now ≡ Some v.items)) }
     ensures short { IfOk result (λ v. length v.items ≤ most) }
     ensures longer { (limit : ℕ) → result ≡ Err (Slurp.TooLong limit) →
-        (limit ≡ most) × Told (D.seen files.old) (λ held. IsLonger most (held name.now)) }
-    ensures missing { Told (D.seen files.old)
+        (limit ≡ most) × WhereKnown (D.seen files.old) (λ held. IsLonger most (held name.now)) }
+    ensures missing { WhereKnown (D.seen files.old)
         (λ held. held name.now ≡ None → result ≡ Err Slurp.Fault) }
     ensures only { OnlyReads (D.seen files.old) (D.seen files.new) }
     ensures leaves { Leaves result (D.seen files.old) (D.seen files.new) }

@@ -1,6 +1,6 @@
-pub mod Giving
+pub mod PartValues
 pub mod Packed
 pub mod Prepared
 pub mod RunPlaces
 pub mod Satisfying
-pub mod Told
+pub mod TraceLaws

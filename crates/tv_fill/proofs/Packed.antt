@@ -5,7 +5,7 @@ use Rattle.std.proofs.lemmas.List.{map-append}
 use Rattle.tv_core.specs.Lines.{Line}
 use Rattle.tv_core.specs.declared.lines.PairNum.{PairNum}
 use Rattle.tv_layout.specs.Sound.{padding}
-use Rattle.tv_lines.specs.Packing.{packed_item}
+use Rattle.tv_lines.specs.PackedLines.{packed_item}
 use Rattle.tv_step.specs.Trace.{null_line}
 
 -- 2 ^ k is at most 2 ^ 20

@@ -21,15 +21,15 @@ use Rattle.tv_layout.specs.Places.{WithinLimits, line_count, log_of}
 use Rattle.tv_layout.specs.RunInputs.{run_on}
 use Rattle.tv_layout.specs.Sound.{padding, all_lines}
 use Rattle.tv_layout.specs.Systems.{run_values, system_of}
-use Rattle.tv_layout.specs.Values.{fill, step_values as run_step}
+use Rattle.tv_layout.specs.Values.{fill, run_step_values as run_step}
 use Rattle.tv_layout.specs.declared.places.TheConstants.{STATE_WIRES}
 use Rattle.tv_lines.proofs.PackingLaws.{unpack_packed}
-use Rattle.tv_lines.specs.Packing.{InRange, unpacked, packed_item, without_old}
+use Rattle.tv_lines.specs.PackedLines.{InRange, unpacked, packed_item, without_old}
 use Rattle.tv_lines.specs.Placed.{LinesFrom}
-use Rattle.tv_memory.proofs.Reached.{predecessors_right}
-use Rattle.tv_memory.specs.Checks.{Checks}
-use Rattle.tv_memory.specs.Memory.{routed_values}
-use Rattle.tv_memory.specs.Order.{memory_values, predecessors}
+use Rattle.tv_argument.proofs.Reached.{predecessors_right}
+use Rattle.tv_argument.specs.Checks.{Checks}
+use Rattle.tv_argument.specs.Memory.{routed_values}
+use Rattle.tv_argument.specs.Order.{argument_values, predecessors}
 use Rattle.tv_route.specs.Permutations.{Permutes, IsRoutable}
 use Rattle.tv_route.specs.Route.{route_of}
 use Rattle.tv_step.proofs.PlaceLaws.{lines_are_three_a_step, states_are_one_more}
@@ -38,10 +38,10 @@ use Rattle.tv_step.specs.Machine.{start, Accepts}
 use Rattle.tv_step.specs.Range.{AreWords}
 use Rattle.tv_step.specs.Trace.{lines_of, states_of}
 use Rattle.tv_step.specs.declared.lines.TraceState.{TraceState}
-use Rattle.tv_fill.proofs.Giving.{parts_of}
-use Rattle.tv_fill.proofs.Told.{told_in_range, told_steps}
-use Rattle.tv_fill.specs.Filled.{front_values, filled_values, lines_told, checks_told, PartsFit}
-use Rattle.tv_fill.specs.Told.{told_values}
+use Rattle.tv_fill.proofs.PartValues.{parts_of}
+use Rattle.tv_fill.proofs.TraceLaws.{told_in_range, told_steps}
+use Rattle.tv_fill.specs.Filled.{front_values, filled_values, filled_lines, filled_checks, PartsFit}
+use Rattle.tv_fill.specs.TraceValues.{traced_values}
 
 -- ---- lines in their places
 LinesFrom-left : (t : ℕ) (xs ys : List Line) → LinesFrom t (xs ++ ys) → LinesFrom t xs
@@ -124,10 +124,10 @@ module _ (w : ℕ) (net : Net) (image x aux : List ℕ) (t : ℕ) (fits : Within
 
   module _ (lines : List Line) (lines_are : lines ≡ step_lines) (states : List TraceState)
       (states_are : states ≡ states_of w (length x) (length aux) (start w image x aux) t)
-      (items : List PairNum) (items_are : items ≡ map packed_item (lines_told image x lines k)) where
-    told_whole : lines_told image x lines k ≡ whole
+      (items : List PairNum) (items_are : items ≡ map packed_item (filled_lines image x lines k)) where
+    told_whole : filled_lines image x lines k ≡ whole
     told_whole =
-        ap (λ (ls : List Line). lines_told image x ls k) lines_are
+        ap (λ (ls : List Line). filled_lines image x ls k) lines_are
         ∙ ap (λ (c : ℕ). (boot_lines image x ++ step_lines) ++ padding (length image + length x + c) (2 ^ k - (length image + length x + c))) steps_many
 
     -- the items are those of all lines of the run
@@ -160,16 +160,16 @@ module _ (w : ℕ) (net : Net) (image x aux : List ℕ) (t : ℕ) (fits : Within
           permutes = subst (λ n. Permutes n (predecessors whole)) whole_many (predecessors_right.permutes whole whole_few placed);
         })
 
-    checks_are : checks_told (length image) (length x) (length lines) k ≡ checks_of image (length x) t
-    checks_are = ap (λ (n : ℕ). checks_told (length image) (length x) n k) (ap length lines_are ∙ steps_many)
+    checks_are : filled_checks (length image) (length x) (length lines) k ≡ checks_of image (length x) t
+    checks_are = ap (λ (n : ℕ). filled_checks (length image) (length x) n k) (ap length lines_are ∙ steps_many)
 
     -- the settings bring the values of the memory argument
     brought : (bits : List Bool) → bits ≡ route_of net (predecessors (map unpacked items))
-        → routed_values net (checks_told (length image) (length x) (length lines) k) k (bit_at bits) items (lines_told image x lines k)
-        ≡ memory_values net (checks_of image (length x) t) k whole
+        → routed_values net (filled_checks (length image) (length x) (length lines) k) k (bit_at bits) items (filled_lines image x lines k)
+        ≡ argument_values net (checks_of image (length x) t) k whole
     brought bits bits_are =
         let bits_is : bits ≡ route_of net (predecessors whole) = bits_are ∙ ap (route_of net) order_is in
-        ap (λ (c : Checks). routed_values net c k (bit_at bits) items (lines_told image x lines k)) checks_are
+        ap (λ (c : Checks). routed_values net c k (bit_at bits) items (filled_lines image x lines k)) checks_are
         ∙ ap₂ (λ (ps : List PairNum) (ls : List Line). routed_values net (checks_of image (length x) t) k (bit_at bits) ps ls) all_packed told_whole
         ∙ ap (λ (b : List Bool). routed_values net (checks_of image (length x) t) k (bit_at b) (map packed_item whole) whole) bits_is
         ∙ predecessors_right.reached net (checks_of image (length x) t) k whole (log_some (line_count image (length x) t)) log_few whole_many placed
@@ -182,9 +182,9 @@ module _ (w : ℕ) (net : Net) (image x aux : List ℕ) (t : ℕ) (fits : Within
     values_are bits bits_are v =
         let tape_bits : List ℕ = joined_below (length x) (λ i. bits_values (slice_index x i) w) in
         let steps : List ℕ = joined_below t (run_step (step_values w) w image x aux) in
-        let memory : List ℕ = memory_values net (checks_of image (length x) t) k whole in
-        let told : joined_below t (told_values w (length x) states aux lines) ≡ steps =
-        ap₂ (λ (s : List TraceState) (ls : List Line). joined_below t (told_values w (length x) s aux ls)) states_are lines_are
+        let memory : List ℕ = argument_values net (checks_of image (length x) t) k whole in
+        let told : joined_below t (traced_values w (length x) states aux lines) ≡ steps =
+        ap₂ (λ (s : List TraceState) (ls : List Line). joined_below t (traced_values w (length x) s aux ls)) states_are lines_are
         ∙ told_steps w image x aux t fits.width (short image (length x) t w fits) x_words aux_words in
         ap₂ (λ (a b : List ℕ). front_values w v x ++ (a ++ b)) told (brought bits bits_are)
         ∙ append_assoc (1 ∷ v ∷ x) (tape_bits ++ replicate STATE_WIRES 0) (steps ++ memory)

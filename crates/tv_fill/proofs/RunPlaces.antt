@@ -9,7 +9,7 @@ use Rattle.tv_layout.proofs.Boot.{length-boot_from, length-boot_lines}
 use Rattle.tv_layout.proofs.NumberPlaces.{written_at, boot_from_at}
 use Rattle.tv_lines.specs.Placed.{zero_line, number_in}
 use Rattle.tv_step.specs.Cells.{boot_from, boot_lines}
-use Rattle.tv_fill.specs.Filled.{lines_told}
+use Rattle.tv_fill.specs.Filled.{filled_lines}
 
 module _ (image x : List ℕ) (steps : List Line) (k : ℕ) where
   abbrev boot : ℕ
@@ -21,7 +21,7 @@ module _ (image x : List ℕ) (steps : List Line) (k : ℕ) where
   long-front : length front ≡ length image + length x + length steps
   long-front = length-append (boot_lines image x) steps ∙ ap (λ n. n + length steps) (length-boot_lines image x)
 
-  pub word_of_image : (i : ℕ) → i < length image → number_in (lines_told image x steps k) i ≡ written_at i i (slice_index image i)
+  pub word_of_image : (i : ℕ) → i < length image → number_in (filled_lines image x steps k) i ≡ written_at i i (slice_index image i)
   word_of_image i h =
       get_or_append_left front _ zero_line i (omega (arith, long-front))
       ∙ get_or_append_left (boot_lines image x) steps zero_line i (omega (arith, length-boot_lines image x))
@@ -30,7 +30,7 @@ module _ (image x : List ℕ) (steps : List Line) (k : ℕ) where
       ∙ ap (λ p. written_at p p (slice_index image i)) (zero-add i)
 
   pub word_of_tape : (i : ℕ) → length image ≤ i → i < length image + length x
-      → number_in (lines_told image x steps k) i
+      → number_in (filled_lines image x steps k) i
       ≡ written_at (TAPE_CELLS + (i - length image)) (length image + (i - length image)) (slice_index x (i - length image))
   word_of_tape i above h =
       get_or_append_left front _ zero_line i (omega (arith, long-front))
@@ -39,7 +39,7 @@ module _ (image x : List ℕ) (steps : List Line) (k : ℕ) where
       ∙ boot_from_at TAPE_CELLS (length image) x (i - length image) (omega (arith, above, h))
 
   pub line_of_steps : (i : ℕ) → boot ≤ i → i < length image + length x + length steps
-      → number_in (lines_told image x steps k) i ≡ number_in steps (i - (length image + length x))
+      → number_in (filled_lines image x steps k) i ≡ number_in steps (i - (length image + length x))
   line_of_steps i above h =
       get_or_append_left front _ zero_line i (omega (arith, long-front))
       ∙ get_or-append_right (boot_lines image x) steps boot i zero_line (length-boot_lines image x) above

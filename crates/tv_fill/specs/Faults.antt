@@ -3,8 +3,8 @@ use Rattle.tv_core.specs.declared.sink.SinkFault.{SinkFault}
 use Rattle.tv_core.specs.declared.sink.SinkFault.TheVariants as sinks
 use Rattle.tv_fill.specs.declared.fault.FillFault.{FillFault}
 use Rattle.tv_fill.specs.declared.fault.FillFault.TheVariants as fills
-use Rattle.tv_step.specs.declared.tracing.TraceFault.{TraceFault}
-use Rattle.tv_step.specs.declared.tracing.TraceFault.TheVariants as traces
+use Rattle.tv_step.specs.declared.run_trace.TraceFault.{TraceFault}
+use Rattle.tv_step.specs.declared.run_trace.TraceFault.TheVariants as traces
 
 -- that of a trace
 abbrev pub trace_fault : TraceFault → FillFault

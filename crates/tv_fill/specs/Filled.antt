@@ -4,11 +4,11 @@ use Rattle.tv_benes.specs.Items.{bit_at}
 use Rattle.tv_benes.specs.declared.shape.Net.{Net}
 use Rattle.tv_bits.specs.Bits.{bits_values}
 use Rattle.tv_core.specs.Below.{joined_below}
-use Rattle.tv_core.specs.Giving.{Giving, GivesAll, GivesSome}
+use Rattle.tv_core.specs.Values.{ValuesMeaning, GivesAll, GivesSome}
 use Rattle.tv_core.specs.Lines.{Line}
 use Rattle.tv_core.specs.declared.lines.PairNum.{PairNum}
 use Rattle.tv_core.specs.declared.sink.SinkFault.TheVariants as sinks
-use Rattle.tv_fill.specs.Told.{told_values, StepInRange}
+use Rattle.tv_fill.specs.TraceValues.{traced_values, StepInRange}
 use Rattle.tv_fill.specs.declared.fault.FillFault.{FillFault}
 use Rattle.tv_fill.specs.declared.fault.FillFault.TheVariants.{NoRun, Failed, Memory}
 use Rattle.tv_layout.specs.Checks.{least_place, line_kind}
@@ -16,13 +16,13 @@ use Rattle.tv_layout.specs.RunInputs.{RunInput}
 use Rattle.tv_layout.specs.Sound.{padding}
 use Rattle.tv_layout.specs.Systems.{run_values}
 use Rattle.tv_layout.specs.declared.places.TheConstants.{STATE_WIRES}
-use Rattle.tv_memory.specs.Checks.{Checks}
-use Rattle.tv_memory.specs.Memory.{routed_values}
+use Rattle.tv_argument.specs.Checks.{Checks}
+use Rattle.tv_argument.specs.Memory.{routed_values}
 use Rattle.tv_step.specs.Cells.{boot_lines}
 use Rattle.tv_step.specs.Machine.{Accepts}
-use Rattle.tv_step.specs.Tracing.{IsRefused}
+use Rattle.tv_step.specs.RunTrace.{IsRefused}
 use Rattle.tv_step.specs.declared.lines.TraceState.{TraceState}
-use Rattle.tv_step.specs.declared.tracing.TraceFault.TheVariants as traces
+use Rattle.tv_step.specs.declared.run_trace.TraceFault.TheVariants as traces
 use Rattle.tv_word.specs.Widths.{IsWidth}
 
 -- a filling: the run's answer, and the values that it assigns
@@ -36,14 +36,14 @@ abbrev pub front_values : ℕ → ℕ → List ℕ → List ℕ
 front_values w v x = (1 ∷ v ∷ x) ++ (joined_below (length x) (λ i. bits_values (slice_index x i) w) ++ replicate STATE_WIRES 0)
 
 -- the lines of an image's and a tape's words, those of steps, and padding up to 2 ^ k
-abbrev pub lines_told : List ℕ → List ℕ → List Line → ℕ → List Line
-lines_told image x steps k =
+abbrev pub filled_lines : List ℕ → List ℕ → List Line → ℕ → List Line
+filled_lines image x steps k =
     let count = length image + length x + length steps in
     (boot_lines image x ++ steps) ++ padding count (2 ^ k - count)
 
 -- how they are checked, by how many there are of each
-abbrev pub checks_told : ℕ → ℕ → ℕ → ℕ → Checks
-checks_told words n steps k = record { count = words + n + steps; least = least_place words n; kind = line_kind k words n }
+abbrev pub filled_checks : ℕ → ℕ → ℕ → ℕ → Checks
+filled_checks words n steps k = record { count = words + n + steps; least = least_place words n; kind = line_kind k words n }
 
 -- what it is made of: the answer, the image, the tapes, the steps with their states and lines, the items of 2 ^ k lines,
 -- and the bits of the network that moves them
@@ -64,9 +64,9 @@ pub record Parts : Type 0 where
 unfoldable pub filled_values : ℕ → Parts → List ℕ
 filled_values w parts =
     front_values w parts.answer parts.tape
-    ++ (joined_below parts.t (told_values w (length parts.tape) parts.states parts.aux parts.lines)
-    ++ routed_values parts.net (checks_told (length parts.image) (length parts.tape) (length parts.lines) parts.k) parts.k (bit_at parts.bits) parts.items
-    (lines_told parts.image parts.tape parts.lines parts.k))
+    ++ (joined_below parts.t (traced_values w (length parts.tape) parts.states parts.aux parts.lines)
+    ++ routed_values parts.net (filled_checks (length parts.image) (length parts.tape) (length parts.lines) parts.k) parts.k (bit_at parts.bits) parts.items
+    (filled_lines parts.image parts.tape parts.lines parts.k))
 
 -- the parts fit each other and the spare items, and the count is that of their values
 pub record PartsFit (w : ℕ) (parts : Parts) (spare : List PairNum) (count : ℕ) : Type 0 where
@@ -97,7 +97,7 @@ IsUnfilled run Memory = Unit {0}
 -- ---- to a taker
 -- what a call that passes on the values of a run did: it passed all; or the run answers nothing, and none was passed;
 -- or the taker refused one of them, and the count of the cause rose; or memory ran out before the first
-module _ {V : Type 0} (m : Giving V) (net : Net) (run : RunInput) where
+module _ {V : Type 0} (m : ValuesMeaning V) (net : Net) (run : RunInput) where
   abbrev pub FillsIn : V → V → Result (Unit {0}) FillFault → Type 0
   FillsIn old new (Ok done) = (v : ℕ) × Accepts run.width run.image run.tape run.aux run.t v × GivesAll m old new (run_values net run v)
   FillsIn old new (Err (NoRun end)) = IsUnfilled run (NoRun end) × (new ≡ old)

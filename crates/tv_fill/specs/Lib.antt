@@ -1,4 +1,4 @@
 pub mod Faults
 pub mod Filled
 pub mod Laws
-pub mod Told
+pub mod TraceValues

@@ -1,28 +1,28 @@
 //! The values of a run, prepared and then passed to a taker.
 ghost use Rattle.std.specs.Prelude.{◌≡◌, ◌*◌, ◌/◌, ◌^◌, ◌<◌, ◌≤◌, false, length, map, IfOk};
 ghost use Rattle.std.specs.Prelude.{IfErr, OnOk};
-ghost use Rattle.tv_core.specs.Giving.{GivesIn};
+ghost use Rattle.tv_core.specs.Values.{GivesIn};
 ghost use Rattle.tv_fill.specs.Filled.{IsFilling, IsUnfilled, FillsIn};
 ghost use Rattle.tv_layout.specs.Places.{WithinLimits};
 ghost use Rattle.tv_layout.specs.RunInputs.{run_on};
-ghost use Rattle.tv_lines.specs.Packing.{unpacked};
+ghost use Rattle.tv_lines.specs.PackedLines.{unpacked};
 ghost use Rattle.tv_lines.specs.Placed.{LinesFrom};
-ghost use Rattle.tv_memory.specs.Order.{predecessors};
+ghost use Rattle.tv_argument.specs.Order.{predecessors};
 ghost use Rattle.tv_route.specs.Permutations.{IsRoutable};
 ghost use Rattle.tv_route.specs.Route.{route_of};
 ghost use Rattle.tv_step.specs.Range.{AreWords};
 
 use crate::fault::FillFault;
 use crate::front::fill_front;
-use crate::packing::pack_items;
+use crate::items::pack_items;
 use crate::run_lines::RunLines;
 use crate::steps::Steps;
 use std::alloc::{AllocError, Global};
 use std::marker::Model;
+use tv_argument::{fill_argument, predecessors};
 use tv_benes::Net;
 use tv_core::{F, PairNum, Put, Values};
 use tv_layout::{log_of, wires};
-use tv_memory::{fill_memory, predecessors};
 use tv_route::{Settings, routing_settings};
 use tv_step::{Lines, States, Trace, trace};
 
@@ -130,7 +130,7 @@ impl<'a, const W: u32> Filling<'a, W> {
             lines: lines.as_slice(),
         };
         steps.fill::<W, V>(v, tape.len() as u32, t)?;
-        fill_memory(
+        fill_argument(
             v,
             net,
             k,

@@ -2,7 +2,7 @@
 ghost use Rattle.std.specs.Prelude.{◌≡◌, false, length, slice_index, OnOk};
 ghost use Rattle.tv_bits.specs.Bits.{bits_values};
 ghost use Rattle.tv_core.specs.Below.{joined_below};
-ghost use Rattle.tv_core.specs.Giving.{GivesIn};
+ghost use Rattle.tv_core.specs.Values.{GivesIn};
 ghost use Rattle.tv_fill.specs.Filled.{front_values};
 ghost use Rattle.tv_word.specs.Widths.{IsWidth};
 

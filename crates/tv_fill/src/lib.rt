@@ -6,8 +6,8 @@
 mod fault;
 mod filling;
 mod front;
+mod items;
 mod laws;
-mod packing;
 mod run_lines;
 mod steps;
 

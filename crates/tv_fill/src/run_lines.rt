@@ -1,11 +1,11 @@
 //! The lines of a run, by their places.
 ghost use Rattle.std.specs.Prelude.{◌≡◌, ◌+◌, ◌^◌, ◌≤◌, length};
-ghost use Rattle.tv_fill.specs.Filled.{checks_told, lines_told};
+ghost use Rattle.tv_fill.specs.Filled.{filled_checks, filled_lines};
 
+use tv_argument::{Kind, LineNumbers};
 use tv_core::Line;
 use tv_core::limits::TAPE_CELLS;
 use tv_layout::line_kind;
-use tv_memory::{Kind, LineNumbers};
 
 // All 2^`k` lines of a run: those of the image's and the tape's words, those of its steps, and
 // padding.
@@ -20,9 +20,9 @@ pub(crate) struct RunLines<'a> {
 }
 
 impl<'a> LineNumbers for RunLines<'a> {
-    ghost lines = { λ l. lines_told l.image.now l.tape.now l.steps.now l.k };
+    ghost lines = { λ l. filled_lines l.image.now l.tape.now l.steps.now l.k };
 
-    ghost checks = { λ l. checks_told (length l.image.now) (length l.tape.now)
+    ghost checks = { λ l. filled_checks (length l.image.now) (length l.tape.now)
         (length l.steps.now) l.k };
 
     fn line(&self, i: u32) -> Line {

@@ -1,10 +1,11 @@
 //! The values of the steps of a run.
 ghost use Rattle.std.specs.Prelude.{◌≡◌, ℕ, ◌+◌, ◌*◌, ◌<◌, ◌^◌, true, false, length, OnOk};
 ghost use Rattle.tv_core.specs.Below.{joined_below};
-ghost use Rattle.tv_core.specs.Giving.{GivesIn};
+ghost use Rattle.tv_core.specs.Values.{GivesIn};
 ghost use Rattle.tv_word.specs.Widths.{IsWidth};
-ghost use Rattle.tv_fill.specs.Told.{state_at, old_at, takes_at, taken_at, told_values};
-ghost use Rattle.tv_fill.specs.Told.{StepInRange};
+ghost use Rattle.tv_fill.specs.TraceValues.{traced_state_at, old_at};
+ghost use Rattle.tv_fill.specs.TraceValues.{takes_at, taken_at, traced_values};
+ghost use Rattle.tv_fill.specs.TraceValues.{StepInRange};
 
 use tv_block::fill_traced_step;
 use tv_core::{Line, Put, Values};
@@ -32,7 +33,7 @@ impl<'a> Steps<'a> {
     fn taken(&self, i: u32) -> Option<u32>
         requires states { i + 1 < length self.now.states.now }
         requires there { takes_at self.now.states.now i ≡ true
-            → (state_at self.now.states.now i).aux < length self.now.aux.now }
+            → (traced_state_at self.now.states.now i).aux < length self.now.aux.now }
         ensures { result ≡ taken_at self.now.states.now self.now.aux.now i }
     {
         let at = i as usize;
@@ -52,7 +53,7 @@ impl<'a> Steps<'a> {
         requires near { 3 * i + 2 < 2 ^ 32 }
         requires range { StepInRange W n self.now.states.now self.now.aux.now self.now.lines.now i }
         requires whole { V.giving.broken v.old ≡ false }
-        ensures gives { GivesIn V.giving v.old v.new (told_values W n self.now.states.now
+        ensures gives { GivesIn V.giving v.old v.new (traced_values W n self.now.states.now
             self.now.aux.now self.now.lines.now i) result }
         ensures whole { OnOk result (V.giving.broken v.new ≡ false) }
     {
@@ -73,7 +74,7 @@ impl<'a> Steps<'a> {
         requires range { (i : ℕ) → i < t → StepInRange W n self.now.states.now self.now.aux.now
             self.now.lines.now i }
         requires whole { V.giving.broken v.old ≡ false }
-        ensures gives { GivesIn V.giving v.old v.new (joined_below t (told_values W n
+        ensures gives { GivesIn V.giving v.old v.new (joined_below t (traced_values W n
             self.now.states.now self.now.aux.now self.now.lines.now)) result }
         ensures whole { OnOk result (V.giving.broken v.new ≡ false) }
     {

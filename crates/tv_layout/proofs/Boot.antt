@@ -10,7 +10,7 @@ use Rattle.tv_core.specs.Constraints.{Combination, value}
 use Rattle.tv_core.specs.Laws.{Assigns, HasFrom}
 use Rattle.tv_core.specs.Lines.{Line}
 use Rattle.tv_core.specs.declared.limits.TheConstants.{TAPE_CELLS, NULL_CELL}
-use Rattle.tv_lines.specs.Packing.{line_value}
+use Rattle.tv_lines.specs.PackedLines.{line_value}
 use Rattle.tv_lines.specs.Placed.{LinesFrom}
 use Rattle.tv_step.specs.Cells.{boot_from, boot_lines}
 use Rattle.tv_step.specs.Range.{AreWords}

@@ -4,8 +4,8 @@ use Rattle.std.proofs.lemmas.Bool.{ne_eqb}
 use Rattle.tv_core.proofs.BelowLaws.{sum_below-zero, sum_below-suc, sum_below-add}
 use Rattle.tv_core.specs.Below.{sum_below}
 use Rattle.tv_core.specs.declared.limits.TheConstants.{CELL_BITS, TAPE_CELLS}
-use Rattle.tv_memory.specs.declared.kinds.Kind.{Kind}
-use Rattle.tv_memory.specs.declared.kinds.Kind.TheVariants.{Fresh, Boot, Within}
+use Rattle.tv_argument.specs.declared.kinds.Kind.{Kind}
+use Rattle.tv_argument.specs.declared.kinds.Kind.TheVariants.{Fresh, Boot, Within}
 use Rattle.tv_layout.proofs.LineKinds.{first_boot, later_boot, later_first}
 use Rattle.tv_layout.specs.Checks.{boot_kind, first_kind}
 use Rattle.tv_layout.specs.Sizes.{step_cost, check_costs, in_row, checks_total}

@@ -6,12 +6,12 @@ use Rattle.tv_core.specs.Laws.{Assigns, Meets, HasFrom}
 use Rattle.tv_core.specs.Lines.{Line}
 use Rattle.tv_core.specs.declared.limits.TheConstants.{CELL_BITS, TAPE_CELLS, NULL_CELL}
 use Rattle.tv_lines.specs.Ordered.{key}
-use Rattle.tv_lines.specs.Packing.{line_value}
+use Rattle.tv_lines.specs.PackedLines.{line_value}
 use Rattle.tv_lines.specs.Placed.{zero_line, number_in}
-use Rattle.tv_memory.proofs.Parts.{placed}
-use Rattle.tv_memory.specs.Checks.{IsOfKind, IsPadded, AreOfKinds, HasCell, IsNear, AreNear}
-use Rattle.tv_memory.specs.declared.kinds.Kind.{Kind}
-use Rattle.tv_memory.specs.declared.kinds.Kind.TheVariants.{Fresh, Within}
+use Rattle.tv_argument.proofs.Parts.{placed}
+use Rattle.tv_argument.specs.Checks.{IsOfKind, IsPadded, AreOfKinds, HasCell, IsNear, AreNear}
+use Rattle.tv_argument.specs.declared.kinds.Kind.{Kind}
+use Rattle.tv_argument.specs.declared.kinds.Kind.TheVariants.{Fresh, Within}
 use Rattle.tv_numbers.specs.Numbers.{Did, lines_in}
 use Rattle.tv_numbers.specs.Views.{View}
 use Rattle.tv_step.specs.Range.{AreWords}
@@ -30,7 +30,7 @@ use Rattle.tv_layout.proofs.Steps.{did_at, cells}
 use Rattle.tv_layout.proofs.Whole.{few, short, early, spare, filled, lines_valued, all_placed}
 use Rattle.tv_layout.specs.Blocks.{BlockCircuit}
 use Rattle.tv_layout.specs.Checks.{least_place, boot_kind, first_kind, line_kind, checks_of}
-use Rattle.tv_layout.specs.Layout.{steps_of, state_at, lines_of}
+use Rattle.tv_layout.specs.Layout.{steps_of, state_at, system_lines}
 use Rattle.tv_layout.specs.Places.{WithinLimits, boot_count, line_count, log_of, tape_at, zero_wires_at, first_at}
 
 -- ---- the least line
@@ -217,7 +217,7 @@ module _ (w : ℕ) (block : BlockCircuit) (made : ℕ) (sizes : BlockSizes block
     padded = padded;
   }
 
-  pub are_of_kinds : AreOfKinds (checks_of image (length x) t) (map (line_value z) (lines_of block w image (length x) t))
+  pub are_of_kinds : AreOfKinds (checks_of image (length x) t) (map (line_value z) (system_lines block w image (length x) t))
   are_of_kinds = subst (AreOfKinds (checks_of image (length x) t))
       (sym (lines_valued w block made sizes law image x z t fits assigns words has zeros_there met)) numbers_of_kinds
 
@@ -338,6 +338,6 @@ module _ (w : ℕ) (block : BlockCircuit) (made : ℕ) (sizes : BlockSizes block
         (λ i _. IsNear numbers i (line_kind k (length image) (length x) i)) image_near tape_near step_near;
   }
 
-  pub are_near : AreNear (checks_of image (length x) t) (map (line_value z) (lines_of block w image (length x) t))
+  pub are_near : AreNear (checks_of image (length x) t) (map (line_value z) (system_lines block w image (length x) t))
   are_near = subst (AreNear (checks_of image (length x) t))
       (sym (lines_valued w block made sizes law image x z t fits assigns words has zeros_there met)) numbers_near

@@ -3,8 +3,8 @@
 use Rattle.std.proofs.Common.{◌≡◌, ℕ, zero, suc, ◌+◌, ◌*◌, ◌%◌, ◌<◌, ◌^◌, List, [], ◌∷◌, length, sym, ap, ap₂, ◌∙◌, arith, subst, add-zero}
 use Rattle.std.proofs.lemmas.List.Elements.{All-nil, All-cons}
 use Rattle.std.specs.Prelude.{slice_index}
-use Rattle.tv_bits.proofs.SpelledNumbers.{Spells-below}
-use Rattle.tv_bits.proofs.SpellingLaws.{bits_sound, bits_complete}
+use Rattle.tv_bits.proofs.BitNumbers.{HasBits-below}
+use Rattle.tv_bits.proofs.BitsLaws.{bits_sound, bits_complete}
 use Rattle.tv_bits.specs.Bits.{bits_of, bits_values}
 use Rattle.tv_core.proofs.CombinationLaws.{wire-below, value-wire, value-constant}
 use Rattle.tv_core.proofs.LoopLaws.{turn_met, turns_met}
@@ -13,7 +13,7 @@ use Rattle.tv_core.specs.Circuits.{fresh, here, put, pure, turns, ◌>>=◌}
 use Rattle.tv_core.specs.Combinations.{wire, constant}
 use Rattle.tv_core.specs.Constraints.{value}
 use Rattle.tv_core.specs.Laws.{Assigns, Meets, HasFrom}
-use Rattle.tv_core.specs.Loops.{times}
+use Rattle.tv_core.specs.Loops.{sequence}
 use Rattle.tv_core.specs.declared.field.TheConstants.{P}
 use Rattle.tv_step.proofs.RangeLaws.{word_at}
 use Rattle.tv_step.specs.Range.{AreWords}
@@ -37,7 +37,7 @@ module _ (w : ℕ) (width : IsWidth w) (z : List ℕ) (assigns : Assigns z) wher
   unfolding pure ◌>>=◌
   word_there first i next meets =
       let bits = (Meets-split z (bits_of (wire (first + i)) w next).list [] meets).0 in
-      let small = Spells-below (bits_sound z next (wire (first + i)) w (omega arith) assigns bits) in
+      let small = HasBits-below (bits_sound z next (wire (first + i)) w (omega arith) assigns bits) in
       subst (λ v. v < 2 ^ w) (value-wire assigns (first + i)) small
 
   pub words_there : (first n next : ℕ) → Meets z (words_of w first n next).list → (i : ℕ) → i < n → slice_index z (first + i) < 2 ^ w
@@ -78,7 +78,7 @@ module _ (w : ℕ) (width : IsWidth w) (z : List ℕ) (assigns : Assigns z) wher
   pub zero_wires_there : (next : ℕ) → Meets z (zero_wires_of next).list → HoldsZeros z next
   unfolding zero_wires_of here pure ◌>>=◌
   zero_wires_there next meets i h =
-      let all = (Meets-split z (times STATE_WIRES (λ _. zero_wire_of) next).list [] meets).0 in
+      let all = (Meets-split z (sequence STATE_WIRES (λ _. zero_wire_of) next).list [] meets).0 in
       subst (λ at. slice_index z at ≡ 0) (zeros_turn next i) (zero_wire_there _ (turn_met z (λ _ _. zero_wire_of) tt next STATE_WIRES i h all))
 
   pub zero_wires_met : (next : ℕ) → HoldsZeros z next → Meets z (zero_wires_of next).list
@@ -86,7 +86,7 @@ module _ (w : ℕ) (width : IsWidth w) (z : List ℕ) (assigns : Assigns z) wher
   zero_wires_met next held =
       let all = turns_met z (λ _ _. zero_wire_of) tt next STATE_WIRES
       (λ i h. subst (λ at. Meets z (zero_wire_of at).list) (sym (zeros_turn next i)) (zero_wire_met (next + i) (held i h))) in
-      Meets-join z (times STATE_WIRES (λ _. zero_wire_of) next).list [] all tt
+      Meets-join z (sequence STATE_WIRES (λ _. zero_wire_of) next).list [] all tt
 
   -- ---- the last step's answer
   tied : (a v u : ℕ) → a < P → v < P → u < P → a * (1 % P) % P ≡ 1 % P → v * (1 % P) % P ≡ u → (a ≡ 1) × (v ≡ u)

@@ -16,11 +16,11 @@ use Rattle.tv_core.specs.Below.{joined_below}
 use Rattle.tv_core.specs.Laws.{Assigns, Meets, HasFrom, InField}
 use Rattle.tv_core.specs.Lines.{Line, Honest}
 use Rattle.tv_core.specs.declared.field.TheConstants.{P}
-use Rattle.tv_lines.specs.Packing.{line_value}
+use Rattle.tv_lines.specs.PackedLines.{line_value}
 use Rattle.tv_lines.specs.Placed.{LinesFrom}
-use Rattle.tv_memory.proofs.Complete.{memory_complete}
-use Rattle.tv_memory.specs.Memory.{memory_made}
-use Rattle.tv_memory.specs.Order.{memory_values}
+use Rattle.tv_argument.proofs.Complete.{memory_complete}
+use Rattle.tv_argument.specs.Memory.{memory_made}
+use Rattle.tv_argument.specs.Order.{argument_values}
 use Rattle.tv_step.proofs.EndLaws.{end_answers}
 use Rattle.tv_step.proofs.RangeLaws.{start_in_range, run_keeps_range, answer_is_word}
 use Rattle.tv_step.specs.Cells.{boot_lines}
@@ -39,11 +39,11 @@ use Rattle.tv_layout.proofs.Blocks.{BlockSizes, BlockIsSound, BlockIsComplete}
 use Rattle.tv_layout.specs.Blocks.{BlockCircuit, BlockValues}
 use Rattle.tv_layout.proofs.Checked.{are_of_kinds, are_near}
 use Rattle.tv_layout.specs.Checks.{checks_of}
-use Rattle.tv_layout.specs.Layout.{steps_of, lines_of, layout_of, layout, taken_of}
+use Rattle.tv_layout.specs.Layout.{steps_of, system_lines, layout_of, layout, taken_of}
 use Rattle.tv_layout.specs.Places.{WithinLimits, boot_count, line_count, log_of, tape_at, zero_wires_at, first_at}
 use Rattle.tv_layout.specs.RunInputs.{run_on}
 use Rattle.tv_layout.specs.Sound.{padding, all_lines}
-use Rattle.tv_layout.specs.Values.{step_values, fill, IsFill}
+use Rattle.tv_layout.specs.Values.{run_step_values, fill, IsFill}
 use Rattle.tv_layout.specs.declared.places.TheConstants.{STATE_WIRES}
 use Rattle.tv_word.proofs.WidthLaws.{word_small}
 
@@ -69,10 +69,10 @@ module _ (w : ℕ) (net : Net) (block : BlockCircuit) (made : ℕ) (values : Blo
   bits = joined_below (length x) (λ i. bits_values (slice_index x i) w)
 
   abbrev blocks : List ℕ
-  blocks = joined_below t (step_values values w image x aux)
+  blocks = joined_below t (run_step_values values w image x aux)
 
   abbrev lasts : List ℕ
-  lasts = memory_values net (checks_of image (length x) t) (log_of (line_count image (length x) t)) (all_lines w image x aux t)
+  lasts = argument_values net (checks_of image (length x) t) (log_of (line_count image (length x) t)) (all_lines w image x aux t)
 
   abbrev z : List ℕ
   z = 1 ∷ ((v ∷ x) ++ (bits ++ (replicate STATE_WIRES 0 ++ (blocks ++ lasts))))
@@ -80,12 +80,12 @@ module _ (w : ℕ) (net : Net) (block : BlockCircuit) (made : ℕ) (values : Blo
   range : (i : ℕ) → InRange w (state_after w i (start w image x aux))
   range i = run_keeps_range w fits.width (start w image x aux) i (start_in_range w fits.width image x aux x_words aux_words)
 
-  block_many : (i : ℕ) → length (step_values values w image x aux i) ≡ made
+  block_many : (i : ℕ) → length (run_step_values values w image x aux i) ≡ made
   block_many i =
       complete.many (length x) (boot_count image (length x) + 3 * i) (state_after w i (start w image x aux)) (ended_after w i (start w image x aux))
       (short image (length x) t w fits) (range i)
 
-  block_small : (i : ℕ) → InField (step_values values w image x aux i)
+  block_small : (i : ℕ) → InField (run_step_values values w image x aux i)
   block_small i =
       complete.below (length x) (boot_count image (length x) + 3 * i) (state_after w i (start w image x aux)) (ended_after w i (start w image x aux))
       (short image (length x) t w fits) (range i)
@@ -94,7 +94,7 @@ module _ (w : ℕ) (net : Net) (block : BlockCircuit) (made : ℕ) (values : Blo
   length-bits = length-joined_below (length x) w (λ i. bits_values (slice_index x i) w) (λ i h. length-each_below w _)
 
   length-blocks : length blocks ≡ t * made
-  length-blocks = length-joined_below t made (step_values values w image x aux) (λ i h. block_many i)
+  length-blocks = length-joined_below t made (run_step_values values w image x aux) (λ i h. block_many i)
 
   in_field : InField z
   in_field =
@@ -105,7 +105,7 @@ module _ (w : ℕ) (net : Net) (block : BlockCircuit) (made : ℕ) (values : Blo
       (InField-append bits (replicate STATE_WIRES 0 ++ (blocks ++ lasts))
       (InField-joined_below (λ i. bits_values (slice_index x i) w) (length x) (λ i h. bits_in_field (slice_index x i) w))
       (InField-append (replicate STATE_WIRES 0) (blocks ++ lasts) (All-replicate (λ v. v < P) STATE_WIRES 0 (omega arith))
-      (InField-append blocks lasts (InField-joined_below (step_values values w image x aux) t (λ i h. block_small i))
+      (InField-append blocks lasts (InField-joined_below (run_step_values values w image x aux) t (λ i h. block_small i))
       ((memory_complete net).below (checks_of image (length x) t) (log_of (line_count image (length x) t)) (all_lines w image x aux t)
       (run_few w image x aux t fits x_words aux_words) (run_placed w image x aux t fits x_words aux_words))))))
 
@@ -142,8 +142,8 @@ module _ (w : ℕ) (net : Net) (block : BlockCircuit) (made : ℕ) (values : Blo
         last = subst (λ k. HasFrom z k lasts) r d.1;
       }
 
-  has_steps : (i : ℕ) → i < t → HasFrom z (first_at w (length x) + i * made) (step_values values w image x aux i)
-  has_steps i h = has_each_list z (first_at w (length x)) t made (step_values values w image x aux) (λ i h. block_many i) has_parts.steps i h
+  has_steps : (i : ℕ) → i < t → HasFrom z (first_at w (length x) + i * made) (run_step_values values w image x aux i)
+  has_steps i h = has_each_list z (first_at w (length x)) t made (run_step_values values w image x aux) (λ i h. block_many i) has_parts.steps i h
 
   has_bits : (i : ℕ) → i < length x → HasFrom z (2 + length x + i * w) (bits_values (slice_index x i) w)
   has_bits i h = has_each_list z (2 + length x) (length x) w (λ i. bits_values (slice_index x i) w) (λ i h. length-each_below w _) has_parts.tape_bits i h
@@ -154,7 +154,7 @@ module _ (w : ℕ) (net : Net) (block : BlockCircuit) (made : ℕ) (values : Blo
       (input w image x aux t fits x_words aux_words) assigns (early image (length x) t w fits) has_parts.zero_wires has_steps runs
 
   -- the lines are those of the run
-  lines_are : map (line_value z) (lines_of block w image (length x) t) ≡ all_lines w image x aux t
+  lines_are : map (line_value z) (system_lines block w image (length x) t) ≡ all_lines w image x aux t
   lines_are =
       lines_valued w block made sizes law image x z t fits assigns x_words has_parts.public.1 has_parts.zero_wires met_steps
       ∙ ap (λ (l : List Line). (boot_lines image x ++ l) ++ padding (line_count image (length x) t) (spare image (length x) t))
@@ -175,14 +175,15 @@ module _ (w : ℕ) (net : Net) (block : BlockCircuit) (made : ℕ) (values : Blo
         steps = met_steps;
         tie = tie_met w fits.width z assigns (last_of block made sizes w net image (length x) t)
             (memory_at w made (length x) t) v said.0 said.1 has_parts.public.0 answer_small;
-        honest = (memory_complete net).met z (checks_of image (length x) t) (log_of count) (lines_of block w image (length x) t) (memory_at w made (length x) t)
+        honest = (memory_complete net).met z (checks_of image (length x) t) (log_of count) (system_lines block w image (length x) t) (memory_at w made
+            (length x) t)
             (log_some count) (log_within count (few image (length x) t w fits))
             (lines_many w block made sizes law image x z t fits assigns x_words has_parts.public.1 has_parts.zero_wires met_steps)
             (subst (LinesFrom 0) (sym lines_are) (run_placed w image x aux t fits x_words aux_words))
             (are_of_kinds w block made sizes law image x z t fits assigns x_words has_parts.public.1 has_parts.zero_wires met_steps)
             (are_near w block made sizes law image x z t fits assigns x_words has_parts.public.1 has_parts.zero_wires met_steps)
             (subst Honest (sym lines_are) (run_honest w image x aux t fits x_words aux_words)) assigns
-            (subst (λ l. HasFrom z (memory_at w made (length x) t) (memory_values net (checks_of image (length x) t) (log_of count) l))
+            (subst (λ l. HasFrom z (memory_at w made (length x) t) (argument_values net (checks_of image (length x) t) (log_of count) l))
             (sym lines_are) has_parts.last);
       })
 
@@ -195,7 +196,7 @@ module _ (w : ℕ) (net : Net) (block : BlockCircuit) (made : ℕ) (values : Blo
       let d = length-append (replicate STATE_WIRES 0) (blocks ++ lasts) in
       let m = (memory_complete net).many (checks_of image (length x) t) (log_of count) (all_lines w image x aux t) in
       let e = layout_next block made sizes w net image (length x) t (memory_made net (checks_of image (length x) t) (log_of count))
-      (λ at. (memory_complete net).next (checks_of image (length x) t) (log_of count) (lines_of block w image (length x) t) at) in
+      (λ at. (memory_complete net).next (checks_of image (length x) t) (log_of count) (system_lines block w image (length x) t) at) in
       omega (arith, a, b, c, d, m, length-bits, length-blocks, e)
 
   taken_is : taken_of block w image (length x) t z ≡ Reads w image x aux t

@@ -4,9 +4,9 @@ use Rattle.std.proofs.lemmas.Bool.{ne_eqb, eq-eqb, cases_eq, cases_lt}
 use Rattle.std.proofs.lemmas.Bool.Decides.{leb_tells}
 use Rattle.std.specs.Prelude.{nat_lt}
 use Rattle.tv_core.specs.declared.limits.TheConstants.{CELL_BITS, TAPE_CELLS}
-use Rattle.tv_memory.specs.Checks.{IsShort}
-use Rattle.tv_memory.specs.declared.kinds.Kind.{Kind}
-use Rattle.tv_memory.specs.declared.kinds.Kind.TheVariants.{Fresh, Least, Boot, Within}
+use Rattle.tv_argument.specs.Checks.{IsShort}
+use Rattle.tv_argument.specs.declared.kinds.Kind.{Kind}
+use Rattle.tv_argument.specs.declared.kinds.Kind.TheVariants.{Fresh, Least, Boot, Within}
 use Rattle.tv_layout.specs.Checks.{boot_kind, first_kind, step_kind, line_kind}
 
 below_tells : (a b : ℕ) → a < b → nat_lt a b ≡ true

@@ -23,11 +23,11 @@ use Rattle.tv_core.specs.Constraints.{Combination}
 use Rattle.tv_core.specs.declared.limits.TheConstants.{TAPE_CELLS, NULL_CELL}
 use Rattle.tv_core.specs.declared.lines.LineLc.{LineLc}
 use Rattle.tv_lines.specs.Placed.{no_line, line_in}
-use Rattle.tv_memory.specs.Memory.{IsMade}
+use Rattle.tv_argument.specs.Memory.{IsMade}
 use Rattle.tv_word.specs.Widths.{IsWidth}
 use Rattle.tv_layout.proofs.Positions.{steps_next, log_above}
 use Rattle.tv_layout.proofs.Sized.{step_sized}
-use Rattle.tv_layout.specs.Layout.{steps_of, state_at, block_at, line_of_word, boot_wires, boot_lines_of, padding_of, lines_of}
+use Rattle.tv_layout.specs.Layout.{steps_of, state_at, block_at, line_of_word, boot_wires, boot_lines_of, padding_of, system_lines}
 use Rattle.tv_layout.specs.Places.{WithinLimits, boot_count, line_count, log_of, tape_at, zero_wires_at, first_at}
 use Rattle.tv_layout.specs.StateBefore.{state_before}
 
@@ -89,7 +89,7 @@ module _ (f : ℕ → List LineLc) (three : (i : ℕ) → length (f i) ≡ 3) wh
 -- ---- any line
 module _ (w : ℕ) (image : List ℕ) (n t : ℕ) (fits : WithinLimits w image n t) where
   abbrev all_lines : List LineLc
-  all_lines = lines_of (block_of w) w image n t
+  all_lines = system_lines (block_of w) w image n t
 
   abbrev blocks : ℕ → List LineLc
   blocks j = (block_at (block_of w) n (boot_count image n) (zero_wires_at w n) (first_at w n) j).lines
@@ -122,7 +122,7 @@ module _ (w : ℕ) (image : List ℕ) (n t : ℕ) (fits : WithinLimits w image n
       length-append (boot_lines_of image n) stepped ∙ omega arith
 
   pub line_number : length all_lines ≡ 2 ^ log_of (line_count image n t)
-  unfolding lines_of
+  unfolding system_lines
   line_number =
       let front = length-front in
       let above = log_above (line_count image n t) few in
@@ -131,7 +131,7 @@ module _ (w : ℕ) (image : List ℕ) (n t : ℕ) (fits : WithinLimits w image n
 
   module _ (i : ℕ) where
     pub in_image : i < length image → line_in all_lines i ≡ line_of_word i i (constant (slice_index image i))
-    unfolding lines_of
+    unfolding system_lines
     in_image h =
         let b = length-boot in
         let f = length-front in
@@ -145,7 +145,7 @@ module _ (w : ℕ) (image : List ℕ) (n t : ℕ) (fits : WithinLimits w image n
 
     pub in_tape : length image ≤ i → i < boot_count image n
         → line_in all_lines i ≡ line_of_word (TAPE_CELLS + (i - length image)) i (wire (tape_at + (i - length image)))
-    unfolding lines_of
+    unfolding system_lines
     in_tape above h =
         let b = length-boot in
         let f = length-front in
@@ -162,7 +162,7 @@ module _ (w : ℕ) (image : List ℕ) (n t : ℕ) (fits : WithinLimits w image n
         → line_in all_lines i ≡ line_in (block_wires w (state_before w (zero_wires_at w n) (first_at w n) ((i - boot_count image n) / 3))
         (boot_count image n + 3 * ((i - boot_count image n) / 3)) (first_at w n + (i - boot_count image n) / 3 * block_made w)).lines
         ((i - boot_count image n) % 3)
-    unfolding lines_of
+    unfolding system_lines
     in_steps above h =
         let j : ℕ = i - boot_count image n in
         get_or_append_left (boot_lines_of image n ++ stepped) _ no_line i (omega (arith, length-front))
@@ -171,7 +171,7 @@ module _ (w : ℕ) (image : List ℕ) (n t : ℕ) (fits : WithinLimits w image n
         ∙ ap (λ (b : Block). line_in b.lines (j % 3)) (block_is w fits.width n (boot_count image n) (zero_wires_at w n) (first_at w n) (j / 3))
 
     pub in_padding : line_count image n t ≤ i → i < 2 ^ log_of (line_count image n t) → line_in all_lines i ≡ line_of_word NULL_CELL i []
-    unfolding lines_of
+    unfolding system_lines
     in_padding above h =
         let k : ℕ = i - line_count image n t in
         let z : line_count image n t + k ≡ i = omega arith in
@@ -222,7 +222,7 @@ pc_before w width zero_wires first (suc i) h = omega (arith, block_places.after 
 
 module _ (w : ℕ) (image : List ℕ) (n t : ℕ) (fits : WithinLimits w image n t) where
   abbrev made : ℕ → Type 0
-  made i = IsMade (first_at w n + t * block_made w) (line_in (lines_of (block_of w) w image n t) i)
+  made i = IsMade (first_at w n + t * block_made w) (line_in (system_lines (block_of w) w image n t) i)
 
   step_made : (j : ℕ) → j < t * 3
       → IsMade (first_at w n + t * block_made w)
@@ -252,5 +252,5 @@ module _ (w : ℕ) (image : List ℕ) (n t : ℕ) (fits : WithinLimits w image n
     ]
   ]
 
-  pub lines_made : All (IsMade (first_at w n + t * block_made w)) (lines_of (block_of w) w image n t)
-  lines_made = All-from_get_or (IsMade _) (lines_of (block_of w) w image n t) no_line (λ i h. line_made i (omega (arith, line_number w image n t fits)))
+  pub lines_made : All (IsMade (first_at w n + t * block_made w)) (system_lines (block_of w) w image n t)
+  lines_made = All-from_get_or (IsMade _) (system_lines (block_of w) w image n t) no_line (λ i h. line_made i (omega (arith, line_number w image n t fits)))

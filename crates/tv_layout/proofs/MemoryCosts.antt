@@ -3,11 +3,11 @@ use Rattle.std.proofs.Common.{◌≡◌, ℕ, ◌+◌, ◌-◌, ◌*◌, ◌/◌
 use Rattle.tv_benes.specs.declared.shape.Net.{Net}
 use Rattle.tv_core.specs.Below.{sum_below}
 use Rattle.tv_core.specs.declared.limits.TheConstants.{CELL_BITS, TAPE_CELLS}
-use Rattle.tv_memory.specs.Checks.{check_made, check_added}
-use Rattle.tv_memory.specs.Costs.{network_made}
-use Rattle.tv_memory.specs.Memory.{memory_made, memory_added}
-use Rattle.tv_memory.specs.declared.kinds.Kind.{Kind}
-use Rattle.tv_memory.specs.declared.kinds.Kind.TheVariants.{Boot, Within}
+use Rattle.tv_argument.specs.Checks.{check_made, check_added}
+use Rattle.tv_argument.specs.Costs.{network_made}
+use Rattle.tv_argument.specs.Memory.{memory_made, memory_added}
+use Rattle.tv_argument.specs.declared.kinds.Kind.{Kind}
+use Rattle.tv_argument.specs.declared.kinds.Kind.TheVariants.{Boot, Within}
 use Rattle.tv_layout.proofs.CheckSums.{checks_sum}
 use Rattle.tv_layout.proofs.LineKinds.{of_image, of_tape, of_steps, first_line_kind, second_line_kind, third_line_kind}
 use Rattle.tv_layout.specs.Checks.{boot_kind, first_kind, step_kind, line_kind, checks_of}

@@ -10,9 +10,9 @@ use Rattle.tv_block.specs.declared.records.Reached.{Reached}
 use Rattle.tv_core.proofs.NormalCircuits.{normal_both, normal_put, normal_turns}
 use Rattle.tv_core.specs.Circuits.{fresh, here, put, pure, ◌>>=◌}
 use Rattle.tv_core.specs.Combinations.{wire, constant}
-use Rattle.tv_core.specs.Loops.{times}
+use Rattle.tv_core.specs.Loops.{sequence}
 use Rattle.tv_core.specs.Normal.{IsNormal, AreNormal}
-use Rattle.tv_memory.proofs.NormalLaws.{memory_normal}
+use Rattle.tv_argument.proofs.NormalLaws.{memory_normal}
 use Rattle.tv_parts.proofs.NormalStates.{row_apart}
 use Rattle.tv_parts.specs.States.{StateUnder, StateIsApart}
 use Rattle.tv_word.proofs.WidthLaws.{width_short}
@@ -23,7 +23,7 @@ use Rattle.tv_layout.proofs.Positions.{steps_next, last_of, layout_list, memory_
 use Rattle.tv_layout.proofs.Rooms.{checks_short}
 use Rattle.tv_layout.proofs.Sized.{step_sized}
 use Rattle.tv_layout.specs.Checks.{checks_of}
-use Rattle.tv_layout.specs.Layout.{word_of, words_of, zero_wire_of, zero_wires_of, tie_of, before_steps, step_of, steps_of, state_at, lines_of}
+use Rattle.tv_layout.specs.Layout.{word_of, words_of, zero_wire_of, zero_wires_of, tie_of, before_steps, step_of, steps_of, state_at, system_lines}
 use Rattle.tv_layout.specs.Normal.{SystemIsNormal}
 use Rattle.tv_layout.specs.Places.{boot_count, line_count, log_of, tape_at, zero_wires_at}
 use Rattle.tv_layout.specs.StateBefore.{state_before}
@@ -50,7 +50,7 @@ zero_normal next = normal_put (wire next) (constant 1) [] (next + 1) (wire_norma
 zeros_normal : (next : ℕ) → AreNormal (zero_wires_of next).list
 unfolding zero_wires_of here pure ◌>>=◌
 zeros_normal next =
-    normal_both (times STATE_WIRES (λ _. zero_wire_of) next).list [] (normal_turns (λ _ _. zero_wire_of) tt next STATE_WIRES (λ i h. zero_normal _)) tt
+    normal_both (sequence STATE_WIRES (λ _. zero_wire_of) next).list [] (normal_turns (λ _ _. zero_wire_of) tt next STATE_WIRES (λ i h. zero_normal _)) tt
 
 tie_normal : (last : Reached) (next : ℕ) → AreNormal (tie_of last next).list
 unfolding tie_of put ◌>>=◌
@@ -98,7 +98,7 @@ system_normal w net image n t fits =
     let last = last_of (block_of w) (block_made w) (step_sized w fits.width) w net image n t in
     let at = memory_at w (block_made w) n t in
     let short : n < 2 ^ 29 = omega (arith, fits.tape_fits) in
-    let checked = memory_normal net (checks_of image n t) (log_of (line_count image n t)) (lines_of (block_of w) w image n t) at (omega arith)
+    let checked = memory_normal net (checks_of image n t) (log_of (line_count image n t)) (system_lines (block_of w) w image n t) at (omega arith)
     (log_some (line_count image n t))
     (line_number w image n t fits) (checks_short w image n t fits) (lines_made w image n t fits) in
     subst AreNormal (sym (layout_list (block_of w) (block_made w) (step_sized w fits.width) w net image n t))

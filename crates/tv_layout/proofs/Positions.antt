@@ -3,17 +3,17 @@ use Rattle.std.proofs.Common.{◌≡◌, ℕ, zero, suc, ◌+◌, ◌*◌, ◌�
 use Rattle.std.proofs.lemmas.Bool.Decides.{leb_tells}
 use Rattle.std.specs.Prelude.{nat_le}
 use Rattle.tv_benes.specs.declared.shape.Net.{Net}
-use Rattle.tv_bits.proofs.SpellingLaws.{bits_next}
+use Rattle.tv_bits.proofs.BitsLaws.{bits_next}
 use Rattle.tv_core.proofs.LoopLaws.{turns-next}
 use Rattle.tv_core.proofs.Meeting.{Meets-split, Meets-join}
 use Rattle.tv_core.specs.Circuits.{fresh, here, put, pure, turns, ◌>>=◌}
 use Rattle.tv_core.specs.Combinations.{wire}
 use Rattle.tv_core.specs.Laws.{Meets}
-use Rattle.tv_memory.specs.Memory.{memory_of}
+use Rattle.tv_argument.specs.Memory.{argument_of}
 use Rattle.tv_layout.proofs.Blocks.{BlockSizes}
 use Rattle.tv_layout.specs.Blocks.{BlockCircuit}
 use Rattle.tv_layout.specs.Checks.{checks_of}
-use Rattle.tv_layout.specs.Layout.{word_of, words_of, zero_wire_of, zero_wires_of, tie_of, step_of, steps_of, before_steps, lines_of, layout_of}
+use Rattle.tv_layout.specs.Layout.{word_of, words_of, zero_wire_of, zero_wires_of, tie_of, step_of, steps_of, before_steps, system_lines, layout_of}
 use Rattle.tv_layout.specs.Places.{log_from, log_of, boot_count, line_count, tape_at, zero_wires_at, first_at}
 use Rattle.tv_layout.specs.declared.places.TheConstants.{STATE_WIRES}
 use Rattle.tv_block.specs.declared.records.Reached.{Reached}
@@ -65,7 +65,7 @@ module _ (block : BlockCircuit) (made : ℕ) (sizes : BlockSizes block made) whe
         ++ ((zero_wires_of (zero_wires_at w n)).list
         ++ ((steps_of block n (boot_count image n) t (zero_wires_at w n) (first_at w n)).list
         ++ ((tie_of last_of (memory_at w made n t)).list
-        ++ (memory_of net (checks_of image n t) (log_of (line_count image n t)) (lines_of block w image n t) (memory_at w made n t)).list)))
+        ++ (argument_of net (checks_of image n t) (log_of (line_count image n t)) (system_lines block w image n t) (memory_at w made n t)).list)))
     unfolding layout_of tie_of put ◌>>=◌
     layout_list =
         rw (words_next w tape_at n (2 + n)) (rw (zero_wires_next (zero_wires_at w n), zero_wires_answer (zero_wires_at w n))
@@ -76,7 +76,7 @@ module _ (block : BlockCircuit) (made : ℕ) (sizes : BlockSizes block made) whe
       pub zero_wires : Meets z (zero_wires_of (zero_wires_at w n)).list
       pub steps : Meets z (steps_of block n (boot_count image n) t (zero_wires_at w n) (first_at w n)).list
       pub tie : Meets z (tie_of last_of (memory_at w made n t)).list
-      pub honest : Meets z (memory_of net (checks_of image n t) (log_of (line_count image n t)) (lines_of block w image n t) (memory_at w made n t)).list
+      pub honest : Meets z (argument_of net (checks_of image n t) (log_of (line_count image n t)) (system_lines block w image n t) (memory_at w made n t)).list
 
     pub layout_met : (z : List ℕ) → Meets z (layout_of block w net image n t (2 + n)).list → LayoutMet z
     layout_met z meets =
@@ -92,7 +92,7 @@ module _ (block : BlockCircuit) (made : ℕ) (sizes : BlockSizes block made) whe
 
     -- where it ends
     pub layout_next : (memory_made : ℕ) → ((at : ℕ)
-        → (memory_of net (checks_of image n t) (log_of (line_count image n t)) (lines_of block w image n t) at).next ≡ at + memory_made)
+        → (argument_of net (checks_of image n t) (log_of (line_count image n t)) (system_lines block w image n t) at).next ≡ at + memory_made)
         → (layout_of block w net image n t (2 + n)).next ≡ memory_at w made n t + memory_made
     unfolding layout_of tie_of put ◌>>=◌
     layout_next memory_made ends =

@@ -7,9 +7,9 @@ use Rattle.tv_benes.specs.declared.shape.Net.{Net}
 use Rattle.tv_benes.specs.declared.shape.Net.TheVariants.{Benes, Waksman}
 use Rattle.tv_block.proofs.CountLaws.{block_counted}
 use Rattle.tv_block.specs.Complete.{block_made, block_added}
-use Rattle.tv_memory.proofs.CheckCosts.{checks_cheap}
-use Rattle.tv_memory.specs.Checks.{AreShort}
-use Rattle.tv_memory.specs.Costs.{network_made}
+use Rattle.tv_argument.proofs.CheckCosts.{checks_cheap}
+use Rattle.tv_argument.specs.Checks.{AreShort}
+use Rattle.tv_argument.specs.Costs.{network_made}
 use Rattle.tv_word.proofs.WidthLaws.{width_short}
 use Rattle.tv_layout.proofs.LineKinds.{kinds_short}
 use Rattle.tv_layout.proofs.MemoryCosts.{wires_are, constraints_are}

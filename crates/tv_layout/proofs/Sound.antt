@@ -8,9 +8,9 @@ use Rattle.tv_core.specs.Below.{joined_below}
 use Rattle.tv_core.specs.Constraints.{Sat}
 use Rattle.tv_core.specs.Laws.{Assigns, Meets, HasFrom}
 use Rattle.tv_core.specs.Lines.{Line, Honest}
-use Rattle.tv_lines.specs.Packing.{line_value}
+use Rattle.tv_lines.specs.PackedLines.{line_value}
 use Rattle.tv_lines.specs.Placed.{LinesFrom}
-use Rattle.tv_memory.proofs.Sound.{memory_sound}
+use Rattle.tv_argument.proofs.Sound.{memory_sound}
 use Rattle.tv_numbers.specs.Laws.{DoesStep}
 use Rattle.tv_numbers.specs.Views.{Matches}
 use Rattle.tv_step.specs.Cells.{boot_lines, IsInput}
@@ -29,7 +29,7 @@ use Rattle.tv_layout.proofs.Blocks.{BlockSizes, BlockIsSound}
 use Rattle.tv_layout.specs.Blocks.{BlockCircuit}
 use Rattle.tv_layout.proofs.Checked.{are_of_kinds}
 use Rattle.tv_layout.specs.Checks.{checks_of}
-use Rattle.tv_layout.specs.Layout.{steps_of, state_at, lines_of, taken_of, layout}
+use Rattle.tv_layout.specs.Layout.{steps_of, state_at, system_lines, taken_of, layout}
 use Rattle.tv_layout.specs.Places.{WithinLimits, boot_count, line_count, log_of, tape_at, zero_wires_at, first_at}
 use Rattle.tv_layout.specs.Sound.{padding, IsRun}
 
@@ -44,7 +44,7 @@ module _ (w : ℕ) (block : BlockCircuit) (made : ℕ) (sizes : BlockSizes block
     (fits : WithinLimits w image (length x) t)
     (assigns : Assigns z) (words : AreWords w x) (has : HasFrom z tape_at x) (zeros_there : HoldsZeros z (zero_wires_at w (length x)))
     (met : Meets z (steps_of block (length x) (boot_count image (length x)) t (zero_wires_at w (length x)) (first_at w (length x))).list)
-    (honest : Honest (map (line_value z) (lines_of block w image (length x) t)))
+    (honest : Honest (map (line_value z) (system_lines block w image (length x) t)))
     (answers : slice_index z (steps_of block (length x) (boot_count image (length x)) t (zero_wires_at w (length x)) (first_at w (length x))).answer.answers
     ≡ 1)
     (value : slice_index z (steps_of block (length x) (boot_count image (length x)) t (zero_wires_at w (length x)) (first_at w (length x))).answer.value
@@ -140,7 +140,7 @@ layout_sound w net block made sizes law image x z t fits has sat =
     let zeros_there = zero_wires_there w fits.width z assigns (zero_wires_at w (length x)) met.zero_wires in
     let tie = tie_there w fits.width z assigns (last_of block made sizes w net image (length x) t) _ met.tie in
     let count : ℕ = line_count image (length x) t in
-    let honest = memory_sound net z (checks_of image (length x) t) (log_of count) (lines_of block w image (length x) t) _ (log_some count)
+    let honest = memory_sound net z (checks_of image (length x) t) (log_of count) (system_lines block w image (length x) t) _ (log_some count)
     (log_within count (few image (length x) t w fits))
     (lines_many w block made sizes law image x z t fits assigns words has zeros_there met.steps)
     (subst (LinesFrom 0) (sym (lines_valued w block made sizes law image x z t fits assigns words has zeros_there met.steps))

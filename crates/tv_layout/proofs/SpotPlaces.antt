@@ -9,7 +9,7 @@ use Rattle.tv_core.specs.declared.lines.LineLc.{LineLc}
 use Rattle.tv_lines.specs.Placed.{line_in}
 use Rattle.tv_layout.proofs.LinePlaces.{line_made}
 use Rattle.tv_layout.proofs.SystemSizes.{system_wires}
-use Rattle.tv_layout.specs.Layout.{lines_of}
+use Rattle.tv_layout.specs.Layout.{system_lines}
 use Rattle.tv_layout.specs.Places.{WithinLimits, line_count, log_of, first_at}
 use Rattle.tv_layout.specs.Sizes.{memory_wires}
 use Rattle.tv_layout.specs.Systems.{system_of}
@@ -31,7 +31,7 @@ module _ (w : ℕ) (net : Net) (image : List ℕ) (n t : ℕ) (fits : WithinLimi
       joined a b c = omega arith
 
   -- a line of the system
-  pub line_below : (i : ℕ) → i < 2 ^ log_of (line_count image n t) → (line : LineLc) → line ≡ line_in (lines_of (block_of w) w image n t) i
+  pub line_below : (i : ℕ) → i < 2 ^ log_of (line_count image n t) → (line : LineLc) → line ≡ line_in (system_lines (block_of w) w image n t) i
       → LineUnder (system_of w net image n t).wires line
   line_below i h line is =
       let made = line_made w image n t fits i h in

@@ -12,7 +12,7 @@ use Rattle.tv_core.specs.Circuits.{turns, pure, ◌>>=◌}
 use Rattle.tv_core.specs.Laws.{Assigns, Meets}
 use Rattle.tv_core.specs.Lines.{Line}
 use Rattle.tv_core.specs.declared.lines.LineLc.{LineLc}
-use Rattle.tv_lines.specs.Packing.{line_value}
+use Rattle.tv_lines.specs.PackedLines.{line_value}
 use Rattle.tv_lines.specs.Placed.{line_in, LinesFrom, IsLine as Fits}
 use Rattle.tv_numbers.specs.Laws.{DoesStep}
 use Rattle.tv_numbers.specs.Numbers.{Did, lines_in}

@@ -38,13 +38,13 @@ use Rattle.tv_layout.proofs.Blocks.{BlockSizes, BlockIsSound, BlockIsComplete, G
 use Rattle.tv_layout.specs.Blocks.{BlockCircuit, BlockValues, view_of}
 use Rattle.tv_layout.specs.Layout.{before_steps, step_of, steps_of}
 use Rattle.tv_layout.specs.Places.{boot_count}
-use Rattle.tv_layout.specs.Values.{step_values}
+use Rattle.tv_layout.specs.Values.{run_step_values}
 
 module _ (w : ℕ) (block : BlockCircuit) (made : ℕ) (sizes : BlockSizes block made) (values : BlockValues) (law : BlockIsSound w block)
     (complete : BlockIsComplete w block made values)
     (image x aux z : List ℕ) (zero_wires first t v : ℕ) (input : IsInput w image x aux) (assigns : Assigns z)
     (early : boot_count image (length x) + 3 * t < 2 ^ 32) (zeros_there : HoldsZeros z zero_wires)
-    (has : (i : ℕ) → i < t → HasFrom z (first + i * made) (step_values values w image x aux i)) (runs : Answering w (start w image x aux) t v) where
+    (has : (i : ℕ) → i < t → HasFrom z (first + i * made) (run_step_values values w image x aux i)) (runs : Answering w (start w image x aux) t v) where
   abbrev time : ℕ
   time = boot_count image (length x)
 

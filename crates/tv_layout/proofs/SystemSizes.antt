@@ -8,10 +8,10 @@ use Rattle.tv_block.specs.Complete.{block_made}
 use Rattle.tv_block.specs.Costs.{block_terms}
 use Rattle.tv_core.specs.Meanings.{terms_in}
 use Rattle.tv_core.specs.declared.lines.LineLc.{LineLc}
-use Rattle.tv_memory.proofs.Complete.{memory_complete}
-use Rattle.tv_memory.proofs.Costs.{memory_cost}
-use Rattle.tv_memory.specs.Checks.{Checks}
-use Rattle.tv_memory.specs.Memory.{memory_made, memory_terms}
+use Rattle.tv_argument.proofs.Complete.{memory_complete}
+use Rattle.tv_argument.proofs.Costs.{memory_cost}
+use Rattle.tv_argument.specs.Checks.{Checks}
+use Rattle.tv_argument.specs.Memory.{memory_made, memory_terms}
 use Rattle.tv_word.proofs.WidthLaws.{width_short}
 use Rattle.tv_layout.proofs.LinePlaces.{line_number, lines_made}
 use Rattle.tv_layout.proofs.MemoryCosts.{wires_are, constraints_are}
@@ -20,7 +20,7 @@ use Rattle.tv_layout.proofs.Positions.{layout_next, log_some, log_within, memory
 use Rattle.tv_layout.proofs.Rooms.{system_fits, checks_short}
 use Rattle.tv_layout.proofs.Sized.{step_sized}
 use Rattle.tv_layout.specs.Checks.{checks_of}
-use Rattle.tv_layout.specs.Layout.{lines_of}
+use Rattle.tv_layout.specs.Layout.{system_lines}
 use Rattle.tv_layout.specs.Places.{WithinLimits, line_count, log_of}
 use Rattle.tv_layout.specs.Sizes.{memory_constraints, system_made, system_added, system_terms, size_most, SystemIsSized}
 use Rattle.tv_layout.specs.Systems.{system_of}
@@ -31,7 +31,7 @@ module _ (w : ℕ) (net : Net) (image : List ℕ) (n t : ℕ) (fits : WithinLimi
   k = log_of (line_count image n t)
 
   abbrev lines : List LineLc
-  lines = lines_of (block_of w) w image n t
+  lines = system_lines (block_of w) w image n t
 
   abbrev checks : Checks
   checks = checks_of image n t

@@ -6,7 +6,7 @@ use Rattle.std.proofs.lemmas.List.Elements.{All-weaker}
 use Rattle.tv_core.specs.Below.{joined_below}
 use Rattle.tv_core.specs.Laws.{Assigns, Meets, HasFrom}
 use Rattle.tv_core.specs.Lines.{Line}
-use Rattle.tv_lines.specs.Packing.{line_value}
+use Rattle.tv_lines.specs.PackedLines.{line_value}
 use Rattle.tv_lines.specs.Placed.{LinesFrom}
 use Rattle.tv_numbers.specs.Numbers.{lines_in}
 use Rattle.tv_step.specs.Cells.{boot_lines}
@@ -18,7 +18,7 @@ use Rattle.tv_layout.proofs.Positions.{log_above, log_within}
 use Rattle.tv_layout.proofs.Steps.{did_at, lines_did, length-lines_did, lines_placed}
 use Rattle.tv_layout.proofs.Blocks.{BlockSizes, BlockIsSound}
 use Rattle.tv_layout.specs.Blocks.{BlockCircuit}
-use Rattle.tv_layout.specs.Layout.{boot_lines_of, steps_of, block_at, lines_of}
+use Rattle.tv_layout.specs.Layout.{boot_lines_of, steps_of, block_at, system_lines}
 use Rattle.tv_layout.specs.Places.{WithinLimits, boot_count, line_count, log_of, tape_at, zero_wires_at, first_at}
 use Rattle.tv_layout.specs.Sound.{padding}
 use Rattle.tv_word.proofs.WidthLaws.{word_small}
@@ -54,9 +54,9 @@ module _ (w : ℕ) (block : BlockCircuit) (made : ℕ) (sizes : BlockSizes block
   abbrev pub lines : ℕ → List Line
   lines i = lines_in (did_at block made sizes z x (boot_count image (length x)) (zero_wires_at w (length x)) (first_at w (length x)) i)
 
-  pub lines_valued : map (line_value z) (lines_of block w image (length x) t)
+  pub lines_valued : map (line_value z) (system_lines block w image (length x) t)
       ≡ (boot_lines image x ++ joined_below t lines) ++ padding (line_count image (length x) t) (spare image (length x) t)
-  unfolding lines_of
+  unfolding system_lines
   lines_valued =
       let count : ℕ = line_count image (length x) t in
       let a = boot_lines_valued z assigns image x (words_32 w fits.width image fits.words) (omega (arith, fits.image_fits))
@@ -85,7 +85,7 @@ module _ (w : ℕ) (block : BlockCircuit) (made : ℕ) (sizes : BlockSizes block
       (short image (length x) t w fits) (early image (length x) t w fits) zeros_there met t (omega arith)))
       (padding_placed (line_count image (length x) t) (spare image (length x) t))
 
-  pub lines_many : length (lines_of block w image (length x) t) ≡ 2 ^ log_of (line_count image (length x) t)
+  pub lines_many : length (system_lines block w image (length x) t) ≡ 2 ^ log_of (line_count image (length x) t)
   lines_many =
       let e = length-append (boot_lines image x) (joined_below t lines) in
       let f = length-append (boot_lines image x ++ joined_below t lines) (padding (line_count image (length x) t) (spare image (length x) t)) in
@@ -93,4 +93,4 @@ module _ (w : ℕ) (block : BlockCircuit) (made : ℕ) (sizes : BlockSizes block
       let h = length-padding (line_count image (length x) t) (spare image (length x) t) in
       let l : length ((boot_lines image x ++ joined_below t lines) ++ padding (line_count image (length x) t) (spare image (length x) t))
       ≡ 2 ^ log_of (line_count image (length x) t) = omega (arith, e, f, g, h, steps_many, filled image (length x) t w fits) in
-      sym (length-map (lines_of block w image (length x) t) (line_value z)) ∙ ap length lines_valued ∙ l
+      sym (length-map (system_lines block w image (length x) t) (line_value z)) ∙ ap length lines_valued ∙ l

@@ -1,9 +1,9 @@
 -- How the lines of a system are checked: each by its kind, which its position determines.
 use Rattle.std.specs.Prelude.{ℕ, ◌+◌, ◌-◌, ◌/◌, ◌%◌, ◌==◌, nat_lt, ◌&&◌, if◌then◌else◌, List, length}
 use Rattle.tv_core.specs.declared.limits.TheConstants.{CELL_BITS, TAPE_CELLS}
-use Rattle.tv_memory.specs.Checks.{Checks}
-use Rattle.tv_memory.specs.declared.kinds.Kind.{Kind}
-use Rattle.tv_memory.specs.declared.kinds.Kind.TheVariants.{Fresh, Least, Boot, Within}
+use Rattle.tv_argument.specs.Checks.{Checks}
+use Rattle.tv_argument.specs.declared.kinds.Kind.{Kind}
+use Rattle.tv_argument.specs.declared.kinds.Kind.TheVariants.{Fresh, Least, Boot, Within}
 use Rattle.tv_layout.specs.Places.{line_count, log_of}
 
 -- the least line is of cell 0: that of the image's first word, or, where the image has none, the first of the steps,

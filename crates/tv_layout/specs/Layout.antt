@@ -8,10 +8,10 @@ use Rattle.tv_core.specs.Below.{joined_below}
 use Rattle.tv_core.specs.Circuits.{Circuit, fresh, here, put, pure, turns, ◌>>=◌}
 use Rattle.tv_core.specs.Combinations.{wire, constant}
 use Rattle.tv_core.specs.Constraints.{Combination, System}
-use Rattle.tv_core.specs.Loops.{times}
+use Rattle.tv_core.specs.Loops.{sequence}
 use Rattle.tv_core.specs.declared.limits.TheConstants.{TAPE_CELLS, NULL_CELL}
 use Rattle.tv_core.specs.declared.lines.LineLc.{LineLc}
-use Rattle.tv_memory.specs.Memory.{memory_of}
+use Rattle.tv_argument.specs.Memory.{argument_of}
 use Rattle.tv_layout.specs.Blocks.{BlockCircuit}
 use Rattle.tv_layout.specs.Checks.{checks_of}
 use Rattle.tv_layout.specs.Places.{boot_count, line_count, log_of, tape_at, zero_wires_at, first_at}
@@ -30,7 +30,7 @@ word_of w first i = do
   pure tt
 
 unfoldable pub words_of : ℕ → ℕ → ℕ → Circuit (Unit {0})
-words_of w first n = times n (word_of w first)
+words_of w first n = sequence n (word_of w first)
 
 -- a new wire that is held to 0
 unfoldable pub zero_wire_of : Circuit (Unit {0})
@@ -42,7 +42,7 @@ zero_wire_of = do
 unfoldable pub zero_wires_of : Circuit ℕ
 zero_wires_of = do
   first ← here
-  _ ← times STATE_WIRES (λ _. zero_wire_of)
+  _ ← sequence STATE_WIRES (λ _. zero_wire_of)
   pure first
 
 -- the first state: the wires from a first one on, in a row
@@ -112,8 +112,8 @@ module _ (block : BlockCircuit) where
   block_at n time zero_wires first i = (block n (state_at n time zero_wires first i) (time + 3 * i) (steps_of n time i zero_wires first).next).answer
 
   -- all lines in time order: boot lines, those of the steps, and padding up to 2 ^ k
-  unfoldable pub lines_of : ℕ → List ℕ → ℕ → ℕ → List LineLc
-  lines_of w image n t =
+  unfoldable pub system_lines : ℕ → List ℕ → ℕ → ℕ → List LineLc
+  system_lines w image n t =
       (boot_lines_of image n ++ joined_below t (λ i. (block_at n (boot_count image n) (zero_wires_at w n) (first_at w n) i).lines))
       ++ padding_of (line_count image n t) (2 ^ log_of (line_count image n t) - line_count image n t)
 
@@ -132,7 +132,7 @@ module _ (block : BlockCircuit) where
     zero_wires ← zero_wires_of
     last ← steps_of n (boot_count image n) t zero_wires
     _ ← tie_of last
-    memory_of net (checks_of image n t) (log_of (line_count image n t)) (lines_of w image n t)
+    argument_of net (checks_of image n t) (log_of (line_count image n t)) (system_lines w image n t)
 
   -- the system: its public wires are the answer and the n words of the tape
   abbrev pub layout : ℕ → Net → List ℕ → ℕ → ℕ → System

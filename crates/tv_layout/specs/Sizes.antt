@@ -8,14 +8,14 @@ use Rattle.tv_block.specs.Costs.{block_terms}
 use Rattle.tv_core.specs.Constraints.{System}
 use Rattle.tv_core.specs.Meanings.{terms_in}
 use Rattle.tv_core.specs.declared.limits.TheConstants.{CELL_BITS}
-use Rattle.tv_memory.specs.Checks.{check_made, check_added}
-use Rattle.tv_memory.specs.Costs.{network_made}
-use Rattle.tv_memory.specs.Memory.{memory_terms}
-use Rattle.tv_memory.specs.declared.kinds.Kind.{Kind}
-use Rattle.tv_memory.specs.declared.kinds.Kind.TheVariants.{Fresh, Boot, Within}
+use Rattle.tv_argument.specs.Checks.{check_made, check_added}
+use Rattle.tv_argument.specs.Costs.{network_made}
+use Rattle.tv_argument.specs.Memory.{memory_terms}
+use Rattle.tv_argument.specs.declared.kinds.Kind.{Kind}
+use Rattle.tv_argument.specs.declared.kinds.Kind.TheVariants.{Fresh, Boot, Within}
 use Rattle.tv_layout.specs.Checks.{first_kind, checks_of}
 use Rattle.tv_layout.specs.declared.totals.CheckCosts.{CheckCosts}
-use Rattle.tv_layout.specs.Layout.{lines_of}
+use Rattle.tv_layout.specs.Layout.{system_lines}
 use Rattle.tv_layout.specs.Places.{WithinLimits, line_count, log_of}
 use Rattle.tv_layout.specs.Systems.{system_of}
 use Rattle.tv_layout.specs.declared.places.TheConstants.{STATE_WIRES}
@@ -75,7 +75,7 @@ system_added w net image n t = n * (w + 1) + STATE_WIRES + t * block_added w + 2
 abbrev pub system_terms : ℕ → Net → List ℕ → ℕ → ℕ → ℕ
 system_terms w net image n t =
     n * (4 * w + 2) + 2 * STATE_WIRES + t * block_terms w n + 6
-    + memory_terms net (checks_of image n t) (log_of (line_count image n t)) (lines_of (block_of w) w image n t)
+    + memory_terms net (checks_of image n t) (log_of (line_count image n t)) (system_lines (block_of w) w image n t)
 
 -- ---- what it is at most
 abbrev pub network_most : Net → ℕ → ℕ

@@ -1,7 +1,7 @@
 -- What a satisfying assignment of a system is: a run.
 use Rattle.std.specs.Prelude.{◌≡◌, ℕ, ◌-◌, ◌^◌, ◌<◌, ◌≤◌, List, ◌++◌, length, map, slice_index, zero, suc, ◌+◌, [], ◌∷◌}
 use Rattle.tv_core.specs.Lines.{Line, Honest}
-use Rattle.tv_lines.specs.Packing.{line_value}
+use Rattle.tv_lines.specs.PackedLines.{line_value}
 use Rattle.tv_numbers.specs.Views.{Matches}
 use Rattle.tv_step.specs.Cells.{run_lines}
 use Rattle.tv_step.specs.Machine.{start, state_after, Accepts}
@@ -10,7 +10,7 @@ use Rattle.tv_step.specs.Reads.{word_taken, words_in, Reads}
 use Rattle.tv_step.specs.Trace.{null_line}
 use Rattle.tv_parts.specs.States.{state_in}
 use Rattle.tv_layout.specs.Blocks.{BlockCircuit}
-use Rattle.tv_layout.specs.Layout.{state_at, block_at, lines_of, taken_at, taken_of}
+use Rattle.tv_layout.specs.Layout.{state_at, block_at, system_lines, taken_at, taken_of}
 use Rattle.tv_layout.specs.Places.{boot_count, line_count, log_of, zero_wires_at, first_at}
 
 -- lines of the null cell, from a time on
@@ -32,8 +32,8 @@ pub record IsRun (w : ℕ) (block : BlockCircuit) (image x : List ℕ) (t : ℕ)
   pub tape : AreWords w x
   pub answer : slice_index z 1 < 2 ^ w
   pub taken : AreWords w (taken_of block w image (length x) t z)
-  pub honest : Honest (map (line_value z) (lines_of block w image (length x) t))
-  pub lines : map (line_value z) (lines_of block w image (length x) t) ≡ all_lines w image x (taken_of block w image (length x) t z) t
+  pub honest : Honest (map (line_value z) (system_lines block w image (length x) t))
+  pub lines : map (line_value z) (system_lines block w image (length x) t) ≡ all_lines w image x (taken_of block w image (length x) t z) t
   pub states : (i : ℕ) → i ≤ t
       → Matches x (state_in z (state_at block (length x) (boot_count image (length x)) (zero_wires_at w (length x)) (first_at w (length x)) i))
       (state_after w i (start w image x (taken_of block w image (length x) t z)))

@@ -5,7 +5,7 @@ use Rattle.tv_bits.specs.Bits.{bits_values}
 use Rattle.tv_block.specs.Complete.{olds_of}
 use Rattle.tv_core.specs.Below.{joined_below}
 use Rattle.tv_core.specs.Constraints.{Sat, Extends}
-use Rattle.tv_memory.specs.Order.{memory_values}
+use Rattle.tv_argument.specs.Order.{argument_values}
 use Rattle.tv_step.specs.Machine.{start, state_after}
 use Rattle.tv_step.specs.Reads.{word_taken, ended_after, Reads}
 use Rattle.tv_layout.specs.Checks.{checks_of}
@@ -18,8 +18,8 @@ use Rattle.tv_layout.specs.declared.places.TheConstants.{STATE_WIRES}
 
 module _ (values : BlockValues) where
   -- those of step i of a run
-  abbrev pub step_values : ℕ → List ℕ → List ℕ → List ℕ → ℕ → List ℕ
-  step_values w image x aux i =
+  abbrev pub run_step_values : ℕ → List ℕ → List ℕ → List ℕ → ℕ → List ℕ
+  run_step_values w image x aux i =
       let now = state_after w i (start w image x aux) in
       let time = boot_count image (length x) + 3 * i in
       values (length x) (view_of (length x) now (ended_after w i (start w image x aux))) (olds_of w (length x) now time) (word_taken w now)
@@ -28,8 +28,8 @@ module _ (values : BlockValues) where
   unfoldable pub fill : Net → RunInput → ℕ → List ℕ
   fill net run v =
       1 ∷ ((v ∷ run.tape) ++ (joined_below (length run.tape) (λ i. bits_values (slice_index run.tape i) run.width)
-      ++ (replicate STATE_WIRES 0 ++ (joined_below run.t (step_values run.width run.image run.tape run.aux)
-      ++ memory_values net (checks_of run.image (length run.tape) run.t) (log_of (line_count run.image (length run.tape) run.t))
+      ++ (replicate STATE_WIRES 0 ++ (joined_below run.t (run_step_values run.width run.image run.tape run.aux)
+      ++ argument_values net (checks_of run.image (length run.tape) run.t) (log_of (line_count run.image (length run.tape) run.t))
       (all_lines run.width run.image run.tape run.aux run.t)))))
 
 -- the values satisfy the system and extend the answer and the tape, and the words taken are those that the run reads

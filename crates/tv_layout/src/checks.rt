@@ -1,10 +1,10 @@
 //! How the lines of a system are checked.
 ghost use Rattle.std.specs.Prelude.{◌≡◌, ◌+◌, ◌^◌, ◌<◌, ◌≤◌};
 ghost use Rattle.tv_layout.specs.Checks.{boot_kind, first_kind, line_kind, step_kind};
-ghost use Rattle.tv_memory.specs.Checks.{IsShort};
+ghost use Rattle.tv_argument.specs.Checks.{IsShort};
 
+use tv_argument::Kind;
 use tv_core::limits::{CELL_BITS, TAPE_CELLS};
-use tv_memory::Kind;
 
 /// Returns how line `i` of a system of 2^`k` lines is checked, its image having `words` words and
 /// its tape `n`; `i` is below the number of lines before padding. The line of the image's first

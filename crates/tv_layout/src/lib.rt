@@ -8,21 +8,21 @@
 #![tactic(auto)]
 
 mod checks;
-mod emitting;
+mod counts;
 mod laws;
 mod lines;
 mod places;
-mod sizing;
+mod sequence;
 mod spots;
-mod stepping;
+mod system;
 mod totals;
 
 pub use checks::line_kind;
-pub use emitting::emit_system;
+pub use counts::{count_system, sizes, wires};
 pub use laws::{
     systems_are_complete, systems_are_normal, systems_are_sized, systems_are_sound, systems_reduce,
 };
 pub use lines::line;
 pub use places::{ANSWER, STATE_WIRES, log_of, public_wires, tape_wire};
-pub use sizing::{count_system, sizes, wires};
 pub use spots::spot;
+pub use system::emit_system;

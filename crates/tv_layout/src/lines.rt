@@ -6,7 +6,7 @@ ghost use Rattle.tv_block.specs.Complete.{block_made};
 ghost use Rattle.tv_block.specs.Places.{block_wires, IsShort};
 ghost use Rattle.tv_block.specs.Under.{LineUnder};
 ghost use Rattle.tv_layout.specs.Checks.{checks_of};
-ghost use Rattle.tv_layout.specs.Layout.{lines_of, line_of_word};
+ghost use Rattle.tv_layout.specs.Layout.{system_lines, line_of_word};
 ghost use Rattle.tv_layout.specs.Places.{WithinLimits, line_count, log_of, zero_wires_at, first_at};
 ghost use Rattle.tv_layout.specs.Systems.{system_of};
 ghost use Rattle.tv_layout.specs.StateBefore.{state_before};
@@ -16,12 +16,12 @@ ghost use Rattle.tv_word.specs.Widths.{IsWidth};
 
 use crate::checks::line_kind;
 use crate::places::{step_at, tape_wire, zero_wires_at};
-use crate::stepping::first_state;
+use crate::sequence::first_state;
+use tv_argument::{Kind, Lines};
 use tv_block::{StateWires, block_line, next_state};
 use tv_core::limits::{NULL_CELL, STEPS, TAPE_CELLS, TAPE_WORDS};
 use tv_core::{F, LineLc, Wire};
 use tv_lines::{Cell, CompactLine, Word};
-use tv_memory::{Kind, Lines};
 
 /// Returns line `i` of a program's system, in time order: the lines of the image, of the words of
 /// the primary tape, of the steps, and padding up to 2^k lines, where k is `log_of` of the number
@@ -31,7 +31,7 @@ use tv_memory::{Kind, Lines};
 pub fn line<const W: u32>(image: &[u32], n: u32, t: u32, i: u32) -> LineLc
     requires fits { WithinLimits W image.now n t }
     requires within { i < 2 ^ log_of (line_count image.now n t) }
-    ensures is { result ≡ line_in (lines_of (block_of W) W image.now n t) i }
+    ensures is { result ≡ line_in (system_lines (block_of W) W image.now n t) i }
     ensures short { IsShort result }
     ensures below { (net : Net) → LineUnder (system_of W net image.now n t).wires result }
 {
@@ -42,7 +42,7 @@ pub fn line<const W: u32>(image: &[u32], n: u32, t: u32, i: u32) -> LineLc
 fn compact_line<const W: u32>(image: &[u32], n: u32, t: u32, i: u32) -> CompactLine
     requires fits { WithinLimits W image.now n t }
     requires within { i < 2 ^ log_of (line_count image.now n t) }
-    ensures is { line_lc result ≡ line_in (lines_of (block_of W) W image.now n t) i }
+    ensures is { line_lc result ≡ line_in (system_lines (block_of W) W image.now n t) i }
     ensures short { IsShort (line_lc result) }
 {
     let words = image.len() as u32;
@@ -114,7 +114,7 @@ pub(crate) struct LayoutLines<'a, const W: u32> {
 }
 
 impl<'a, const W: u32> Lines for LayoutLines<'a, W> {
-    ghost lines = { λ l. lines_of (block_of W) W l.image.now l.n l.t };
+    ghost lines = { λ l. system_lines (block_of W) W l.image.now l.n l.t };
 
     ghost checks = { λ l. checks_of l.image.now l.n l.t };
 

@@ -1,11 +1,11 @@
 //! What the checks of a system's lines cost in wires and in constraints, by their kinds.
 ghost use Rattle.std.specs.Prelude.{◌≡◌, ◌^◌, ◌≤◌};
 ghost use Rattle.tv_layout.specs.Sizes.{AreCheap, check_costs, checks_total, in_row};
-ghost use Rattle.tv_memory.specs.Checks.{check_added, check_made};
+ghost use Rattle.tv_argument.specs.Checks.{check_added, check_made};
 
 use crate::checks::first_kind;
+use tv_argument::{Kind, check_added, check_made};
 use tv_core::limits::CELL_BITS;
-use tv_memory::{Kind, check_added, check_made};
 
 /// What checks of lines cost, in wires or in constraints.
 #[derive(Clone, Copy, PartialEq, Eq, Debug)]

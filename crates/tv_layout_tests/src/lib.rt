@@ -5,11 +5,11 @@
 #![tactic(auto)]
 
 #[cfg(test)]
-mod altered;
+mod alterations;
 pub mod examples;
 #[cfg(test)]
-mod extracting;
-#[cfg(test)]
-mod filling;
+mod extraction;
 #[cfg(test)]
 mod lines;
+#[cfg(test)]
+mod values;

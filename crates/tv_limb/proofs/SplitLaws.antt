@@ -1,13 +1,13 @@
 -- The laws of a number in two parts.
 use Rattle.std.proofs.Common.{◌≡◌, ℕ, ◌+◌, ◌-◌, ◌/◌, ◌%◌, ◌^◌, List, [], ap, subst, arith}
 use Rattle.tv_bits.proofs.SizeLaws.{length-bits, bits_in_field}
-use Rattle.tv_bits.proofs.SpelledNumbers.{Spells-low, Spells-high}
-use Rattle.tv_bits.proofs.SpellingLaws.{bits_sound, bits_complete, bits_answer, bits_next}
-use Rattle.tv_bits.specs.Bits.{Spells, bits_of}
+use Rattle.tv_bits.proofs.BitNumbers.{HasBits-low, HasBits-high}
+use Rattle.tv_bits.proofs.BitsLaws.{bits_sound, bits_complete, bits_answer, bits_next}
+use Rattle.tv_bits.specs.Bits.{HasBits, bits_of}
 use Rattle.tv_core.proofs.Meeting.{Meets-split, Meets-join}
 use Rattle.tv_core.specs.Circuits.{pure, ◌>>=◌}
 use Rattle.tv_core.specs.Constraints.{Combination, value}
-use Rattle.tv_limb.specs.Split.{SpellsParts, split_at, split_of, SplitIsSound, SplitIsComplete, SplitSizes}
+use Rattle.tv_limb.specs.Split.{HasPartBits, split_at, split_of, SplitIsSound, SplitIsComplete, SplitSizes}
 
 -- what the circuit answers, and where it ends
 pub split_answer : (w : ℕ) (x : Combination) (n next : ℕ) → (split_of w x n next).answer ≡ split_at w (record { first = next; n = n })
@@ -19,9 +19,9 @@ unfolding split_of pure ◌>>=◌
 split_next w x n next = bits_next x n next
 
 -- what wires represent in two parts
-pub SpellsParts-from_Spells : (w m : ℕ) (z : List ℕ) (first n v : ℕ) → Spells z first (w + m) v
-    → SpellsParts w m z (split_at w (record { first = first; n = n })) (v % 2 ^ w) (v / 2 ^ w)
-SpellsParts-from_Spells w m z first n v s = record { low = Spells-low z first w m v s; high = Spells-high z first w m v s }
+pub HasPartBits-from_HasBits : (w m : ℕ) (z : List ℕ) (first n v : ℕ) → HasBits z first (w + m) v
+    → HasPartBits w m z (split_at w (record { first = first; n = n })) (v % 2 ^ w) (v / 2 ^ w)
+HasPartBits-from_HasBits w m z first n v s = record { low = HasBits-low z first w m v s; high = HasBits-high z first w m v s }
 
 pub split_sound : SplitIsSound
 unfolding split_of pure ◌>>=◌
@@ -29,7 +29,7 @@ split_sound w z next x n long short assigns meets =
     let made = (bits_of x n next).answer in
     let s = bits_sound z next x n short assigns (Meets-split z (bits_of x n next).list [] meets).0 in
     let same : n ≡ w + (n - w) = omega arith in
-    SpellsParts-from_Spells w (n - w) z made.first made.n (value x z) (subst (λ k. Spells z made.first k (value x z)) same s)
+    HasPartBits-from_HasBits w (n - w) z made.first made.n (value x z) (subst (λ k. HasBits z made.first k (value x z)) same s)
 
 pub split_complete : SplitIsComplete
 unfolding split_of pure ◌>>=◌

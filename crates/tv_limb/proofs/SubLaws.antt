@@ -3,9 +3,9 @@ use Rattle.std.proofs.Common.{◌≡◌, ℕ, ◌+◌, ◌-◌, ◌*◌, ◌/◌
 use Rattle.std.specs.Prelude.{slice_index}
 use Rattle.std.proofs.lemmas.Bool.Decides.{nat_tests}
 use Rattle.tv_bits.proofs.SizeLaws.{length-bits, bits_in_field}
-use Rattle.tv_bits.proofs.SpelledNumbers.{Spells-below, Spells-low, Spells-high, Spells-one, Spells-from_values, value-bits_below}
-use Rattle.tv_bits.proofs.SpellingLaws.{new_bits_sound, new_bits_complete, new_bits_answer, new_bits_next}
-use Rattle.tv_bits.specs.Bits.{Spells, spelled, bits_combination, new_bits_of}
+use Rattle.tv_bits.proofs.BitNumbers.{HasBits-below, HasBits-low, HasBits-high, HasBits-one, HasBits-from_values, value-bits_below}
+use Rattle.tv_bits.proofs.BitsLaws.{new_bits_sound, new_bits_complete, new_bits_answer, new_bits_next}
+use Rattle.tv_bits.specs.Bits.{HasBits, binary_value, bits_combination, new_bits_of}
 use Rattle.tv_bits.specs.declared.bit_wires.Bits.{Bits}
 use Rattle.tv_core.proofs.CombinationLaws.{value-append, value-less, value-constant}
 use Rattle.tv_core.proofs.Meeting.{Meets-split, Meets-join}
@@ -14,7 +14,7 @@ use Rattle.tv_core.specs.Combinations.{constant}
 use Rattle.tv_core.specs.Constraints.{value}
 use Rattle.tv_core.specs.Laws.{Assigns}
 use Rattle.tv_core.specs.declared.field.TheConstants.{P}
-use Rattle.tv_limb.proofs.SplitLaws.{SpellsParts-from_Spells}
+use Rattle.tv_limb.proofs.SplitLaws.{HasPartBits-from_HasBits}
 use Rattle.tv_limb.specs.Difference.{difference, borrow, less_borrow, difference_of_words, sub_of, SubIsSound, SubIsComplete, SubSizes}
 use Rattle.tv_limb.specs.Split.{split_at}
 use Rattle.tv_word.proofs.WidthLaws.{width_short}
@@ -38,22 +38,22 @@ complete_by : (w : ℕ) → IsWidth w → (x y : ℕ) → x < 2 ^ w → y < 2 ^ 
 complete_by w width x y hx hy = grind (arith, nat_tests)
 
 -- the two sides, as numbers
-module _ (w : ℕ) (width : IsWidth w) (z : List ℕ) (assigns : Assigns z) (x y : Bits) (a b : ℕ) (p : Spells z x.first w a) (q : Spells z y.first w b) where
+module _ (w : ℕ) (width : IsWidth w) (z : List ℕ) (assigns : Assigns z) (x y : Bits) (a b : ℕ) (p : HasBits z x.first w a) (q : HasBits z y.first w b) where
   right : value (difference_of_words w x y) z ≡ (a + (P - b)) % P
   right = let short = width_short w width in value-less (bits_combination x.first w) (bits_combination y.first w) z
       ∙ ap₂ (λ m n. (m + (P - n)) % P) (value-bits_below p (omega arith)) (value-bits_below q (omega arith))
 
-  left : (first n v : ℕ) → Spells z first (w + 1) v
+  left : (first n v : ℕ) → HasBits z first (w + 1) v
       → value (less_borrow w (split_at w (record { first = first; n = n }))) z * value (constant 1) z % P
       ≡ (v % 2 ^ w + (P - 2 ^ w % P) % P * (v / 2 ^ w) % P) % P
   left first n v s =
       let short = width_short w width in
       let bits = bits_combination first w in
       let c = (P - 2 ^ w % P) % P in
-      let wire : slice_index z (first + w) ≡ v / 2 ^ w = Spells-one z (first + w) (v / 2 ^ w) (Spells-high z first w 1 v s) in
+      let wire : slice_index z (first + w) ≡ v / 2 ^ w = HasBits-one z (first + w) (v / 2 ^ w) (HasBits-high z first w 1 v s) in
       let last : value ((c, first + w) ∷ []) z ≡ c * (v / 2 ^ w) % P = omega (arith, ap (λ k. c * k) wire) in
       let sum : value (less_borrow w (split_at w (record { first = first; n = n }))) z ≡ (v % 2 ^ w + c * (v / 2 ^ w) % P) % P
-      = value-append bits ((c, first + w) ∷ []) z ∙ ap₂ (λ m n. (m + n) % P) (value-bits_below (Spells-low z first w 1 v s) (omega arith)) last in
+      = value-append bits ((c, first + w) ∷ []) z ∙ ap₂ (λ m n. (m + n) % P) (value-bits_below (HasBits-low z first w 1 v s) (omega arith)) last in
       ap₂ (λ m n. m * n % P) sum (value-constant assigns 1) ∙ once (v % 2 ^ w + c * (v / 2 ^ w) % P)
     where
       once : (n : ℕ) → n % P * (1 % P) % P ≡ n % P
@@ -66,9 +66,9 @@ sub_sound w width z next x y a b assigns p q meets =
     let short = width_short w width in
     let both = Meets-split z (new_bits_of (w + 1) next).list _ meets in
     let s = new_bits_sound z next (w + 1) assigns both.0 in
-    let v = spelled z made.first (w + 1) in
-    let parts = SpellsParts-from_Spells w 1 z made.first made.n v s in
-    let numbers = sound_by w width a b (v % 2 ^ w) (v / 2 ^ w) (Spells-below p) (Spells-below q) (Spells-below parts.low) (Spells-below parts.high)
+    let v = binary_value z made.first (w + 1) in
+    let parts = HasPartBits-from_HasBits w 1 z made.first made.n v s in
+    let numbers = sound_by w width a b (v % 2 ^ w) (v / 2 ^ w) (HasBits-below p) (HasBits-below q) (HasBits-below parts.low) (HasBits-below parts.high)
     (sym (left w width z assigns x y a b p q made.first made.n v s) ∙ both.1.0 ∙ right w width z assigns x y a b p q) in
     rw (numbers.0, numbers.1) at parts
 
@@ -79,10 +79,10 @@ sub_complete w width z next x y a b assigns p q has =
     let small : v < 2 ^ (w + 1) = grind (arith, nat_tests) in
     let low : v % 2 ^ w ≡ difference w a b = grind (arith, nat_tests) in
     let above : v / 2 ^ w ≡ borrow a b = grind (arith, nat_tests) in
-    let s = Spells-from_values z next (w + 1) v small has in
+    let s = HasBits-from_values z next (w + 1) v small has in
     let sum = left w width z assigns x y a b p q next (w + 1) v s
     ∙ ap₂ (λ m n. (m + (P - 2 ^ w % P) % P * n % P) % P) low above
-    ∙ complete_by w width a b (Spells-below p) (Spells-below q)
+    ∙ complete_by w width a b (HasBits-below p) (HasBits-below q)
     ∙ sym (right w width z assigns x y a b p q) in
     Meets-join z (new_bits_of (w + 1) next).list _ (new_bits_complete z next (w + 1) v assigns has) (rw new_bits_answer (sum, tt))
 

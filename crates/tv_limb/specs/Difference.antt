@@ -1,6 +1,6 @@
 -- The difference of two words, with its borrow.
 use Rattle.std.specs.Prelude.{◌≡◌, ℕ, ◌+◌, ◌-◌, ◌*◌, ◌%◌, ◌^◌, nat_lt, if◌then◌else◌, List, [], ◌∷◌, ◌++◌}
-use Rattle.tv_bits.specs.Bits.{Spells, bits_combination, bits_values, new_bits_of}
+use Rattle.tv_bits.specs.Bits.{HasBits, bits_combination, bits_values, new_bits_of}
 use Rattle.tv_bits.specs.declared.bit_wires.Bits.{Bits}
 use Rattle.tv_core.specs.Circuits.{Circuit, put, pure, ◌>>=◌}
 use Rattle.tv_core.specs.Combinations.{constant, less}
@@ -8,7 +8,7 @@ use Rattle.tv_core.specs.Constraints.{Combination}
 use Rattle.tv_core.specs.Laws.{Assigns, Meets, HasFrom, Fills, InField}
 use Rattle.tv_core.specs.declared.field.TheConstants.{P}
 use Rattle.tv_word.specs.Widths.{IsWidth}
-use Rattle.tv_limb.specs.Split.{SpellsParts, split_at}
+use Rattle.tv_limb.specs.Split.{HasPartBits, split_at}
 use Rattle.tv_limb.specs.declared.parts.Split.{Split}
 
 -- x less y modulo 2 ^ w
@@ -40,12 +40,12 @@ sub_values w x y = bits_values (difference w x y + 2 ^ w * borrow x y) (w + 1)
 
 -- in an assignment that satisfies the constraints the result represents the difference modulo 2 ^ w, and the borrow
 abbrev pub SubIsSound : Type 0
-SubIsSound = (w : ℕ) → IsWidth w → (z : List ℕ) (next : ℕ) (x y : Bits) (a b : ℕ) → Assigns z → Spells z x.first w a → Spells z y.first w b
-    → Meets z (sub_of w x y next).list → SpellsParts w 1 z (sub_of w x y next).answer (difference w a b) (borrow a b)
+SubIsSound = (w : ℕ) → IsWidth w → (z : List ℕ) (next : ℕ) (x y : Bits) (a b : ℕ) → Assigns z → HasBits z x.first w a → HasBits z y.first w b
+    → Meets z (sub_of w x y next).list → HasPartBits w 1 z (sub_of w x y next).answer (difference w a b) (borrow a b)
 
 -- an assignment that has these values at the wires that were made satisfies the constraints
 abbrev pub SubIsComplete : Type 0
-SubIsComplete = (w : ℕ) → IsWidth w → (z : List ℕ) (next : ℕ) (x y : Bits) (a b : ℕ) → Assigns z → Spells z x.first w a → Spells z y.first w b
+SubIsComplete = (w : ℕ) → IsWidth w → (z : List ℕ) (next : ℕ) (x y : Bits) (a b : ℕ) → Assigns z → HasBits z x.first w a → HasBits z y.first w b
     → HasFrom z next (sub_values w a b) → Meets z (sub_of w x y next).list
 
 -- what the circuit returns and where it ends; it has one value for each wire that it makes, all in the field

@@ -1,6 +1,6 @@
 -- The halves of a word.
 use Rattle.std.specs.Prelude.{◌≡◌, ℕ, ◌+◌, ◌/◌, ◌%◌, ◌^◌, List}
-use Rattle.tv_bits.specs.Bits.{Spells, bits_combination}
+use Rattle.tv_bits.specs.Bits.{HasBits, bits_combination}
 use Rattle.tv_bits.specs.declared.bit_wires.Bits.{Bits}
 use Rattle.tv_core.specs.Constraints.{Combination, value}
 use Rattle.tv_word.specs.Widths.{IsWidth}
@@ -15,5 +15,5 @@ high_limb w x = bits_combination (x.first + w / 2) (w / 2)
 
 -- where the bits represent v, the values are its remainder and its quotient by 2 ^ (w / 2)
 abbrev pub LimbsAreSound : Type 0
-LimbsAreSound = (w : ℕ) → IsWidth w → (z : List ℕ) (x : Bits) (v : ℕ) → Spells z x.first w v
+LimbsAreSound = (w : ℕ) → IsWidth w → (z : List ℕ) (x : Bits) (v : ℕ) → HasBits z x.first w v
     → (value (low_limb w x) z ≡ v % 2 ^ (w / 2)) × (value (high_limb w x) z ≡ v / 2 ^ (w / 2))

@@ -1,6 +1,6 @@
 -- A number in two parts: a word, and what is above it.
 use Rattle.std.specs.Prelude.{◌≡◌, ℕ, ◌+◌, ◌-◌, ◌/◌, ◌%◌, ◌^◌, ◌<◌, ◌≤◌, List}
-use Rattle.tv_bits.specs.Bits.{Spells, bits_of, bits_values}
+use Rattle.tv_bits.specs.Bits.{HasBits, bits_of, bits_values}
 use Rattle.tv_bits.specs.declared.bit_wires.Bits.{Bits}
 use Rattle.tv_core.specs.Circuits.{Circuit, pure, ◌>>=◌}
 use Rattle.tv_core.specs.Constraints.{Combination, value}
@@ -12,9 +12,9 @@ abbrev pub split_at : ℕ → Bits → Split
 split_at w x = record { low = record { first = x.first; n = w }; high = record { first = x.first + w; n = x.n - w } }
 
 -- the w wires of the low part represent one number, and the m wires of the high part another
-pub record SpellsParts (w m : ℕ) (z : List ℕ) (parts : Split) (v above : ℕ) : Type 0 where
-  pub low : Spells z parts.low.first w v
-  pub high : Spells z parts.high.first m above
+pub record HasPartBits (w m : ℕ) (z : List ℕ) (parts : Split) (v above : ℕ) : Type 0 where
+  pub low : HasBits z parts.low.first w v
+  pub high : HasBits z parts.high.first m above
 
 -- the n-bit decomposition of x into new wires, as the lowest w and those above
 unfoldable pub split_of : ℕ → Combination → ℕ → Circuit Split
@@ -29,7 +29,7 @@ split_values x n = bits_values x n
 -- in an assignment that satisfies the constraints the parts represent the value's remainder and quotient by 2 ^ w
 abbrev pub SplitIsSound : Type 0
 SplitIsSound = (w : ℕ) (z : List ℕ) (next : ℕ) (x : Combination) (n : ℕ) → w ≤ n → n ≤ 63 → Assigns z → Meets z (split_of w x n next).list
-    → SpellsParts w (n - w) z (split_of w x n next).answer (value x z % 2 ^ w) (value x z / 2 ^ w)
+    → HasPartBits w (n - w) z (split_of w x n next).answer (value x z % 2 ^ w) (value x z / 2 ^ w)
 
 -- where the value is below 2 ^ n, an assignment that has its bits at the wires that were made satisfies the constraints
 abbrev pub SplitIsComplete : Type 0

@@ -1,6 +1,6 @@
 //! Words in parts: the halves of a word, a number as a word and what is above it, and the sum and
 //! the difference of two words with carry and borrow. A word has `W` bits, 16 or 32. Contracts
-//! above cite `SpellsParts`, which says which numbers the two parts of an answer represent; what a
+//! above cite `HasPartBits`, which says which numbers the two parts of an answer represent; what a
 //! gadget returns and how many wires it makes stand in `SplitSizes`, `AddSizes` and `SubSizes`.
 //! `row_sum` and `row_difference` hold a row of twice the width to the sum of two words, or to
 //! their difference and order, under a gate.
@@ -11,7 +11,7 @@ mod halves;
 mod parts;
 mod row_differences;
 mod row_sums;
-mod splitting;
+mod splits;
 mod sums;
 
 pub use differences::{fill_sub, sub, sub_fills, sub_is_complete, sub_is_sound};
@@ -22,5 +22,5 @@ pub use row_differences::{
     row_difference_fills, row_difference_is_complete, row_difference_is_sound,
 };
 pub use row_sums::{row_sum, row_sum_costs, row_sum_fills, row_sum_is_complete, row_sum_is_sound};
-pub use splitting::{fill_split, split, split_fills, split_is_complete, split_is_sound};
+pub use splits::{fill_split, split, split_fills, split_is_complete, split_is_sound};
 pub use sums::{add, add_fills, add_is_complete, add_is_sound, fill_add};

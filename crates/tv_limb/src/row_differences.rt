@@ -5,7 +5,7 @@ ghost use Rattle.tv_bits.specs.DoubleRow.{row_number};
 ghost use Rattle.tv_bits.specs.SignedWords.{top_signed};
 ghost use Rattle.tv_bits.specs.Times.{times_of};
 ghost use Rattle.tv_core.specs.Combinations.{less, top};
-ghost use Rattle.tv_core.specs.Giving.{GivesIn};
+ghost use Rattle.tv_core.specs.Values.{GivesIn};
 ghost use Rattle.tv_core.specs.Sinks.{PutsIn, Grows, Room};
 ghost use Rattle.tv_limb.specs.RowDifference.{is_above, difference_low, difference_high};
 ghost use Rattle.tv_limb.specs.RowDifference.{sign_difference, minuend, subtrahend};
@@ -48,7 +48,7 @@ pub fn row_difference<const W: u32, S: Sink>(
     ensures grows { IfOk result (λ _. Grows S.meaning s.old s.new 1 2) }
 {
     let signs = sign_difference(s, scratch, by_sign, x, y)?;
-    fill_difference::<W>(&mut scratch.b, strict, x.word, y.word, row, signs);
+    set_row_difference::<W>(&mut scratch.b, strict, x.word, y.word, row, signs);
     scratch.c.clear();
     s.put(gate, &scratch.b, &scratch.c)
 }
@@ -78,7 +78,7 @@ fn sign_difference<S: Sink>(
 
 // Makes `lc` 2^`W` + x, less 1 where `strict` is 1, less `y`, the row's number and 2^`W` times the
 // difference of the signs.
-fn fill_difference<const W: u32>(
+fn set_row_difference<const W: u32>(
     lc: &mut Lc,
     strict: &[(F, Wire)],
     x: Wire,

@@ -1,13 +1,13 @@
 //! The sum of two words, with its carry.
 ghost use Rattle.std.specs.Prelude.{◌≡◌, ◌+◌, false, IfOk, OnOk};
 ghost use Rattle.tv_bits.specs.Bits.{AreBitsBelow};
-ghost use Rattle.tv_core.specs.Giving.{GivesIn};
+ghost use Rattle.tv_core.specs.Values.{GivesIn};
 ghost use Rattle.tv_core.specs.Sinks.{PutsIn, Grows, Room};
 ghost use Rattle.tv_word.specs.Widths.{IsWidth};
 ghost use Rattle.tv_limb.specs.Sum.{add_of, add_values, AddIsSound, AddIsComplete, AddSizes};
 
 use crate::parts::Split;
-use crate::splitting::split;
+use crate::splits::split;
 use tv_bits::{Bits, fill_bits};
 use tv_core::{F, Put, Sink, Values};
 

@@ -1,6 +1,6 @@
 -- The laws of the first line.
 use Rattle.std.proofs.Common.{◌≡◌, ℕ, ◌*◌, ◌%◌, List, refl, sym, ◌∙◌, ap₂, arith}
-use Rattle.tv_bits.proofs.SpelledNumbers.{Spells-small}
+use Rattle.tv_bits.proofs.BitNumbers.{HasBits-small}
 use Rattle.tv_core.proofs.CombinationLaws.{value-constant}
 use Rattle.tv_core.specs.Circuits.{put}
 use Rattle.tv_core.specs.Combinations.{constant}
@@ -21,7 +21,7 @@ one z assigns = value-constant assigns 1 ∙ omega arith
 pub first_line_sound : FirstLineIsSound
 unfolding first_line_of put
 first_line_sound z next bits l widths assigns s meets =
-    let small = Spells-small s.old (omega arith) in
+    let small = HasBits-small s.old (omega arith) in
     let product : l.old * 1 % P ≡ 0 = ap₂ (λ a b. a * b % P) (sym (number_value z bits.old 32 l.old widths.old (omega arith) s.old)) (sym (one z assigns))
     ∙ meets.0 in
     omega arith

@@ -6,7 +6,7 @@ use Rattle.tv_bits.specs.Bits.{bits_combination, new_bits_of}
 use Rattle.tv_bits.specs.Times.{kept_of}
 use Rattle.tv_bits.specs.declared.bit_wires.Bits.{Bits}
 use Rattle.tv_bits.proofs.NormalLaws.{wire_normal, scaled_bits_normal, new_bits_normal, kept_normal}
-use Rattle.tv_bits.proofs.SpellingLaws.{new_bits_answer, new_bits_next}
+use Rattle.tv_bits.proofs.BitsLaws.{new_bits_answer, new_bits_next}
 use Rattle.tv_bits.proofs.TimesLaws.{kept_answer, kept_next}
 use Rattle.tv_core.proofs.CombinationLaws.{top-append, top-scaled, value-append}
 use Rattle.tv_core.proofs.NormalCircuits.{normal_append, normal_put, normal_then}

@@ -6,10 +6,10 @@ use Rattle.tv_core.specs.Combinations.{scaled}
 use Rattle.tv_core.specs.Constraints.{Combination, value}
 use Rattle.tv_core.specs.Lines.{Line}
 use Rattle.tv_core.specs.declared.field.TheConstants.{P}
-use Rattle.tv_lines.specs.Packing.{InRange, unpacked, joined, ItemIsRight, PackIsRight, PackIsOneToOne, UnpackUndoesPack}
+use Rattle.tv_lines.specs.PackedLines.{InRange, unpacked, packed_terms, ItemIsRight, PackIsRight, PackIsOneToOne, UnpackUndoesPack}
 use Rattle.tv_core.proofs.LineLaws.{pair_same}
 
-joined_value : (z : List ℕ) (low high : Combination) → value (joined low high) z ≡ (2 ^ 32 * value high z + value low z) % P
+joined_value : (z : List ℕ) (low high : Combination) → value (packed_terms low high) z ≡ (2 ^ 32 * value high z + value low z) % P
 joined_value z low high = value-append low (scaled (2 ^ 32 % P) high) z ∙ ap (λ n. (value low z + n) % P) (value-scaled (2 ^ 32 % P) high z) ∙ omega arith
 
 below_p : (high low : ℕ) → high < 2 ^ 31 → low < 2 ^ 32 → (2 ^ 32 * high + low) % P ≡ high * 2 ^ 32 + low
@@ -22,8 +22,8 @@ pack_right z line range = pair_same _ _ _ _
 
 pub item_right : ItemIsRight
 item_right z line range = pair_same _ _ _ _
-    (value-normal z (joined [] line.cell) ∙ joined_value z [] line.cell ∙ below_p (value line.cell z) 0 range.cell (omega arith))
-    (value-normal z (joined line.new line.time) ∙ joined_value z line.new line.time
+    (value-normal z (packed_terms [] line.cell) ∙ joined_value z [] line.cell ∙ below_p (value line.cell z) 0 range.cell (omega arith))
+    (value-normal z (packed_terms line.new line.time) ∙ joined_value z line.new line.time
     ∙ below_p (value line.time z) (value line.new z) (omega (arith, range.time)) range.new)
 
 -- the numbers of a packed line's pair are small

@@ -2,11 +2,11 @@
 use Rattle.std.proofs.Common.{◌≡◌, ℕ, ◌+◌, ◌-◌, ◌*◌, ◌%◌, ◌^◌, ◌<◌, ◌≤◌, List, [], ◌∷◌, ◌++◌, length, sym, ◌∙◌, ap, ap₂, subst, arith}
 use Rattle.std.specs.Int.{bit_at}
 use Rattle.std.specs.Prelude.{slice_index}
-use Rattle.tv_bits.proofs.SpelledNumbers.{Spells-below, Spells-from_values, value-plus_one}
-use Rattle.tv_bits.proofs.SpellingLaws.{new_bits_answer, new_bits_next, new_bits_sound, new_bits_complete}
+use Rattle.tv_bits.proofs.BitNumbers.{HasBits-below, HasBits-from_values, value-plus_one}
+use Rattle.tv_bits.proofs.BitsLaws.{new_bits_answer, new_bits_next, new_bits_sound, new_bits_complete}
 use Rattle.tv_bits.proofs.TimesLaws.{kept_answer, kept_next, kept_sound, kept_complete}
 use Rattle.tv_bits.proofs.ZeroLaws.{zero_next, zero_sound, zero_complete}
-use Rattle.tv_bits.specs.Bits.{Spells, spelled, bits_values, bits_combination, new_bits_of}
+use Rattle.tv_bits.specs.Bits.{HasBits, binary_value, bits_values, bits_combination, new_bits_of}
 use Rattle.tv_bits.specs.Times.{times_of}
 use Rattle.tv_bits.specs.Zero.{zero_of, zero_flag, zero_values}
 use Rattle.tv_bits.specs.declared.bit_wires.Bits.{Bits}
@@ -21,7 +21,7 @@ use Rattle.tv_core.specs.Lines.{Line}
 use Rattle.tv_core.specs.declared.field.TheConstants.{P}
 use Rattle.tv_lines.proofs.Numbers.{number_value}
 use Rattle.tv_lines.specs.SortedPair.{number, apart_of, carried_of, size_of, size_values, cells_apart}
-use Rattle.tv_lines.specs.Unpacking.{HasWidths, SpellsLine}
+use Rattle.tv_lines.specs.UnpackedLines.{HasWidths, HasLineBits}
 use Rattle.tv_lines.specs.declared.rows.LineBits.{LineBits}
 
 -- ---- what the circuits answer, and where they end
@@ -52,13 +52,13 @@ unfolding size_of times_of fresh put pure ◌>>=◌
 size_sound z c next short assigns meets =
     let bits = new_bits_of c next in
     let both = Meets-split z bits.list _ meets in
-    let s : Spells z bits.answer.first c (spelled z bits.answer.first c) = new_bits_sound z next c assigns both.0 in
+    let s : HasBits z bits.answer.first c (binary_value z bits.answer.first c) = new_bits_sound z next c assigns both.0 in
     let n = ap (λ (b : Bits). b.n) (new_bits_answer c next) in
-    let sum : value (bits_combination bits.answer.first bits.answer.n ++ constant 1) z ≡ spelled z bits.answer.first c + 1 =
+    let sum : value (bits_combination bits.answer.first bits.answer.n ++ constant 1) z ≡ binary_value z bits.answer.first c + 1 =
     ap (λ k. value (bits_combination bits.answer.first k ++ constant 1) z) n ∙ value-plus_one s assigns short in
-    let is : slice_index z bits.next ≡ spelled z bits.answer.first c + 1 =
+    let is : slice_index z bits.next ≡ binary_value z bits.answer.first c + 1 =
     kept_sound z bits.next (bits_combination bits.answer.first bits.answer.n ++ constant 1) assigns both.1 ∙ sum in
-    let small = Spells-below s in
+    let small = HasBits-below s in
     (omega arith, omega arith)
 
 pub size_complete : (z : List ℕ) (next v : ℕ) → 0 < v → v ≤ 2 ^ 11 → Assigns z → HasFrom z next (size_values v)
@@ -69,8 +69,8 @@ size_complete z next v some small assigns has =
     let both = HasFrom-split z next (bits_values (v - 1) 11) (v ∷ []) has in
     let at : next + length (bits_values (v - 1) 11) ≡ bits.next = ap (λ n. next + n) (length-each_below 11 (bit_at (v - 1))) ∙ sym (new_bits_next 11 next) in
     let is : slice_index z bits.next ≡ v = (subst (λ n. HasFrom z n (v ∷ [])) at both.1).0 in
-    let s : Spells z bits.answer.first 11 (v - 1) = subst (λ (b : Bits). Spells z b.first 11 (v - 1)) (sym (new_bits_answer 11 next))
-    (Spells-from_values z next 11 (v - 1) (omega arith) both.0) in
+    let s : HasBits z bits.answer.first 11 (v - 1) = subst (λ (b : Bits). HasBits z b.first 11 (v - 1)) (sym (new_bits_answer 11 next))
+    (HasBits-from_values z next 11 (v - 1) (omega arith) both.0) in
     let n = ap (λ (b : Bits). b.n) (new_bits_answer 11 next) in
     let sum : value (bits_combination bits.answer.first bits.answer.n ++ constant 1) z ≡ v =
     ap (λ k. value (bits_combination bits.answer.first k ++ constant 1) z) n ∙ value-plus_one s assigns (omega arith) ∙ omega arith in (
@@ -80,8 +80,8 @@ size_complete z next v some small assigns has =
     )
 
 -- ---- two lines
-module _ (z : List ℕ) (before after : LineBits) (l m : Line) (b : HasWidths before) (a : HasWidths after) (assigns : Assigns z) (sl : SpellsLine z before l)
-    (sm : SpellsLine z after m) where
+module _ (z : List ℕ) (before after : LineBits) (l m : Line) (b : HasWidths before) (a : HasWidths after) (assigns : Assigns z) (sl : HasLineBits z before l)
+    (sm : HasLineBits z after m) where
   cells : value (less (number after.cell) (number before.cell)) z ≡ cells_apart l m
   cells =
       value-less (number after.cell) (number before.cell) z

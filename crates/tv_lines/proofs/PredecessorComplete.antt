@@ -5,11 +5,11 @@ use Rattle.std.proofs.Math.Nat.{pow-le-pow_right}
 use Rattle.std.proofs.lemmas.Bool.{cases_eq, eq-eqb, ne_eqb}
 use Rattle.std.specs.Int.{bit_at}
 use Rattle.std.specs.Prelude.{slice_index}
-use Rattle.tv_bits.specs.Bits.{Spells, bits_values, new_bits_of}
+use Rattle.tv_bits.specs.Bits.{HasBits, bits_values, new_bits_of}
 use Rattle.tv_bits.specs.Times.{kept_of}
 use Rattle.tv_bits.specs.declared.bit_wires.Bits.{Bits}
-use Rattle.tv_bits.proofs.SpelledNumbers.{Spells-from_values}
-use Rattle.tv_bits.proofs.SpellingLaws.{new_bits_answer, new_bits_next, new_bits_complete}
+use Rattle.tv_bits.proofs.BitNumbers.{HasBits-from_values}
+use Rattle.tv_bits.proofs.BitsLaws.{new_bits_answer, new_bits_next, new_bits_complete}
 use Rattle.tv_bits.proofs.TimesLaws.{kept_answer, kept_next, kept_complete}
 use Rattle.tv_core.proofs.BelowLaws.{length-each_below}
 use Rattle.tv_core.proofs.CombinationLaws.{value-wire}
@@ -24,7 +24,7 @@ use Rattle.tv_core.specs.declared.lines.LineLc.{LineLc}
 use Rattle.tv_core.specs.declared.lines.Pair.{Pair}
 use Rattle.tv_core.specs.declared.lines.PairNum.{PairNum}
 use Rattle.tv_lines.specs.Ordered.{Follows}
-use Rattle.tv_lines.specs.Packing.{InRange, line_value}
+use Rattle.tv_lines.specs.PackedLines.{InRange, line_value}
 use Rattle.tv_lines.proofs.PredecessorValues.{value-excess, value-cells, value-times}
 use Rattle.tv_lines.specs.Predecessor.{excess, cell_difference, time_difference, either_of, follows_of, reach_between, excess_between, follows_values}
 use Rattle.tv_lines.specs.Predecessor.{FollowsIsComplete}
@@ -100,8 +100,8 @@ follows_complete z next m line item p l short assigns is_l is_p in_p in_l follow
     let at : next + length (bits_values r m) ≡ reach.next = ap (λ n. next + n) (length-each_below m (bit_at r)) ∙ sym (new_bits_next m next) in
     let there : slice_index z reach.next ≡ e = (subst (λ n. HasFrom z n (e ∷ [])) at both.1).0 in
     let there' : slice_index z kept.answer ≡ e = ap (λ w. slice_index z w) (kept_answer (excess reach.answer line item) reach.next) ∙ there in
-    let s : Spells z reach.answer.first m r = subst (λ (b : Bits). Spells z b.first m r) (sym (new_bits_answer m next))
-    (Spells-from_values z next m r fits both.0) in
+    let s : HasBits z reach.answer.first m r = subst (λ (b : Bits). HasBits z b.first m r) (sym (new_bits_answer m next))
+    (HasBits-from_values z next m r fits both.0) in
     let n : reach.answer.n ≡ m = ap (λ (b : Bits). b.n) (new_bits_answer m next) in
     let power : 2 ^ m ≤ 2 ^ 31 = pow-le-pow_right (omega arith) short in
     let small : r < 2 ^ 31 = omega (arith, fits) in

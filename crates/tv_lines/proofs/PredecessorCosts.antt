@@ -1,7 +1,7 @@
 -- How many constraints a line that follows costs, and how many terms they have.
 use Rattle.std.proofs.Common.{◌≡◌, ℕ, ◌+◌, ◌-◌, ◌*◌, ◌%◌, ◌^◌, ◌≤◌, List, [], ◌∷◌, ◌++◌, length, refl, sym, ◌∙◌, ap, arith}
 use Rattle.std.proofs.lemmas.List.{length-append}
-use Rattle.tv_bits.proofs.SpellingLaws.{new_bits_answer}
+use Rattle.tv_bits.proofs.BitsLaws.{new_bits_answer}
 use Rattle.tv_bits.specs.Bits.{bits_combination, new_bits_of}
 use Rattle.tv_bits.specs.Times.{times_of, kept_of}
 use Rattle.tv_bits.specs.declared.bit_wires.Bits.{Bits}

@@ -2,11 +2,11 @@
 use Rattle.std.proofs.Common.{◌≡◌, ◌≢◌, ◌⊎◌, ℕ, ◌+◌, ◌-◌, ◌*◌, ◌%◌, ◌^◌, ◌<◌, ◌≤◌, List, [], ◌∷◌, ◌++◌, length, inl, inr, sym, subst, ◌∙◌, ap, ap₂, arith}
 use Rattle.std.specs.Prelude.{slice_index}
 use Rattle.std.proofs.Math.Nat.{pow-le-pow_right}
-use Rattle.tv_bits.specs.Bits.{Spells, spelled, bits_values, new_bits_of}
+use Rattle.tv_bits.specs.Bits.{HasBits, binary_value, bits_values, new_bits_of}
 use Rattle.tv_bits.specs.Times.{kept_of}
 use Rattle.tv_bits.specs.declared.bit_wires.Bits.{Bits}
-use Rattle.tv_bits.proofs.SpelledNumbers.{Spells-below}
-use Rattle.tv_bits.proofs.SpellingLaws.{new_bits_answer, new_bits_next, new_bits_sound, new_bits_complete}
+use Rattle.tv_bits.proofs.BitNumbers.{HasBits-below}
+use Rattle.tv_bits.proofs.BitsLaws.{new_bits_answer, new_bits_next, new_bits_sound, new_bits_complete}
 use Rattle.tv_bits.proofs.TimesLaws.{kept_answer, kept_next, kept_sound, kept_complete}
 use Rattle.tv_core.proofs.CombinationLaws.{value-wire, value-below, wire-below}
 use Rattle.tv_core.proofs.Meeting.{Meets-split, Meets-join, HasFrom-split}
@@ -21,10 +21,10 @@ use Rattle.tv_core.specs.declared.lines.LineLc.{LineLc}
 use Rattle.tv_core.specs.declared.lines.Pair.{Pair}
 use Rattle.tv_core.specs.declared.lines.PairNum.{PairNum}
 use Rattle.tv_lines.specs.Ordered.{Follows}
-use Rattle.tv_lines.specs.Packing.{InRange, line_value}
+use Rattle.tv_lines.specs.PackedLines.{InRange, line_value}
 use Rattle.tv_lines.proofs.PredecessorNumbers.{other_cells, same_cells, same_times}
 use Rattle.tv_lines.proofs.PredecessorValues.{value-excess, value-cells, value-times}
-use Rattle.tv_lines.specs.Packing.{packed_item}
+use Rattle.tv_lines.specs.PackedLines.{packed_item}
 use Rattle.tv_lines.specs.Predecessor.{excess, cell_difference, time_difference, either_of, follows_of, FollowsIsSound}
 
 -- what e, the cells and the times are as numbers, and what follows from them
@@ -75,11 +75,11 @@ follows_sound z next m line item p l short assigns is_l is_p in_p in_l meets =
     let kept = kept_of (excess reach.answer line item) reach.next in
     let one = Meets-split z reach.list _ meets in
     let two = Meets-split z kept.list _ one.1 in
-    let r : ℕ = spelled z reach.answer.first m in
-    let s : Spells z reach.answer.first m r = new_bits_sound z next m assigns one.0 in
+    let r : ℕ = binary_value z reach.answer.first m in
+    let s : HasBits z reach.answer.first m r = new_bits_sound z next m assigns one.0 in
     let n : reach.answer.n ≡ m = ap (λ (b : Bits). b.n) (new_bits_answer m next) in
     let power : 2 ^ m ≤ 2 ^ 31 = pow-le-pow_right (omega arith) short in
-    let small : r < 2 ^ 31 = omega (arith, Spells-below s) in
+    let small : r < 2 ^ 31 = omega (arith, HasBits-below s) in
     let is_first : value item.first z ≡ 2 ^ 32 * p.cell = ap (λ (x : PairNum). x.first) is_p ∙ omega arith in
     let is_second : value item.second z ≡ 2 ^ 32 * p.time + p.new = ap (λ (x : PairNum). x.second) is_p ∙ omega arith in
     let is_cell : value line.cell z ≡ l.cell = ap (λ (x : Line). x.cell) is_l in

@@ -6,7 +6,7 @@ use Rattle.std.specs.Int.{bit_at}
 use Rattle.tv_bits.specs.Bits.{bits_values, new_bits_of}
 use Rattle.tv_bits.specs.Times.{kept_of}
 use Rattle.tv_bits.proofs.SizeLaws.{bits_in_field}
-use Rattle.tv_bits.proofs.SpellingLaws.{new_bits_next}
+use Rattle.tv_bits.proofs.BitsLaws.{new_bits_next}
 use Rattle.tv_bits.proofs.TimesLaws.{kept_next}
 use Rattle.tv_core.proofs.BelowLaws.{length-each_below}
 use Rattle.tv_core.proofs.FieldLaws.{InField-none, InField-cons, InField-append}
@@ -15,7 +15,7 @@ use Rattle.tv_core.specs.Lines.{Line}
 use Rattle.tv_core.specs.declared.field.TheConstants.{P}
 use Rattle.tv_core.specs.declared.lines.LineLc.{LineLc}
 use Rattle.tv_core.specs.declared.lines.Pair.{Pair}
-use Rattle.tv_lines.specs.Packing.{InRange}
+use Rattle.tv_lines.specs.PackedLines.{InRange}
 use Rattle.tv_lines.proofs.PredecessorComplete.{excess_same, excess_apart}
 use Rattle.tv_lines.specs.Predecessor.{excess, either_of, follows_of, reach_between, excess_between, follows_values, FollowsSizes}
 

@@ -1,8 +1,8 @@
 -- The values of the combinations.
 use Rattle.std.proofs.Common.{◌≡◌, ℕ, ◌+◌, ◌-◌, ◌*◌, ◌%◌, ◌^◌, ◌<◌, ◌≤◌, List, ◌++◌, sym, ◌∙◌, ap, ap₂, arith}
 use Rattle.std.specs.Prelude.{slice_index}
-use Rattle.tv_bits.proofs.SpelledNumbers.{value-bits_below}
-use Rattle.tv_bits.specs.Bits.{Spells, bits_combination}
+use Rattle.tv_bits.proofs.BitNumbers.{value-bits_below}
+use Rattle.tv_bits.specs.Bits.{HasBits, bits_combination}
 use Rattle.tv_bits.specs.declared.bit_wires.Bits.{Bits}
 use Rattle.tv_core.proofs.CombinationLaws.{value-append, value-scaled, value-constant, value-wire, value-below, wire-below}
 use Rattle.tv_core.proofs.NormalLaws.{value-normal}
@@ -33,7 +33,7 @@ timed : (x v t : ℕ) → t < 2 ^ 31 → ((v + (P - 2 ^ 32 * t)) % P + x) % P �
 timed x v t h = omega arith
 
 module _ (z : List ℕ) (line : LineLc) (item : Pair) (assigns : Assigns z) where
-  pub value-excess : (reach : Bits) (n r q o c : ℕ) → reach.n ≡ n → n ≤ 31 → r < 2 ^ 31 → Spells z reach.first n r
+  pub value-excess : (reach : Bits) (n r q o c : ℕ) → reach.n ≡ n → n ≤ 31 → r < 2 ^ 31 → HasBits z reach.first n r
       → value item.first z ≡ 2 ^ 32 * q → value line.old z ≡ o → value line.cell z ≡ c → q < 2 ^ 31 → o < 2 ^ 32 → c < 2 ^ 31
       → value (excess reach line item) z ≡ (2 ^ 32 * (r + 1 + q) + (P - (2 ^ 32 * c + o))) % P
   value-excess reach n r q o c many short small s is_q is_o is_c small_q small_o small_c =

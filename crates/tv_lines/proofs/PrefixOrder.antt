@@ -6,8 +6,8 @@ use Rattle.std.proofs.Math.Nat.{div-le_self}
 use Rattle.std.proofs.lemmas.Bool.{cases_order, eq-eqb, ne_eqb}
 use Rattle.tv_bits.proofs.OrderLaws.{above_of_prefix, IsPrefixDifference-above, IsPrefixDifference-first, first_difference-some, first_difference-below}
 use Rattle.tv_bits.proofs.PrefixLaws.{zero_product_next, zero_product_sound, zero_product_complete}
-use Rattle.tv_bits.proofs.SpelledNumbers.{Spells-below, Spells-high, value-bits_below}
-use Rattle.tv_bits.specs.Bits.{Spells}
+use Rattle.tv_bits.proofs.BitNumbers.{HasBits-below, HasBits-high, value-bits_below}
+use Rattle.tv_bits.specs.Bits.{HasBits}
 use Rattle.tv_bits.specs.Order.{prefix_difference, first_difference}
 use Rattle.tv_bits.specs.Prefixes.{products_values}
 use Rattle.tv_bits.specs.declared.bit_wires.Bits.{Bits}
@@ -19,7 +19,7 @@ use Rattle.tv_core.specs.Laws.{Assigns, Meets, HasFrom}
 use Rattle.tv_core.specs.Lines.{Line}
 use Rattle.tv_core.specs.declared.field.TheConstants.{P}
 use Rattle.tv_lines.specs.SortedPair.{bits_from, cell_less, key_less, prefix_less, rises_of, cells_apart, size, key_less_in, prefix_less_in, factor_in}
-use Rattle.tv_lines.specs.Unpacking.{HasWidths, SpellsLine}
+use Rattle.tv_lines.specs.UnpackedLines.{HasWidths, HasLineBits}
 use Rattle.tv_lines.specs.declared.rows.LineBits.{LineBits}
 
 pub rises_next : (apart size : ℕ) (before after : LineBits) (next : ℕ) → (rises_of apart size before after next).next ≡ next + 3
@@ -127,15 +127,15 @@ module _ (l m : Line) (cl : l.cell < 2 ^ 31) (cm : m.cell < 2 ^ 31) (tl : l.time
       }
 
 -- ---- the prefixes of bits
-value_from : (z : List ℕ) (x : Bits) (p v : ℕ) → p ≤ x.n → x.n ≤ 63 → Spells z x.first x.n v → value (bits_from x p) z ≡ v / 2 ^ p
+value_from : (z : List ℕ) (x : Bits) (p v : ℕ) → p ≤ x.n → x.n ≤ 63 → HasBits z x.first x.n v → value (bits_from x p) z ≡ v / 2 ^ p
 value_from z x p v within short s =
     let whole : x.n ≡ p + (x.n - p) = omega arith in
-    value-bits_below (Spells-high z x.first p (x.n - p) v (subst (λ n. Spells z x.first n v) whole s)) (omega arith)
+    value-bits_below (HasBits-high z x.first p (x.n - p) v (subst (λ n. HasBits z x.first n v) whole s)) (omega arith)
 
-module _ (z : List ℕ) (before after : LineBits) (l m : Line) (b : HasWidths before) (a : HasWidths after) (assigns : Assigns z) (sl : SpellsLine z before l)
-    (sm : SpellsLine z after m) where
-  row : (x : Bits) (n v : ℕ) → x.n ≡ n → Spells z x.first n v → Spells z x.first x.n v
-  row x n v width s = subst (λ k. Spells z x.first k v) (sym width) s
+module _ (z : List ℕ) (before after : LineBits) (l m : Line) (b : HasWidths before) (a : HasWidths after) (assigns : Assigns z) (sl : HasLineBits z before l)
+    (sm : HasLineBits z after m) where
+  row : (x : Bits) (n v : ℕ) → x.n ≡ n → HasBits z x.first n v → HasBits z x.first x.n v
+  row x n v width s = subst (λ k. HasBits z x.first k v) (sym width) s
 
   cell_value : (p : ℕ) → p ≤ 31 → value (cell_less before after p) z ≡ prefix_difference m.cell l.cell p
   cell_value p h =
@@ -146,7 +146,7 @@ module _ (z : List ℕ) (before after : LineBits) (l m : Line) (b : HasWidths be
 
   key_value : (apart p : ℕ) → p ≤ 20 → slice_index z apart ≡ cells_apart l m → value (key_less apart before after p) z ≡ key_less_in l m p
   key_value apart p h is =
-      let small : l.time / 2 ^ p < P = omega (arith, div-le_self l.time (2 ^ p), Spells-below sl.time) in
+      let small : l.time / 2 ^ p < P = omega (arith, div-le_self l.time (2 ^ p), HasBits-below sl.time) in
       value-less ((2 ^ (20 - p), apart) ∷ bits_from after.time p) (bits_from before.time p) z
       ∙ ap₂ (λ x y. (x + (P - y)) % P)
       (value-cons (2 ^ (20 - p)) apart (bits_from after.time p) z
@@ -183,10 +183,11 @@ module _ (z : List ℕ) (before after : LineBits) (l m : Line) (b : HasWidths be
       let found = zero_product_sound z (λ j. less (prefix_less apart before after j) (wire s)) 5 next (omega arith) assigns meets in
       let none = sym (factor_value apart s is found.0 found.1) ∙ found.2 in
       let e = same_of_minus (prefix_less_in l m found.0) (slice_index z s) (prefix_small found.0 found.1) (wire-below assigns s) none in
-      prefix_rises l m (Spells-below sl.cell) (Spells-below sm.cell) (Spells-below sl.time) (Spells-below sm.time) found.0 (slice_index z s) found.1 some most e
+      prefix_rises l m (HasBits-below sl.cell) (HasBits-below sm.cell) (HasBits-below sl.time) (HasBits-below sm.time) found.0
+      (slice_index z s) found.1 some most e
 
   pub is_size : Rises l m → IsSize l m
-  is_size = rising_size l m (Spells-below sl.cell) (Spells-below sm.cell) (Spells-below sl.time) (Spells-below sm.time)
+  is_size = rising_size l m (HasBits-below sl.cell) (HasBits-below sm.cell) (HasBits-below sl.time) (HasBits-below sm.time)
 
   pub rises_complete : (apart s next : ℕ) → slice_index z apart ≡ cells_apart l m → slice_index z s ≡ size l m → Rises l m
       → HasFrom z next (products_values (factor_in l m) 5) → Meets z (rises_of apart s before after next).list

@@ -4,7 +4,7 @@ use Rattle.std.specs.Prelude.{slice_index}
 use Rattle.std.proofs.lemmas.Bool.{cases_eq}
 use Rattle.std.proofs.lemmas.List.{length-append}
 use Rattle.std.specs.Int.{bit_at}
-use Rattle.tv_bits.proofs.SpelledNumbers.{Spells-small}
+use Rattle.tv_bits.proofs.BitNumbers.{HasBits-small}
 use Rattle.tv_bits.proofs.ZeroLaws.{zero_flag-zero, zero_flag-other}
 use Rattle.tv_bits.specs.Bits.{bits_values}
 use Rattle.tv_bits.specs.Prefixes.{products_values}
@@ -40,9 +40,9 @@ sorted_pair_complete z next before after l m b a assigns sl sm follows has =
     let flags : List ℕ = zero_values x in
     let sizes : List ℕ = size_values (size l m) in
     let products : List ℕ = products_values (factor_in l m) 5 in
-    let l_cell = Spells-small sl.cell (omega arith) in
-    let m_cell = Spells-small sm.cell (omega arith) in
-    let l_new = Spells-small sl.new (omega arith) in
+    let l_cell = HasBits-small sl.cell (omega arith) in
+    let m_cell = HasBits-small sm.cell (omega arith) in
+    let l_new = HasBits-small sl.new (omega arith) in
     let there : slice_index z next ≡ x = has.0 in
     let is : slice_index z apart.answer ≡ x = ap (λ w. slice_index z w) (apart_answer before after next) ∙ there in
     let one = HasFrom-split z (next + 1) flags (sizes ++ products) has.1 in

@@ -1,6 +1,6 @@
 -- A sorted pair is sound.
 use Rattle.std.proofs.Common.{◌≡◌, ◌≢◌, ℕ, ◌+◌, ◌-◌, ◌*◌, ◌%◌, ◌<◌, sym, ◌∙◌, ap, arith}
-use Rattle.tv_bits.proofs.SpelledNumbers.{Spells-small}
+use Rattle.tv_bits.proofs.BitNumbers.{HasBits-small}
 use Rattle.tv_bits.proofs.ZeroLaws.{zero_flag-zero, zero_flag-other}
 use Rattle.tv_bits.specs.Zero.{zero_flag}
 use Rattle.tv_core.proofs.DifferenceLaws.{same_of_minus}
@@ -34,10 +34,10 @@ sorted_pair_sound z next before after l m b a assigns sl sm meets =
     let is = apart_sound z before after l m b a assigns sl sm next one.0 in
     let word = carried_sound z before after l m b a assigns sl sm apart.answer (cells_apart l m) apart.next is two.0 in
     let sized = size_sound z 11 carried.next (omega arith) assigns three.0 in
-    let l_cell = Spells-small sl.cell (omega arith) in
-    let m_cell = Spells-small sm.cell (omega arith) in
+    let l_cell = HasBits-small sl.cell (omega arith) in
+    let m_cell = HasBits-small sm.cell (omega arith) in
     record {
       rises = rises_sound z before after l m b a assigns sl sm apart.answer size.answer size.next is sized.0 sized.1 three.1;
-      carried = λ same. flag_same l.cell m.cell m.old l.new l_cell (Spells-small sl.new (omega arith)) same word;
+      carried = λ same. flag_same l.cell m.cell m.old l.new l_cell (HasBits-small sl.new (omega arith)) same word;
       fresh = λ not. flag_apart l.cell m.cell m.old l.new l_cell m_cell not word;
     }

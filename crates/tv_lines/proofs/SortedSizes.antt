@@ -16,7 +16,7 @@ use Rattle.tv_core.specs.declared.field.TheConstants.{P}
 use Rattle.tv_lines.proofs.PairParts.{apart_next, carried_next, size_next}
 use Rattle.tv_lines.proofs.PrefixOrder.{rises_next, size_same, size_apart}
 use Rattle.tv_lines.proofs.SortedComplete.{size_many}
-use Rattle.tv_lines.specs.Packing.{InRange}
+use Rattle.tv_lines.specs.PackedLines.{InRange}
 use Rattle.tv_lines.specs.SortedPair.{apart_of, carried_of, size_of, sorted_pair_of, cells_apart, size, size_values, factor_in, sorted_pair_values}
 use Rattle.tv_lines.specs.SortedPair.{SortedPairSizes}
 use Rattle.tv_lines.specs.declared.rows.LineBits.{LineBits}

@@ -12,7 +12,7 @@ use Rattle.tv_core.specs.declared.lines.PairNum.{PairNum}
 use Rattle.tv_lines.proofs.NormalLaws.{length-less_above}
 use Rattle.tv_lines.proofs.PredecessorNumbers.{same_cells}
 use Rattle.tv_lines.proofs.PredecessorValues.{value-less_above}
-use Rattle.tv_lines.specs.Packing.{packed_item}
+use Rattle.tv_lines.specs.PackedLines.{packed_item}
 use Rattle.tv_lines.specs.Predecessor.{less_above}
 use Rattle.tv_core.specs.Combinations.{scaled}
 use Rattle.tv_core.specs.Meanings.{terms_in}

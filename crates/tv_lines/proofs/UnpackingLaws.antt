@@ -3,8 +3,8 @@ use Rattle.std.proofs.Common.{◌≡◌, ℕ, ◌+◌, ◌^◌, ◌<◌, List, [
 use Rattle.std.specs.Int.{bit_at}
 use Rattle.std.proofs.lemmas.List.{length-append}
 use Rattle.tv_bits.proofs.SizeLaws.{bits_in_field}
-use Rattle.tv_bits.proofs.SpelledNumbers.{Spells-low, Spells-high}
-use Rattle.tv_bits.proofs.SpellingLaws.{bits_answer, bits_next, bits_sound, bits_complete}
+use Rattle.tv_bits.proofs.BitNumbers.{HasBits-low, HasBits-high}
+use Rattle.tv_bits.proofs.BitsLaws.{bits_answer, bits_next, bits_sound, bits_complete}
 use Rattle.tv_bits.specs.Bits.{bits_of, bits_values}
 use Rattle.tv_core.proofs.BelowLaws.{length-each_below}
 use Rattle.tv_core.proofs.FieldLaws.{InField-append}
@@ -15,7 +15,7 @@ use Rattle.tv_core.specs.Laws.{Assigns, Meets, HasFrom}
 use Rattle.tv_core.specs.declared.lines.Pair.{Pair}
 use Rattle.tv_core.specs.declared.lines.PairNum.{PairNum}
 use Rattle.tv_lines.proofs.PackingLaws.{packed_first, packed_second}
-use Rattle.tv_lines.specs.Unpacking.{HasWidths, line_bits, unpack_of, unpack_values, UnpackIsSound, UnpackIsComplete, UnpackSizes}
+use Rattle.tv_lines.specs.UnpackedLines.{HasWidths, line_bits, unpack_of, unpack_values, UnpackIsSound, UnpackIsComplete, UnpackSizes}
 
 -- what the circuit answers, and where it ends
 pub unpack_answer : (pair : Pair) (next : ℕ) → (unpack_of pair next).answer ≡ line_bits next (next + 63)
@@ -39,10 +39,10 @@ unpack_sound z next pair assigns meets =
     let first = bits_sound z next pair.first 63 (omega arith) assigns one.0 in
     let second = bits_sound z f.next pair.second 52 (omega arith) assigns two.0 in
     record {
-      cell = Spells-high z f.answer.first 32 31 (value pair.first z) first;
-      time = Spells-high z s.answer.first 32 20 (value pair.second z) second;
-      old = Spells-low z f.answer.first 32 31 (value pair.first z) first;
-      new = Spells-low z s.answer.first 32 20 (value pair.second z) second;
+      cell = HasBits-high z f.answer.first 32 31 (value pair.first z) first;
+      time = HasBits-high z s.answer.first 32 20 (value pair.second z) second;
+      old = HasBits-low z f.answer.first 32 31 (value pair.first z) first;
+      new = HasBits-low z s.answer.first 32 20 (value pair.second z) second;
     }
 
 unpack_met : (z : List ℕ) (next : ℕ) (pair : Pair) (x y : ℕ) → Assigns z → value pair.first z ≡ x → value pair.second z ≡ y → x < 2 ^ 63 → y < 2 ^ 52

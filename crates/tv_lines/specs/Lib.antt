@@ -1,13 +1,13 @@
 pub mod Ordered
-pub mod Packing
+pub mod PackedLines
 pub mod Placed
 pub mod Predecessor
 pub mod SortedPair
 pub mod Starts
 pub mod Compact
-pub mod Unpacking
+pub mod UnpackedLines
 pub use Rattle.tv_bits.specs.Order
 pub use Rattle.tv_bits.specs.Prefixes
 pub use Rattle.tv_core.specs.Combinations
-pub use Rattle.tv_core.specs.Giving
+pub use Rattle.tv_core.specs.Values
 pub use Rattle.tv_core.specs.Sinks

@@ -2,7 +2,7 @@
 use Rattle.std.specs.Prelude.{◌≡◌, ◌≢◌, ◌⊎◌, ℕ, ◌+◌, ◌*◌, ◌^◌, ◌<◌, List, length, get_or, All, IsPermutation}
 use Rattle.std.specs.List.Sorted.{IsNonDecreasingBy}
 use Rattle.tv_core.specs.Lines.{Line, Honest}
-use Rattle.tv_lines.specs.Packing.{time_bits}
+use Rattle.tv_lines.specs.PackedLines.{time_bits}
 
 -- m stands right after l: its cell is above, or its time in the same cell, and it carries on what l left in its cell, or begins at 0
 pub record Follows (l m : Line) : Type 0 where

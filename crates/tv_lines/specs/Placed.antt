@@ -2,7 +2,7 @@
 use Rattle.std.specs.Prelude.{◌≡◌, ℕ, ◌+◌, ◌^◌, ◌<◌, List, [], ◌∷◌, slice_index_or}
 use Rattle.tv_core.specs.Lines.{Line}
 use Rattle.tv_core.specs.declared.lines.LineLc.{LineLc}
-use Rattle.tv_lines.specs.Packing.{cell_bits}
+use Rattle.tv_lines.specs.PackedLines.{cell_bits}
 
 -- the line at a place, of combinations or of numbers; past the end it is all 0
 abbrev pub no_line : LineLc

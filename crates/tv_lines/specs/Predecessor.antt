@@ -15,7 +15,7 @@ use Rattle.tv_core.specs.declared.field.TheConstants.{P}
 use Rattle.tv_core.specs.declared.lines.LineLc.{LineLc}
 use Rattle.tv_core.specs.declared.lines.Pair.{Pair}
 use Rattle.tv_lines.specs.Ordered.{Follows, key}
-use Rattle.tv_lines.specs.Packing.{InRange, line_value, packed_item, time_bits}
+use Rattle.tv_lines.specs.PackedLines.{InRange, line_value, packed_item, time_bits}
 use Rattle.tv_lines.specs.Compact.{cell_lc, word_lc}
 use Rattle.tv_lines.specs.declared.compact.CompactLine.{CompactLine}
 

@@ -14,8 +14,8 @@ use Rattle.tv_core.specs.Laws.{Assigns, Meets, HasFrom, Fills, InField}
 use Rattle.tv_core.specs.Lines.{Line}
 use Rattle.tv_core.specs.declared.field.TheConstants.{P}
 use Rattle.tv_lines.specs.Ordered.{Follows, Ordered}
-use Rattle.tv_lines.specs.Packing.{time_bits, InRange}
-use Rattle.tv_lines.specs.Unpacking.{HasWidths, SpellsLine}
+use Rattle.tv_lines.specs.PackedLines.{time_bits, InRange}
+use Rattle.tv_lines.specs.UnpackedLines.{HasWidths, HasLineBits}
 use Rattle.tv_lines.specs.declared.rows.LineBits.{LineBits}
 
 -- how many bits a chunk has, and into how many chunks cells and times are cut
@@ -117,12 +117,12 @@ sorted_pair_values l m =
 -- in an assignment that satisfies the constraints for bits that represent two lines the second follows the first
 abbrev pub SortedPairIsSound : Type 0
 SortedPairIsSound = (z : List ℕ) (next : ℕ) (before after : LineBits) (l m : Line) → HasWidths before → HasWidths after → Assigns z
-    → SpellsLine z before l → SpellsLine z after m → Meets z (sorted_pair_of before after next).list → Follows l m
+    → HasLineBits z before l → HasLineBits z after m → Meets z (sorted_pair_of before after next).list → Follows l m
 
 -- where it does, an assignment that has these values at the wires that were made satisfies the constraints
 abbrev pub SortedPairIsComplete : Type 0
 SortedPairIsComplete = (z : List ℕ) (next : ℕ) (before after : LineBits) (l m : Line) → HasWidths before → HasWidths after → Assigns z
-    → SpellsLine z before l → SpellsLine z after m → Follows l m → HasFrom z next (sorted_pair_values l m) → Meets z (sorted_pair_of before after next).list
+    → HasLineBits z before l → HasLineBits z after m → Follows l m → HasFrom z next (sorted_pair_values l m) → Meets z (sorted_pair_of before after next).list
 
 -- as many values as wires, and each below P for lines in range
 pub record SortedPairSizes : Type 0 where
@@ -132,11 +132,11 @@ pub record SortedPairSizes : Type 0 where
 
 -- an assignment satisfies the constraints for a line exactly where its old is 0
 abbrev pub FirstLineIsSound : Type 0
-FirstLineIsSound = (z : List ℕ) (next : ℕ) (bits : LineBits) (l : Line) → HasWidths bits → Assigns z → SpellsLine z bits l
+FirstLineIsSound = (z : List ℕ) (next : ℕ) (bits : LineBits) (l : Line) → HasWidths bits → Assigns z → HasLineBits z bits l
     → Meets z (first_line_of bits next).list → l.old ≡ 0
 
 abbrev pub FirstLineIsComplete : Type 0
-FirstLineIsComplete = (z : List ℕ) (next : ℕ) (bits : LineBits) (l : Line) → HasWidths bits → Assigns z → SpellsLine z bits l
+FirstLineIsComplete = (z : List ℕ) (next : ℕ) (bits : LineBits) (l : Line) → HasWidths bits → Assigns z → HasLineBits z bits l
     → l.old ≡ 0 → Meets z (first_line_of bits next).list
 
 -- it makes no wire
@@ -147,7 +147,7 @@ pub record FirstLineSizes : Type 0 where
 -- the bits of n lines, the first line held to begin at 0 and each two neighbours to follow each other
 pub record AreSorted (z : List ℕ) (n : ℕ) (bits : ℕ → LineBits) (line : ℕ → Line) : Type 0 where
   pub widths : (i : ℕ) → i < n → HasWidths (bits i)
-  pub spells : (i : ℕ) → i < n → SpellsLine z (bits i) (line i)
+  pub spells : (i : ℕ) → i < n → HasLineBits z (bits i) (line i)
   pub first_at : ℕ
   pub first : 0 < n → Meets z (first_line_of (bits 0) first_at).list
   pub pair_at : ℕ → ℕ

@@ -10,7 +10,7 @@ use Rattle.tv_core.specs.Normal.{normal, AreNormal}
 use Rattle.tv_core.specs.declared.lines.LineLc.{LineLc}
 use Rattle.tv_core.specs.declared.lines.Pair.{Pair}
 use Rattle.tv_lines.specs.Ordered.{Follows}
-use Rattle.tv_lines.specs.Packing.{InRange, line_value, packed_item}
+use Rattle.tv_lines.specs.PackedLines.{InRange, line_value, packed_item}
 use Rattle.tv_lines.specs.Predecessor.{less_above}
 
 -- ---- a boot line

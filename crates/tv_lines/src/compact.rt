@@ -3,7 +3,7 @@ ghost use Rattle.std.specs.Prelude.{◌≡◌, ◌+◌, ◌-◌, ◌^◌, ◌%�
 ghost use Rattle.tv_core.specs.Combinations.{constant, scaled, top};
 ghost use Rattle.tv_core.specs.Normal.{normal, IsNormal};
 ghost use Rattle.tv_core.specs.declared.field.TheConstants.{P};
-ghost use Rattle.tv_lines.specs.Packing.{pack_item};
+ghost use Rattle.tv_lines.specs.PackedLines.{pack_item};
 ghost use Rattle.tv_lines.specs.Predecessor.{less_above};
 ghost use Rattle.tv_lines.specs.Compact.{cell_lc, word_lc, line_lc};
 

@@ -15,22 +15,17 @@
 
 mod compact;
 mod honesty;
-mod ordering;
-mod packing;
+mod keys;
+mod packed_lines;
 mod predecessor;
-mod rising;
 mod rows;
+mod sorted_pairs;
 mod starts;
-mod unpacking;
+mod unpacked_lines;
 
 pub use compact::{Cell, CompactLine, Word};
 pub use honesty::{ordered_lines_are_honest, sorted_lines_are_ordered};
-pub use ordering::{
-    fill_first_line, fill_sorted_pair, first_line, first_line_fills, first_line_is_complete,
-    first_line_is_sound, neighbours_are_ordered, sorted_pair, sorted_pair_fills,
-    sorted_pair_is_complete, sorted_pair_is_sound,
-};
-pub use packing::{
+pub use packed_lines::{
     item_is_right, pack, pack_is_one_to_one, pack_is_right, pack_item, pack_line, unpack_item,
     unpack_line,
 };
@@ -39,11 +34,16 @@ pub use predecessor::{
     follows_is_sound, follows_reaches, follows_rises, follows_terms,
 };
 pub use rows::LineBits;
+pub use sorted_pairs::{
+    fill_first_line, fill_sorted_pair, first_line, first_line_fills, first_line_is_complete,
+    first_line_is_sound, neighbours_are_ordered, sorted_pair, sorted_pair_fills,
+    sorted_pair_is_complete, sorted_pair_is_sound,
+};
 pub use starts::{
     boot_line, boot_line_fills, boot_line_is_complete, boot_line_is_sound, boot_line_terms,
     least_line, least_line_fills, least_line_is_complete, least_line_is_sound, least_line_terms,
 };
-pub use unpacking::{
+pub use unpacked_lines::{
     fill_unpack, line_bits, unpack, unpack_fills, unpack_is_complete, unpack_is_sound,
     unpack_undoes_pack,
 };

@@ -2,9 +2,9 @@
 ghost use Rattle.std.specs.Prelude.{◌≡◌, ◌+◌, ◌-◌, ◌≤◌, ◌<◌, ◌^◌, [], false, length, max};
 ghost use Rattle.std.specs.Prelude.{IfOk, OnOk};
 ghost use Rattle.tv_core.specs.Combinations.{top, wire};
-ghost use Rattle.tv_core.specs.Giving.{GivesIn};
+ghost use Rattle.tv_core.specs.Values.{GivesIn};
 ghost use Rattle.tv_core.specs.Sinks.{PutsIn, Grows, Room};
-ghost use Rattle.tv_lines.specs.Packing.{unpacked};
+ghost use Rattle.tv_lines.specs.PackedLines.{unpacked};
 ghost use Rattle.tv_lines.specs.Predecessor.{IsLineMade, IsItemMade, follows_of, follows_values};
 ghost use Rattle.tv_lines.specs.Predecessor.{cell_excess, excess, cell_difference};
 ghost use Rattle.tv_lines.specs.Predecessor.{time_difference, either_of, follows_terms};
@@ -15,7 +15,7 @@ ghost use Rattle.tv_lines.specs.Predecessor.{FollowsCosts, FollowsReaches, Follo
 ghost use Rattle.tv_lines.specs.Compact.{cell_lc, line_lc, word_lc};
 
 use crate::compact::{CompactLine, SHIFT, subtract_number_above};
-use crate::packing::unpack_item;
+use crate::packed_lines::unpack_item;
 use tv_bits::{Bits, fill_bits, kept_by, new_bits_by};
 use tv_core::{F, Lc, Line, Pair, PairNum, Put, Scratch, Sink, Values, Wire};
 

@@ -10,7 +10,7 @@ use Rattle.tv_layout.specs.Places.{WithinLimits, tape_at}
 use Rattle.tv_layout.specs.RunInputs.{RunInput, run_on}
 use Rattle.tv_layout.specs.Systems.{system_of}
 use Rattle.tv_step.specs.Cells.{run_lines}
-use Rattle.tv_step.specs.Tracing.{IsTrace}
+use Rattle.tv_step.specs.RunTrace.{IsTrace}
 use Rattle.tv_step.specs.declared.lines.Trace.{Trace}
 use Rattle.tv_listing.specs.Listing.{assigned_lines, traced_lines, text_by}
 use Rattle.tv_listing.specs.declared.row.By.{By}

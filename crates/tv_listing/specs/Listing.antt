@@ -5,9 +5,9 @@ use Rattle.std.specs.Ordering.{is_lt, nat_cmp, ordering_then}
 use Rattle.std.specs.declared.cmp.Ordering.{Ordering}
 use Rattle.tv_block.specs.Block.{block_of}
 use Rattle.tv_core.specs.Lines.{Line}
-use Rattle.tv_layout.specs.Layout.{lines_of}
+use Rattle.tv_layout.specs.Layout.{system_lines}
 use Rattle.tv_layout.specs.Places.{boot_count}
-use Rattle.tv_lines.specs.Packing.{line_value}
+use Rattle.tv_lines.specs.PackedLines.{line_value}
 use Rattle.tv_step.specs.Cells.{boot_lines}
 use Rattle.tv_listing.specs.declared.row.By.{By}
 use Rattle.tv_listing.specs.declared.row.By.TheVariants.{Time, Cell}
@@ -15,7 +15,7 @@ use Rattle.tv_listing.specs.declared.row.By.TheVariants.{Time, Cell}
 -- ---- the lines
 -- those that an assignment has, in time order: the system's, by their values
 abbrev pub lines_at : ℕ → List ℕ → ℕ → ℕ → List ℕ → List Line
-lines_at w image n t z = map (line_value z) (lines_of (block_of w) w image n t)
+lines_at w image n t z = map (line_value z) (system_lines (block_of w) w image n t)
 
 -- the first of them: those of the words of the image and of the tape, and three for each step up to this one
 abbrev pub assigned_lines : ℕ → List ℕ → ℕ → ℕ → ℕ → List ℕ → List Line

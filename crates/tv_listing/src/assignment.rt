@@ -5,7 +5,7 @@ ghost use Rattle.tv_listing.specs.Listing.{assigned_lines, lines_at, text_by};
 ghost use Rattle.tv_listing.specs.Row.{row_line};
 
 use crate::row::{By, Row};
-use crate::writing::text_by;
+use crate::text::text_by;
 use std::alloc::{AllocError, Global};
 use tv_core::F;
 use tv_layout::line;

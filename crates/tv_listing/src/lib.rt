@@ -7,10 +7,10 @@
 mod assignment;
 mod laws;
 mod row;
-mod tracing;
-mod writing;
+mod text;
+mod trace_lines;
 
 pub use assignment::listing;
 pub use laws::{listings_are_traces, satisfying_are_listed};
 pub use row::By;
-pub use tracing::trace_text;
+pub use trace_lines::trace_text;

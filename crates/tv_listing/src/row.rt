@@ -1,7 +1,7 @@
 //! Lines in numbers, and the orders in which they are listed.
 ghost use Rattle.std.specs.Prelude.{◌≡◌};
 ghost use Rattle.tv_listing.specs.Row.{row_line};
-ghost use Rattle.tv_lines.specs.Packing.{line_value};
+ghost use Rattle.tv_lines.specs.PackedLines.{line_value};
 
 use tv_core::{F, Line, LineLc};
 

@@ -5,9 +5,9 @@ use Rattle.std.specs.Int.{bit_at}
 use Rattle.std.specs.Prelude.{slice_index}
 use Rattle.std.proofs.Math.Nat.{mul_assoc}
 use Rattle.std.proofs.lemmas.Nat.{mul-mod_first}
-use Rattle.tv_bits.proofs.SpelledNumbers.{Spells-below, Spells-bit_at, sum_below-plus}
-use Rattle.tv_bits.specs.Bits.{Spells}
-use Rattle.tv_bits.specs.DoubleRow.{SpellsRow}
+use Rattle.tv_bits.proofs.BitNumbers.{HasBits-below, HasBits-bit_at, sum_below-plus}
+use Rattle.tv_bits.specs.Bits.{HasBits}
+use Rattle.tv_bits.specs.DoubleRow.{HasRowBits}
 use Rattle.tv_bits.specs.declared.bit_wires.Bits.{Bits}
 use Rattle.tv_bits.specs.declared.double_rows.DoubleRow.{DoubleRow}
 use Rattle.tv_core.proofs.BelowLaws.{sum_below-mod_same, sum_below-same, sum_below-mul, value-weighted, length-weighted}
@@ -29,14 +29,14 @@ abbrev bits_from : ℕ → ℕ → ℕ → ℕ
 bits_from v from j = bit_at v (from + j)
 
 -- ---- the value of digits
-value-digits : (z : List ℕ) (k first w v from n : ℕ) → Spells z first w v → from + n ≤ w
+value-digits : (z : List ℕ) (k first w v from n : ℕ) → HasBits z first w v → from + n ≤ w
     → value (digits_combination k (first + from) n) z ≡ k * number_of n (bits_from v from) % P
 value-digits z k first w v from n s within =
     value-weighted (first + from) n (λ j. k * BASE ^ j % P) z
     ∙ sum_below-mod_same n (λ j. k * BASE ^ j % P * slice_index z (first + from + j)) (λ j. k * (BASE ^ j * bits_from v from j)) P
     (λ j h. mul-mod_first (k * BASE ^ j) (slice_index z (first + from + j)) P
     ∙ (let place : first + from + j ≡ first + (from + j) = omega arith in ap (λ i. k * BASE ^ j * slice_index z i % P) place)
-    ∙ ap (λ b. k * BASE ^ j * b % P) (Spells-bit_at s (from + j) (omega arith))
+    ∙ ap (λ b. k * BASE ^ j * b % P) (HasBits-bit_at s (from + j) (omega arith))
     ∙ ap (λ m. m % P) (mul_assoc k (BASE ^ j) (bits_from v from j)))
     ∙ ap (λ m. m % P) (sum_below-mul k n (λ j. BASE ^ j * bits_from v from j))
 
@@ -60,7 +60,7 @@ same_none : (p q r s : ℕ) → (p + q) % P ≡ (2 * r + s) % P → (p + q + (P 
 same_none p q r s e = omega arith
 
 module _ (z : List ℕ) (w n x y row a b both one from : ℕ) (within : from + n ≤ w)
-    (p : Spells z x w a) (q : Spells z y w b) (r : Spells z row w both) (s : Spells z (row + w) w one) where
+    (p : HasBits z x w a) (q : HasBits z y w b) (r : HasBits z row w both) (s : HasBits z (row + w) w one) where
   abbrev digits : ℕ → ℕ
   digits v = number_of n (bits_from v from)
 
@@ -116,7 +116,7 @@ high_sum w x y row = digit_sum w (w / 2) (x.first + w / 2) (y.first + w / 2) (ro
 
 -- ---- the laws
 module _ (w : ℕ) (width : IsWidth w) (z : List ℕ) (next : ℕ) (gate : Combination) (x y : Bits) (row : DoubleRow) (a b : ℕ)
-    (p : Spells z x.first w a) (q : Spells z y.first w b) (r : SpellsRow w z row) where
+    (p : HasBits z x.first w a) (q : HasBits z y.first w b) (r : HasRowBits w z row) where
   abbrev both : ℕ
   both = slice_index z row.low
 
@@ -142,7 +142,7 @@ module _ (w : ℕ) (width : IsWidth w) (z : List ℕ) (next : ℕ) (gate : Combi
   sound gate_is meets =
       let low = low_digits (gate_on z gate (low_sum w x y row) gate_is meets.0) in
       let high = high_digits (gate_on z gate (high_sum w x y row) gate_is meets.1.0) in
-      let words = bitwise_from w width a b (Spells-below p) (Spells-below q) both one (Spells-below r.low) (Spells-below r.high) low high in
+      let words = bitwise_from w width a b (HasBits-below p) (HasBits-below q) both one (HasBits-below r.low) (HasBits-below r.high) low high in
       record { and_word = words.0; xor_word = words.1; or_word = ap₂ (λ m n. m + n) words.0 words.1 ∙ sym (or_sum a b) }
 
   digits_at : (from : ℕ) → both ≡ bit_and a b → one ≡ bit_xor a b → SameDigits w from a b both one

@@ -3,7 +3,7 @@ use Rattle.std.proofs.Common.{◌≡◌, ℕ, zero, suc, ◌+◌, ◌-◌, ◌*�
 use Rattle.std.specs.Int.{bit_at}
 use Rattle.std.proofs.lemmas.Nat.{pow-add, and_le_l}
 use Rattle.std.proofs.lemmas.Nat.Bits.{bit_at-lt, bit_at_and}
-use Rattle.tv_bits.proofs.SpelledNumbers.{sum_below-plus, picked-bit_at}
+use Rattle.tv_bits.proofs.BitNumbers.{sum_below-plus, picked-bit_at}
 use Rattle.tv_bits.specs.Pairs.{two_ands}
 use Rattle.tv_core.proofs.BelowLaws.{sum_below-zero, sum_below-suc, sum_below-same, sum_below-add, sum_below-mul}
 use Rattle.tv_core.specs.Below.{sum_below}

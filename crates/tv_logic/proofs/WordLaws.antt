@@ -4,8 +4,8 @@ use Rattle.std.proofs.Common.{arith}
 use Rattle.std.specs.Int.Bits.{or_add_and, xor_add_and}
 use Rattle.std.specs.Prelude.{slice_index}
 use Rattle.tv_bits.proofs.TimesLaws.{kept_answer, kept_next, kept_sound, kept_complete}
-use Rattle.tv_bits.proofs.SpelledNumbers.{Spells-below, value-bits_below}
-use Rattle.tv_bits.specs.Bits.{Spells, bits_combination}
+use Rattle.tv_bits.proofs.BitNumbers.{HasBits-below, value-bits_below}
+use Rattle.tv_bits.specs.Bits.{HasBits, bits_combination}
 use Rattle.tv_bits.specs.Pairs.{negative}
 use Rattle.tv_bits.specs.Times.{kept_of}
 use Rattle.tv_bits.specs.declared.bit_wires.Bits.{Bits}
@@ -34,7 +34,7 @@ xor_number a b ands xors h k is = omega arith
 not_number : (w : ℕ) → IsWidth w → (b : ℕ) → b < 2 ^ w → ((2 ^ w - 1) % P + (P - b)) % P ≡ bits_turned w b
 not_number w width b h = grind arith
 
-module _ (w : ℕ) (width : IsWidth w) (z : List ℕ) (assigns : Assigns z) (x y : Bits) (a b : ℕ) (p : Spells z x.first w a) (q : Spells z y.first w b) where
+module _ (w : ℕ) (width : IsWidth w) (z : List ℕ) (assigns : Assigns z) (x y : Bits) (a b : ℕ) (p : HasBits z x.first w a) (q : HasBits z y.first w b) where
   short : w ≤ 63
   short = let most = width_short w width in omega arith
 
@@ -50,18 +50,18 @@ module _ (w : ℕ) (width : IsWidth w) (z : List ℕ) (assigns : Assigns z) (x y
   value-or : (at : ℕ) → slice_index z at ≡ bit_and a b → value (sum_less w x y 1 at) z ≡ bit_or a b
   value-or at is =
       value-sum_less 1 at ∙ ap (λ k. ((a + 1 * b % P) % P + (P - 1) * k % P) % P) is
-      ∙ or_number a b (bit_and a b) (bit_or a b) (word_small w width a (Spells-below p)) (word_small w width b (Spells-below q)) (or_add_and a b)
+      ∙ or_number a b (bit_and a b) (bit_or a b) (word_small w width a (HasBits-below p)) (word_small w width b (HasBits-below q)) (or_add_and a b)
 
   value-xor : (at : ℕ) → slice_index z at ≡ bit_and a b → value (sum_less w x y 2 at) z ≡ bit_xor a b
   value-xor at is =
       value-sum_less 2 at ∙ ap (λ k. ((a + 1 * b % P) % P + (P - 2) * k % P) % P) is
-      ∙ xor_number a b (bit_and a b) (bit_xor a b) (word_small w width a (Spells-below p)) (word_small w width b (Spells-below q)) (xor_add_and a b)
+      ∙ xor_number a b (bit_and a b) (bit_xor a b) (word_small w width a (HasBits-below p)) (word_small w width b (HasBits-below q)) (xor_add_and a b)
 
   value-not : value (complement w y) z ≡ bits_turned w b
   value-not =
       value-less (constant (2 ^ w - 1)) (bits_combination y.first w) z
       ∙ ap₂ (λ m n. (m + (P - n)) % P) (value-constant assigns (2 ^ w - 1)) (value-bits_below q short)
-      ∙ not_number w width b (Spells-below q)
+      ∙ not_number w width b (HasBits-below q)
 
 -- wires that hold the words of the operations
 pub record HoldWords (w : ℕ) (z : List ℕ) (words : LogicWords) (a b : ℕ) : Type 0 where
@@ -106,7 +106,7 @@ module _ (w : ℕ) (width : IsWidth w) (x y : Bits) (next : ℕ) where
       (kept_answer (sum_less w x y 2 (and_of w x y next).answer) xor_from ∙ xor_from_is ∙ omega arith)
       (kept_answer (complement w y) not_from ∙ not_from_is ∙ omega arith)
 
-pub words_sound : (w : ℕ) → IsWidth w → (z : List ℕ) (next : ℕ) (x y : Bits) (a b : ℕ) → Assigns z → Spells z x.first w a → Spells z y.first w b
+pub words_sound : (w : ℕ) → IsWidth w → (z : List ℕ) (next : ℕ) (x y : Bits) (a b : ℕ) → Assigns z → HasBits z x.first w a → HasBits z y.first w b
     → Meets z (logic_words_of w x y next).list
     → HoldWords w z (logic_words_of w x y next).answer a b
 unfolding logic_words_of pure ◌>>=◌
@@ -124,7 +124,7 @@ words_sound w width z next x y a b assigns p q meets =
       nots = kept_sound z (not_from w width x y next) (complement w y) assigns nots_met.0 ∙ value-not w width z assigns x y a b p q;
     }
 
-pub words_complete : (w : ℕ) → IsWidth w → (z : List ℕ) (next : ℕ) (x y : Bits) (a b : ℕ) → Assigns z → Spells z x.first w a → Spells z y.first w b
+pub words_complete : (w : ℕ) → IsWidth w → (z : List ℕ) (next : ℕ) (x y : Bits) (a b : ℕ) → Assigns z → HasBits z x.first w a → HasBits z y.first w b
     → HasFrom z next (word_values w a b)
     → Meets z (logic_words_of w x y next).list
 unfolding logic_words_of pure ◌>>=◌

@@ -8,7 +8,7 @@ use Rattle.tv_core.specs.Below.{each_below}
 use Rattle.tv_core.specs.Circuits.{Circuit, here, fresh, pure, ◌>>=◌}
 use Rattle.tv_core.specs.Combinations.{wire}
 use Rattle.tv_core.specs.Constraints.{Combination}
-use Rattle.tv_core.specs.Loops.{times}
+use Rattle.tv_core.specs.Loops.{sequence}
 use Rattle.tv_core.specs.declared.field.TheConstants.{P}
 
 -- pair number i of a number: its bit i, and 2 ^ (w / 2) times its bit i + w / 2. The number is the sum of
@@ -36,7 +36,7 @@ unfoldable pub and_of : ℕ → Bits → Bits → Circuit ℕ
 and_of w x y = do
   word ← fresh
   first ← here
-  _ ← times (w / 2 - 1) (new_and_pair_of w x y)
+  _ ← sequence (w / 2 - 1) (new_and_pair_of w x y)
   _ ← and_pair_of w x y 0 (lowest_pair w word first)
   pure word
 

@@ -1,7 +1,7 @@
 -- The bitwise operations as digits: of two bits the sum is twice their and, plus their exclusive or.
 use Rattle.std.specs.Prelude.{◌≡◌, ℕ, ◌+◌, ◌-◌, ◌*◌, ◌/◌, ◌%◌, ◌^◌, ◌<◌, List, [], ◌++◌, bit_and, bit_or, bit_xor, length, slice_index}
-use Rattle.tv_bits.specs.Bits.{Spells}
-use Rattle.tv_bits.specs.DoubleRow.{IsRow, SpellsRow}
+use Rattle.tv_bits.specs.Bits.{HasBits}
+use Rattle.tv_bits.specs.DoubleRow.{IsRow, HasRowBits}
 use Rattle.tv_bits.specs.declared.bit_wires.Bits.{Bits}
 use Rattle.tv_bits.specs.declared.double_rows.DoubleRow.{DoubleRow}
 use Rattle.tv_core.specs.Below.{weighted}
@@ -41,13 +41,13 @@ pub record AreBitwise (both one a b : ℕ) : Type 0 where
 -- where the gate is 1, the row's halves are the and and the exclusive or in an assignment that satisfies the constraints
 abbrev pub BitwiseIsSound : Type 0
 BitwiseIsSound = (w : ℕ) → IsWidth w → (z : List ℕ) (next : ℕ) (gate : Combination) (x y : Bits) (row : DoubleRow) (a b : ℕ) → Assigns z
-    → Spells z x.first w a → Spells z y.first w b → SpellsRow w z row → value gate z ≡ 1 → Meets z (bitwise_of w gate x y row next).list
+    → HasBits z x.first w a → HasBits z y.first w b → HasRowBits w z row → value gate z ≡ 1 → Meets z (bitwise_of w gate x y row next).list
     → AreBitwise (slice_index z row.low) (slice_index z row.high) a b
 
 -- an assignment in which they are so satisfies the constraints, and so does one in which the gate is 0; they are a row
 pub record BitwiseIsComplete : Type 0 where
   pub on : (w : ℕ) → IsWidth w → (z : List ℕ) (next : ℕ) (gate : Combination) (x y : Bits) (row : DoubleRow) (a b : ℕ) → Assigns z
-      → Spells z x.first w a → Spells z y.first w b → SpellsRow w z row
+      → HasBits z x.first w a → HasBits z y.first w b → HasRowBits w z row
       → slice_index z row.low ≡ bit_and a b → slice_index z row.high ≡ bit_xor a b → Meets z (bitwise_of w gate x y row next).list
   pub off : (w : ℕ) (z : List ℕ) (next : ℕ) (gate : Combination) (x y : Bits) (row : DoubleRow) → value gate z ≡ 0
       → Meets z (bitwise_of w gate x y row next).list

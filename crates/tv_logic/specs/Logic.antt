@@ -1,6 +1,6 @@
 -- The bitwise operations of two words, with their zero flags.
 use Rattle.std.specs.Prelude.{◌≡◌, ℕ, ◌+◌, ◌/◌, ◌<◌, ◌^◌, bit_and, bit_or, bit_xor, List, ◌++◌, slice_index}
-use Rattle.tv_bits.specs.Bits.{Spells}
+use Rattle.tv_bits.specs.Bits.{HasBits}
 use Rattle.tv_bits.specs.Zero.{zero_flag}
 use Rattle.tv_bits.specs.declared.bit_wires.Bits.{Bits}
 use Rattle.tv_core.specs.Circuits.{Circuit, pure, ◌>>=◌}
@@ -67,12 +67,12 @@ pub record IsLogic (w : ℕ) (z : List ℕ) (answer : Logic) (x y : ℕ) : Type 
 
 -- in an assignment that meets what was put the answer is the operations' words and flags
 abbrev pub LogicIsSound : Type 0
-LogicIsSound = (w : ℕ) → IsWidth w → (z : List ℕ) (next : ℕ) (x y : Bits) (a b : ℕ) → Assigns z → Spells z x.first w a → Spells z y.first w b
+LogicIsSound = (w : ℕ) → IsWidth w → (z : List ℕ) (next : ℕ) (x y : Bits) (a b : ℕ) → Assigns z → HasBits z x.first w a → HasBits z y.first w b
     → Meets z (logic_of w x y next).list → IsLogic w z (logic_of w x y next).answer a b
 
 -- an assignment that has these values at the wires that were made satisfies the constraints
 abbrev pub LogicIsComplete : Type 0
-LogicIsComplete = (w : ℕ) → IsWidth w → (z : List ℕ) (next : ℕ) (x y : Bits) (a b : ℕ) → Assigns z → Spells z x.first w a → Spells z y.first w b
+LogicIsComplete = (w : ℕ) → IsWidth w → (z : List ℕ) (next : ℕ) (x y : Bits) (a b : ℕ) → Assigns z → HasBits z x.first w a → HasBits z y.first w b
     → HasFrom z next (logic_values w a b) → Meets z (logic_of w x y next).list
 
 -- what the circuit returns and where it ends; it has one value for each wire that it makes, and those of words are in

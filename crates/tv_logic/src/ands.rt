@@ -2,7 +2,7 @@
 ghost use Rattle.std.specs.Prelude.{◌≡◌, ◌+◌, ◌-◌, ◌/◌, ◌^◌, ◌<◌, ◌≤◌, false, length, max, IfOk};
 ghost use Rattle.std.specs.Prelude.{OnOk};
 ghost use Rattle.tv_core.specs.Combinations.{top, wire};
-ghost use Rattle.tv_core.specs.Giving.{GivesIn};
+ghost use Rattle.tv_core.specs.Values.{GivesIn};
 ghost use Rattle.tv_core.specs.Sinks.{PutsIn, Grows, Room};
 ghost use Rattle.tv_logic.specs.Ands.{pair_in, and_pair_of, new_and_pair_of, lowest_pair, and_of};
 ghost use Rattle.tv_logic.specs.Ands.{and_values, pair_values};

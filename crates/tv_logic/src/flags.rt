@@ -2,7 +2,7 @@
 ghost use Rattle.std.specs.Prelude.{◌≡◌, ◌<◌, false, max, IfOk, OnOk};
 ghost use Rattle.tv_bits.specs.Zero.{zero_of};
 ghost use Rattle.tv_core.specs.Combinations.{wire};
-ghost use Rattle.tv_core.specs.Giving.{GivesIn};
+ghost use Rattle.tv_core.specs.Values.{GivesIn};
 ghost use Rattle.tv_core.specs.Sinks.{PutsIn, Grows, Room};
 ghost use Rattle.tv_logic.specs.Flags.{logic_flags_of, flag_values};
 

@@ -1,7 +1,7 @@
 //! The four operations and their zero flags together.
 ghost use Rattle.std.specs.Prelude.{◌≡◌, ◌<◌, ◌^◌, false, max, IfOk, OnOk};
 ghost use Rattle.tv_bits.specs.Bits.{AreBitsBelow};
-ghost use Rattle.tv_core.specs.Giving.{GivesIn};
+ghost use Rattle.tv_core.specs.Values.{GivesIn};
 ghost use Rattle.tv_core.specs.Sinks.{PutsIn, Grows, Room};
 ghost use Rattle.tv_logic.specs.Logic.{logic_of, logic_values, logic_made, LogicIsSound};
 ghost use Rattle.tv_logic.specs.Logic.{LogicIsComplete, LogicSizes};

@@ -2,7 +2,7 @@
 ghost use Rattle.std.specs.Prelude.{◌≡◌, ◌+◌, ◌-◌, ◌/◌, ◌^◌, ◌<◌, ◌≤◌, false, max, IfOk, OnOk};
 ghost use Rattle.tv_bits.specs.Bits.{AreBitsBelow};
 ghost use Rattle.tv_core.specs.Combinations.{top};
-ghost use Rattle.tv_core.specs.Giving.{GivesIn};
+ghost use Rattle.tv_core.specs.Values.{GivesIn};
 ghost use Rattle.tv_core.specs.Sinks.{PutsIn, Grows, Room};
 ghost use Rattle.tv_logic.specs.Words.{sum_less, complement, logic_words_of};
 ghost use Rattle.tv_logic.specs.Words.{word_values};
@@ -28,11 +28,11 @@ pub(crate) fn words<const W: u32, S: Sink>(s: &mut S, x: &Bits, y: &Bits) -> Put
 {
     let mut scratch = Scratch::new();
     let and_word = and_word::<W, S>(s, &mut scratch, x, y)?;
-    fill_sum_less::<W>(&mut scratch.a, x, y, F::ONE, and_word);
+    set_sum_less::<W>(&mut scratch.a, x, y, F::ONE, and_word);
     let or_word = kept_by(s, &mut scratch.b, &mut scratch.c, &scratch.a)?;
-    fill_sum_less::<W>(&mut scratch.a, x, y, F::of(2), and_word);
+    set_sum_less::<W>(&mut scratch.a, x, y, F::of(2), and_word);
     let xor_word = kept_by(s, &mut scratch.b, &mut scratch.c, &scratch.a)?;
-    fill_complement::<W>(&mut scratch.a, y);
+    set_complement::<W>(&mut scratch.a, y);
     let not_word = kept_by(s, &mut scratch.b, &mut scratch.c, &scratch.a)?;
     Ok(LogicWords {
         and_word,
@@ -43,7 +43,7 @@ pub(crate) fn words<const W: u32, S: Sink>(s: &mut S, x: &Bits, y: &Bits) -> Put
 }
 
 // Makes `lc` the sum of two words, less `k` times a wire.
-fn fill_sum_less<const W: u32>(lc: &mut Lc, x: &Bits, y: &Bits, k: F, w: Wire)
+fn set_sum_less<const W: u32>(lc: &mut Lc, x: &Bits, y: &Bits, k: F, w: Wire)
     requires width { IsWidth W }
     requires x_word { x.now.n ≡ W }
     requires y_word { y.now.n ≡ W }
@@ -52,13 +52,13 @@ fn fill_sum_less<const W: u32>(lc: &mut Lc, x: &Bits, y: &Bits, k: F, w: Wire)
     ensures terms { lc.new ≡ sum_less W x.now y.now k w }
     ensures top { top lc.new ≤ max (max (x.now.first + W) (y.now.first + W)) (w + 1) }
 {
-    x.fill(lc);
+    x.set_number(lc);
     y.plus_to(lc, F::ONE);
     lc.plus(-k, w);
 }
 
 // Makes `lc` the greatest word less another.
-fn fill_complement<const W: u32>(lc: &mut Lc, y: &Bits)
+fn set_complement<const W: u32>(lc: &mut Lc, y: &Bits)
     requires width { IsWidth W }
     requires y_word { y.now.n ≡ W }
     requires y_within { y.now.first + W < 2 ^ 32 }

@@ -4,7 +4,7 @@
 #![tactic(auto)]
 
 #[cfg(test)]
-mod drawing;
+mod draws;
 pub mod examples;
 #[cfg(test)]
 mod memory;

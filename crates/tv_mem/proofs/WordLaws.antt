@@ -4,22 +4,22 @@ use Rattle.std.proofs.Math.Nat.{div-div-eq-div-mul, pow-succ', pow-zero}
 use Rattle.std.proofs.lemmas.Bool.{eq-eqb, ne_eqb, cond_both}
 use Rattle.tv_word.proofs.WidthLaws.{for_widths, word_bits}
 use Rattle.tv_word.specs.Widths.{IsWidth}
-use Rattle.tv_word.specs.Word.{spelled, low_bytes}
+use Rattle.tv_word.specs.Word.{little_endian, low_bytes}
 use Rattle.tv_mem.specs.Bytes.{Bytes, byte_of, with_byte, with_word, bytes_from, word_in}
 use Rattle.tv_mem.specs.Words.{AreBytes, WordsAreSmall, ByteOfWord, WordAfterByte, WordAfterWord, OthersAfterByte, OthersAfterWord, BytesAfterByte}
 use Rattle.tv_mem.specs.Words.{BytesAfterWord}
-use Rattle.tv_word.proofs.ByteLaws.{spelled-low_bytes}
+use Rattle.tv_word.proofs.ByteLaws.{little_endian-low_bytes}
 
 -- ---- n bytes from an address on
-spelled_below : (m : Bytes) → AreBytes m → (at n : ℕ) → spelled (bytes_from m at n) < 256 ^ n
+spelled_below : (m : Bytes) → AreBytes m → (at n : ℕ) → little_endian (bytes_from m at n) < 256 ^ n
 spelled_below m small at zero = omega arith
 spelled_below m small at (suc n) = rw (pow-succ' 256 n) (omega (arith, small at, spelled_below m small (at + 1) n))
 
-byte_from : (m : Bytes) → AreBytes m → (at n k : ℕ) → k < n → byte_of (spelled (bytes_from m at n)) k ≡ m (at + k)
+byte_from : (m : Bytes) → AreBytes m → (at n k : ℕ) → k < n → byte_of (little_endian (bytes_from m at n)) k ≡ m (at + k)
 byte_from m small at zero k h = absurd (omega arith)
 byte_from m small at (suc n) zero h = rw (add-zero at) (omega (arith, small at))
 byte_from m small at (suc n) (suc k) h =
-    let rest : ℕ = spelled (bytes_from m (at + 1) n) in
+    let rest : ℕ = little_endian (bytes_from m (at + 1) n) in
     let above : (m at + 256 * rest) / 256 ≡ rest = omega (arith, small at) in
     let place : at + suc k ≡ at + 1 + k = omega arith in
     ap (λ p. (m at + 256 * rest) / p % 256) (pow-succ' 256 k)
@@ -41,7 +41,7 @@ stored_behind old new rest after byte v k same behind =
     rw (same, pow-succ' 256 k) (grind (arith, behind))
 
 stored_from : (m : Bytes) (at n k v : ℕ) → k < n
-    → spelled (bytes_from (with_byte m (at + k) v) at n) + m (at + k) * 256 ^ k ≡ spelled (bytes_from m at n) + v * 256 ^ k
+    → little_endian (bytes_from (with_byte m (at + k) v) at n) + m (at + k) * 256 ^ k ≡ little_endian (bytes_from m at n) + v * 256 ^ k
 stored_from m at zero k v h = absurd (omega arith)
 stored_from m at (suc n) zero v h =
     let here : with_byte m (at + 0) v at ≡ v = ap (λ t. cond t v (m at)) (eq-eqb at (at + 0) (omega arith)) in
@@ -52,7 +52,8 @@ stored_from m at (suc n) zero v h =
     rw (here, rest, old, one) (omega arith)
 stored_from m at (suc n) (suc k) v h =
     let place : at + suc k ≡ at + 1 + k = omega arith in
-    subst (λ p. spelled (bytes_from (with_byte m p v) at (suc n)) + m p * 256 ^ suc k ≡ spelled (bytes_from m at (suc n)) + v * 256 ^ suc k) (sym place)
+    subst (λ p. little_endian (bytes_from (with_byte m p v) at (suc n)) + m p * 256 ^ suc k ≡ little_endian (bytes_from m at (suc n)) + v * 256 ^ suc k)
+    (sym place)
     (stored_behind (m at) (with_byte m (at + 1 + k) v at) _ _ (m (at + 1 + k)) v k
     (ap (λ t. cond t v (m at)) (ne_eqb at (at + 1 + k) (λ e. omega arith))) (stored_from m (at + 1) n k v (omega arith)))
 
@@ -92,7 +93,7 @@ word_after_byte w width m at v =
 pub same_word : (w : ℕ) → IsWidth w → (m : Bytes) (j v : ℕ) → v < 2 ^ w → ((k : ℕ) → k < w / 8 → m (j * (w / 8) + k) ≡ byte_of v k) → word_in w m j ≡ v
 same_word w width m j v small bytes =
     let fits : v < 256 ^ (w / 8) = rw (word_bits w width) small in
-    ap spelled (written_from m (j * (w / 8)) (w / 8) v bytes) ∙ spelled-low_bytes (w / 8) v fits
+    ap little_endian (written_from m (j * (w / 8)) (w / 8) v bytes) ∙ little_endian-low_bytes (w / 8) v fits
 
 pub word_after_word : WordAfterWord
 word_after_word w width m j v small =
@@ -102,13 +103,13 @@ word_after_word w width m j v small =
 
 pub others_after_byte : OthersAfterByte
 others_after_byte w width m at v j other =
-    ap spelled (same_from (with_byte m at v) m (j * (w / 8)) (w / 8) (λ k h.
+    ap little_endian (same_from (with_byte m at v) m (j * (w / 8)) (w / 8) (λ k h.
     let here = word_of w width j k h in
     ap (λ t. cond t v (m (j * (w / 8) + k))) (ne_eqb (j * (w / 8) + k) at (λ e. other (sym here.0 ∙ ap (λ x. x / (w / 8)) e)))))
 
 pub others_after_word : OthersAfterWord
 others_after_word w width m i v j other =
-    ap spelled (same_from (with_word w m i v) m (j * (w / 8)) (w / 8) (λ k h.
+    ap little_endian (same_from (with_word w m i v) m (j * (w / 8)) (w / 8) (λ k h.
     let here = word_of w width j k h in
     ap (λ t. cond t (byte_of v ((j * (w / 8) + k) % (w / 8))) (m (j * (w / 8) + k))) (ne_eqb ((j * (w / 8) + k) / (w / 8)) i (λ e. other (sym here.0 ∙ e)))))
 

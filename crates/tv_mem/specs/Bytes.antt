@@ -1,6 +1,6 @@
 -- Memory as a function from a byte's address to the byte, and its words of w bits, w a multiple of 8.
 use Rattle.std.specs.Prelude.{ℕ, zero, suc, ◌+◌, ◌*◌, ◌/◌, ◌%◌, ◌^◌, ◌==◌, if◌then◌else◌, List, [], ◌∷◌}
-use Rattle.tv_word.specs.Word.{spelled}
+use Rattle.tv_word.specs.Word.{little_endian}
 
 -- the byte at each address
 abbrev pub Bytes : Type 0
@@ -25,4 +25,4 @@ bytes_from m at (suc n) = m at ∷ bytes_from m (at + 1) n
 
 -- the word number j
 abbrev pub word_in : ℕ → Bytes → ℕ → ℕ
-word_in w m j = spelled (bytes_from m (j * (w / 8)) (w / 8))
+word_in w m j = little_endian (bytes_from m (j * (w / 8)) (w / 8))

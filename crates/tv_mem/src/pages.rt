@@ -4,7 +4,7 @@ ghost use Rattle.std.specs.Prelude.{OnErr, false, length, slice_index, ℕ};
 ghost use Rattle.std.specs.Box.{box_value};
 ghost use Rattle.std.specs.Option.{option_copied};
 ghost use Rattle.tv_word.specs.Widths.{IsWidth};
-ghost use Rattle.tv_word.specs.Word.{spelled, word_bytes};
+ghost use Rattle.tv_word.specs.Word.{little_endian, word_bytes};
 ghost use Rattle.tv_mem.specs.Bytes.{bytes_from};
 ghost use Rattle.tv_mem.specs.Pages.{page_of, page_in, page_bytes, page_with, Changes, Same};
 ghost use Rattle.tv_mem.specs.Pages.{Writes, WritesIn};
@@ -43,7 +43,7 @@ fn page_of(table: &Table, place: usize) -> Option<&[u8; 4096]>
 /// Returns the word at a place of a page, the lowest byte first.
 pub(crate) fn word_on(page: &[u8; 4096], place: usize) -> u32
     requires within { place + 4 ≤ 4096 }
-    ensures { result ≡ spelled (bytes_from (slice_index page.now) place 4) }
+    ensures { result ≡ little_endian (bytes_from (slice_index page.now) place 4) }
 {
     u32::from_le_bytes([
         page[place],
@@ -56,7 +56,7 @@ pub(crate) fn word_on(page: &[u8; 4096], place: usize) -> u32
 /// Returns the word of 16 bits at a place of a page, the lowest byte first.
 pub(crate) fn half_on(page: &[u8; 4096], place: usize) -> u32
     requires within { place + 2 ≤ 4096 }
-    ensures word { result ≡ spelled (bytes_from (slice_index page.now) place 2) }
+    ensures word { result ≡ little_endian (bytes_from (slice_index page.now) place 2) }
     ensures small { result < 2 ^ 16 }
 {
     u32::from(u16::from_le_bytes([page[place], page[place + 1]]))

@@ -8,8 +8,8 @@ use Rattle.tv_core.proofs.Meeting.{HasFrom-split}
 use Rattle.tv_core.specs.Below.{each_below}
 use Rattle.tv_core.specs.Laws.{HasFrom, InField}
 use Rattle.tv_bits.proofs.SizeLaws.{bits_in_field}
-use Rattle.tv_bits.proofs.SpelledNumbers.{Spells-from_values, Spells-join}
-use Rattle.tv_bits.specs.Bits.{Spells, bits_values}
+use Rattle.tv_bits.proofs.BitNumbers.{HasBits-from_values, HasBits-join}
+use Rattle.tv_bits.specs.Bits.{HasBits, bits_values}
 use Rattle.tv_word.specs.Widths.{IsWidth}
 use Rattle.tv_muldiv.specs.Weighed.{halves_values}
 
@@ -18,12 +18,12 @@ length-halves w v =
     length-append (each_below w (bit_at (v % 2 ^ w))) (each_below w (bit_at (v / 2 ^ w)))
     ∙ omega (arith, length-each_below w (bit_at (v % 2 ^ w)), length-each_below w (bit_at (v / 2 ^ w)))
 
-pub halves_spell : (w : ℕ) → IsWidth w → (z : List ℕ) (first v : ℕ) → v < 2 ^ (2 * w) → HasFrom z first (halves_values w v) → Spells z first (2 * w) v
+pub halves_spell : (w : ℕ) → IsWidth w → (z : List ℕ) (first v : ℕ) → v < 2 ^ (2 * w) → HasFrom z first (halves_values w v) → HasBits z first (2 * w) v
 halves_spell w width z first v small has =
     let both = HasFrom-split z first (each_below w (bit_at (v % 2 ^ w))) (each_below w (bit_at (v / 2 ^ w))) has in
-    let low = Spells-from_values z first w (v % 2 ^ w) (grind arith) both.0 in
-    let high = Spells-from_values z (first + w) w (v / 2 ^ w) (grind arith) (rw length-each_below at both.1) in
-    rw (shr_split, (let same : w + w ≡ 2 * w = omega arith in same)) at (Spells-join z first w w (v % 2 ^ w) (v / 2 ^ w) low high)
+    let low = HasBits-from_values z first w (v % 2 ^ w) (grind arith) both.0 in
+    let high = HasBits-from_values z (first + w) w (v / 2 ^ w) (grind arith) (rw length-each_below at both.1) in
+    rw (shr_split, (let same : w + w ≡ 2 * w = omega arith in same)) at (HasBits-join z first w w (v % 2 ^ w) (v / 2 ^ w) low high)
 
 pub halves_in_field : (w v : ℕ) → InField (halves_values w v)
 halves_in_field w v = InField-append (bits_values (v % 2 ^ w) w) (bits_values (v / 2 ^ w) w) (bits_in_field (v % 2 ^ w) w) (bits_in_field (v / 2 ^ w) w)

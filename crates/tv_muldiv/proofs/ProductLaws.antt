@@ -15,10 +15,10 @@ use Rattle.tv_core.specs.Constraints.{value}
 use Rattle.tv_core.specs.Laws.{Assigns, Meets}
 use Rattle.tv_core.specs.declared.field.TheConstants.{P}
 use Rattle.tv_bits.proofs.NewBitsLaws.{bits_spell, bits_met}
-use Rattle.tv_bits.proofs.SpelledNumbers.{Spells-below, Spells-bit_at, Spells-low, Spells-high, value-bits, value-bits_below}
-use Rattle.tv_bits.proofs.SpellingLaws.{new_bits_next}
+use Rattle.tv_bits.proofs.BitNumbers.{HasBits-below, HasBits-bit_at, HasBits-low, HasBits-high, value-bits, value-bits_below}
+use Rattle.tv_bits.proofs.BitsLaws.{new_bits_next}
 use Rattle.tv_bits.specs.Bit.{IsBit}
-use Rattle.tv_bits.specs.Bits.{Spells, spelled, bits_combination, new_bits_of}
+use Rattle.tv_bits.specs.Bits.{HasBits, binary_value, bits_combination, new_bits_of}
 use Rattle.tv_bits.specs.declared.bit_wires.Bits.{Bits}
 use Rattle.tv_muldiv.proofs.HalvesLaws.{length-halves, halves_spell, halves_in_field}
 use Rattle.tv_bits.proofs.NonzeroLaws.{nonzero_answer, nonzero_sound, nonzero_complete, nonzero_sizes}
@@ -53,10 +53,10 @@ odd m n p w lowest small whole same = sym (bit_at_lowest m) ∙ lowest ∙ sym (
 -- ---- the bits of the product
 module _ (z : List ℕ) (assigns : Assigns z) where
   -- the lowest bit's wire
-  lowest : {n v : ℕ} (first : ℕ) → 0 < n → Spells z first n v → value (wire first) z ≡ bit_at v 0
-  lowest first some s = value-wire assigns first ∙ ap (λ k. slice_index z k) (sym (add-zero first)) ∙ Spells-bit_at s 0 some
+  lowest : {n v : ℕ} (first : ℕ) → 0 < n → HasBits z first n v → value (wire first) z ≡ bit_at v 0
+  lowest first some s = value-wire assigns first ∙ ap (λ k. slice_index z k) (sym (add-zero first)) ∙ HasBits-bit_at s 0 some
 
-  module _ (w : ℕ) (width : IsWidth w) (next : ℕ) (x y : Bits) (a b : ℕ) (p : Spells z x.first w a) (q : Spells z y.first w b) where
+  module _ (w : ℕ) (width : IsWidth w) (next : ℕ) (x y : Bits) (a b : ℕ) (p : HasBits z x.first w a) (q : HasBits z y.first w b) where
     bits_of_product : IsBit (slice_index z next) → ((i : ℕ) → i < 2 * w - 1 → IsBit (slice_index z (next + 1 + i))) → (i : ℕ) → i < 2 * w
         → IsBit (slice_index z (next + i))
     bits_of_product first rest i h = elim (cases_eq i 0) [
@@ -64,7 +64,7 @@ module _ (z : List ℕ) (assigns : Assigns z) where
       | inr some ↦ let same : next + 1 + (i - 1) ≡ next + i = omega arith in subst (λ k. IsBit (slice_index z k)) same (rest (i - 1) (omega arith))
     ]
 
-    product_bits_sound : Meets z (product_bits_of w x y next).list → Spells z next (2 * w) (a * b)
+    product_bits_sound : Meets z (product_bits_of w x y next).list → HasBits z next (2 * w) (a * b)
     unfolding product_bits_of new_bits_of fresh here put pure ◌>>=◌
     product_bits_sound meets =
         let short = width_short w width in
@@ -74,17 +74,18 @@ module _ (z : List ℕ) (assigns : Assigns z) where
         sym (ap₂ (λ m n. m * n % P) (lowest x.first (omega arith) p) (lowest y.first (omega arith) q)) ∙ both.1.0 ∙ value-wire assigns next in
         let small = product_bit (bit_at a 0) (bit_at b 0) (bit_at-lt a 0) (bit_at-lt b 0) in
         let rest = (bits_spell z (2 * w - 1) (next + 1) assigns both.0).bits in
-        let s : Spells z next (2 * w) (spelled z next (2 * w)) = record { bits = bits_of_product (omega arith) rest; number = refl } in
-        let whole : a * b % P ≡ spelled z next (2 * w) % P =
+        let s : HasBits z next (2 * w) (binary_value z next (2 * w)) = record { bits = bits_of_product (omega arith) rest; number = refl } in
+        let whole : a * b % P ≡ binary_value z next (2 * w) % P =
         sym (ap₂ (λ m n. m * n % P) (value-bits_below p (omega arith)) (value-bits_below q (omega arith))) ∙ both.1.1.0 ∙ value-bits s in
-        let parity : a * b % 2 ≡ spelled z next (2 * w) % 2 =
-        odd (a * b) (spelled z next (2 * w)) (bit_at a 0 * bit_at b 0) (slice_index z next) (first_of_product a b) small first
+        let parity : a * b % 2 ≡ binary_value z next (2 * w) % 2 =
+        odd (a * b) (binary_value z next (2 * w)) (bit_at a 0 * bit_at b 0) (slice_index z next) (first_of_product a b) small first
         (sym (value-wire assigns next) ∙ lowest next (omega arith) s) in
-        let same : spelled z next (2 * w) ≡ a * b = sym
-        (exact w width (a * b) (spelled z next (2 * w)) (product_small w width a b (Spells-below p) (Spells-below q)).0 (Spells-below s) whole parity) in
-        subst (λ v. Spells z next (2 * w) v) same s
+        let same : binary_value z next (2 * w) ≡ a * b = sym
+        (exact w width (a * b) (binary_value z next (2 * w)) (product_small w width a b (HasBits-below p) (HasBits-below q)).0
+        (HasBits-below s) whole parity) in
+        subst (λ v. HasBits z next (2 * w) v) same s
 
-    product_bits_complete : Spells z next (2 * w) (a * b) → Meets z (product_bits_of w x y next).list
+    product_bits_complete : HasBits z next (2 * w) (a * b) → Meets z (product_bits_of w x y next).list
     unfolding product_bits_of new_bits_of fresh here put pure ◌>>=◌
     product_bits_complete s =
         let short = width_short w width in
@@ -137,10 +138,10 @@ product_sound w width z next x y a b assigns p q meets =
     let short = width_short w width in
     let both = product_parts w width z x y next meets in
     let s = product_bits_sound z assigns w width next x y a b p q both.0 in
-    let two = subst (λ n. Spells z next n (a * b)) (let same : 2 * w ≡ w + w = omega arith in same) s in
-    let high = Spells-high z next w w (a * b) two in
+    let two = subst (λ n. HasBits z next n (a * b)) (let same : 2 * w ≡ w + w = omega arith in same) s in
+    let high = HasBits-high z next w w (a * b) two in
     rw (product_answer w width x y next) (record {
-      low = Spells-low z next w w (a * b) two;
+      low = HasBits-low z next w w (a * b) two;
       high = high;
       over = rw nonzero_answer at (nonzero_sound z (next + 2 * w) (bits_combination (next + w) w) assigns both.1)
           ∙ ap nonzero_flag (value-bits_below high (omega arith));
@@ -150,9 +151,9 @@ pub product_complete : ProductIsComplete
 product_complete w width z next x y a b assigns p q has =
     let short = width_short w width in
     let both = rw length-halves at (HasFrom-split z next (halves_values w (a * b)) (nonzero_values (a * b / 2 ^ w)) has) in
-    let s = halves_spell w width z next (a * b) (product_small w width a b (Spells-below p) (Spells-below q)).1 both.0 in
-    let two = subst (λ n. Spells z next n (a * b)) (let same : 2 * w ≡ w + w = omega arith in same) s in
-    let high = value-bits_below (Spells-high z next w w (a * b) two) (omega arith) in
+    let s = halves_spell w width z next (a * b) (product_small w width a b (HasBits-below p) (HasBits-below q)).1 both.0 in
+    let two = subst (λ n. HasBits z next n (a * b)) (let same : 2 * w ≡ w + w = omega arith in same) s in
+    let high = value-bits_below (HasBits-high z next w w (a * b) two) (omega arith) in
     product_whole w width z x y next (product_bits_complete z assigns w width next x y a b p q s)
     (nonzero_complete z (next + 2 * w) (bits_combination (next + w) w) assigns (rw (← high) at both.1))
 

@@ -17,10 +17,10 @@ use Rattle.tv_bits.proofs.BitLaws.{bit_sound, bit_complete, bit_next}
 use Rattle.tv_bits.proofs.NewBitsLaws.{bits_spell, bits_met}
 use Rattle.tv_bits.proofs.PrefixLaws.{prefix_difference_sound, prefix_difference_complete, prefix_difference_next, length-products, products_in_field}
 use Rattle.tv_bits.proofs.SizeLaws.{length-bits, bits_in_field, zero_flag-below}
-use Rattle.tv_bits.proofs.SpelledNumbers.{Spells-below, Spells-from_values, value-bits_below}
-use Rattle.tv_bits.proofs.SpellingLaws.{new_bits_answer, new_bits_next}
+use Rattle.tv_bits.proofs.BitNumbers.{HasBits-below, HasBits-from_values, value-bits_below}
+use Rattle.tv_bits.proofs.BitsLaws.{new_bits_answer, new_bits_next}
 use Rattle.tv_bits.specs.Bit.{IsBit, bit_of}
-use Rattle.tv_bits.specs.Bits.{Spells, spelled, bits_combination, bits_values, new_bits_of}
+use Rattle.tv_bits.specs.Bits.{HasBits, binary_value, bits_combination, bits_values, new_bits_of}
 use Rattle.tv_bits.specs.Order.{IsPrefixDifference}
 use Rattle.tv_bits.specs.Prefixes.{prefix_less_in, prefix_difference_values}
 use Rattle.tv_bits.specs.Zero.{zero_flag}
@@ -67,7 +67,7 @@ unfolding remainder_below_of ◌>>=◌
 remainder_below_next w y made next = prefix_difference_next _ _ _ (w / 4) 4 (new_bits_of (w / 4) next).next ∙ omega (arith, new_bits_next (w / 4) next)
 
 -- ---- the bit that is 1 where the divisor is 0
-module _ (w : ℕ) (width : IsWidth w) (z : List ℕ) (assigns : Assigns z) (y : Bits) (b : ℕ) (q : Spells z y.first w b) (next : ℕ) where
+module _ (w : ℕ) (width : IsWidth w) (z : List ℕ) (assigns : Assigns z) (y : Bits) (b : ℕ) (q : HasBits z y.first w b) (next : ℕ) where
   divisor : value (wire next) z * value (bits_combination y.first w) z % P ≡ slice_index z next * b % P
   divisor = let short = width_short w width in ap₂ (λ m n. m * n % P) (value-wire assigns next) (value-bits_below q (omega arith))
 
@@ -102,14 +102,14 @@ quotient_wires_whole w z y next p q r =
     Meets-join z (new_bits_of w next).list _ p (rw (new_bits_next w next) (Meets-join z (new_bits_of w (next + w)).list _ q (rw (new_bits_next, place) last)))
 
 -- ---- the division
-module _ (w : ℕ) (width : IsWidth w) (z : List ℕ) (assigns : Assigns z) (x y : Bits) (a b quot rem : ℕ) (p : Spells z x.first w a) (q : Spells z y.first w b)
+module _ (w : ℕ) (width : IsWidth w) (z : List ℕ) (assigns : Assigns z) (x y : Bits) (a b quot rem : ℕ) (p : HasBits z x.first w a) (q : HasBits z y.first w b)
     (made : Quot)
-    (s : Spells z made.quot.first w quot) (t : Spells z made.rem.first w rem) (next : ℕ) where
+    (s : HasBits z made.quot.first w quot) (t : HasBits z made.rem.first w rem) (next : ℕ) where
   gate_left : value (wire made.by_zero) z * value (bits_combination x.first w ++ scaled 1 (bits_combination made.quot.first w)) z % P
       ≡ slice_index z made.by_zero * ((a + quot) % P) % P
   gate_left =
       let short = width_short w width in
-      let small = Spells-below p in
+      let small = HasBits-below p in
       let sum : (a + 1 * quot % P) % P ≡ (a + quot) % P = omega arith in
       let second = value-scaled 1 (bits_combination made.quot.first w) z ∙ ap (λ n. 1 * n % P) (value-bits_below s (omega arith)) in
       ap₂ (λ m n. m * n % P) (value-wire assigns made.by_zero)
@@ -141,9 +141,9 @@ module _ (w : ℕ) (width : IsWidth w) (z : List ℕ) (assigns : Assigns z) (x y
   division_complete e f = (gate_left ∙ e ∙ sym (value-wire assigns next), (whole_left ∙ f ∙ sym whole_right, tt))
 
 -- ---- the remainder below the divisor
-module _ (w : ℕ) (width : IsWidth w) (z : List ℕ) (assigns : Assigns z) (y : Bits) (b rem : ℕ) (q : Spells z y.first w b) (quot : Bits) (at flag : ℕ)
-    (t : Spells z at w rem) (next : ℕ) where
-  value-above : (above : ℕ) → Spells z next (w / 4) above
+module _ (w : ℕ) (width : IsWidth w) (z : List ℕ) (assigns : Assigns z) (y : Bits) (b rem : ℕ) (q : HasBits z y.first w b) (quot : Bits) (at flag : ℕ)
+    (t : HasBits z at w rem) (next : ℕ) where
+  value-above : (above : ℕ) → HasBits z next (w / 4) above
       → value (less (bits_combination next (w / 4) ++ constant 1) (wire flag)) z ≡ ((above + 1) % P + (P - slice_index z flag)) % P
   value-above above s =
       let short = width_short w width in
@@ -164,9 +164,9 @@ module _ (w : ℕ) (width : IsWidth w) (z : List ℕ) (assigns : Assigns z) (y :
       let found = prefix_difference_sound z (next + w / 4) (record { first = y.first; n = w }) (record { first = at; n = w })
       (less (bits_combination next (w / 4) ++ constant 1) (wire flag)) (w / 4) 4 b rem
       (omega arith) (omega arith) (omega arith) (omega arith) (omega arith) assigns q t rest in
-      (spelled z next (w / 4), Spells-below s, rw (value-above (spelled z next (w / 4)) s) at found)
+      (binary_value z next (w / 4), HasBits-below s, rw (value-above (binary_value z next (w / 4)) s) at found)
 
-  remainder_below_complete : (above d : ℕ) → Spells z next (w / 4) above → d ≡ ((above + 1) % P + (P - slice_index z flag)) % P
+  remainder_below_complete : (above d : ℕ) → HasBits z next (w / 4) above → d ≡ ((above + 1) % P + (P - slice_index z flag)) % P
       → IsPrefixDifference (w / 4) 4 b rem d
       → HasFrom z (next + w / 4) (prefix_difference_values b rem d (w / 4) 4)
       → Meets z (remainder_below_of w y (record { quot = quot; rem = record { first = at; n = w }; by_zero = flag }) next).list
@@ -218,8 +218,8 @@ unfolding made_at
 quotient_sound w width z next x y a b assigns p q meets =
     let all = quotient_parts w z x y next meets in
     let wires = quotient_wires_parts w z y next all.0 in
-    let quot = spelled z next w in
-    let rem = spelled z (next + w) w in
+    let quot = binary_value z next w in
+    let rem = binary_value z (next + w) w in
     let s = bits_spell z w next assigns wires.0 in
     let t = bits_spell z w (next + w) assigns wires.1 in
     let flag = zero_divisor_sound w width z assigns y b q (next + 2 * w) wires.2 in
@@ -228,10 +228,10 @@ quotient_sound w width z next x y a b assigns p q meets =
     let divides : Divides w a b quot rem (slice_index z (next + 2 * w))
     (slice_index z (next + 2 * w + 1)) found.0 = record { bit = flag.0; zero = flag.1; gated = whole.0; whole = whole.1; below = found.2 } in
     let divided = Divides-sound w width a b quot rem (slice_index z (next + 2 * w)) (slice_index z (next + 2 * w + 1)) found.0
-    (Spells-below p) (Spells-below q) (Spells-below s) (Spells-below t) found.1 divides in
+    (HasBits-below p) (HasBits-below q) (HasBits-below s) (HasBits-below t) found.1 divides in
     rw quotient_answer (record {
-      quot = subst (λ v. Spells z next w v) divided.quot s;
-      rem = subst (λ v. Spells z (next + w) w v) divided.rem t;
+      quot = subst (λ v. HasBits z next w v) divided.quot s;
+      rem = subst (λ v. HasBits z (next + w) w v) divided.rem t;
       by_zero = divided.zero;
     })
 
@@ -243,8 +243,8 @@ length-words w a b =
 pub quotient_complete : QuotientIsComplete
 unfolding made_at
 quotient_complete w width z next x y a b assigns p q has =
-    let a_small = Spells-below p in
-    let b_small = Spells-below q in
+    let a_small = HasBits-below p in
+    let b_small = HasBits-below q in
     let above = above_in w a b in
     let above_place : next + 2 * w + 1 + 1 ≡ next + 2 * w + 2 = omega arith in
     let both = rw length-words at (HasFrom-split z next (words_values w a b) (zero_flag b ∷ gate_in a b ∷ above_values w a b) has) in
@@ -253,9 +253,9 @@ quotient_complete w width z next x y a b assigns p q has =
     let rest : HasFrom z (next + 2 * w + 2) (above_values w a b) = rw above_place at both.1.1.1 in
     let last = rw length-each_below at (HasFrom-split z (next + 2 * w + 2) (each_below (w / 4) (bit_at (above - 1)))
     (prefix_difference_values b (remainder_in a b) above (w / 4) 4) rest) in
-    let s = Spells-from_values z next w (quotient_in a b) (quotient-small a b (2 ^ w) a_small) words.0 in
-    let t = Spells-from_values z (next + w) w (remainder_in a b) (remainder-small a b (2 ^ w) b_small) words.1 in
-    let bits = Spells-from_values z (next + 2 * w + 2) (w / 4) (above - 1) (omega (arith, above-below w width a b b_small)) last.0 in
+    let s = HasBits-from_values z next w (quotient_in a b) (quotient-small a b (2 ^ w) a_small) words.0 in
+    let t = HasBits-from_values z (next + w) w (remainder_in a b) (remainder-small a b (2 ^ w) b_small) words.1 in
+    let bits = HasBits-from_values z (next + 2 * w + 2) (w / 4) (above - 1) (omega (arith, above-below w width a b b_small)) last.0 in
     let divides = Divides-complete w width a b a_small b_small in
     let flag : slice_index z (next + 2 * w) ≡ zero_flag b = both.1.0 in
     let difference = above-difference w width a b b_small in

@@ -3,10 +3,10 @@ use Rattle.std.proofs.Common.{◌≡◌, ℕ, ◌+◌, ◌-◌, ◌*◌, ◌%◌
 use Rattle.std.proofs.Common.{mod-eq_of_lt}
 use Rattle.std.specs.Prelude.{slice_index}
 use Rattle.tv_bits.proofs.GateLaws.{gated_sound, gated_complete}
-use Rattle.tv_bits.proofs.SpelledNumbers.{Spells-below, value-bits_below}
+use Rattle.tv_bits.proofs.BitNumbers.{HasBits-below, value-bits_below}
 use Rattle.tv_bits.proofs.TimesLaws.{times_sound, times_complete, residue_below}
 use Rattle.tv_bits.specs.Bit.{IsBit}
-use Rattle.tv_bits.specs.Bits.{Spells, bits_combination}
+use Rattle.tv_bits.specs.Bits.{HasBits, bits_combination}
 use Rattle.tv_bits.specs.DoubleRow.{IsRow}
 use Rattle.tv_bits.specs.Gate.{gated_of}
 use Rattle.tv_bits.specs.Times.{times_of}
@@ -64,7 +64,7 @@ module _ (z : List ℕ) (assigns : Assigns z) where
       flat : (x y l f : ℕ) → ((P - 1) * 1 + (x + (1 * y + (f + l) % P) % P) % P) % P ≡ (P - 1 + x + y + l + f) % P
       flat x y l f = omega arith
 
-  value-bits_less : (w : ℕ) → IsWidth w → (x : ℕ) (bits : Bits) (v : ℕ) → Spells z bits.first w v
+  value-bits_less : (w : ℕ) → IsWidth w → (x : ℕ) (bits : Bits) (v : ℕ) → HasBits z bits.first w v
       → value (bits_less w x bits) z ≡ ((P - 1) * slice_index z x + v) % P
   value-bits_less w width x bits v s =
       let short = width_short w width in
@@ -114,14 +114,14 @@ module _ (w : ℕ) (width : IsWidth w) (z : List ℕ) (next : ℕ) (gate : Combi
 
   on_by : (v : ℕ) → value gate z ≡ 1 → IsBit (slice_index z by_zero) → slice_index z x < 2 ^ w → slice_index z y < 2 ^ w
       → IsRow w (slice_index z row.low) (slice_index z row.high)
-      → Spells z bits.first w v → Meets z (row_division_of w gate (dividing x y by_zero) bits row next).list
+      → HasBits z bits.first w v → Meets z (row_division_of w gate (dividing x y by_zero) bits row next).list
       → IsRowDivision z row by_zero (slice_index z x) (slice_index z y)
   on_by v one bit a_word b_word r s meets =
       let a = slice_index z x in
       let tie = sym (value-room z assigns w x y by_zero row) ∙ sym (once_times gate (room_below w x y by_zero row) one) ∙ tie_is meets
       ∙ value-bits_less z assigns w width x bits v s in
       let divided = Divides-sound w width a (slice_index z y) (slice_index z row.low) (slice_index z row.high) (slice_index z by_zero) (slice_index z next)
-      (slice_index z (next + 1)) v a_word b_word (Spells-below s) bit r (record {
+      (slice_index z (next + 1)) v a_word b_word (HasBits-below s) bit r (record {
         keeps = sym (kept_is meets);
         multiplies = sym (product_is meets);
         parts = mod-eq_of_lt (wire-below assigns x) ∙ parts_are one meets;
@@ -132,12 +132,12 @@ module _ (w : ℕ) (width : IsWidth w) (z : List ℕ) (next : ℕ) (gate : Combi
       once_times : (g c : Combination) → value g z ≡ 1 → value g z * value c z % P ≡ value c z
       once_times g c one = ap (λ n. n * value c z % P) one ∙ ap (λ n. n % P) (one-mul (value c z)) ∙ mod-eq_of_lt (value-below c z)
 
-  off_by : (v : ℕ) → value gate z ≡ 0 → Spells z bits.first w v → Meets z (row_division_of w gate (dividing x y by_zero) bits row next).list
+  off_by : (v : ℕ) → value gate z ≡ 0 → HasBits z bits.first w v → Meets z (row_division_of w gate (dividing x y by_zero) bits row next).list
       → slice_index z x ≡ v
   off_by v none s meets =
       let nothing : value gate z * value (room_below w x y by_zero row) z % P ≡ 0 =
       ap (λ n. n * value (room_below w x y by_zero row) z % P) none ∙ ap (λ n. n % P) (zero-mul (value (room_below w x y by_zero row) z)) in
-      tie_off (slice_index z x) v (wire-below assigns x) (word_small w width v (Spells-below s)) (sym nothing ∙ tie_is meets
+      tie_off (slice_index z x) v (wire-below assigns x) (word_small w width v (HasBits-below s)) (sym nothing ∙ tie_is meets
       ∙ value-bits_less z assigns w width x bits v s)
 
   -- ---- the other way round
@@ -175,7 +175,7 @@ module _ (w : ℕ) (width : IsWidth w) (z : List ℕ) (next : ℕ) (gate : Combi
       }
 
   on_met : value gate z ≡ 1 → slice_index z x < 2 ^ w → slice_index z y < 2 ^ w → IsRowDivision z row by_zero (slice_index z x) (slice_index z y)
-      → Spells z bits.first w (below_divisor w (slice_index z x) (slice_index z y))
+      → HasBits z bits.first w (below_divisor w (slice_index z x) (slice_index z y))
       → HasFrom z next (row_division_values (slice_index z by_zero) (slice_index z x) (slice_index z row.high) (slice_index z y))
       → Meets z (row_division_of w gate (dividing x y by_zero) bits row next).list
   unfolding sums
@@ -190,7 +190,7 @@ module _ (w : ℕ) (width : IsWidth w) (z : List ℕ) (next : ℕ) (gate : Combi
       ∙ mod-eq_of_lt (value-below (room_below w x y by_zero row) z)
       ∙ value-room z assigns w x y by_zero row ∙ tie ∙ sym (value-bits_less z assigns w width x bits (below_divisor w a b) s))
 
-  off_met : value gate z ≡ 0 → Spells z bits.first w (slice_index z x)
+  off_met : value gate z ≡ 0 → HasBits z bits.first w (slice_index z x)
       → HasFrom z next (row_division_values (slice_index z by_zero) (slice_index z x) (slice_index z row.high) (slice_index z y))
       → Meets z (row_division_of w gate (dividing x y by_zero) bits row next).list
   off_met none s has =

@@ -5,9 +5,9 @@ use Rattle.std.specs.Int.{bit_at}
 use Rattle.tv_bits.proofs.DoubleRowLaws.{value-row_number}
 use Rattle.tv_bits.proofs.GateLaws.{gated_sound, gated_complete, gated_next, gated_constraints, gated_terms, terms-append}
 use Rattle.tv_bits.proofs.RowNumbers.{row_low, row_high, row_whole}
-use Rattle.tv_bits.proofs.SpelledNumbers.{Spells-below, Spells-bit_at}
+use Rattle.tv_bits.proofs.BitNumbers.{HasBits-below, HasBits-bit_at}
 use Rattle.tv_bits.proofs.TimesLaws.{times_sound, times_complete, times_sizes}
-use Rattle.tv_bits.specs.DoubleRow.{SpellsRow, whole, row_number}
+use Rattle.tv_bits.specs.DoubleRow.{HasRowBits, whole, row_number}
 use Rattle.tv_bits.specs.Gate.{gated_of}
 use Rattle.tv_bits.specs.Nonzero.{nonzero_flag}
 use Rattle.tv_bits.specs.SignedWords.{HoldsSigned}
@@ -79,19 +79,19 @@ module _ (z : List ℕ) (assigns : Assigns z) where
       let right = value-signed_word w y ∙ ap₂ (signed_in w) q.word q.sign ∙ signed_in_is w width b q.small in
       ap₂ (λ m n. m * n % P) left right
 
-  value-signed_row : (w : ℕ) → IsWidth w → (row : DoubleRow) → SpellsRow w z row
+  value-signed_row : (w : ℕ) → IsWidth w → (row : DoubleRow) → HasRowBits w z row
       → value (signed_row w row) z ≡ signed_value (2 * w) (whole w (slice_index z row.low) (slice_index z row.high))
   value-signed_row w width row s =
       let low = slice_index z row.low in
       let high = slice_index z row.high in
       let c = sign_weight (2 * w) in
       let place : row.first + (2 * w - 1) ≡ row.first + w + (w - 1) = omega arith in
-      let top = ap (slice_index z) place ∙ Spells-bit_at s.high (w - 1) (omega arith)
-      ∙ sym (row_top w width low high (Spells-below s.low) (Spells-below s.high)) in
+      let top = ap (slice_index z) place ∙ HasBits-bit_at s.high (w - 1) (omega arith)
+      ∙ sym (row_top w width low high (HasBits-below s.low) (HasBits-below s.high)) in
       value-cons c (row.first + (2 * w - 1)) (row_number w row) z
       ∙ ap₂ (λ m n. (c * m + n) % P) top (value-row_number w z row assigns)
       ∙ flat (c * bit_at (whole w low high) (2 * w - 1)) (whole w low high)
-      ∙ row_signed_is w width (whole w low high) (row_long w width low high (Spells-below s.low) (Spells-below s.high))
+      ∙ row_signed_is w width (whole w low high) (row_long w width low high (HasBits-below s.low) (HasBits-below s.high))
     where
       flat : (p n : ℕ) → (p + n % P) % P ≡ (p + n) % P
       flat p n = omega arith
@@ -106,17 +106,17 @@ row_signed_product_sound w width z next gate x y row a b assigns one p q s meets
     ∙ value-signed_row z assigns w width row s in
     let is : whole w low high ≡ product_twos w a b
     = Stands-exact w width (signed_value w a * signed_value w b) (whole w low high) (signed_product w a b) (stands w width a b p.small q.small)
-    (row_long w width low high (Spells-below s.low) (Spells-below s.high)) same in
+    (row_long w width low high (HasBits-below s.low) (HasBits-below s.high)) same in
     record {
-      low = row_low w width low high (product_twos w a b) (Spells-below s.low) is;
+      low = row_low w width low high (product_twos w a b) (HasBits-below s.low) is;
       high = row_high w width low high (product_twos w a b)
-          (Spells-below s.low) is;
+          (HasBits-below s.low) is;
     }
 
 pub ruleset row_signed_product_laws = (row_signed_product_sound, signed_product_fits)
 
 on_values : (w : ℕ) → IsWidth w → (z : List ℕ) (next : ℕ) (x y : SignedWord) (row : DoubleRow) (a b : ℕ) → Assigns z → HoldsSigned w z x a
-    → HoldsSigned w z y b → SpellsRow w z row → IsRowSignedProduct w z row a b
+    → HoldsSigned w z y b → HasRowBits w z row → IsRowSignedProduct w z row a b
     → slice_index z next ≡ signed_in w a (bit_at a (w - 1)) * signed_in w b (bit_at b (w - 1)) % P → value (signed_row w row) z ≡ value (wire next) z
 on_values w width z next x y row a b assigns p q s is product =
     let numbers : whole w (slice_index z row.low) (slice_index z row.high) ≡ product_twos w a b = ap₂ (whole w) is.low is.high

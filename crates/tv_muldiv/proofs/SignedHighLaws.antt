@@ -9,9 +9,9 @@ use Rattle.tv_core.specs.Constraints.{value}
 use Rattle.tv_core.specs.Laws.{Assigns, Meets}
 use Rattle.tv_core.specs.declared.field.TheConstants.{P}
 use Rattle.tv_bits.proofs.NewBitsLaws.{bits_spell, bits_met}
-use Rattle.tv_bits.proofs.SpelledNumbers.{Spells-below, Spells-bit_at, Spells-low, Spells-high, value-bits_below}
-use Rattle.tv_bits.proofs.SpellingLaws.{new_bits_answer, new_bits_next}
-use Rattle.tv_bits.specs.Bits.{Spells, spelled, bits_combination, new_bits_of}
+use Rattle.tv_bits.proofs.BitNumbers.{HasBits-below, HasBits-bit_at, HasBits-low, HasBits-high, value-bits_below}
+use Rattle.tv_bits.proofs.BitsLaws.{new_bits_answer, new_bits_next}
+use Rattle.tv_bits.specs.Bits.{HasBits, binary_value, bits_combination, new_bits_of}
 use Rattle.tv_bits.specs.declared.bit_wires.Bits.{Bits}
 use Rattle.tv_muldiv.proofs.HalvesLaws.{length-halves, halves_spell, halves_in_field}
 use Rattle.tv_bits.proofs.NonzeroLaws.{nonzero_answer, nonzero_sound, nonzero_complete, nonzero_sizes}
@@ -26,7 +26,7 @@ use Rattle.tv_word.specs.Word.{signed}
 
 -- ---- values
 -- bits, and one wire more with a coefficient of its own
-value-more : (z : List ℕ) (first n v c w : ℕ) → n ≤ 63 → Spells z first n v → value (bits_combination first n ++ (c, w) ∷ []) z ≡ (v + c * slice_index z w) % P
+value-more : (z : List ℕ) (first n v c w : ℕ) → n ≤ 63 → HasBits z first n v → value (bits_combination first n ++ (c, w) ∷ []) z ≡ (v + c * slice_index z w) % P
 value-more z first n v c w short s =
     let last : (c * slice_index z w + 0) % P ≡ c * slice_index z w % P = omega arith in
     value-append (bits_combination first n) ((c, w) ∷ []) z
@@ -37,30 +37,30 @@ value-more z first n v c w short s =
     mod-sum m k = omega arith
 
 module _ (z : List ℕ) where
-  value-signed : (first n v : ℕ) → 1 ≤ n → n ≤ 64 → Spells z first n v → value (signed_combination first n) z ≡ signed_value n v
+  value-signed : (first n v : ℕ) → 1 ≤ n → n ≤ 64 → HasBits z first n v → value (signed_combination first n) z ≡ signed_value n v
   value-signed first n v some short s =
       let parts : n ≡ n - 1 + 1 = omega arith in
-      let low = Spells-low z first (n - 1) 1 v (subst (λ k. Spells z first k v) parts s) in
+      let low = HasBits-low z first (n - 1) 1 v (subst (λ k. HasBits z first k v) parts s) in
       value-more z first (n - 1) (v % 2 ^ (n - 1)) ((P - 2 ^ (n - 1) % P) % P) (first + (n - 1)) (omega arith) low
-      ∙ ap (λ b. (v % 2 ^ (n - 1) + (P - 2 ^ (n - 1) % P) % P * b) % P) (Spells-bit_at s (n - 1) (omega arith))
+      ∙ ap (λ b. (v % 2 ^ (n - 1) + (P - 2 ^ (n - 1) % P) % P * b) % P) (HasBits-bit_at s (n - 1) (omega arith))
 
   module _ (w : ℕ) (width : IsWidth w) where
-    value-excess : (first n : ℕ) → Spells z first (2 * w) n → value (excess first w) z ≡ excess_in w n
+    value-excess : (first n : ℕ) → HasBits z first (2 * w) n → value (excess first w) z ≡ excess_in w n
     value-excess first n s =
         let short = width_short w width in
         let place : 2 * w ≡ w + w = omega arith in
-        let high = Spells-high z first w w n (subst (λ k. Spells z first k n) place s) in
+        let high = HasBits-high z first w w n (subst (λ k. HasBits z first k n) place s) in
         value-more z (first + w) w (n / 2 ^ w) (P - (2 ^ w - 1)) (first + (w - 1)) (omega arith) high
-        ∙ ap (λ b. (n / 2 ^ w + (P - (2 ^ w - 1)) * b) % P) (Spells-bit_at s (w - 1) (omega arith))
+        ∙ ap (λ b. (n / 2 ^ w + (P - (2 ^ w - 1)) * b) % P) (HasBits-bit_at s (w - 1) (omega arith))
 
     -- the product of the two words stands for their signed product
-    product_stands : (x y : Bits) (a b : ℕ) → Spells z x.first w a → Spells z y.first w b
+    product_stands : (x y : Bits) (a b : ℕ) → HasBits z x.first w a → HasBits z y.first w b
         → Stands (value (signed_combination x.first w) z * value (signed_combination y.first w) z) (signed_product w a b) (most_product w)
     product_stands x y a b p q =
         let short = width_short w width in
         rw (value-signed x.first w a (omega arith) (omega arith) p, value-signed y.first w b (omega arith) (omega arith) q)
-        (Stands-product _ _ (signed w a) (signed w b) (2 ^ (w - 1)) (2 ^ (w - 1)) (Stands-signed w width a (Spells-below p))
-        (Stands-signed w width b (Spells-below q)))
+        (Stands-product _ _ (signed w a) (signed w b) (2 ^ (w - 1)) (2 ^ (w - 1)) (Stands-signed w width a (HasBits-below p))
+        (Stands-signed w width b (HasBits-below q)))
 
 -- ---- the bits of the product
 signed_bits_answer : (w : ℕ) (x y : Bits) (next : ℕ) → (signed_bits_of w x y next).answer ≡ record { first = next; n = 2 * w }
@@ -71,20 +71,20 @@ signed_bits_next : (w : ℕ) (x y : Bits) (next : ℕ) → (signed_bits_of w x y
 unfolding signed_bits_of put pure ◌>>=◌
 signed_bits_next w x y next = new_bits_next (2 * w) next
 
-module _ (w : ℕ) (width : IsWidth w) (z : List ℕ) (assigns : Assigns z) (next : ℕ) (x y : Bits) (a b : ℕ) (p : Spells z x.first w a)
-    (q : Spells z y.first w b) where
-  signed_bits_sound : Meets z (signed_bits_of w x y next).list → Spells z next (2 * w) (product_twos w a b)
+module _ (w : ℕ) (width : IsWidth w) (z : List ℕ) (assigns : Assigns z) (next : ℕ) (x y : Bits) (a b : ℕ) (p : HasBits z x.first w a)
+    (q : HasBits z y.first w b) where
+  signed_bits_sound : Meets z (signed_bits_of w x y next).list → HasBits z next (2 * w) (product_twos w a b)
   unfolding signed_bits_of put pure ◌>>=◌
   signed_bits_sound meets =
       let short = width_short w width in
       let both = rw new_bits_answer at (Meets-split z (new_bits_of (2 * w) next).list _ meets) in
       let s = bits_spell z (2 * w) next assigns both.0 in
       let product = value (signed_combination x.first w) z * value (signed_combination y.first w) z in
-      let same = Stands-exact w width product (spelled z next (2 * w)) (signed_product w a b) (product_stands z w width x y a b p q) (Spells-below s)
-      (both.1.0 ∙ value-signed z next (2 * w) (spelled z next (2 * w)) (omega arith) (omega arith) s) in
-      subst (λ v. Spells z next (2 * w) v) same s
+      let same = Stands-exact w width product (binary_value z next (2 * w)) (signed_product w a b) (product_stands z w width x y a b p q) (HasBits-below s)
+      (both.1.0 ∙ value-signed z next (2 * w) (binary_value z next (2 * w)) (omega arith) (omega arith) s) in
+      subst (λ v. HasBits z next (2 * w) v) same s
 
-  signed_bits_complete : Spells z next (2 * w) (product_twos w a b) → Meets z (signed_bits_of w x y next).list
+  signed_bits_complete : HasBits z next (2 * w) (product_twos w a b) → Meets z (signed_bits_of w x y next).list
   unfolding signed_bits_of put pure ◌>>=◌
   signed_bits_complete s =
       let short = width_short w width in
@@ -122,11 +122,11 @@ pub signed_high_sound : SignedHighIsSound
 signed_high_sound w width z next x y a b assigns p q meets =
     let both = high_parts w z x y next meets in
     let s = signed_bits_sound w width z assigns next x y a b p q both.0 in
-    let two = subst (λ n. Spells z next n (product_twos w a b)) (let same : 2 * w ≡ w + w = omega arith in same) s in
+    let two = subst (λ n. HasBits z next n (product_twos w a b)) (let same : 2 * w ≡ w + w = omega arith in same) s in
     let product = value (signed_combination x.first w) z * value (signed_combination y.first w) z in
     let flag = over_flag w width product (product_twos w a b) (signed_product w a b) (product_stands z w width x y a b p q) refl in
     rw signed_high_answer (record {
-      high = Spells-high z next w w (product_twos w a b) two;
+      high = HasBits-high z next w w (product_twos w a b) two;
       over = rw nonzero_answer at (nonzero_sound z (next + 2 * w) (excess next w) assigns both.1)
           ∙ ap nonzero_flag (value-excess z w width next (product_twos w a b) s) ∙ flag;
     })

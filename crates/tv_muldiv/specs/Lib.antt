@@ -8,6 +8,6 @@ pub mod Weighed
 pub use Rattle.tv_bits.specs.Bits
 pub use Rattle.tv_bits.specs.Zero
 pub use Rattle.tv_core.specs.Combinations
-pub use Rattle.tv_core.specs.Giving
+pub use Rattle.tv_core.specs.Values
 pub use Rattle.tv_core.specs.Sinks
 pub use Rattle.tv_word.specs.Widths

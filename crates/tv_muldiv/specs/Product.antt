@@ -1,6 +1,6 @@
 -- The product of two words, as a low and a high word.
 use Rattle.std.specs.Prelude.{◌≡◌, ℕ, ◌+◌, ◌-◌, ◌*◌, ◌/◌, ◌%◌, ◌^◌, List, ◌++◌, slice_index}
-use Rattle.tv_bits.specs.Bits.{Spells, bits_combination, new_bits_of}
+use Rattle.tv_bits.specs.Bits.{HasBits, bits_combination, new_bits_of}
 use Rattle.tv_bits.specs.declared.bit_wires.Bits.{Bits}
 use Rattle.tv_core.specs.Circuits.{Circuit, fresh, put, pure, ◌>>=◌}
 use Rattle.tv_core.specs.Combinations.{wire}
@@ -13,8 +13,8 @@ use Rattle.tv_muldiv.specs.declared.records.Product.{Product}
 -- a and b being words of w bits, the wires represent the low and the high word of their product, and one holds 1
 -- exactly where the high word is another than 0
 pub record IsProduct (w : ℕ) (z : List ℕ) (made : Product) (a b : ℕ) : Type 0 where
-  pub low : Spells z made.low.first w (a * b % 2 ^ w)
-  pub high : Spells z made.high.first w (a * b / 2 ^ w)
+  pub low : HasBits z made.low.first w (a * b % 2 ^ w)
+  pub high : HasBits z made.high.first w (a * b / 2 ^ w)
   pub over : slice_index z made.over ≡ nonzero_flag (a * b / 2 ^ w)
 
 -- 2 w new wires that represent the product of words of w bits: their number is the product modulo P, and the lowest is
@@ -40,12 +40,12 @@ product_values w a b = halves_values w (a * b) ++ nonzero_values (a * b / 2 ^ w)
 
 -- where x and y represent words, an assignment that satisfies the constraints has their product at the returned wires
 abbrev pub ProductIsSound : Type 0
-ProductIsSound = (w : ℕ) → IsWidth w → (z : List ℕ) (next : ℕ) (x y : Bits) (a b : ℕ) → Assigns z → Spells z x.first w a → Spells z y.first w b
+ProductIsSound = (w : ℕ) → IsWidth w → (z : List ℕ) (next : ℕ) (x y : Bits) (a b : ℕ) → Assigns z → HasBits z x.first w a → HasBits z y.first w b
     → Meets z (product_of w x y next).list → IsProduct w z (product_of w x y next).answer a b
 
 -- where x and y represent words, an assignment that has these values at the wires that were made satisfies the constraints
 abbrev pub ProductIsComplete : Type 0
-ProductIsComplete = (w : ℕ) → IsWidth w → (z : List ℕ) (next : ℕ) (x y : Bits) (a b : ℕ) → Assigns z → Spells z x.first w a → Spells z y.first w b
+ProductIsComplete = (w : ℕ) → IsWidth w → (z : List ℕ) (next : ℕ) (x y : Bits) (a b : ℕ) → Assigns z → HasBits z x.first w a → HasBits z y.first w b
     → HasFrom z next (product_values w a b) → Meets z (product_of w x y next).list
 
 -- what the circuit returns and where it ends; it has one value for each wire that it makes, all in the field

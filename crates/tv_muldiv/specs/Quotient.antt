@@ -1,7 +1,7 @@
 -- The quotient and the remainder of two words.
 use Rattle.std.specs.Prelude.{◌≡◌, ℕ, ◌+◌, ◌-◌, ◌*◌, ◌^◌, ◌<◌, ◌/◌, ◌%◌, ◌==◌, if◌then◌else◌, List, [], ◌∷◌, ◌++◌, slice_index}
 use Rattle.tv_bits.specs.Bit.{bit_of}
-use Rattle.tv_bits.specs.Bits.{Spells, AreBitsBelow, bits_combination, bits_values, new_bits_of}
+use Rattle.tv_bits.specs.Bits.{HasBits, AreBitsBelow, bits_combination, bits_values, new_bits_of}
 use Rattle.tv_bits.specs.Order.{first_difference}
 use Rattle.tv_bits.specs.Prefixes.{prefix_difference_of, prefix_difference_values}
 use Rattle.tv_bits.specs.Zero.{zero_flag}
@@ -22,8 +22,8 @@ remainder_in a b = if b == 0 then 0 else a % b
 -- a and b being words of w bits, the wires represent the quotient and the remainder of a by b, and one holds 1
 -- exactly where b is 0
 pub record IsQuotient (w : ℕ) (z : List ℕ) (made : Quot) (a b : ℕ) : Type 0 where
-  pub quot : Spells z made.quot.first w (quotient_in a b)
-  pub rem : Spells z made.rem.first w (remainder_in a b)
+  pub quot : HasBits z made.quot.first w (quotient_in a b)
+  pub rem : HasBits z made.rem.first w (remainder_in a b)
   pub by_zero : slice_index z made.by_zero ≡ zero_flag b
 
 -- the words have w bits each, and the wires are below a number
@@ -97,12 +97,12 @@ quotient_values w a b = words_values w a b ++ (zero_flag b ∷ gate_in a b ∷ a
 -- where x and y represent words, an assignment that satisfies the constraints has their quotient and remainder at the
 -- returned wires
 abbrev pub QuotientIsSound : Type 0
-QuotientIsSound = (w : ℕ) → IsWidth w → (z : List ℕ) (next : ℕ) (x y : Bits) (a b : ℕ) → Assigns z → Spells z x.first w a → Spells z y.first w b
+QuotientIsSound = (w : ℕ) → IsWidth w → (z : List ℕ) (next : ℕ) (x y : Bits) (a b : ℕ) → Assigns z → HasBits z x.first w a → HasBits z y.first w b
     → Meets z (quotient_of w x y next).list → IsQuotient w z (quotient_of w x y next).answer a b
 
 -- where x and y represent words, an assignment that has these values at the wires that were made satisfies the constraints
 abbrev pub QuotientIsComplete : Type 0
-QuotientIsComplete = (w : ℕ) → IsWidth w → (z : List ℕ) (next : ℕ) (x y : Bits) (a b : ℕ) → Assigns z → Spells z x.first w a → Spells z y.first w b
+QuotientIsComplete = (w : ℕ) → IsWidth w → (z : List ℕ) (next : ℕ) (x y : Bits) (a b : ℕ) → Assigns z → HasBits z x.first w a → HasBits z y.first w b
     → HasFrom z next (quotient_values w a b) → Meets z (quotient_of w x y next).list
 
 -- what the circuit returns and where it ends; it has one value for each wire that it makes, all in the field for words

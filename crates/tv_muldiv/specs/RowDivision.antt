@@ -1,7 +1,7 @@
 -- The quotient and the remainder of two words in a row of twice their width.
 use Rattle.std.specs.Prelude.{◌≡◌, ℕ, ◌+◌, ◌-◌, ◌*◌, ◌%◌, ◌^◌, ◌<◌, List, [], ◌∷◌, ◌++◌, length, slice_index}
 use Rattle.tv_bits.specs.Bit.{IsBit}
-use Rattle.tv_bits.specs.Bits.{Spells, bits_combination}
+use Rattle.tv_bits.specs.Bits.{HasBits, bits_combination}
 use Rattle.tv_bits.specs.DoubleRow.{IsRow}
 use Rattle.tv_bits.specs.Gate.{gated_of}
 use Rattle.tv_bits.specs.Times.{times_of, times_values}
@@ -66,10 +66,10 @@ pub record RowDivisionIsSound : Type 0 where
       → slice_index z (row_division_of w gate (dividing x y by_zero) bits row next).answer ≡ slice_index z by_zero * slice_index z x % P
   pub on : (w : ℕ) → IsWidth w → (z : List ℕ) (next : ℕ) (gate : Combination) (x y by_zero : ℕ) (bits : Bits) (row : DoubleRow) (v : ℕ) → Assigns z
       → value gate z ≡ 1 → IsBit (slice_index z by_zero) → slice_index z x < 2 ^ w → slice_index z y < 2 ^ w
-      → IsRow w (slice_index z row.low) (slice_index z row.high) → Spells z bits.first w v
+      → IsRow w (slice_index z row.low) (slice_index z row.high) → HasBits z bits.first w v
       → Meets z (row_division_of w gate (dividing x y by_zero) bits row next).list → IsRowDivision z row by_zero (slice_index z x) (slice_index z y)
   pub off : (w : ℕ) → IsWidth w → (z : List ℕ) (next : ℕ) (gate : Combination) (x y by_zero : ℕ) (bits : Bits) (row : DoubleRow) (v : ℕ) → Assigns z
-      → value gate z ≡ 0 → Spells z bits.first w v → Meets z (row_division_of w gate (dividing x y by_zero) bits row next).list → slice_index z x ≡ v
+      → value gate z ≡ 0 → HasBits z bits.first w v → Meets z (row_division_of w gate (dividing x y by_zero) bits row next).list → slice_index z x ≡ v
 
 -- the division of words is a row, and the bits' number a word; with the values of the wires that were made, a row that holds
 -- the division satisfies the constraints, and where the gate is 0 any row does if the bits represent x
@@ -78,11 +78,11 @@ pub record RowDivisionIsComplete : Type 0 where
   pub bits : (w : ℕ) → IsWidth w → (a b : ℕ) → a < 2 ^ w → b < 2 ^ w → below_divisor w a b < 2 ^ w
   pub on : (w : ℕ) → IsWidth w → (z : List ℕ) (next : ℕ) (gate : Combination) (x y by_zero : ℕ) (bits : Bits) (row : DoubleRow) → Assigns z
       → value gate z ≡ 1 → slice_index z x < 2 ^ w → slice_index z y < 2 ^ w → IsRowDivision z row by_zero (slice_index z x) (slice_index z y)
-      → Spells z bits.first w (below_divisor w (slice_index z x) (slice_index z y))
+      → HasBits z bits.first w (below_divisor w (slice_index z x) (slice_index z y))
       → HasFrom z next (row_division_values (slice_index z by_zero) (slice_index z x) (slice_index z row.high) (slice_index z y))
       → Meets z (row_division_of w gate (dividing x y by_zero) bits row next).list
   pub off : (w : ℕ) → IsWidth w → (z : List ℕ) (next : ℕ) (gate : Combination) (x y by_zero : ℕ) (bits : Bits) (row : DoubleRow) → Assigns z
-      → value gate z ≡ 0 → Spells z bits.first w (slice_index z x)
+      → value gate z ≡ 0 → HasBits z bits.first w (slice_index z x)
       → HasFrom z next (row_division_values (slice_index z by_zero) (slice_index z x) (slice_index z row.high) (slice_index z y))
       → Meets z (row_division_of w gate (dividing x y by_zero) bits row next).list
 

@@ -1,7 +1,7 @@
 -- The product of two words as signed numbers, in two's complement in a row of twice their width.
 use Rattle.std.specs.Prelude.{◌≡◌, ℕ, ◌+◌, ◌-◌, ◌*◌, ◌/◌, ◌%◌, ◌^◌, ◌<◌, if◌then◌else◌, List, [], ◌∷◌, length, slice_index}
 use Rattle.std.specs.Int.{bit_at}
-use Rattle.tv_bits.specs.DoubleRow.{SpellsRow, row_number}
+use Rattle.tv_bits.specs.DoubleRow.{HasRowBits, row_number}
 use Rattle.tv_bits.specs.Gate.{gated_of}
 use Rattle.tv_bits.specs.Nonzero.{nonzero_flag}
 use Rattle.tv_bits.specs.SignedWords.{HoldsSigned}
@@ -52,7 +52,7 @@ row_signed_product_values w a s b t = times_values (signed_in w a s) (signed_in 
 -- where the gate is 1, a row whose bits represent its words and that satisfies the constraints is the signed product of the words
 abbrev pub RowSignedProductIsSound : Type 0
 RowSignedProductIsSound = (w : ℕ) → IsWidth w → (z : List ℕ) (next : ℕ) (gate : Combination) (x y : SignedWord) (row : DoubleRow) (a b : ℕ) → Assigns z
-    → value gate z ≡ 1 → HoldsSigned w z x a → HoldsSigned w z y b → SpellsRow w z row
+    → value gate z ≡ 1 → HoldsSigned w z x a → HoldsSigned w z y b → HasRowBits w z row
     → Meets z (row_signed_product_of w gate x y row next).list → IsRowSignedProduct w z row a b
 
 -- the product is a signed word exactly where the high half is 2 ^ w - 1 times the highest bit of the low half
@@ -66,7 +66,7 @@ RowSignedProductFits = (w : ℕ) → IsWidth w → (a b : ℕ) → a < 2 ^ w →
 pub record RowSignedProductIsComplete : Type 0 where
   pub words : (w : ℕ) → IsWidth w → (a b : ℕ) → (product_twos w a b % 2 ^ w < 2 ^ w) × (product_twos w a b / 2 ^ w < 2 ^ w)
   pub on : (w : ℕ) → IsWidth w → (z : List ℕ) (next : ℕ) (gate : Combination) (x y : SignedWord) (row : DoubleRow) (a b : ℕ) → Assigns z
-      → HoldsSigned w z x a → HoldsSigned w z y b → SpellsRow w z row → IsRowSignedProduct w z row a b
+      → HoldsSigned w z x a → HoldsSigned w z y b → HasRowBits w z row → IsRowSignedProduct w z row a b
       → HasFrom z next (row_signed_product_values w a (bit_at a (w - 1)) b (bit_at b (w - 1))) → Meets z (row_signed_product_of w gate x y row next).list
   pub off : (w : ℕ) (z : List ℕ) (next : ℕ) (gate : Combination) (x y : SignedWord) (row : DoubleRow) → Assigns z → value gate z ≡ 0
       → HasFrom z next (row_signed_product_values w (slice_index z x.word) (slice_index z x.sign) (slice_index z y.word) (slice_index z y.sign))

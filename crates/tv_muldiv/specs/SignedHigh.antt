@@ -1,7 +1,7 @@
 -- The high word of the product of two words as signed numbers.
 use Rattle.std.specs.Prelude.{◌≡◌, ℕ, ◌+◌, ◌-◌, ◌*◌, ◌/◌, ◌%◌, ◌^◌, ℤ, ◌*ℤ◌, if◌then◌else◌, List, [], ◌∷◌, ◌++◌, slice_index}
 use Rattle.std.specs.Int.{bit_at}
-use Rattle.tv_bits.specs.Bits.{Spells, bits_combination, new_bits_of}
+use Rattle.tv_bits.specs.Bits.{HasBits, bits_combination, new_bits_of}
 use Rattle.tv_bits.specs.declared.bit_wires.Bits.{Bits}
 use Rattle.tv_core.specs.Circuits.{Circuit, put, pure, ◌>>=◌}
 use Rattle.tv_core.specs.Constraints.{Combination}
@@ -24,7 +24,7 @@ product_twos w a b = twos (2 * w) (signed_product w a b)
 -- a and b being words of w bits, the wires represent the high word of their signed product, and one holds 1
 -- exactly where that product is no signed number of w bits
 pub record IsSignedHigh (w : ℕ) (z : List ℕ) (made : High) (a b : ℕ) : Type 0 where
-  pub high : Spells z made.high.first w (product_twos w a b / 2 ^ w)
+  pub high : HasBits z made.high.first w (product_twos w a b / 2 ^ w)
   pub over : slice_index z made.over ≡ (if fits w (signed_product w a b) then 0 else 1)
 
 -- 2 w new bits that represent the product of words of w bits, each in two's complement: both sides are too
@@ -57,12 +57,12 @@ signed_high_values w a b = halves_values w (product_twos w a b) ++ nonzero_value
 -- where x and y represent words, an assignment that satisfies the constraints has the high word of their signed product
 -- at the returned wires
 abbrev pub SignedHighIsSound : Type 0
-SignedHighIsSound = (w : ℕ) → IsWidth w → (z : List ℕ) (next : ℕ) (x y : Bits) (a b : ℕ) → Assigns z → Spells z x.first w a → Spells z y.first w b
+SignedHighIsSound = (w : ℕ) → IsWidth w → (z : List ℕ) (next : ℕ) (x y : Bits) (a b : ℕ) → Assigns z → HasBits z x.first w a → HasBits z y.first w b
     → Meets z (signed_high_of w x y next).list → IsSignedHigh w z (signed_high_of w x y next).answer a b
 
 -- where x and y represent words, an assignment that has these values at the wires that were made satisfies the constraints
 abbrev pub SignedHighIsComplete : Type 0
-SignedHighIsComplete = (w : ℕ) → IsWidth w → (z : List ℕ) (next : ℕ) (x y : Bits) (a b : ℕ) → Assigns z → Spells z x.first w a → Spells z y.first w b
+SignedHighIsComplete = (w : ℕ) → IsWidth w → (z : List ℕ) (next : ℕ) (x y : Bits) (a b : ℕ) → Assigns z → HasBits z x.first w a → HasBits z y.first w b
     → HasFrom z next (signed_high_values w a b) → Meets z (signed_high_of w x y next).list
 
 -- what the circuit returns and where it ends; it has one value for each wire that it makes, all in the field

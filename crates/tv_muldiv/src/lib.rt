@@ -5,6 +5,7 @@
 //! hold a row of twice the width to these, under a gate.
 #![tactic(auto)]
 
+mod numbers;
 mod products;
 mod quotients;
 mod records;
@@ -12,7 +13,6 @@ mod row_divisions;
 mod row_products;
 mod row_signed_products;
 mod signed_products;
-mod weighing;
 
 pub use products::{fill_product, product, product_fills, product_is_complete, product_is_sound};
 pub use quotients::{

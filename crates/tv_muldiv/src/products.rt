@@ -1,14 +1,14 @@
 //! The product of two words.
 ghost use Rattle.std.specs.Prelude.{◌≡◌, ◌+◌, ◌*◌, ◌^◌, ◌≤◌, ◌<◌, false, IfOk, OnOk};
 ghost use Rattle.tv_bits.specs.Bits.{AreBitsBelow};
-ghost use Rattle.tv_core.specs.Giving.{GivesIn};
+ghost use Rattle.tv_core.specs.Values.{GivesIn};
 ghost use Rattle.tv_core.specs.Sinks.{PutsIn, Grows, Room};
 ghost use Rattle.tv_word.specs.Widths.{IsWidth};
 ghost use Rattle.tv_muldiv.specs.Product.{product_bits_of, product_of, product_values};
 ghost use Rattle.tv_muldiv.specs.Product.{ProductIsSound, ProductIsComplete, ProductSizes};
 
+use crate::numbers::{fill_halves, set_long_number};
 use crate::records::Product;
-use crate::weighing::{fill_halves, fill_long};
 use tv_bits::{Bits, fill_nonzero, new_bits_by, nonzero_by};
 use tv_core::{F, Put, Scratch, Sink, Values, Wire};
 
@@ -33,7 +33,7 @@ pub fn product<const W: u32, S: Sink>(s: &mut S, x: &Bits, y: &Bits) -> Put<Prod
         first: first.offset(W),
         n: W,
     };
-    high.fill(&mut scratch.a);
+    high.set_number(&mut scratch.a);
     let over = nonzero_by(s, &mut scratch.b, &mut scratch.c, &scratch.a)?;
     Ok(Product { low, high, over })
 }
@@ -60,9 +60,9 @@ fn product_bits<const W: u32, S: Sink>(
     scratch.b.set_wire(y.first);
     scratch.c.set_wire(first);
     s.put(&scratch.a, &scratch.b, &scratch.c)?;
-    x.fill(&mut scratch.a);
-    y.fill(&mut scratch.b);
-    fill_long::<W>(&mut scratch.c, first);
+    x.set_number(&mut scratch.a);
+    y.set_number(&mut scratch.b);
+    set_long_number::<W>(&mut scratch.c, first);
     s.put(&scratch.a, &scratch.b, &scratch.c)?;
     Ok(first)
 }

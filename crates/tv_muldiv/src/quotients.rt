@@ -2,7 +2,7 @@
 ghost use Rattle.std.specs.Prelude.{◌≡◌, ◌+◌, ◌*◌, ◌/◌, ◌^◌, ◌≤◌, ◌<◌, [], ◌∷◌, false, IfOk, OnOk};
 ghost use Rattle.tv_bits.specs.Bits.{AreBitsBelow};
 ghost use Rattle.tv_bits.specs.Zero.{zero_flag};
-ghost use Rattle.tv_core.specs.Giving.{GivesIn};
+ghost use Rattle.tv_core.specs.Values.{GivesIn};
 ghost use Rattle.tv_core.specs.Sinks.{PutsIn, Grows, Room};
 ghost use Rattle.tv_muldiv.specs.Quotient.{IsQuotientBelow, zero_divisor_of};
 ghost use Rattle.tv_muldiv.specs.Quotient.{quotient_wires_of, gate_of, division_of};
@@ -70,7 +70,7 @@ fn zero_divisor<const W: u32, S: Sink>(s: &mut S, scratch: &mut Scratch, y: &Bit
     let by_zero = s.fresh();
     bit_by(s, &mut scratch.a, by_zero)?;
     scratch.a.set_wire(by_zero);
-    y.fill(&mut scratch.b);
+    y.set_number(&mut scratch.b);
     scratch.c.clear();
     s.put(&scratch.a, &scratch.b, &scratch.c)?;
     Ok(by_zero)
@@ -93,9 +93,9 @@ fn division<const W: u32, S: Sink>(
     ensures grows { IfOk result (λ _. Grows S.meaning s.old s.new 1 2) }
 {
     let gate = gate::<W, S>(s, scratch, x, made)?;
-    made.quot.fill(&mut scratch.a);
-    y.fill(&mut scratch.b);
-    x.fill(&mut scratch.c);
+    made.quot.set_number(&mut scratch.a);
+    y.set_number(&mut scratch.b);
+    x.set_number(&mut scratch.c);
     made.rem.plus_to(&mut scratch.c, -F::ONE);
     scratch.c.plus(-F::ONE, gate);
     s.put(&scratch.a, &scratch.b, &scratch.c)
@@ -113,7 +113,7 @@ fn gate<const W: u32, S: Sink>(s: &mut S, scratch: &mut Scratch, x: &Bits, made:
 {
     let gate = s.fresh();
     scratch.a.set_wire(made.by_zero);
-    x.fill(&mut scratch.b);
+    x.set_number(&mut scratch.b);
     made.quot.plus_to(&mut scratch.b, F::ONE);
     scratch.c.set_wire(gate);
     s.put(&scratch.a, &scratch.b, &scratch.c)?;

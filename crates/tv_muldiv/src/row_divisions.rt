@@ -4,7 +4,7 @@ ghost use Rattle.tv_bits.specs.Bits.{AreBitsBelow};
 ghost use Rattle.tv_bits.specs.DoubleRow.{row_number};
 ghost use Rattle.tv_bits.specs.Times.{times_of};
 ghost use Rattle.tv_core.specs.Combinations.{wire, top};
-ghost use Rattle.tv_core.specs.Giving.{GivesIn};
+ghost use Rattle.tv_core.specs.Values.{GivesIn};
 ghost use Rattle.tv_core.specs.Sinks.{PutsIn, Grows, Room};
 ghost use Rattle.tv_muldiv.specs.RowDivision.{below_divisor, room_below, bits_less};
 ghost use Rattle.tv_muldiv.specs.RowDivision.{dividing, row_division_of, row_division_values};
@@ -46,8 +46,8 @@ pub fn row_division<const W: u32, S: Sink>(
     let product = product_of_quotient(s, scratch, row.high, y, by_zero)?;
     let parts = [(F::ONE, row.low), (F::ONE, kept), (F::ONE, product)];
     gated(s, scratch, gate, &[(F::ONE, x)], &parts)?;
-    fill_room_below::<W>(&mut scratch.b, x, y, by_zero, row);
-    fill_bits_less::<W>(&mut scratch.c, x, bits);
+    set_room_below::<W>(&mut scratch.b, x, y, by_zero, row);
+    set_bits_less::<W>(&mut scratch.c, x, bits);
     s.put(gate, &scratch.b, &scratch.c)?;
     Ok(kept)
 }
@@ -76,7 +76,7 @@ fn product_of_quotient<S: Sink>(
 }
 
 // Makes `lc` the room below the divisor, less `x`.
-fn fill_room_below<const W: u32>(lc: &mut Lc, x: Wire, y: Wire, by_zero: Wire, row: &DoubleRow)
+fn set_room_below<const W: u32>(lc: &mut Lc, x: Wire, y: Wire, by_zero: Wire, row: &DoubleRow)
     requires width { IsWidth W }
     ensures terms { lc.new ≡ room_below W x y by_zero row.now }
     ensures top { top lc.new ≤ max (max (x + 1) (y + 1))
@@ -91,7 +91,7 @@ fn fill_room_below<const W: u32>(lc: &mut Lc, x: Wire, y: Wire, by_zero: Wire, r
 }
 
 // Makes `lc` the number of the bits, less `x`.
-fn fill_bits_less<const W: u32>(lc: &mut Lc, x: Wire, bits: &Bits)
+fn set_bits_less<const W: u32>(lc: &mut Lc, x: Wire, bits: &Bits)
     requires width { IsWidth W }
     requires bits_word { bits.now.n ≡ W }
     requires within { bits.now.first + W < 2 ^ 32 }

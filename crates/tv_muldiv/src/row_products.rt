@@ -3,7 +3,7 @@ ghost use Rattle.std.specs.Prelude.{◌≡◌, ◌+◌, ◌≤◌, ◌<◌, fals
 ghost use Rattle.tv_bits.specs.DoubleRow.{row_number};
 ghost use Rattle.tv_bits.specs.Times.{times_of};
 ghost use Rattle.tv_core.specs.Combinations.{wire, top};
-ghost use Rattle.tv_core.specs.Giving.{GivesIn};
+ghost use Rattle.tv_core.specs.Values.{GivesIn};
 ghost use Rattle.tv_core.specs.Sinks.{PutsIn, Grows, Room};
 ghost use Rattle.tv_muldiv.specs.RowProduct.{row_product_of, row_product_values};
 ghost use Rattle.tv_muldiv.specs.RowProduct.{RowProductIsSound, RowProductIsComplete};

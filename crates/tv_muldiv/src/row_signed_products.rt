@@ -6,7 +6,7 @@ ghost use Rattle.tv_bits.specs.DoubleRow.{row_number};
 ghost use Rattle.tv_bits.specs.SignedWords.{top_signed};
 ghost use Rattle.tv_bits.specs.Times.{times_of};
 ghost use Rattle.tv_core.specs.Combinations.{less, wire, top};
-ghost use Rattle.tv_core.specs.Giving.{GivesIn};
+ghost use Rattle.tv_core.specs.Values.{GivesIn};
 ghost use Rattle.tv_core.specs.Sinks.{PutsIn, Grows, Room};
 ghost use Rattle.tv_muldiv.specs.RowSignedProduct.{signed_word, signed_in, signed_row};
 ghost use Rattle.tv_muldiv.specs.RowSignedProduct.{row_signed_product_of};
@@ -45,7 +45,7 @@ pub fn row_signed_product<const W: u32, S: Sink>(
     ensures grows { IfOk result (λ _. Grows S.meaning s.old s.new 1 2) }
 {
     let product = product_of_words::<W, S>(s, scratch, x, y)?;
-    fill_difference::<W>(&mut scratch.b, row, product);
+    set_product_less::<W>(&mut scratch.b, row, product);
     scratch.c.clear();
     s.put(gate, &scratch.b, &scratch.c)
 }
@@ -66,13 +66,13 @@ fn product_of_words<const W: u32, S: Sink>(
     ensures grows { IfOk result (λ _. Grows S.meaning s.old s.new 1 1) }
     ensures below { IfOk result (λ product. product < S.meaning.wires s.new) }
 {
-    fill_signed_word::<W>(&mut scratch.a, x);
-    fill_signed_word::<W>(&mut scratch.b, y);
+    set_signed_word::<W>(&mut scratch.a, x);
+    set_signed_word::<W>(&mut scratch.b, y);
     times_by(s, &mut scratch.c, &scratch.a, &scratch.b)
 }
 
 // Makes `lc` a word less 2^`W` times its sign.
-fn fill_signed_word<const W: u32>(lc: &mut Lc, x: &SignedWord)
+fn set_signed_word<const W: u32>(lc: &mut Lc, x: &SignedWord)
     requires width { IsWidth W }
     ensures terms { lc.new ≡ signed_word W x.now }
     ensures top { top lc.new ≡ top_signed x.now }
@@ -82,7 +82,7 @@ fn fill_signed_word<const W: u32>(lc: &mut Lc, x: &SignedWord)
 }
 
 // Makes `lc` the row's number less 2^(2 `W`) times its highest bit, less the product.
-fn fill_difference<const W: u32>(lc: &mut Lc, row: &DoubleRow, product: Wire)
+fn set_product_less<const W: u32>(lc: &mut Lc, row: &DoubleRow, product: Wire)
     requires width { IsWidth W }
     requires within { row.now.first + 2 * W < 2 ^ 32 }
     ensures terms { lc.new ≡ less (signed_row W row.now) (wire product) }

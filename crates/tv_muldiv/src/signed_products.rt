@@ -2,7 +2,7 @@
 ghost use Rattle.std.specs.Prelude.{◌≡◌, ◌+◌, ◌*◌, ◌≤◌, ◌<◌, ◌^◌, false, IfOk, OnOk};
 ghost use Rattle.tv_bits.specs.Bits.{AreBitsBelow};
 ghost use Rattle.tv_core.specs.Combinations.{top};
-ghost use Rattle.tv_core.specs.Giving.{GivesIn};
+ghost use Rattle.tv_core.specs.Values.{GivesIn};
 ghost use Rattle.tv_core.specs.Sinks.{PutsIn, Grows, Room};
 ghost use Rattle.tv_muldiv.specs.SignedHigh.{signed_product, product_twos, signed_bits_of, excess};
 ghost use Rattle.tv_muldiv.specs.SignedHigh.{excess_in, signed_high_of, signed_high_values};
@@ -10,8 +10,8 @@ ghost use Rattle.tv_muldiv.specs.SignedHigh.{SignedHighIsSound, SignedHighIsComp
 ghost use Rattle.tv_muldiv.specs.SignedHigh.{SignedHighSizes};
 ghost use Rattle.tv_word.specs.Widths.{IsWidth};
 
+use crate::numbers::{fill_halves, set_signed_number};
 use crate::records::High;
-use crate::weighing::{fill_halves, fill_signed_number};
 use tv_bits::{Bits, fill_nonzero, new_bits_by, nonzero_by};
 use tv_core::{F, Lc, Put, Scratch, Sink, Values, Wire};
 use tv_word::arithmetic::signed_word;
@@ -32,7 +32,7 @@ pub fn signed_high<const W: u32, S: Sink>(s: &mut S, x: &Bits, y: &Bits) -> Put<
 {
     let mut scratch = Scratch::new();
     let made = signed_bits::<W, S>(s, &mut scratch, x, y)?;
-    fill_excess::<W>(&mut scratch.a, made.first);
+    set_high_excess::<W>(&mut scratch.a, made.first);
     let over = nonzero_by(s, &mut scratch.b, &mut scratch.c, &scratch.a)?;
     let high = made.above(W);
     Ok(High { high, over })
@@ -54,15 +54,15 @@ fn signed_bits<const W: u32, S: Sink>(
     ensures below { IfOk result (AreBitsBelow (S.meaning.wires s.new) (2 * W)) }
 {
     let made = new_bits_by(s, &mut scratch.a, 2 * W)?;
-    fill_signed_number(&mut scratch.a, x.first, W);
-    fill_signed_number(&mut scratch.b, y.first, W);
-    fill_signed_number(&mut scratch.c, made.first, 2 * W);
+    set_signed_number(&mut scratch.a, x.first, W);
+    set_signed_number(&mut scratch.b, y.first, W);
+    set_signed_number(&mut scratch.c, made.first, 2 * W);
     s.put(&scratch.a, &scratch.b, &scratch.c)?;
     Ok(made)
 }
 
 // Makes `lc` the high word of `2 W` bits less 2^`W` - 1 times the highest bit of the low word.
-fn fill_excess<const W: u32>(lc: &mut Lc, first: Wire)
+fn set_high_excess<const W: u32>(lc: &mut Lc, first: Wire)
     requires width { IsWidth W }
     requires within { first + 2 * W < 2 ^ 32 }
     ensures terms { lc.new ≡ excess first W }
@@ -72,7 +72,7 @@ fn fill_excess<const W: u32>(lc: &mut Lc, first: Wire)
         first: first.offset(W),
         n: W,
     };
-    high.fill(lc);
+    high.set_number(lc);
     lc.plus(-F::of((1 << W) - 1), first.offset(W - 1));
 }
 

@@ -9,6 +9,6 @@ mod items;
 #[cfg(test)]
 mod networks;
 #[cfg(test)]
-mod permutations;
+mod outputs;
 #[cfg(test)]
-mod sending;
+mod permutations;

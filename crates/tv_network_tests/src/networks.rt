@@ -1,5 +1,5 @@
 //! Worked rows, and numbers of switches.
-use crate::sending::{first_failed, moved, sent_by_its_own, terms_put};
+use crate::outputs::{first_failed, moved, sent_by_its_own, terms_put};
 use std::test::*;
 use tv_benes::{Net, inner_terms, network_wires, switches};
 use tv_waksman::switches_w;

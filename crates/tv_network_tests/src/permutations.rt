@@ -1,7 +1,7 @@
 //! Settings, each put through the network that they are of.
 ghost use Rattle.std.specs.Prelude.{◌≤◌};
 
-use crate::sending::{power, sent};
+use crate::outputs::{power, sent};
 use std::alloc::Global;
 use std::process::Abort;
 use std::test::*;

@@ -22,7 +22,7 @@ use Rattle.tv_numbers.proofs.Cases.{EachGives, chosen_in}
 use Rattle.tv_numbers.specs.Laws.{AtNumbers, NumbersStayInRange}
 use Rattle.tv_numbers.specs.Numbers.{operand_word, other_word, touches, asks, takes_primary, with_byte_in, found, writes, result_in, stepped, old_in, data_line}
 use Rattle.tv_numbers.specs.Numbers.{step_words}
-use Rattle.tv_numbers.specs.Tables.{results, flags, pcs, behind_pc, target}
+use Rattle.tv_numbers.specs.Tables.{results, flags, pcs, next_pc, target}
 use Rattle.tv_numbers.specs.Views.{View, flag_of, ViewInRange}
 
 pub flag_small : (f : Bool) → flag_of f < 2
@@ -118,7 +118,7 @@ module _ (w : ℕ) (width : IsWidth w) where
   abbrev Place : ℕ → Type 0
   Place pc = (pc < 2 ^ w) × (pc % (w / 4) ≡ 0)
 
-  behind_place : (pc : ℕ) → Place pc → Place (behind_pc w pc)
+  behind_place : (pc : ℕ) → Place pc → Place (next_pc w pc)
   behind_place pc h = (
     mod-lt (pc + w / 4) some_words,
     for_widths (λ w. pc % (w / 4) ≡ 0 → (pc + w / 4) % 2 ^ w % (w / 4) ≡ 0) (λ e. omega arith) (λ e. omega arith) w width h.1,
@@ -133,8 +133,8 @@ module _ (w : ℕ) (width : IsWidth w) where
       let next = behind_place pc h in (
         jump,
         (
-          cond_both (flag == 1) (target w a) (behind_pc w pc) Place (λ _. jump) (λ _. next),
-          (cond_both (flag == 1) (behind_pc w pc) (target w a) Place (λ _. next) (λ _. jump), (h, (next, tt))),
+          cond_both (flag == 1) (target w a) (next_pc w pc) Place (λ _. jump) (λ _. next),
+          (cond_both (flag == 1) (next_pc w pc) (target w a) Place (λ _. next) (λ _. jump), (h, (next, tt))),
         ),
       )
 

@@ -12,7 +12,7 @@ use Rattle.tv_step.specs.Machine.{operand}
 use Rattle.tv_step.specs.Rows.{reads, takes as takes_of}
 use Rattle.tv_step.specs.State.{State, Next}
 use Rattle.tv_numbers.proofs.NextRows.{instr, Fits, AuxTape, Came, NextRow}
-use Rattle.tv_numbers.specs.Tables.{behind_pc}
+use Rattle.tv_numbers.specs.Tables.{next_pc}
 use Rattle.tv_numbers.specs.Views.{View, flag_of, seen}
 
 -- the word that a read of the primary tape takes is the data word
@@ -32,7 +32,7 @@ module _ (w : ℕ) (x : List ℕ) (gone ended o : ℕ) (takes : Bool) (rest : Li
   -- the numbers after a read, by whether it takes a primary word and whether it asks for an auxiliary one
   abbrev read_view : Bool → Bool → View
   read_view primary asked = record {
-    pc = behind_pc w st.pc;
+    pc = next_pc w st.pc;
     regs = slice_set st.regs dest (if primary || takes then o else 0);
     flag = flag_of (not (primary || takes));
     taken = if primary then gone + 1 else gone;
@@ -41,7 +41,7 @@ module _ (w : ℕ) (x : List ℕ) (gone ended o : ℕ) (takes : Bool) (rest : Li
 
   abbrev after_read : Bool → List ℕ → List ℕ → State
   after_read found primary aux = record st {
-    pc = behind_pc w st.pc;
+    pc = next_pc w st.pc;
     regs = slice_set st.regs dest (if found then o else 0);
     flag = not found;
     primary = primary;

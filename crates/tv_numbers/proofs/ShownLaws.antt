@@ -28,7 +28,7 @@ use Rattle.tv_numbers.proofs.RangeLaws.{flag_small}
 use Rattle.tv_numbers.proofs.StepLaws.{op_small, read_test, seen_of, numbers_do}
 use Rattle.tv_numbers.specs.Laws.{AtNumbers, HoldsOlds}
 use Rattle.tv_numbers.specs.Numbers.{asks, operand_word, touches, takes_primary, step_words}
-use Rattle.tv_numbers.specs.Shown.{handed, MayTake, OldsAreShown, head_at, tail_at, data_at, did_at, ShowsStep, MachineShows, SeenInRange}
+use Rattle.tv_numbers.specs.Shown.{data_word_of, MayTake, OldsAreShown, head_at, tail_at, data_at, did_at, ShowsStep, MachineShows, SeenInRange}
 use Rattle.tv_numbers.specs.Tables.{unused_ops, memory_ops}
 use Rattle.tv_numbers.specs.Views.{View, seen, ViewInRange}
 
@@ -73,7 +73,7 @@ looks_nowhere n v i e =
     (ap (among memory_ops) op, ap₂ (λ k a. ((k == 30) && (a == 0)) && nat_lt v.taken n) op tape)
 
 old_shown : (touched primary : Bool) (c d old : ℕ) (word : Option ℕ) → (is_some word ≡ true → (touched ≡ false) × (primary ≡ false))
-    → ((if primary then c else if touched then d else NULL_CELL) ≡ NULL_CELL → old ≡ 0) → (if touched || primary then handed old word else 0) ≡ old
+    → ((if primary then c else if touched then d else NULL_CELL) ≡ NULL_CELL → old ≡ 0) → (if touched || primary then data_word_of old word else 0) ≡ old
 old_shown true primary c d old None h none = refl
 old_shown true primary c d old (Some word) h none = absurd (true≢false (h refl).0)
 old_shown false true c d old None h none = refl
@@ -88,7 +88,7 @@ olds_are_shown w n time v head tail old word is none =
 -- ---- a machine's step
 -- the old word of a line of the null cell is the same, whatever word is passed
 same_by : (touched primary : Bool) (old : ℕ) (word : Option ℕ) → (is_some word ≡ true → (touched ≡ false) × (primary ≡ false))
-    → (if touched || primary then handed old word else 0) ≡ (if touched || primary then old else 0)
+    → (if touched || primary then data_word_of old word else 0) ≡ (if touched || primary then old else 0)
 same_by touched primary old None h = refl
 same_by touched primary old (Some word) h = let none = h refl in ap₂ (λ a b. if a || b then word else 0) none.0 none.1
     ∙ sym (ap₂ (λ a b. if a || b then old else 0) none.0 none.1)
@@ -124,7 +124,7 @@ module _ (w : ℕ) (width : IsWidth w) (x : List ℕ) (time : ℕ) (st : State) 
   data_word : data_at w x time st word < 2 ^ w
   data_word = by word may
     where
-      by : (word : Option ℕ) → MayTake w now st word → handed line.old word < 2 ^ w
+      by : (word : Option ℕ) → MayTake w now st word → data_word_of line.old word < 2 ^ w
       by None may = line_fits.old
       by (Some u) may = may.2
 

@@ -14,9 +14,9 @@ use Rattle.tv_numbers.specs.Numbers.{Did, lines_in, step_words, did_of}
 use Rattle.tv_numbers.specs.Views.{View, seen, ViewInRange, Matches}
 
 -- the data word: the word that is taken of the auxiliary tape, or else the old of the data line
-abbrev pub handed : ℕ → Option ℕ → ℕ
-handed old None = old
-handed old (Some word) = word
+abbrev pub data_word_of : ℕ → Option ℕ → ℕ
+data_word_of old None = old
+data_word_of old (Some word) = word
 
 -- a word is passed only where the step reads the auxiliary tape, whose end was not found before
 abbrev pub MayTake : ℕ → View → State → Option ℕ → Type 0
@@ -26,9 +26,9 @@ MayTake w v st (Some word) = (reads_aux w st ≡ true) × (v.ended ≡ 0) × (wo
 -- The data line has the old word that was passed, where that is 0 for a line of the null cell.
 abbrev pub OldsAreShown : Type 0
 OldsAreShown = (w n time : ℕ) (v : View) (head tail old : ℕ) (word : Option ℕ)
-    → AtNumbers w n v (step_words head tail (handed old word) (is_some word))
-    → ((did_of w n time v (step_words head tail (handed old word) (is_some word))).data_line.cell ≡ NULL_CELL → old ≡ 0)
-    → (did_of w n time v (step_words head tail (handed old word) (is_some word))).data_line.old ≡ old
+    → AtNumbers w n v (step_words head tail (data_word_of old word) (is_some word))
+    → ((did_of w n time v (step_words head tail (data_word_of old word) (is_some word))).data_line.cell ≡ NULL_CELL → old ≡ 0)
+    → (did_of w n time v (step_words head tail (data_word_of old word) (is_some word))).data_line.old ≡ old
 
 -- the words that a machine's step is made from: its instruction's two, and the data word
 abbrev pub head_at : ℕ → State → ℕ
@@ -38,7 +38,7 @@ abbrev pub tail_at : ℕ → State → ℕ
 tail_at w st = word_in w st.memory (st.pc / word_size w + 1)
 
 abbrev pub data_at : ℕ → List ℕ → ℕ → State → Option ℕ → ℕ
-data_at w x time st word = handed (traced_line w (length x) st (time + 2)).old word
+data_at w x time st word = data_word_of (traced_line w (length x) st (time + 2)).old word
 
 -- the step in numbers from a machine's state, of which v is the view, with the word that is passed
 abbrev pub did_at : ℕ → List ℕ → ℕ → View → State → Option ℕ → Did

@@ -83,8 +83,8 @@ flags w x a found flag =
     ∷ []
 
 -- the address of the next instruction in memory, and of the one to which a jump goes
-abbrev pub behind_pc : ℕ → ℕ → ℕ
-behind_pc w pc = (pc + instruction_size w) % 2 ^ w
+abbrev pub next_pc : ℕ → ℕ → ℕ
+next_pc w pc = (pc + instruction_size w) % 2 ^ w
 
 abbrev pub target : ℕ → ℕ → ℕ
 target w a = a - a % instruction_size w
@@ -93,8 +93,8 @@ target w a = a - a % instruction_size w
 abbrev pub pcs : ℕ → ℕ → ℕ → ℕ → List (Entry ℕ)
 pcs w pc a flag =
     (record { ops = JMP ∷ []; gives = target w a })
-    ∷ (record { ops = CJMP ∷ []; gives = if flag == 1 then target w a else behind_pc w pc })
-    ∷ (record { ops = CNJMP ∷ []; gives = if flag == 1 then behind_pc w pc else target w a })
+    ∷ (record { ops = CJMP ∷ []; gives = if flag == 1 then target w a else next_pc w pc })
+    ∷ (record { ops = CNJMP ∷ []; gives = if flag == 1 then next_pc w pc else target w a })
     ∷ (record { ops = ANSWER ∷ []; gives = pc })
-    ∷ (record { ops = straight_ops; gives = behind_pc w pc })
+    ∷ (record { ops = straight_ops; gives = next_pc w pc })
     ∷ []

@@ -3,7 +3,7 @@ use Rattle.std.proofs.Common.{◌≡◌, ℕ, ◌+◌, ◌-◌, ◌*◌, ◌/◌
 use Rattle.std.specs.Int.{bit_at}
 use Rattle.tv_bits.proofs.DoubleRowLaws.{double_row_answer, double_row_sizes, double_row_cost_laws, new_bits_constraints, new_bits_terms}
 use Rattle.tv_bits.proofs.SizeLaws.{length-bits, bits_in_field}
-use Rattle.tv_bits.proofs.SpellingLaws.{new_bits_answer, new_bits_next}
+use Rattle.tv_bits.proofs.BitsLaws.{new_bits_answer, new_bits_next}
 use Rattle.tv_bits.specs.Bits.{bits_values, new_bits_of}
 use Rattle.tv_bits.specs.DoubleRow.{double_row_of, double_row_values}
 use Rattle.tv_bits.specs.declared.bit_wires.Bits.{Bits}
@@ -33,7 +33,7 @@ use Rattle.tv_shift.specs.declared.powers.ShiftPower.{ShiftPower}
 use Rattle.tv_word.specs.Widths.{IsWidth}
 use Rattle.tv_parts.proofs.Sized.{Sized, sized_then, sized_pure, sized_as}
 use Rattle.tv_parts.specs.Arithmetic.{bitwise_ops, difference_ops, strict_ops, signed_ops, product_ops, division_ops, with_sign, rows_of, sums_of}
-use Rattle.tv_parts.specs.Arithmetic.{products_of, shifts_of, arithmetic_of, spelled_word}
+use Rattle.tv_parts.specs.Arithmetic.{products_of, shifts_of, arithmetic_of, decomposed_word}
 use Rattle.tv_parts.specs.Arithmetic.{rows_values, sums_values, products_values, shifts_values, arithmetic_values, ArithmeticSizes, ArithmeticCosts}
 use Rattle.tv_parts.specs.Inputs.{operation_of}
 use Rattle.tv_parts.specs.OpcodeSums.{opcode_sum}
@@ -219,8 +219,8 @@ power_length w width a =
 pub rows_length : (w k x a low high : ℕ) → length (rows_values w k x a low high) ≡ 3 * w + 3
 rows_length w k x a low high =
     let signed = flag_of (among (8 ∷ []) k) in
-    length-append (bits_values (spelled_word w k x a) w) (double_row_values w low high signed)
-    ∙ ap₂ (λ m n. m + n) (length-bits (spelled_word w k x a) w) (double_length w low high signed) ∙ (let e : w + (2 * w + 3) ≡ 3 * w + 3 = omega arith in e)
+    length-append (bits_values (decomposed_word w k x a) w) (double_row_values w low high signed)
+    ∙ ap₂ (λ m n. m + n) (length-bits (decomposed_word w k x a) w) (double_length w low high signed) ∙ (let e : w + (2 * w + 3) ≡ 3 * w + 3 = omega arith in e)
 
 shifts_length : (w : ℕ) → IsWidth w → (x a f low high : ℕ) → length (shifts_values w x a f low high) ≡ w / 16 + 6
 shifts_length w width x a f low high =
@@ -242,7 +242,7 @@ arithmetic_length w width k x a f low high =
 
 arithmetic_in_field : (w : ℕ) → IsWidth w → (k x a g low high : ℕ) → low < P → high < P → InField (arithmetic_values w (operation_of k x a) g low high)
 arithmetic_in_field w width k x a g low high l h =
-    let v = spelled_word w k x a in
+    let v = decomposed_word w k x a in
     let shifts = shifts_values w x a g low high in
     let lefts = left_shift_values (g * x % P) (2 ^ (a % w)) in
     let rights = right_shift_values w low high (2 ^ (a % w)) in

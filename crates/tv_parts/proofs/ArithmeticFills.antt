@@ -5,10 +5,10 @@ use Rattle.std.specs.Int.{bit_at}
 use Rattle.std.specs.Prelude.{slice_index}
 use Rattle.tv_bits.proofs.DoubleRowLaws.{double_row_sound, double_row_complete, double_row_answer}
 use Rattle.tv_bits.proofs.SizeLaws.{length-bits}
-use Rattle.tv_bits.proofs.SpelledNumbers.{Spells-from_values, Spells-bit_at}
-use Rattle.tv_bits.proofs.SpellingLaws.{new_bits_complete, new_bits_answer, new_bits_next}
-use Rattle.tv_bits.specs.Bits.{Spells, bits_values, new_bits_of}
-use Rattle.tv_bits.specs.DoubleRow.{SpellsRow, above_edge_in, double_row_of, double_row_values}
+use Rattle.tv_bits.proofs.BitNumbers.{HasBits-from_values, HasBits-bit_at}
+use Rattle.tv_bits.proofs.BitsLaws.{new_bits_complete, new_bits_answer, new_bits_next}
+use Rattle.tv_bits.specs.Bits.{HasBits, bits_values, new_bits_of}
+use Rattle.tv_bits.specs.DoubleRow.{HasRowBits, above_edge_in, double_row_of, double_row_values}
 use Rattle.tv_bits.specs.Ratio.{ratio_values}
 use Rattle.tv_bits.specs.declared.bit_wires.Bits.{Bits}
 use Rattle.tv_bits.specs.declared.double_rows.DoubleRow.{DoubleRow}
@@ -42,7 +42,7 @@ use Rattle.tv_parts.proofs.ArithmeticLaws.{gate, on, off, gate_bit, a_word, x_he
 use Rattle.tv_parts.proofs.ArithmeticNumbers.{apart_is, Operated, operated_by, FitsRow, numbers_fit, shifted_below, place_below}
 use Rattle.tv_parts.specs.Arithmetic.{bitwise_ops, difference_ops, strict_ops, signed_ops, product_ops, division_ops, shift_ops, with_sign, rows_of}
 use Rattle.tv_parts.specs.Arithmetic.{sums_of, products_of, shifts_of, arithmetic_of}
-use Rattle.tv_parts.specs.Arithmetic.{spelled_word, shifted_word, low_number, high_number, rows_values, sums_values, products_values, shifts_values}
+use Rattle.tv_parts.specs.Arithmetic.{decomposed_word, shifted_word, low_number, high_number, rows_values, sums_values, products_values, shifts_values}
 use Rattle.tv_parts.specs.Arithmetic.{HasArithmetic, ArithmeticIsComplete}
 use Rattle.tv_parts.specs.Inputs.{operation_of}
 use Rattle.tv_parts.specs.OpcodeSums.{opcode_sum}
@@ -57,22 +57,22 @@ closed : (b : Bool) → flag_of b ≡ 0 → b ≡ false
 closed true e = absurd (omega arith)
 closed false e = refl
 
-pub row_spelled : (w : ℕ) → IsWidth w → (k x a : ℕ) → x < 2 ^ w → a < 2 ^ w → spelled_word w k x a < 2 ^ w
+pub row_spelled : (w : ℕ) → IsWidth w → (k x a : ℕ) → x < 2 ^ w → a < 2 ^ w → decomposed_word w k x a < 2 ^ w
 row_spelled w width k x a h l = by_gate (among division_ops k)
     (λ t. subst (λ n. n < 2 ^ w) (sym (ap (λ b. if b then below_divisor w x a else x) t)) (row_division_complete.bits w width x a h l))
     (λ t. subst (λ n. n < 2 ^ w) (sym (ap (λ b. if b then below_divisor w x a else x) t)) h)
 
 -- what an assignment has at the two rows
 record RowsHave (w : ℕ) (z : List ℕ) (r : RowWires) (v low high : ℕ) : Type 0 where
-  bits : Spells z r.x.first w v
-  spells : SpellsRow w z r.row
+  bits : HasBits z r.x.first w v
+  spells : HasRowBits w z r.row
   low_wire : slice_index z r.row.low ≡ low
   high_wire : slice_index z r.row.high ≡ high
 
 module _ (w : ℕ) (width : IsWidth w) (z : List ℕ) (op other f : ℕ) (operand : OperandWires) (k x a : ℕ)
     (has : HasArithmetic w z (record { op = op; other = other; f = f; operand = operand }) (operation_of k x a)) where
   abbrev v : ℕ
-  v = spelled_word w k x a
+  v = decomposed_word w k x a
 
   v_is_x : among division_ops k ≡ false → v ≡ x
   v_is_x t = ap (λ b. if b then below_divisor w x a else x) t
@@ -98,8 +98,8 @@ module _ (w : ℕ) (width : IsWidth w) (z : List ℕ) (op other f : ℕ) (operan
       let after : bits.next + (2 * w + 1) ≡ at + 1 = omega (arith, from, length-bits v w, length-bits low w, length-bits high w) in
       let answer = double_row_answer w signed bits.next in
       record {
-        bits = subst (λ (b : Bits). Spells z b.first w v) (sym (new_bits_answer w next))
-            (Spells-from_values z next w v (row_spelled w width k x a has.word (a_word w width z op other f operand k x a has)) parts.0);
+        bits = subst (λ (b : Bits). HasBits z b.first w v) (sym (new_bits_answer w next))
+            (HasBits-from_values z next w v (row_spelled w width k x a has.word (a_word w width z op other f operand k x a has)) parts.0);
         spells = double_row_sound.spells w width z bits.next signed has.assigns (Meets-split z row.list _ (Meets-split z bits.list _ meets).1).0;
         low_wire = ap (λ (d : DoubleRow). slice_index z d.low) answer ∙ ap (slice_index z) place ∙ highs.1.0;
         high_wire = ap (λ (d : DoubleRow). slice_index z d.high) answer ∙ ap (slice_index z) after ∙ highs.1.1.0;
@@ -125,10 +125,10 @@ module _ (w : ℕ) (width : IsWidth w) (z : List ℕ) (op other f : ℕ) (operan
   module _ (r : RowWires) (next low high : ℕ) (rows : RowsHave w z r v low high) (o : Operated w z r.row f k x a) where
     -- the sign of the other word's bits
     sign_is : slice_index z (r.x.first + (w - 1)) ≡ bit_at v (w - 1)
-    sign_is = Spells-bit_at rows.bits (w - 1) (let most = width_short w width in let e : w - 1 < w = omega arith in e)
+    sign_is = HasBits-bit_at rows.bits (w - 1) (let most = width_short w width in let e : w - 1 < w = omega arith in e)
 
-    x_bits : among division_ops k ≡ false → Spells z r.x.first w x
-    x_bits t = subst (λ n. Spells z r.x.first w n) (v_is_x t) rows.bits
+    x_bits : among division_ops k ≡ false → HasBits z r.x.first w x
+    x_bits t = subst (λ n. HasBits z r.x.first w n) (v_is_x t) rows.bits
 
     sums_met : HasFrom z next (sums_values w k x a) → Meets z (sums_of w op other operand r next).list
     unfolding sums_of pure ◌>>=◌
@@ -220,10 +220,10 @@ module _ (w : ℕ) (width : IsWidth w) (z : List ℕ) (op other f : ℕ) (operan
         row_division_complete.on w width z next divide other operand.word f r.x r.row has.assigns
         (on w width z op other f operand k x a has division_ops refl t)
         (x_here w width z op other f operand k x a has) (a_here w width z op other f operand k x a has) is
-        (subst (λ n. Spells z r.x.first w n) room rows.bits) there)
+        (subst (λ n. HasBits z r.x.first w n) room rows.bits) there)
         (λ t. row_division_complete.off w width z next divide other operand.word f r.x r.row has.assigns
         (off w width z op other f operand k x a has division_ops refl t)
-        (subst (λ n. Spells z r.x.first w n) (v_is_x t ∙ sym has.held) rows.bits) there)
+        (subst (λ n. HasBits z r.x.first w n) (v_is_x t ∙ sym has.held) rows.bits) there)
 
     shifts_met : HasFrom z next (shifts_values w x a (slice_index z f) low high) → Meets z (shifts_of w op other f operand r next).list
     unfolding shifts_of pure ◌>>=◌

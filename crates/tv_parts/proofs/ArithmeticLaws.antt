@@ -5,11 +5,11 @@ use Rattle.std.specs.Int.{bit_at}
 use Rattle.std.specs.Prelude.{slice_index, bit_and, bit_xor}
 use Rattle.std.proofs.lemmas.Nat.Bits.{bit_at-lt}
 use Rattle.tv_bits.proofs.DoubleRowLaws.{double_row_sound}
-use Rattle.tv_bits.proofs.SpelledNumbers.{Spells-below, Spells-bit_at}
-use Rattle.tv_bits.proofs.SpellingLaws.{new_bits_sound}
+use Rattle.tv_bits.proofs.BitNumbers.{HasBits-below, HasBits-bit_at}
+use Rattle.tv_bits.proofs.BitsLaws.{new_bits_sound}
 use Rattle.tv_bits.specs.Bit.{IsBit}
-use Rattle.tv_bits.specs.Bits.{Spells, spelled, new_bits_of}
-use Rattle.tv_bits.specs.DoubleRow.{IsRow, SpellsRow, double_row_of}
+use Rattle.tv_bits.specs.Bits.{HasBits, binary_value, new_bits_of}
+use Rattle.tv_bits.specs.DoubleRow.{IsRow, HasRowBits, double_row_of}
 use Rattle.tv_bits.specs.SignedWords.{HoldsSigned}
 use Rattle.tv_core.proofs.Meeting.{Meets-split}
 use Rattle.tv_core.specs.Circuits.{pure, ◌>>=◌}
@@ -83,14 +83,14 @@ right_is_shift k t = ap (λ c. if 11 == k then true else c) t ∙ always (11 == 
 -- what the two rows are
 pub record RowsHold (w : ℕ) (z : List ℕ) (k : ℕ) (r : RowWires) : Type 0 where
   pub v : ℕ
-  pub bits : Spells z r.x.first w v
-  pub spells : SpellsRow w z r.row
+  pub bits : HasBits z r.x.first w v
+  pub spells : HasRowBits w z r.row
   pub row : among (8 ∷ []) k ≡ false → IsRow w (slice_index z r.row.low) (slice_index z r.row.high)
 
 -- what the constraints of a division and the shifts say
 pub record ShiftsHold (w : ℕ) (z : List ℕ) (r : RowWires) (f : ℕ) (operand : OperandWires) (both k x a : ℕ) : Type 0 where
   pub division : among division_ops k ≡ true → IsRowDivision z r.row f x a
-  pub same : among division_ops k ≡ false → Spells z r.x.first w x
+  pub same : among division_ops k ≡ false → HasBits z r.x.first w x
   pub left : among (11 ∷ []) k ≡ true → IsLeftShift w z r.row (shifted_word w x a) (a % w)
   pub right : among (12 ∷ []) k ≡ true → IsRightShift w z r.row (shifted_word w x a) (a % w)
   pub product : slice_index z both ≡ slice_index z operand.bits.first * slice_index z (operand.bits.first + 1) % P
@@ -119,7 +119,7 @@ module _ (w : ℕ) (width : IsWidth w) (z : List ℕ) (op other f : ℕ) (operan
   gate_bit ks is = subst IsBit (sym (gate ks is)) (flag_small (among ks k))
 
   pub a_word : a < 2 ^ w
-  a_word = Spells-below has.taken.bits
+  a_word = HasBits-below has.taken.bits
 
   pub x_here : slice_index z other < 2 ^ w
   x_here = subst (λ n. n < 2 ^ w) (sym has.held) has.word
@@ -128,15 +128,15 @@ module _ (w : ℕ) (width : IsWidth w) (z : List ℕ) (op other f : ℕ) (operan
   a_here = subst (λ n. n < 2 ^ w) (sym has.taken.word) a_word
 
   -- the two words with their signs
-  pub left_word : (first : ℕ) → Spells z first w x → HoldsSigned w z (with_sign w other first) x
+  pub left_word : (first : ℕ) → HasBits z first w x → HoldsSigned w z (with_sign w other first) x
   left_word first s =
       let most = width_short w width in
-      record { small = has.word; word = has.held; sign = Spells-bit_at s (w - 1) (omega arith) }
+      record { small = has.word; word = has.held; sign = HasBits-bit_at s (w - 1) (omega arith) }
 
   pub right_word : HoldsSigned w z (with_sign w operand.word operand.bits.first) a
   right_word =
       let most = width_short w width in
-      record { small = a_word; word = has.taken.word; sign = Spells-bit_at has.taken.bits (w - 1) (omega arith) }
+      record { small = a_word; word = has.taken.word; sign = HasBits-bit_at has.taken.bits (w - 1) (omega arith) }
 
   rows_sound : (next : ℕ) → Meets z (rows_of w op next).list → RowsHold w z k (rows_of w op next).answer
   unfolding rows_of pure ◌>>=◌
@@ -147,7 +147,7 @@ module _ (w : ℕ) (width : IsWidth w) (z : List ℕ) (op other f : ℕ) (operan
       let m1 = Meets-split z bits.list _ meets in
       let m2 = Meets-split z row.list _ m1.1 in
       record {
-        v = spelled z bits.answer.first w;
+        v = binary_value z bits.answer.first w;
         bits = new_bits_sound z next w has.assigns m1.0;
         spells = double_row_sound.spells w width z bits.next signed has.assigns m2.0;
         row = λ e. double_row_sound.row w width z bits.next signed has.assigns (off (8 ∷ []) refl e) m2.0;
@@ -175,8 +175,8 @@ module _ (w : ℕ) (width : IsWidth w) (z : List ℕ) (op other f : ℕ) (operan
         let kept_small : among shift_ops k ≡ true → slice_index z division.answer < 2 ^ w =
         (λ t. subst (λ n. n < 2 ^ w) (sym (kept_is t)) (shifted_below w x a has.word)) in
         let lowest : slice_index z operand.bits.first ≡ bit_at a 0 =
-        ap (slice_index z) (let e : operand.bits.first ≡ operand.bits.first + 0 = omega arith in e) ∙ Spells-bit_at has.taken.bits 0 (omega arith) in
-        let second : slice_index z (operand.bits.first + 1) ≡ bit_at a 1 = Spells-bit_at has.taken.bits 1 (omega arith) in
+        ap (slice_index z) (let e : operand.bits.first ≡ operand.bits.first + 0 = omega arith in e) ∙ HasBits-bit_at has.taken.bits 0 (omega arith) in
+        let second : slice_index z (operand.bits.first + 1) ≡ bit_at a 1 = HasBits-bit_at has.taken.bits 1 (omega arith) in
         record {
           division = λ t.
               let is = row_division_sound.on w width z next divide other operand.word f r.x r.row rows.v has.assigns (on division_ops refl t)
@@ -186,7 +186,7 @@ module _ (w : ℕ) (width : IsWidth w) (z : List ℕ) (op other f : ℕ) (operan
           same = λ t.
               let is = row_division_sound.off w width z next divide other operand.word f r.x r.row rows.v has.assigns
               (off division_ops refl t) rows.bits m1.0 in
-              subst (λ n. Spells z r.x.first w n) (sym is ∙ has.held) rows.bits;
+              subst (λ n. HasBits z r.x.first w n) (sym is ∙ has.held) rows.bits;
           left = λ t.
               let shift = left_is_shift k t in
               subst (λ n. IsLeftShift w z r.row n (a % w)) (kept_is shift)
@@ -202,7 +202,7 @@ module _ (w : ℕ) (width : IsWidth w) (z : List ℕ) (op other f : ℕ) (operan
           product = powered.both ∙ sym (bits_product (bit_at a 0) (bit_at a 1) (bit_at-lt a 0) (bit_at-lt a 1)) ∙ sym (ap₂ (λ m n. m * n % P) lowest second);
         }
 
-    module _ (same : among division_ops k ≡ false → Spells z r.x.first w x) where
+    module _ (same : among division_ops k ≡ false → HasBits z r.x.first w x) where
       sums_sound : Meets z (sums_of w op other operand r next).list → SumsHold w z r k x a
       unfolding sums_of pure ◌>>=◌
       sums_sound meets =
@@ -266,8 +266,8 @@ arithmetic_sound w width z next op other f operand k x a has meets =
     let summed = sums_sound w width z op other f operand k x a has r.answer r.next rows shifted.same m2.0 in
     let multiplied = products_sound w width z op other f operand k x a has r.answer sums.next rows shifted.same m3.0 in
     record {
-      halves = halves_by w width z r.answer.row f x a has.word (Spells-below has.taken.bits) k has.opcode.within has.opcode.used
-          (Spells-below rows.spells.low) (Spells-below rows.spells.high) (record {
+      halves = halves_by w width z r.answer.row f x a has.word (HasBits-below has.taken.bits) k has.opcode.within has.opcode.used
+          (HasBits-below rows.spells.low) (HasBits-below rows.spells.high) (record {
             bitwise = summed.bitwise;
             sum = summed.sum;
             difference = summed.difference;

@@ -3,9 +3,9 @@ use Rattle.std.proofs.Common.{◌≡◌, ℕ, ◌+◌, ◌-◌, ◌*◌, ◌/◌
 use Rattle.std.proofs.Common.{sym, ◌∙◌, ap, ap₂, subst, arith, mod-lt}
 use Rattle.std.specs.Prelude.{slice_index}
 use Rattle.std.proofs.lemmas.Bool.{eqb-true, ne_eqb}
-use Rattle.tv_bits.proofs.SpelledNumbers.{Spells-below}
+use Rattle.tv_bits.proofs.BitNumbers.{HasBits-below}
 use Rattle.tv_bits.proofs.TimesLaws.{times_sound, times_complete, times_next}
-use Rattle.tv_bits.specs.Bits.{Spells, bits_combination}
+use Rattle.tv_bits.specs.Bits.{HasBits, bits_combination}
 use Rattle.tv_bits.specs.Times.{times_of}
 use Rattle.tv_core.proofs.CombinationLaws.{value-wire, value-append, value-cons, wire-below}
 use Rattle.tv_core.proofs.FieldLaws.{InField-cons, InField-none, InField-append}
@@ -50,13 +50,13 @@ use Rattle.tv_parts.specs.declared.records.StoreWires.{StoreWires}
 use Rattle.tv_parts.specs.declared.records.TapeWires.{TapeWires}
 
 power_is : (z : List ℕ) (a both at : ℕ) → slice_index z 0 ≡ 1 → slice_index z both ≡ slice_index z a * slice_index z (a + 1) % P → (w : ℕ) → IsWidth w
-    → Spells z a w at → value (power_in w a both) z ≡ 256 ^ (at % (w / 8))
-power_is z a both at one is w width = for_widths (λ w. Spells z a w at → value (power_in w a both) z ≡ 256 ^ (at % (w / 8))) sixteen thirty_two w width
+    → HasBits z a w at → value (power_in w a both) z ≡ 256 ^ (at % (w / 8))
+power_is z a both at one is w width = for_widths (λ w. HasBits z a w at → value (power_in w a both) z ≡ 256 ^ (at % (w / 8))) sixteen thirty_two w width
   where
-    sixteen : Spells z a 16 at → value (power_in 16 a both) z ≡ 256 ^ (at % 2)
+    sixteen : HasBits z a 16 at → value (power_in 16 a both) z ≡ 256 ^ (at % 2)
     sixteen s = value-two z 1 255 0 a ∙ ap₂ (λ m b. (1 * m + 255 * b) % P) one (low_bit z a 16 at (omega arith) s) ∙ power_two at (at % 2) (parity_bit at) refl
 
-    thirty_two : Spells z a 32 at → value (power_in 32 a both) z ≡ 256 ^ (at % 4)
+    thirty_two : HasBits z a 32 at → value (power_in 32 a both) z ≡ 256 ^ (at % 4)
     thirty_two s =
         let b0 = low_bit z a 32 at (omega arith) s in
         let b1 = next_bit z a 32 at (omega arith) s in
@@ -113,7 +113,7 @@ module _ (w : ℕ) (width : IsWidth w) (z : List ℕ) (n : ℕ) (state : StateWi
       (subst (λ k. k < P) has.other (wire-below has.assigns d.other)) o_small (mod-lt _ (omega arith)) (subst (λ k. k < P) is_old (wire-below has.assigns old))
       (λ e. ne_eqb i.op 26 (λ k. other (eqb-true i.op 28 e) k)) (λ e. kept 28 (eqb-true i.op 28 e) refl) (λ e. kept 26 (eqb-true i.op 26 e) refl)
       (λ e. ap (λ k. (o + gained o j (k % 256)) % P) (has.stored (eqb-true i.op 26 e))
-      ∙ put_in_by o j (other_word v i % 256) (place_small w width at) (word_small w width o (Spells-below has.bits)) (omega arith))
+      ∙ put_in_by o j (other_word v i % 256) (place_small w width at) (word_small w width o (HasBits-below has.bits)) (omega arith))
     where
       o_small : o < P
       o_small = word_below w width z n state op a d t v i x o has

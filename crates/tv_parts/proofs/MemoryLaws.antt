@@ -5,9 +5,9 @@ use Rattle.std.specs.Int.{bit_at}
 use Rattle.std.specs.Prelude.{slice_index}
 use Rattle.std.proofs.lemmas.Bool.{cases_eq, ne_eqb}
 use Rattle.tv_bits.proofs.BitLaws.{bit_cases}
-use Rattle.tv_bits.proofs.SpelledNumbers.{value-bits_below, Spells-below, Spells-high, Spells-low, Spells-bit_at}
+use Rattle.tv_bits.proofs.BitNumbers.{value-bits_below, HasBits-below, HasBits-high, HasBits-low, HasBits-bit_at}
 use Rattle.tv_bits.specs.Bit.{IsBit}
-use Rattle.tv_bits.specs.Bits.{Spells, bits_combination}
+use Rattle.tv_bits.specs.Bits.{HasBits, bits_combination}
 use Rattle.tv_core.proofs.CombinationLaws.{value-wire, value-append, value-cons, value-scaled, value-constant, value-below}
 use Rattle.tv_core.proofs.Meeting.{Meets-split, Meets-join}
 use Rattle.tv_core.specs.Circuits.{put, ◌>>=◌}
@@ -146,7 +146,7 @@ module _ (w : ℕ) (width : IsWidth w) (z : List ℕ) (n : ℕ) (state : StateWi
   early = omega (arith, has.within, has.short)
 
   pub word_below : o < P
-  word_below = small_word w width o (Spells-below has.bits)
+  word_below = small_word w width o (HasBits-below has.bits)
 
   gate : value (opcode_sum op memory_ops) z ≡ flag_of m
   gate = opcode_sum_sound z op i.op memory_ops has.opcode refl
@@ -206,11 +206,12 @@ module _ (w : ℕ) (width : IsWidth w) (z : List ℕ) (n : ℕ) (state : StateWi
       ∙ flag_times (m || p) o word_below
 
 -- ---- the byte
-pub byte_value : (z : List ℕ) (w bits first o j m : ℕ) → first ≡ bits + 8 * j → 8 * j + (8 + m) ≡ w → Spells z bits w o
+pub byte_value : (z : List ℕ) (w bits first o j m : ℕ) → first ≡ bits + 8 * j → 8 * j + (8 + m) ≡ w → HasBits z bits w o
     → value (bits_combination first 8) z ≡ o / 2 ^ (8 * j) % 2 ^ 8
 byte_value z w bits first o j m e size s =
     ap (λ k. value (bits_combination k 8) z) e
-    ∙ value-bits_below (Spells-low z (bits + 8 * j) 8 m (o / 2 ^ (8 * j)) (Spells-high z bits (8 * j) (8 + m) o (subst (λ n. Spells z bits n o) (sym size) s)))
+    ∙ value-bits_below (HasBits-low z (bits + 8 * j) 8 m (o / 2 ^ (8 * j)) (HasBits-high z bits (8 * j) (8 + m) o (subst (λ n. HasBits z bits n o)
+    (sym size) s)))
     (omega arith)
 
 pair_value : (z : List ℕ) (bits bit low high : ℕ) → Assigns z → IsBit (slice_index z bit) → value (bits_combination bits 8) z ≡ low
@@ -224,19 +225,19 @@ pair_value z bits bit low high assigns s e f =
     ∙ picked_by (slice_index z bit) high low s (subst (λ n. n < P) f (value-below (bits_combination (bits + 8) 8) z))
     (subst (λ n. n < P) e (value-below (bits_combination bits 8) z))
 
-pub low_bit : (z : List ℕ) (first w at : ℕ) → 0 < w → Spells z first w at → slice_index z first ≡ at % 2
-low_bit z first w at some s = ap (λ k. slice_index z k) (let e : first ≡ first + 0 = omega arith in e) ∙ Spells-bit_at s 0 some
+pub low_bit : (z : List ℕ) (first w at : ℕ) → 0 < w → HasBits z first w at → slice_index z first ≡ at % 2
+low_bit z first w at some s = ap (λ k. slice_index z k) (let e : first ≡ first + 0 = omega arith in e) ∙ HasBits-bit_at s 0 some
     ∙ (let e : bit_at at 0 ≡ at % 2 = omega arith in e)
 
-pub next_bit : (z : List ℕ) (first w at : ℕ) → 1 < w → Spells z first w at → slice_index z (first + 1) ≡ at / 2 % 2
-next_bit z first w at some s = Spells-bit_at s 1 some ∙ (let e : bit_at at 1 ≡ at / 2 % 2 = omega arith in e)
+pub next_bit : (z : List ℕ) (first w at : ℕ) → 1 < w → HasBits z first w at → slice_index z (first + 1) ≡ at / 2 % 2
+next_bit z first w at some s = HasBits-bit_at s 1 some ∙ (let e : bit_at at 1 ≡ at / 2 % 2 = omega arith in e)
 
 pub parity_bit : (n : ℕ) → IsBit (n % 2)
 parity_bit n = omega arith
 
 module _ (z : List ℕ) (next bits a o at : ℕ) (assigns : Assigns z) where
   -- one of two bytes, from number j on
-  pair_is : (w j k : ℕ) → (first : ℕ) → first ≡ bits + 8 * j → 8 * j + (16 + k) ≡ w → Spells z bits w o → slice_index z a ≡ at % 2
+  pair_is : (w j k : ℕ) → (first : ℕ) → first ≡ bits + 8 * j → 8 * j + (16 + k) ≡ w → HasBits z bits w o → slice_index z a ≡ at % 2
       → (value (bits_combination first 8) z + value (wire a) z * value (scaled (P - 1) (bits_combination first 8) ++ bits_combination (first + 8) 8) z) % P
       ≡ (if at % 2 == 1 then o / 2 ^ (8 * (j + 1)) % 2 ^ 8 else o / 2 ^ (8 * j) % 2 ^ 8)
   pair_is w j k first e size s b =
@@ -257,7 +258,7 @@ module _ (z : List ℕ) (next bits a o at : ℕ) (assigns : Assigns z) where
   ]
 
   abbrev Byte : ℕ → Type 0
-  Byte w = Spells z bits w o → Spells z a w at
+  Byte w = HasBits z bits w o → HasBits z a w at
       → (Meets z (byte_at_of w bits a next).list → slice_index z (byte_at_of w bits a next).answer ≡ byte_of o (at % (w / 8)))
       × (HasFrom z next (byte_values w o at) → Meets z (byte_at_of w bits a next).list)
 

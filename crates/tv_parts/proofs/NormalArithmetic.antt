@@ -1,7 +1,7 @@
 -- The arithmetic of a step is put by normal combinations.
 use Rattle.std.proofs.Common.{◌≡◌, ℕ, ◌+◌, ◌-◌, ◌*◌, ◌/◌, ◌<◌, ◌≤◌, true, List, [], ◌∷◌, refl, ap, arith}
 use Rattle.tv_bits.proofs.NormalLaws.{new_bits_normal, double_row_normal}
-use Rattle.tv_bits.proofs.SpellingLaws.{new_bits_next}
+use Rattle.tv_bits.proofs.BitsLaws.{new_bits_next}
 use Rattle.tv_bits.specs.Bits.{new_bits_of}
 use Rattle.tv_bits.specs.DoubleRow.{double_row_of}
 use Rattle.tv_bits.specs.declared.signed_words.SignedWord.{SignedWord}

@@ -3,7 +3,7 @@ use Rattle.std.proofs.Common.{◌≡◌, ℕ, zero, suc, ◌+◌, ◌<◌, ◌�
 use Rattle.std.specs.List.{range_with_len}
 use Rattle.std.specs.Prelude.{slice_index}
 use Rattle.std.proofs.lemmas.List.FromFn.{get_or-range_with_len}
-use Rattle.tv_regs.specs.Reading.{wires_top}
+use Rattle.tv_regs.specs.Reads.{wires_top}
 use Rattle.tv_parts.specs.States.{StateIsApart}
 
 -- sixteen wires in a row

@@ -4,8 +4,8 @@ use Rattle.std.proofs.Common.{sym, ◌∙◌, ap, ap₂, subst, arith}
 use Rattle.std.specs.Prelude.{slice_index}
 use Rattle.tv_bits.proofs.DoubleRowLaws.{new_bits_constraints, new_bits_terms}
 use Rattle.tv_bits.proofs.SizeLaws.{length-bits, bits_in_field}
-use Rattle.tv_bits.proofs.SpellingLaws.{bits_sound, bits_complete, bits_answer, new_bits_next, new_bits_answer}
-use Rattle.tv_bits.specs.Bits.{Spells, bits_combination, bits_values, new_bits_of, bits_of}
+use Rattle.tv_bits.proofs.BitsLaws.{bits_sound, bits_complete, bits_answer, new_bits_next, new_bits_answer}
+use Rattle.tv_bits.specs.Bits.{HasBits, bits_combination, bits_values, new_bits_of, bits_of}
 use Rattle.tv_bits.specs.declared.bit_wires.Bits.{Bits}
 use Rattle.tv_core.proofs.BelowLaws.{length-weighted}
 use Rattle.tv_core.proofs.CombinationLaws.{value-wire}
@@ -59,7 +59,7 @@ operand_sound w width z next imm tail register immediate second named has meets 
     ∙ sum_is w width z imm tail register immediate second named has in
     record {
       word = is_word;
-      bits = subst (λ v. Spells z bits.answer.first w v) (value-wire assigns word.answer ∙ is_word)
+      bits = subst (λ v. HasBits z bits.answer.first w v) (value-wire assigns word.answer ∙ is_word)
           (bits_sound z word.next (wire word.answer) w (omega arith) assigns m2.0);
     }
 

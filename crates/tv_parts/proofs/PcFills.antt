@@ -2,7 +2,7 @@
 use Rattle.std.proofs.Common.{◌≡◌, ℕ, ◌+◌, ◌-◌, ◌*◌, ◌/◌, ◌%◌, ◌^◌, ◌<◌, ◌==◌, not, Bool, true, false, if◌then◌else◌, List, [], ◌∷◌, ◌++◌, length}
 use Rattle.std.proofs.Common.{length-append, refl, sym, ◌∙◌, ap, ap₂, subst, arith}
 use Rattle.std.specs.Prelude.{slice_index}
-use Rattle.tv_bits.proofs.SpelledNumbers.{Spells-below}
+use Rattle.tv_bits.proofs.BitNumbers.{HasBits-below}
 use Rattle.tv_bits.proofs.TimesLaws.{times_sound, times_complete, times_next, residue_below}
 use Rattle.tv_bits.specs.Times.{times_of}
 use Rattle.tv_core.proofs.CombinationLaws.{value-wire, value-append, value-cons, value-below}
@@ -107,7 +107,7 @@ module _ (w : ℕ) (width : IsWidth w) (z : List ℕ) (state : StateWires) (op :
 
   target_is : value target_upper z ≡ target w at
   target_is =
-      upper_is w width z a at (w / 4) (w / 16 + 1) has.assigns has.operand (omega (arith, width)) ∙ target_by w width at (Spells-below has.operand.bits)
+      upper_is w width z a at (w / 4) (w / 16 + 1) has.assigns has.operand (omega (arith, width)) ∙ target_by w width at (HasBits-below has.operand.bits)
 
   target_small : target w at < P
   target_small = subst (λ n. n < P) target_is (value-below target_upper z)
@@ -157,7 +157,7 @@ pc_sound w width z next state op a v i has meets =
     ((1, op + place_of 20) ∷ (1, op + place_of 22) ∷ (1, by_flag.answer) ∷ []) (jump_in w state.pc (op + place_of 31) a wraps.answer) assigns m2.1
     ∙ ap₂ (λ m n. (m + n) % P) (after_value w width z state op a v i has wraps.answer is_wraps)
     (ap₂ (λ m n. m * n) (gate_is w width z state op a v i has by_flag.answer is_flag) (jump_value w width z state op a v i has wraps.answer is_wraps))
-    ∙ pc_number w width v.pc (operand_word v i) v.flag has.small has.aligned (Spells-below has.operand.bits) has.bit i.op has.opcode.within has.opcode.used
+    ∙ pc_number w width v.pc (operand_word v i) v.flag has.small has.aligned (HasBits-below has.operand.bits) has.bit i.op has.opcode.within has.opcode.used
 
 pub pc_complete : PcIsComplete
 unfolding pc_of ◌>>=◌
@@ -179,7 +179,7 @@ pc_complete w width z next state op a v i has values =
     let is_flag : slice_index z by_flag.answer ≡ flag_jump i.op v.flag = times_sound z wraps.next (wire state.flag) flags assigns m2 ∙ product in
     let sum = ap₂ (λ m n. (m + n) % P) (after_value w width z state op a v i has wraps.answer is_wraps)
     (ap₂ (λ m n. m * n) (gate_is w width z state op a v i has by_flag.answer is_flag) (jump_value w width z state op a v i has wraps.answer is_wraps))
-    ∙ pc_number w width v.pc (operand_word v i) v.flag has.small has.aligned (Spells-below has.operand.bits) has.bit i.op has.opcode.within has.opcode.used in
+    ∙ pc_number w width v.pc (operand_word v i) v.flag has.small has.aligned (HasBits-below has.operand.bits) has.bit i.op has.opcode.within has.opcode.used in
     let m3 = accumulated_complete z by_flag.next (after_in w state.pc (op + place_of 31) wraps.answer)
     ((1, op + place_of 20) ∷ (1, op + place_of 22) ∷ (1, by_flag.answer) ∷ []) (jump_in w state.pc (op + place_of 31) a wraps.answer) assigns
     (ap (λ k. slice_index z k) e2 ∙ values.1.1.1.0 ∙ sym sum, tt) in

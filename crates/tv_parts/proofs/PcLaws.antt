@@ -6,7 +6,7 @@ use Rattle.tv_bits.proofs.BitLaws.{bit_cases}
 use Rattle.tv_bits.specs.Bit.{IsBit}
 use Rattle.tv_core.specs.declared.field.TheConstants.{P}
 use Rattle.tv_isa.specs.Opcodes.{among, chosen}
-use Rattle.tv_numbers.specs.Tables.{unused_ops, behind_pc, target, pcs}
+use Rattle.tv_numbers.specs.Tables.{unused_ops, next_pc, target, pcs}
 use Rattle.tv_numbers.specs.Views.{flag_of}
 use Rattle.tv_word.proofs.WidthLaws.{for_widths}
 use Rattle.tv_word.specs.Widths.{IsWidth}
@@ -25,15 +25,15 @@ abbrev pub after_number : ℕ → ℕ → ℕ → ℕ → ℕ
 after_number w pc answers wraps = (w / 4 + pc + (P - w / 4) * answers + (P - 2 ^ w) * wraps) % P
 
 abbrev AfterIs : ℕ → Type 0
-AfterIs w = (pc : ℕ) → pc < 2 ^ w → pc % (w / 4) ≡ 0 → (distance w pc ≡ 0 → (w / 4 + pc + (P - 2 ^ w)) % P ≡ behind_pc w pc)
-    × (distance w pc ≢ 0 → (w / 4 + pc) % P ≡ behind_pc w pc)
+AfterIs w = (pc : ℕ) → pc < 2 ^ w → pc % (w / 4) ≡ 0 → (distance w pc ≡ 0 → (w / 4 + pc + (P - 2 ^ w)) % P ≡ next_pc w pc)
+    × (distance w pc ≢ 0 → (w / 4 + pc) % P ≡ next_pc w pc)
 
 after_is : (w : ℕ) → IsWidth w → AfterIs w
 after_is w width = for_widths AfterIs
     (λ pc h k. ((λ e. omega arith), (λ e. let other : (pc + (P - (2 ^ 16 - 4))) % P ≡ 0 → ⊥ = e in omega arith)))
     (λ pc h k. ((λ e. omega arith), (λ e. let other : (pc + (P - (2 ^ 32 - 8))) % P ≡ 0 → ⊥ = e in omega arith))) w width
 
-pub goes_after : (w : ℕ) → IsWidth w → (pc : ℕ) → pc < 2 ^ w → pc % (w / 4) ≡ 0 → after_number w pc 0 (wrap w pc 1) ≡ behind_pc w pc
+pub goes_after : (w : ℕ) → IsWidth w → (pc : ℕ) → pc < 2 ^ w → pc % (w / 4) ≡ 0 → after_number w pc 0 (wrap w pc 1) ≡ next_pc w pc
 goes_after w width pc small aligned = elim (cases_eq (distance w pc) 0) [
   | inl none ↦ ap (λ b. after_number w pc 0 (if b then 1 else 0)) (eq-eqb (distance w pc) 0 none) ∙ once (w / 4 + pc) (P - w / 4) (P - 2 ^ w)
       ∙ (after_is w width pc small aligned).0 none
@@ -97,7 +97,7 @@ abbrev pub PcNumber : ℕ → ℕ → ℕ → ℕ → ℕ → Type 0
 PcNumber w pc a f k = (after_of w pc k + jump_gate k f * ((target w a + (P - after_of w pc k)) % P)) % P ≡ chosen (pcs w pc a f) k
 
 module _ (w : ℕ) (width : IsWidth w) (pc a f : ℕ) (small : pc < 2 ^ w) (aligned : pc % (w / 4) ≡ 0) (word : a < 2 ^ w) (bit : IsBit f) where
-  next_place : after_number w pc 0 (wrap w pc 1) ≡ behind_pc w pc
+  next_place : after_number w pc 0 (wrap w pc 1) ≡ next_pc w pc
   next_place = goes_after w width pc small aligned
 
   after_small : (answers wraps : ℕ) → after_number w pc answers wraps < P
@@ -109,7 +109,7 @@ module _ (w : ℕ) (width : IsWidth w) (pc a f : ℕ) (small : pc < 2 ^ w) (alig
   t_small : target w a < P
   t_small = for_widths (λ w. (a : ℕ) → a < 2 ^ w → target w a < P) (λ a h. omega arith) (λ a h. omega arith) w width a word
 
-  straight : (after_number w pc 0 (wrap w pc 1) + 0 * ((target w a + (P - after_number w pc 0 (wrap w pc 1))) % P)) % P ≡ behind_pc w pc
+  straight : (after_number w pc 0 (wrap w pc 1) + 0 * ((target w a + (P - after_number w pc 0 (wrap w pc 1))) % P)) % P ≡ next_pc w pc
   straight = passed (after_number w pc 0 (wrap w pc 1)) _ (after_small 0 (wrap w pc 1)) ∙ next_place
 
   jumped : (after_number w pc 0 (wrap w pc 1) + 1 * ((target w a + (P - after_number w pc 0 (wrap w pc 1))) % P)) % P ≡ target w a
@@ -118,22 +118,22 @@ module _ (w : ℕ) (width : IsWidth w) (pc a f : ℕ) (small : pc < 2 ^ w) (alig
   abbrev by_gate : (g : ℕ) → ℕ
   by_gate g = (after_number w pc 0 (wrap w pc 1) + g * ((target w a + (P - after_number w pc 0 (wrap w pc 1))) % P)) % P
 
-  where_set : by_gate (jump_gate 21 f) ≡ (if f == 1 then target w a else behind_pc w pc)
+  where_set : by_gate (jump_gate 21 f) ≡ (if f == 1 then target w a else next_pc w pc)
   where_set = elim (bit_cases f bit) [
-    | inl none ↦ ap (λ n. by_gate (jump_gate 21 n)) none ∙ straight ∙ sym (ap (λ n. if n == 1 then target w a else behind_pc w pc) none)
-    | inr one ↦ ap (λ n. by_gate (jump_gate 21 n)) one ∙ jumped ∙ sym (ap (λ n. if n == 1 then target w a else behind_pc w pc) one)
+    | inl none ↦ ap (λ n. by_gate (jump_gate 21 n)) none ∙ straight ∙ sym (ap (λ n. if n == 1 then target w a else next_pc w pc) none)
+    | inr one ↦ ap (λ n. by_gate (jump_gate 21 n)) one ∙ jumped ∙ sym (ap (λ n. if n == 1 then target w a else next_pc w pc) one)
   ]
 
-  where_clear : by_gate (jump_gate 22 f) ≡ (if f == 1 then behind_pc w pc else target w a)
+  where_clear : by_gate (jump_gate 22 f) ≡ (if f == 1 then next_pc w pc else target w a)
   where_clear = elim (bit_cases f bit) [
-    | inl none ↦ ap (λ n. by_gate (jump_gate 22 n)) none ∙ jumped ∙ sym (ap (λ n. if n == 1 then behind_pc w pc else target w a) none)
-    | inr one ↦ ap (λ n. by_gate (jump_gate 22 n)) one ∙ straight ∙ sym (ap (λ n. if n == 1 then behind_pc w pc else target w a) one)
+    | inl none ↦ ap (λ n. by_gate (jump_gate 22 n)) none ∙ jumped ∙ sym (ap (λ n. if n == 1 then next_pc w pc else target w a) none)
+    | inr one ↦ ap (λ n. by_gate (jump_gate 22 n)) one ∙ straight ∙ sym (ap (λ n. if n == 1 then next_pc w pc else target w a) one)
   ]
 
   none_of : (n : ℕ) → n * 0 % P ≡ 0
   none_of n = omega arith
 
-  goes_on : by_gate ((0 + 0 + f * 0 % P) % P) ≡ behind_pc w pc
+  goes_on : by_gate ((0 + 0 + f * 0 % P) % P) ≡ next_pc w pc
   goes_on = ap (λ n. by_gate ((0 + 0 + n) % P)) (none_of f) ∙ straight
 
   always : by_gate ((1 + 0 + f * 0 % P) % P) ≡ target w a

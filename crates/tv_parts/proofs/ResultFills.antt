@@ -4,7 +4,7 @@ use Rattle.std.proofs.Common.{length-append, div-le_self, inl, inr, refl, sym, �
 use Rattle.std.specs.Int.{bit_at}
 use Rattle.std.specs.Prelude.{slice_index}
 use Rattle.std.proofs.lemmas.Bool.{cases_eq, eqb-true, ne_eqb}
-use Rattle.tv_bits.proofs.SpelledNumbers.{Spells-below}
+use Rattle.tv_bits.proofs.BitNumbers.{HasBits-below}
 use Rattle.tv_bits.proofs.TimesLaws.{times_sound, times_complete, times_next}
 use Rattle.tv_bits.specs.Times.{times_of}
 use Rattle.tv_core.proofs.CombinationLaws.{value-wire, value-append, value-cons, value-below, wire-below}
@@ -126,7 +126,7 @@ module _ (w : ℕ) (width : IsWidth w) (z : List ℕ) (n : ℕ) (state : StateWi
   byte = byte_of low (at % word_size w)
 
   at_small : at < P
-  at_small = small_word w width at (Spells-below has.operand.bits)
+  at_small = small_word w width at (HasBits-below has.operand.bits)
 
   low_small : low < P
   low_small = small_word w width low has.halves.low_word
@@ -137,7 +137,7 @@ module _ (w : ℕ) (width : IsWidth w) (z : List ℕ) (n : ℕ) (state : StateWi
   byte_small : byte < P
   byte_small = omega arith
 
-  pub case_of : ResultCase w width (other_word v i) at low high finds (Spells-below has.operand.bits) i.op
+  pub case_of : ResultCase w width (other_word v i) at low high finds (HasBits-below has.operand.bits) i.op
   case_of = record {
     reads = λ e. ap₂ (λ p q. p || q) (no_primary v i n e) (no_auxiliary v i (took z t) has.tapes.asked e);
     halves = has.halves;
@@ -362,8 +362,8 @@ results_sound w width z next n state op a from t v i low high has meets =
     let known = case_of w width z n state op a from t v i low high has in
     record {
       word = λ e. is ∙ result_is w width (other_word v i) (operand_word v i) low high finds
-          (Spells-below has.operand.bits) i.op has.opcode.within has.opcode.used e known;
-      compared = λ e. is ∙ at_cmpe w width v i low high finds (Spells-below has.operand.bits) e known;
+          (HasBits-below has.operand.bits) i.op has.opcode.within has.opcode.used e known;
+      compared = λ e. is ∙ at_cmpe w width v i low high finds (HasBits-below has.operand.bits) e known;
       tested = λ e. ap (λ k. slice_index z k) (tested_answer w op a from word.answer word.next)
           ∙ tested_sound w width z n state op a from t v i low high has word.next word.answer m2.0 e;
     }

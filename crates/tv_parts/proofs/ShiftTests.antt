@@ -4,7 +4,7 @@ use Rattle.std.proofs.Common.{refl, sym, ◌∙◌, ap, ap₂, arith, mod-lt}
 use Rattle.std.proofs.Math.Nat.{div-eq_of_lt, div-add-mod, div-le_self}
 use Rattle.std.proofs.lemmas.Bool.{cases_lt, eq-eqb, ne_eqb, lt-ltb, le-ltb}
 use Rattle.std.specs.Prelude.{slice_index}
-use Rattle.tv_bits.proofs.SpelledNumbers.{Spells-small}
+use Rattle.tv_bits.proofs.BitNumbers.{HasBits-small}
 use Rattle.tv_core.proofs.CombinationLaws.{value-append, value-wire, wire-below}
 use Rattle.tv_core.proofs.Meeting.{Meets-split}
 use Rattle.tv_core.specs.Circuits.{fresh, put, pure, ◌>>=◌}
@@ -48,7 +48,7 @@ shift_test_sound w width z next state op operand from t k a assigns opcode shift
     let upper = upper_of (P - 1) operand (place_bits w) in
     let m1 = Meets-split z word.list _ meets in
     let most = width_short w width in
-    let small : a < P = Spells-small is_operand.bits (omega arith) in
+    let small : a < P = HasBits-small is_operand.bits (omega arith) in
     let below : a / 2 ^ place_bits w < P = omega (arith, div-le_self a (2 ^ place_bits w)) in
     let gate : value (opcode_sum op shift_ops) z ≡ 1 = opcode_sum_sound z op k shift_ops opcode refl ∙ ap flag_of shift in
     let sum : value (upper ++ wire y) z ≡ ((P - 1) * (a / 2 ^ place_bits w) % P + slice_index z y) % P =

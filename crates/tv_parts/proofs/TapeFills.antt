@@ -3,7 +3,7 @@ use Rattle.std.proofs.Common.{◌≡◌, ℕ, ◌+◌, ◌-◌, ◌*◌, ◌/◌
 use Rattle.std.proofs.Common.{sym, ◌∙◌, ap, ap₂, subst, arith}
 use Rattle.std.specs.Int.{bit_at}
 use Rattle.std.specs.Prelude.{slice_index}
-use Rattle.tv_bits.proofs.SpelledNumbers.{Spells-bit_at}
+use Rattle.tv_bits.proofs.BitNumbers.{HasBits-bit_at}
 use Rattle.tv_bits.proofs.TimesLaws.{times_sound, times_complete, times_next, residue_below}
 use Rattle.tv_bits.specs.Bit.{IsBit}
 use Rattle.tv_bits.specs.Times.{times_of}
@@ -74,7 +74,7 @@ tapes_filled w width z next n state op a v i o takes has asked values =
     let e3 : primary.next ≡ next + 1 + 1 + 1 + 1 + 1 = primary_next n before reads.answer aux.answer aux.next ∙ ap (λ m. m + 1 + 1) e2 in
     let high : value upper z ≡ at / 2 = upper_once w width z a at 1 assigns has.operand (omega arith) in
     let low : slice_index z a.bits.first ≡ at % 2 = ap (λ w. slice_index z w) (let e : a.bits.first ≡ a.bits.first + 0 = omega arith in e)
-    ∙ Spells-bit_at has.operand.bits 0 (omega arith) ∙ (let e : bit_at at 0 ≡ at % 2 = omega arith in e) in
+    ∙ HasBits-bit_at has.operand.bits 0 (omega arith) ∙ (let e : bit_at at 0 ≡ at % 2 = omega arith in e) in
     let is_read : value read z ≡ flag_of k = opcode_sum_sound z op i.op (30 ∷ []) has.opcode refl ∙ ap flag_of (among_one 30 i.op) in
     let m1 = if_zero_complete z next read upper assigns (values.0 ∙ sym (ap₂ (λ x g. if x == 0 then g else 0) high is_read))
     (values.1.0 ∙ sym (ap₂ (λ x g. inverse_of x * g % P) high is_read)) in

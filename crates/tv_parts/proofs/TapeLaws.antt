@@ -4,7 +4,7 @@ use Rattle.std.proofs.Common.{sym, ◌∙◌, ap, ap₂, subst, arith, zero-mul}
 use Rattle.std.specs.Int.{bit_at}
 use Rattle.std.specs.Prelude.{slice_index}
 use Rattle.std.proofs.lemmas.Bool.{cases_eq, cases_lt, eq-eqb, ne_eqb, lt-ltb, le-ltb}
-use Rattle.tv_bits.proofs.SpelledNumbers.{Spells-bit_at}
+use Rattle.tv_bits.proofs.BitNumbers.{HasBits-bit_at}
 use Rattle.tv_bits.proofs.TimesLaws.{times_sound}
 use Rattle.tv_bits.specs.Bit.{IsBit}
 use Rattle.tv_bits.specs.Times.{times_of}
@@ -136,7 +136,7 @@ tapes_sound w width z next n state op a v i has meets =
     let m3 = Meets-split z primary.list _ m2.1 in
     let high : value upper z ≡ at / 2 = upper_once w width z a at 1 assigns has.operand (omega arith) in
     let low : slice_index z a.bits.first ≡ at % 2 = ap (λ w. slice_index z w) (let e : a.bits.first ≡ a.bits.first + 0 = omega arith in e)
-    ∙ Spells-bit_at has.operand.bits 0 (omega arith) ∙ (let e : bit_at at 0 ≡ at % 2 = omega arith in e) in
+    ∙ HasBits-bit_at has.operand.bits 0 (omega arith) ∙ (let e : bit_at at 0 ≡ at % 2 = omega arith in e) in
     let is_reads : slice_index z reads.answer ≡ (if at / 2 == 0 then flag_of k else 0) =
     if_zero_sound z next (opcode_sum op (30 ∷ [])) upper assigns m1.0
     ∙ ap₂ (λ x g. if x == 0 then g else 0) high (opcode_sum_sound z op i.op (30 ∷ []) has.opcode refl ∙ ap flag_of (among_one 30 i.op)) in

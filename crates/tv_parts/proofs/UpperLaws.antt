@@ -5,8 +5,8 @@ use Rattle.std.proofs.Math.Nat.{div-add-mod}
 use Rattle.std.proofs.lemmas.List.{length-map}
 use Rattle.std.proofs.lemmas.Nat.{pow-add, mul-mod_first, mul-mod_second, div-mul-add}
 use Rattle.tv_bits.proofs.NormalLaws.{wire_normal, bits_normal, bits_top, scaled_normal, less_normal}
-use Rattle.tv_bits.proofs.SpelledNumbers.{value-bits_below, Spells-low, Spells-small}
-use Rattle.tv_bits.specs.Bits.{Spells, bits_combination}
+use Rattle.tv_bits.proofs.BitNumbers.{value-bits_below, HasBits-low, HasBits-small}
+use Rattle.tv_bits.specs.Bits.{HasBits, bits_combination}
 use Rattle.tv_core.proofs.BelowLaws.{below-power, length-weighted}
 use Rattle.tv_core.proofs.CombinationLaws.{value-wire, value-less, value-scaled, top-scaled}
 use Rattle.tv_core.proofs.PrimeLaws.{p_zero_product}
@@ -58,8 +58,8 @@ upper_is w width z a v m k assigns is within =
     let short = width_short w width in
     let size : w ≡ k + (w - k) = omega arith in
     let low = bits_combination a.bits.first k in
-    let spelled = Spells-low z a.bits.first k (w - k) v (subst (λ n. Spells z a.bits.first n v) size is.bits) in
-    let small : v < P = Spells-small is.bits (omega arith) in
+    let spelled = HasBits-low z a.bits.first k (w - k) v (subst (λ n. HasBits z a.bits.first n v) size is.bits) in
+    let small : v < P = HasBits-small is.bits (omega arith) in
     let upper : v / 2 ^ k < P = omega (arith, div-le_self v (2 ^ k)) in
     value-scaled (m * power_inverse k % P) (less (wire a.word) low) z
     ∙ ap (λ n. m * power_inverse k % P * n % P)
@@ -73,7 +73,7 @@ pub upper_once : (w : ℕ) → IsWidth w → (z : List ℕ) (a : OperandWires) (
     → value (upper_of 1 a k) z ≡ v / 2 ^ k
 upper_once w width z a v k assigns is within =
     let short = width_short w width in
-    let small : v < P = Spells-small is.bits (omega arith) in
+    let small : v < P = HasBits-small is.bits (omega arith) in
     let upper : v / 2 ^ k < P = omega (arith, div-le_self v (2 ^ k)) in
     upper_is w width z a v 1 k assigns is within ∙ omega arith
 

@@ -20,9 +20,9 @@ use Rattle.tv_numbers.specs.Numbers.{writes, stepped, result_in}
 use Rattle.tv_numbers.specs.Tables.{writer_ops}
 use Rattle.tv_numbers.specs.Views.{flag_of}
 use Rattle.tv_regs.proofs.UpdateLaws.{update_complete, update_sizes, update_costs}
-use Rattle.tv_regs.specs.Reading.{words_at}
+use Rattle.tv_regs.specs.Reads.{words_at}
 use Rattle.tv_regs.specs.Update.{update_of}
-use Rattle.tv_regs.specs.Writing.{written_regs}
+use Rattle.tv_regs.specs.Writes.{written_regs}
 use Rattle.tv_regs.specs.declared.triple.Triple.{Triple}
 use Rattle.tv_parts.proofs.AccumulationLaws.{accumulated_complete, accumulated_answer, accumulated_next}
 use Rattle.tv_parts.proofs.OpcodeLaws.{opcode_sum_sound}

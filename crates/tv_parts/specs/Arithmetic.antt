@@ -3,8 +3,8 @@ use Rattle.std.specs.Prelude.{◌≡◌, ℕ, ◌+◌, ◌-◌, ◌*◌, ◌/◌
 use Rattle.std.specs.Prelude.{slice_index, bit_and, bit_xor}
 use Rattle.std.specs.Int.{bit_at}
 use Rattle.tv_bits.specs.Bit.{IsBit}
-use Rattle.tv_bits.specs.Bits.{Spells, bits_values, new_bits_of}
-use Rattle.tv_bits.specs.DoubleRow.{SpellsRow, double_row_of, double_row_values}
+use Rattle.tv_bits.specs.Bits.{HasBits, bits_values, new_bits_of}
+use Rattle.tv_bits.specs.DoubleRow.{HasRowBits, double_row_of, double_row_values}
 use Rattle.tv_bits.specs.declared.signed_words.SignedWord.{SignedWord}
 use Rattle.tv_core.specs.Circuits.{Circuit, pure, ◌>>=◌}
 use Rattle.tv_core.specs.Laws.{Assigns, Meets, HasFrom, Fills, InField}
@@ -109,8 +109,8 @@ arithmetic_of w op other f a = do
 
 -- ---- in numbers
 -- the number whose bits x represents: at a division how much room the remainder leaves below the divisor, else the other word
-abbrev pub spelled_word : ℕ → ℕ → ℕ → ℕ → ℕ
-spelled_word w k x a = if among division_ops k then below_divisor w x a else x
+abbrev pub decomposed_word : ℕ → ℕ → ℕ → ℕ → ℕ
+decomposed_word w k x a = if among division_ops k then below_divisor w x a else x
 
 -- the word that is shifted, which is 0 where all its bits are shifted out
 abbrev pub shifted_word : ℕ → ℕ → ℕ → ℕ
@@ -156,14 +156,14 @@ high_number w k x a = chosen (high_numbers w x a) k
 -- ---- the values of the wires that are made, for an opcode k, the other word x, the operand a, the number at the wire f,
 -- and the halves of the row
 abbrev pub rows_values : ℕ → ℕ → ℕ → ℕ → ℕ → ℕ → List ℕ
-rows_values w k x a low high = bits_values (spelled_word w k x a) w ++ double_row_values w low high (flag_of (among (SMULH ∷ []) k))
+rows_values w k x a low high = bits_values (decomposed_word w k x a) w ++ double_row_values w low high (flag_of (among (SMULH ∷ []) k))
 
 abbrev pub sums_values : ℕ → ℕ → ℕ → ℕ → List ℕ
-sums_values w k x a = row_difference_values w (flag_of (among signed_ops k)) (spelled_word w k x a) a
+sums_values w k x a = row_difference_values w (flag_of (among signed_ops k)) (decomposed_word w k x a) a
 
 abbrev pub products_values : ℕ → ℕ → ℕ → ℕ → List ℕ
 products_values w k x a =
-    row_product_values x a ++ row_signed_product_values w x (bit_at (spelled_word w k x a) (w - 1)) a (bit_at a (w - 1))
+    row_product_values x a ++ row_signed_product_values w x (bit_at (decomposed_word w k x a) (w - 1)) a (bit_at a (w - 1))
 
 abbrev pub shifts_values : ℕ → ℕ → ℕ → ℕ → ℕ → ℕ → List ℕ
 shifts_values w x a f low high =
@@ -198,9 +198,9 @@ pub record HasArithmetic (w : ℕ) (z : List ℕ) (from : ArithmeticSources) (by
 -- f says whether the operand is 0
 pub record IsArithmetic (w : ℕ) (z : List ℕ) (made : ArithmeticWires) (f : ℕ) (operand : OperandWires) (by : OperationNumbers) : Type 0 where
   pub halves : AreHalves w by.x by.a by.k (slice_index z made.row.low) (slice_index z made.row.high)
-  pub row : SpellsRow w z made.row
-  pub bits : (v : ℕ) × Spells z made.x.first w v
-  pub same : among division_ops by.k ≡ false → Spells z made.x.first w by.x
+  pub row : HasRowBits w z made.row
+  pub bits : (v : ℕ) × HasBits z made.x.first w v
+  pub same : among division_ops by.k ≡ false → HasBits z made.x.first w by.x
   pub by_zero : among division_ops by.k ≡ true → slice_index z f ≡ flag_of (by.a == 0)
   pub both : slice_index z made.both ≡ slice_index z operand.bits.first * slice_index z (operand.bits.first + 1) % P
 

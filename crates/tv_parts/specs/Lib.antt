@@ -13,5 +13,5 @@ pub mod Tapes
 pub mod Traced
 pub mod Written
 pub use Rattle.tv_core.specs.Combinations
-pub use Rattle.tv_core.specs.Giving
+pub use Rattle.tv_core.specs.Values
 pub use Rattle.tv_core.specs.Sinks

@@ -1,6 +1,6 @@
 -- The data line of a step, and the bytes of its word.
 use Rattle.std.specs.Prelude.{◌≡◌, ℕ, ◌+◌, ◌-◌, ◌*◌, ◌/◌, ◌%◌, ◌^◌, ◌<◌, ◌≤◌, Bool, ◌==◌, if◌then◌else◌, List, [], ◌∷◌, ◌++◌, length, slice_index}
-use Rattle.tv_bits.specs.Bits.{Spells, bits_combination}
+use Rattle.tv_bits.specs.Bits.{HasBits, bits_combination}
 use Rattle.tv_bits.specs.Times.{times_of}
 use Rattle.tv_core.specs.Circuits.{Circuit, pure, ◌>>=◌}
 use Rattle.tv_core.specs.Combinations.{wire, constant, scaled}
@@ -110,9 +110,9 @@ pub record HasMemory (w : ℕ) (z : List ℕ) (wires : TapedWires) (d : DataWire
   pub before : slice_index z wires.state.taken_of_primary ≡ step.view.taken
   pub opcode : IsOpcode z wires.op step.instr.op
   pub operand : IsOperand w z wires.operand (operand_word step.view step.instr)
-  pub bits : Spells z d.bits w step.low
+  pub bits : HasBits z d.bits w step.low
   pub word : slice_index z d.word ≡ step.low
-  pub spelled : Spells z d.x.first w x
+  pub spelled : HasBits z d.x.first w x
   pub stored : step.instr.op ≡ STORE_B → x ≡ other_word step.view step.instr
   pub other : slice_index z d.other ≡ other_word step.view step.instr
   pub both : slice_index z d.both ≡ slice_index z wires.operand.bits.first * slice_index z (wires.operand.bits.first + 1) % P

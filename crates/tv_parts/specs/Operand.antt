@@ -1,6 +1,6 @@
 -- The operand of an instruction: its second word, or the register that this names.
 use Rattle.std.specs.Prelude.{◌≡◌, ℕ, ◌+◌, ◌-◌, ◌*◌, ◌/◌, ◌%◌, ◌^◌, ◌<◌, Bool, if◌then◌else◌, List, [], ◌∷◌, length, slice_index}
-use Rattle.tv_bits.specs.Bits.{Spells, bits_combination, bits_values, bits_of}
+use Rattle.tv_bits.specs.Bits.{HasBits, bits_combination, bits_values, bits_of}
 use Rattle.tv_core.specs.Circuits.{Circuit, pure, ◌>>=◌}
 use Rattle.tv_core.specs.Combinations.{wire, scaled, less}
 use Rattle.tv_core.specs.Constraints.{Combination}
@@ -49,7 +49,7 @@ pub record HasOperand (w : ℕ) (z : List ℕ) (from : OperandSources) (immediat
 -- the wires are those of a word and of its bits
 pub record IsOperand (w : ℕ) (z : List ℕ) (made : OperandWires) (a : ℕ) : Type 0 where
   pub word : slice_index z made.word ≡ a
-  pub bits : Spells z made.bits.first w a
+  pub bits : HasBits z made.bits.first w a
 
 -- an assignment that satisfies the constraints has the operand at the returned wires
 abbrev pub OperandIsSound : Type 0

@@ -1,7 +1,7 @@
 -- The wires of a state.
 use Rattle.std.specs.Prelude.{◌≡◌, ℕ, ◌+◌, ◌*◌, ◌≤◌, ◌<◌, List, slice_index}
 use Rattle.tv_numbers.specs.Views.{View}
-use Rattle.tv_regs.specs.Reading.{words_at, wires_top}
+use Rattle.tv_regs.specs.Reads.{words_at, wires_top}
 use Rattle.tv_regs.specs.declared.triple.Triple.{Triple}
 use Rattle.tv_parts.specs.Inputs.{TapedWires, FlagWires}
 use Rattle.tv_parts.specs.declared.records.ArithmeticWires.{ArithmeticWires}

@@ -12,7 +12,7 @@ use Rattle.tv_isa.specs.declared.opcode.TheConstants.{CMOV}
 use Rattle.tv_numbers.specs.Numbers.{writes, stepped, result_in}
 use Rattle.tv_numbers.specs.Tables.{writer_ops}
 use Rattle.tv_numbers.specs.Views.{View, flag_of}
-use Rattle.tv_regs.specs.Reading.{words_at}
+use Rattle.tv_regs.specs.Reads.{words_at}
 use Rattle.tv_regs.specs.Update.{update_of}
 use Rattle.tv_regs.specs.declared.triple.Triple.{Triple}
 use Rattle.tv_parts.specs.Accumulation.{accumulated_of}

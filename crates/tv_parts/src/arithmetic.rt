@@ -1,9 +1,9 @@
 //! The arithmetic of a step: one double row that holds what each operation makes of two words.
 ghost use Rattle.std.specs.Prelude.{◌≡◌, ◌+◌, ◌-◌, ◌*◌, ◌/◌, ◌%◌, ◌≤◌, ◌<◌, ◌^◌, [], ◌∷◌};
 ghost use Rattle.std.specs.Prelude.{false, max, IfOk, OnOk};
-ghost use Rattle.tv_core.specs.Giving.{GivesIn};
+ghost use Rattle.tv_core.specs.Values.{GivesIn};
 ghost use Rattle.tv_core.specs.Sinks.{PutsIn, Grows, Room};
-ghost use Rattle.tv_parts.specs.Arithmetic.{signed_ops, spelled_word, shifted_word};
+ghost use Rattle.tv_parts.specs.Arithmetic.{signed_ops, decomposed_word, shifted_word};
 ghost use Rattle.tv_parts.specs.Arithmetic.{low_number, high_number, rows_values};
 ghost use Rattle.tv_parts.specs.Arithmetic.{shifts_values, arithmetic_values};
 ghost use Rattle.tv_parts.specs.Arithmetic.{with_sign, rows_of, sums_of, products_of};
@@ -209,7 +209,7 @@ pub fn fill_arithmetic<const W: u32, V: Values>(
     ensures whole { OnOk result (V.giving.broken v.new ≡ false) }
 {
     fill_rows::<W, V>(v, k, x, a, low, high)?;
-    let spelled = spelled_word::<W>(k, x, a);
+    let spelled = decomposed_word::<W>(k, x, a);
     fill_row_difference::<W, V>(v, is_signed_order(k), spelled, a)?;
     fill_row_product(v, x, a)?;
     fill_row_signed_product::<W, V>(v, x, spelled, a)?;
@@ -232,16 +232,16 @@ fn fill_rows<const W: u32, V: Values>(
     ensures gives { GivesIn V.giving v.old v.new (rows_values W k x a low high) result }
     ensures whole { OnOk result (V.giving.broken v.new ≡ false) }
 {
-    fill_bits(v, F::from(spelled_word::<W>(k, x, a)), W)?;
+    fill_bits(v, F::from(decomposed_word::<W>(k, x, a)), W)?;
     fill_double_row::<W, V>(v, low, high, is_signed_product(k))
 }
 
 /// Returns the number whose bits stand beside the row, for the opcode `k`, the other word `x` and
 /// the operand `a`: at a division the room below the divisor, else the other word.
-pub fn spelled_word<const W: u32>(k: u8, x: u32, a: u32) -> u32
+pub fn decomposed_word<const W: u32>(k: u8, x: u32, a: u32) -> u32
     requires width { IsWidth W }
     requires a_word { a < 2 ^ W }
-    ensures { result ≡ spelled_word W k x a }
+    ensures { result ≡ decomposed_word W k x a }
 {
     if matches!(k, UDIV | UMOD) {
         below_divisor::<W>(x, a)

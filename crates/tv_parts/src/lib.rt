@@ -21,7 +21,7 @@ pub use accumulation::{
 };
 pub use arithmetic::{
     arithmetic_costs, arithmetic_fills, arithmetic_is_complete, arithmetic_is_sound,
-    fill_arithmetic, put_arithmetic, row_halves, shift_test_is_sound, spelled_word,
+    decomposed_word, fill_arithmetic, put_arithmetic, row_halves, shift_test_is_sound,
 };
 pub use flag::{fill_flag, flag_costs, flag_fills, flag_is_complete, flag_is_sound, put_flag};
 pub use memory::{

@@ -2,7 +2,7 @@
 ghost use Rattle.std.specs.Prelude.{◌≡◌, ◌+◌, ◌-◌, ◌*◌, ◌/◌, ◌%◌, ◌≤◌, ◌<◌, ◌^◌, ◌++◌, false};
 ghost use Rattle.std.specs.Prelude.{length, max, IfOk, OnOk};
 ghost use Rattle.tv_core.specs.Combinations.{wire, scaled, top};
-ghost use Rattle.tv_core.specs.Giving.{GivesIn};
+ghost use Rattle.tv_core.specs.Values.{GivesIn};
 ghost use Rattle.tv_core.specs.Sinks.{PutsIn, Grows, Room};
 ghost use Rattle.tv_parts.specs.Memory.{line_of, byte_of_pair, byte_of_four, byte_at_of};
 ghost use Rattle.tv_parts.specs.Memory.{power_in, new_of, memory_of};
@@ -211,7 +211,7 @@ fn put_new<const W: u32, S: Sink>(
         first: d.x.first,
         n: 8,
     };
-    lowest.fill(&mut scratch.b);
+    lowest.set_number(&mut scratch.b);
     scratch.b.plus(minus, byte);
     let change = times_by(s, &mut scratch.c, &scratch.a, &scratch.b)?;
     scratch.a.set_wire(opcode_wire(op, STORE_B));

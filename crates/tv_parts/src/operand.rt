@@ -3,7 +3,7 @@ ghost use Rattle.std.specs.Prelude.{◌≡◌, ◌+◌, ◌-◌, ◌≤◌, ◌<
 ghost use Rattle.std.specs.Prelude.{OnOk};
 ghost use Rattle.tv_bits.specs.Bits.{bits_of};
 ghost use Rattle.tv_core.specs.Combinations.{wire, scaled, top};
-ghost use Rattle.tv_core.specs.Giving.{GivesIn};
+ghost use Rattle.tv_core.specs.Values.{GivesIn};
 ghost use Rattle.tv_core.specs.Sinks.{PutsIn, Grows, Room};
 ghost use Rattle.tv_core.specs.declared.field.TheConstants.{P};
 ghost use Rattle.tv_parts.specs.Operand.{operand_of, operand_values, power_inverse, upper_of};
@@ -58,7 +58,7 @@ fn bits_of_wire<const W: u32, S: Sink>(s: &mut S, scratch: &mut Scratch, word: W
     ensures below { IfOk result (λ bits. bits.first + W ≤ S.meaning.wires s.new) }
 {
     let bits = new_bits_by(s, &mut scratch.a, W)?;
-    bits.fill(&mut scratch.a);
+    bits.set_number(&mut scratch.a);
     scratch.b.set_wire(Wire(0));
     scratch.c.set_wire(word);
     s.put(&scratch.a, &scratch.b, &scratch.c)?;

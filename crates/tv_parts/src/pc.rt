@@ -8,10 +8,10 @@ ghost use Rattle.tv_parts.specs.Pc.{from_last, after_in, jump_in, pc_of, PcIsSou
 ghost use Rattle.tv_parts.specs.Pc.{PcIsComplete, PcSizes, PcCosts, pc_values};
 ghost use Rattle.tv_parts.specs.Traced.{traced_view, AreNumbers};
 ghost use Rattle.tv_isa.specs.Opcodes.{chosen};
-ghost use Rattle.tv_numbers.specs.Tables.{behind_pc, target, pcs};
+ghost use Rattle.tv_numbers.specs.Tables.{next_pc, target, pcs};
 ghost use Rattle.tv_numbers.specs.Views.{flag_of};
 ghost use Rattle.tv_core.specs.Inverse.{inverse_of};
-ghost use Rattle.tv_core.specs.Giving.{GivesIn};
+ghost use Rattle.tv_core.specs.Values.{GivesIn};
 ghost use Rattle.tv_parts.specs.States.{StateUnder, OperandUnder};
 ghost use Rattle.tv_word.specs.Widths.{IsWidth};
 
@@ -158,7 +158,7 @@ fn less_last<const W: u32>(pc: u32) -> F
 // The place after an instruction, which is the first one after the last.
 fn place_after<const W: u32>(pc: u32) -> u32
     requires width { IsWidth W }
-    ensures { result ≡ behind_pc W pc }
+    ensures { result ≡ next_pc W pc }
 {
     sum::<W>(pc, W / 4)
 }
@@ -174,7 +174,7 @@ fn target<const W: u32>(a: u32) -> u32
 // The place to which a jump goes where the flag is set, and else the place after it.
 fn jumped<const W: u32>(pc: u32, a: u32, flag: bool) -> u32
     requires width { IsWidth W }
-    ensures { result ≡ (if flag_of flag == 1 then target W a else behind_pc W pc) }
+    ensures { result ≡ (if flag_of flag == 1 then target W a else next_pc W pc) }
 {
     if flag {
         target::<W>(a)

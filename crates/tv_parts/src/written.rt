@@ -1,7 +1,7 @@
 //! The registers after a step.
 ghost use Rattle.std.specs.Prelude.{◌≡◌, ◌+◌, ◌≤◌, ◌<◌, ◌^◌, ◌==◌, if◌then◌else◌, false};
 ghost use Rattle.std.specs.Prelude.{IfOk, OnOk};
-ghost use Rattle.tv_core.specs.Giving.{GivesIn};
+ghost use Rattle.tv_core.specs.Values.{GivesIn};
 ghost use Rattle.tv_core.specs.Sinks.{PutsIn, Grows, Room};
 ghost use Rattle.tv_parts.specs.Written.{written_of};
 ghost use Rattle.tv_parts.specs.States.{StateUnder, TripleUnder};
@@ -13,7 +13,7 @@ ghost use Rattle.tv_isa.specs.declared.opcode.TheConstants.{CMOV};
 ghost use Rattle.tv_numbers.specs.Numbers.{result_in};
 ghost use Rattle.tv_numbers.specs.Tables.{results, writer_ops};
 ghost use Rattle.tv_numbers.specs.Views.{flag_of};
-ghost use Rattle.tv_regs.specs.Reading.{wires_top};
+ghost use Rattle.tv_regs.specs.Reads.{wires_top};
 ghost use Rattle.tv_word.specs.Widths.{IsWidth};
 
 use crate::accumulation::accumulated;

@@ -13,7 +13,7 @@ use Rattle.tv_container.specs.declared.why.ReadWhy.TheVariants.{BadCount}
 use Rattle.tv_container.specs.Places.{Fault, ◌>>=◌, wrong}
 use Rattle.tv_r1cs_read.specs.Places.{HasRead, IsAt, IsAll}
 use Rattle.tv_r1cs_read.specs.Progress.{Reached, Follows, IsWithin, ahead, terms_given}
-use Rattle.tv_r1cs_read.specs.R1cs.{constraint_at, constraints_from, system_of}
+use Rattle.tv_r1cs_read.specs.R1cs.{constraint_at, constraints_from, r1cs_system}
 use Rattle.tv_container.specs.Reading.{Refuses}
 use Rattle.tv_r1cs_read.specs.Rows.{constraint_of, terms_in}
 use Rattle.tv_r1cs_read.specs.Steps.{Failed, Passed}
@@ -39,8 +39,8 @@ read_refused done all ahead why read refuses = rw read.same (refuses_first why _
 
 -- what is refused of the constraints ahead is refused of the system
 pub refuses_ahead : (file : List ℕ) (reached : Reached) (rows : List Constraint) (why : ReadRefusal) → IsAt reached file rows →
-    Refuses why (ahead reached file) → Refuses why (system_of file)
-unfolding system_of
+    Refuses why (ahead reached file) → Refuses why (r1cs_system file)
+unfolding r1cs_system
 refuses_ahead file reached rows why place refuses =
     rw place.header (refuses_first why _ _ (read_refused rows _ _ why place.read refuses))
 
@@ -100,7 +100,7 @@ next_at file old new rows row place follows same count step =
 -- no constraint is left
 pub all_at : (file : List ℕ) (reached : Reached) (rows : List Constraint) → IsAt reached file rows → ahead reached file ≡ Ok [] →
     IsAll reached file rows
-unfolding system_of survey_of
+unfolding r1cs_system survey_of
 all_at file reached rows place none =
     let header = reached.header in
     let all = read_all rows _ _ place.read none in
@@ -118,16 +118,16 @@ passed_none file reached rows place = ([], rw append-nil place)
 
 -- those that were tried last were passed too
 pub passed_all : (file : List ℕ) (z : List ℕ) (reached : Reached) (rows more : List Constraint) →
-    MatchOption reached.stopped (Failed None z reached file (rows ++ more)) (λ why. Refuses why (system_of file)) →
-    MatchOption reached.stopped (Passed reached file rows) (λ why. Refuses why (system_of file))
+    MatchOption reached.stopped (Failed None z reached file (rows ++ more)) (λ why. Refuses why (r1cs_system file)) →
+    MatchOption reached.stopped (Passed reached file rows) (λ why. Refuses why (r1cs_system file))
 passed_all file z reached rows more ended = by_stop reached.stopped ended
   where
-    by_stop : (stopped : Option ReadRefusal) → MatchOption stopped (Failed None z reached file (rows ++ more)) (λ why. Refuses why (system_of file)) →
-        MatchOption stopped (Passed reached file rows) (λ why. Refuses why (system_of file))
+    by_stop : (stopped : Option ReadRefusal) → MatchOption stopped (Failed None z reached file (rows ++ more)) (λ why. Refuses why (r1cs_system file)) →
+        MatchOption stopped (Passed reached file rows) (λ why. Refuses why (r1cs_system file))
     by_stop None all = (more ++ all.0, rw (← append_assoc rows more all.0) all.1)
     by_stop (Some why) refuses = refuses
 
 -- what is given where reading is on
 pub is_on : {Gives : Type 0} (file : List ℕ) (stopped : Option ReadRefusal) → stopped ≡ None → Gives
-    → MatchOption stopped Gives (λ why. Refuses why (system_of file))
+    → MatchOption stopped Gives (λ why. Refuses why (r1cs_system file))
 is_on file stopped on gives = rw on gives

@@ -8,7 +8,7 @@ use Rattle.tv_container.specs.Reading.{Refuses}
 use Rattle.tv_container.specs.declared.why.ReadRefusal.{ReadRefusal}
 use Rattle.tv_r1cs_read.specs.Places.{IsAll, IsAt}
 use Rattle.tv_r1cs_read.specs.Progress.{Reached}
-use Rattle.tv_r1cs_read.specs.R1cs.{system_of}
+use Rattle.tv_r1cs_read.specs.R1cs.{r1cs_system}
 use Rattle.tv_r1cs_read.specs.Steps.{Failed, Fewer, WentOver}
 
 -- after constraints that hold, the first that fails is the first of the others
@@ -83,11 +83,11 @@ failed z old new file rows more all before none over count place = (
 
 -- all hold, or reading stopped
 pub none_failed : (z : List ℕ) (reached : Reached) (file : List ℕ) (rows more : List Constraint) → first_failure z 0 more ≡ None →
-    MatchOption reached.stopped (IsAll reached file (rows ++ more)) (λ why. Refuses why (system_of file)) →
-    MatchOption reached.stopped (Failed None z reached file rows) (λ why. Refuses why (system_of file))
+    MatchOption reached.stopped (IsAll reached file (rows ++ more)) (λ why. Refuses why (r1cs_system file)) →
+    MatchOption reached.stopped (Failed None z reached file rows) (λ why. Refuses why (r1cs_system file))
 none_failed z reached file rows more none ended = by_stop reached.stopped ended
   where
-    by_stop : (stopped : Option ReadRefusal) → MatchOption stopped (IsAll reached file (rows ++ more)) (λ why. Refuses why (system_of file)) →
-        MatchOption stopped (Failed None z reached file rows) (λ why. Refuses why (system_of file))
+    by_stop : (stopped : Option ReadRefusal) → MatchOption stopped (IsAll reached file (rows ++ more)) (λ why. Refuses why (r1cs_system file)) →
+        MatchOption stopped (Failed None z reached file rows) (λ why. Refuses why (r1cs_system file))
     by_stop None all = (more, all, none)
     by_stop (Some why) refuses = refuses

@@ -2,7 +2,7 @@
 use Rattle.std.specs.Prelude.{◌≡◌, ℕ, ◌+◌, List, [], ◌∷◌, ◌++◌, length, take, drop, Ok, refl}
 use Rattle.tv_core.specs.Constraints.{System}
 use Rattle.tv_container.specs.Places.{wrong}
-use Rattle.tv_r1cs_read.specs.R1cs.{system_of, header_of, header_in, constraints_from, constraint_at, combination_at, count_at, terms_at, term_at}
+use Rattle.tv_r1cs_read.specs.R1cs.{r1cs_system, header_of, header_in, constraints_from, constraint_at, combination_at, count_at, terms_at, term_at}
 use Rattle.tv_container.specs.Field.{this_field}
 use Rattle.tv_container.specs.Sections.{sections_of, sections_in, sections_from, section_at}
 use Rattle.tv_container.specs.declared.why.ReadWhy.TheVariants.{BadMagic, BadVersion, Missing, Doubled, OtherPrime, BadCount, WireRange, NotCanonical}
@@ -56,50 +56,51 @@ system = record {
 -- what the definition makes of the worked file and of files that differ from it in one place
 record AreRead : Type 0 where
   -- as it stands
-  as_it_stands : system_of worked ≡ Ok system
+  as_it_stands : r1cs_system worked ≡ Ok system
   -- its sections in the order 3, 2, 1
-  other_order : system_of (front ++ (labels ++ (rows ++ counts))) ≡ Ok system
+  other_order : r1cs_system (front ++ (labels ++ (rows ++ counts))) ≡ Ok system
   -- a section of a type that isn't looked up, in the place of section 3
-  other_type : system_of (changed 124 (9 ∷ []) worked) ≡ Ok system
+  other_type : r1cs_system (changed 124 (9 ∷ []) worked) ≡ Ok system
   -- the last byte is lacking
-  cut_by_one : system_of (take 167 worked) ≡ wrong 124 Truncated
+  cut_by_one : r1cs_system (take 167 worked) ≡ wrong 124 Truncated
   -- only three bytes
-  cut_to_three : system_of (take 3 worked) ≡ wrong 0 Truncated
+  cut_to_three : r1cs_system (take 3 worked) ≡ wrong 0 Truncated
   -- a byte after the last section
-  one_more : system_of (worked ++ 0 ∷ []) ≡ wrong 168 Trailing
+  one_more : r1cs_system (worked ++ 0 ∷ []) ≡ wrong 168 Trailing
   -- another first byte
-  bad_magic : system_of (changed 0 (0 ∷ []) worked) ≡ wrong 0 BadMagic
+  bad_magic : r1cs_system (changed 0 (0 ∷ []) worked) ≡ wrong 0 BadMagic
   -- version 2
-  version_two : system_of (changed 4 (2 ∷ []) worked) ≡ wrong 4 (BadVersion 2)
+  version_two : r1cs_system (changed 4 (2 ∷ []) worked) ≡ wrong 4 (BadVersion 2)
   -- two sections are counted, or four
-  two_sections : system_of (changed 8 (2 ∷ []) worked) ≡ wrong 124 Trailing
-  four_sections : system_of (changed 8 (4 ∷ []) worked) ≡ wrong 168 Truncated
+  two_sections : r1cs_system (changed 8 (2 ∷ []) worked) ≡ wrong 124 Trailing
+  four_sections : r1cs_system (changed 8 (4 ∷ []) worked) ≡ wrong 168 Truncated
   -- the third section is of type 1 again, or of type 2
-  one_twice : system_of (changed 124 (1 ∷ []) worked) ≡ wrong 124 (Doubled 1)
-  two_twice : system_of (changed 124 (2 ∷ []) worked) ≡ wrong 124 (Doubled 2)
+  one_twice : r1cs_system (changed 124 (1 ∷ []) worked) ≡ wrong 124 (Doubled 1)
+  two_twice : r1cs_system (changed 124 (2 ∷ []) worked) ≡ wrong 124 (Doubled 2)
   -- there is no section 1, or no section 2
-  no_one : system_of (changed 12 (9 ∷ []) worked) ≡ wrong 168 (Missing 1)
-  no_two : system_of (changed 64 (9 ∷ []) worked) ≡ wrong 168 (Missing 2)
+  no_one : r1cs_system (changed 12 (9 ∷ []) worked) ≡ wrong 168 (Missing 1)
+  no_two : r1cs_system (changed 64 (9 ∷ []) worked) ≡ wrong 168 (Missing 2)
   -- section 1 has 2^64 - 1 bytes
-  long_section : system_of (changed 16 (255 ∷ 255 ∷ 255 ∷ 255 ∷ 255 ∷ 255 ∷ 255 ∷ 255 ∷ []) worked) ≡ wrong 12 Truncated
+  long_section : r1cs_system (changed 16 (255 ∷ 255 ∷ 255 ∷ 255 ∷ 255 ∷ 255 ∷ 255 ∷ 255 ∷ []) worked) ≡ wrong 12 Truncated
   -- numbers of 32 bytes, or another prime of 8 bytes
-  wide_numbers : system_of (changed 24 (32 ∷ []) worked) ≡ wrong 24 OtherPrime
-  other_prime : system_of (changed 28 (2 ∷ []) worked) ≡ wrong 24 OtherPrime
+  wide_numbers : r1cs_system (changed 24 (32 ∷ []) worked) ≡ wrong 24 OtherPrime
+  other_prime : r1cs_system (changed 28 (2 ∷ []) worked) ≡ wrong 24 OtherPrime
   -- one wire, or three
-  one_wire : system_of (changed 36 (1 ∷ []) worked) ≡ wrong 24 (BadCount 1 2)
-  three_wires : system_of (changed 36 (3 ∷ []) worked) ≡ wrong 136 (BadCount 32 24)
+  one_wire : r1cs_system (changed 36 (1 ∷ []) worked) ≡ wrong 24 (BadCount 1 2)
+  three_wires : r1cs_system (changed 36 (3 ∷ []) worked) ≡ wrong 136 (BadCount 32 24)
   -- no constraint is counted, or two
-  no_constraint : system_of (changed 60 (0 ∷ []) worked) ≡ wrong 76 (BadCount 48 0)
-  two_constraints : system_of (changed 60 (2 ∷ []) worked) ≡ wrong 124 Truncated
+  no_constraint : r1cs_system (changed 60 (0 ∷ []) worked) ≡ wrong 76 (BadCount 48 0)
+  two_constraints : r1cs_system (changed 60 (2 ∷ []) worked) ≡ wrong 124 Truncated
   -- a combination of 1,048,577 terms
-  too_wide : system_of (changed 78 (16 ∷ []) worked) ≡ wrong 76 (TooWide 1048577)
+  too_wide : r1cs_system (changed 78 (16 ∷ []) worked) ≡ wrong 76 (TooWide 1048577)
   -- a term of wire 4
-  no_such_wire : system_of (changed 80 (4 ∷ []) worked) ≡ wrong 80 (WireRange 4 4)
+  no_such_wire : r1cs_system (changed 80 (4 ∷ []) worked) ≡ wrong 80 (WireRange 4 4)
   -- a coefficient that is P
-  not_canonical : system_of (changed 88 (255 ∷ 255 ∷ 255 ∷ 255 ∷ []) worked) ≡ wrong 84 NotCanonical
+  not_canonical : r1cs_system (changed 88 (255 ∷ 255 ∷ 255 ∷ 255 ∷ []) worked) ≡ wrong 84 NotCanonical
 
 are_read : AreRead
-unfolding system_of header_of header_in this_field constraints_from constraint_at combination_at count_at terms_at term_at sections_of sections_in sections_from
+unfolding r1cs_system header_of header_in this_field constraints_from constraint_at combination_at count_at terms_at term_at sections_of sections_in
+    sections_from
     section_at
 are_read = record {
   as_it_stands = refl;

@@ -5,7 +5,7 @@ use Rattle.tv_core.specs.Meanings.{terms_in}
 use Rattle.tv_container.specs.Places.{Fault, ◌>>=◌}
 use Rattle.tv_r1cs_read.specs.declared.header.Header.{Header}
 use Rattle.tv_r1cs_read.specs.Progress.{Reached, Follows, ahead, counts_of}
-use Rattle.tv_r1cs_read.specs.R1cs.{constraints_from, header_of, system_of}
+use Rattle.tv_r1cs_read.specs.R1cs.{constraints_from, header_of, r1cs_system}
 use Rattle.tv_r1cs_read.specs.Survey.{survey_of}
 
 -- the system of a header and of constraints
@@ -29,5 +29,5 @@ pub record IsAt (reached : Reached) (file : List ℕ) (rows : List Constraint) :
 -- reading has returned all constraints: the file holds this system, and these are its counts
 pub record IsAll (reached : Reached) (file : List ℕ) (rows : List Constraint) : Type 0 where
   pub place : IsAt reached file rows
-  pub system : system_of file ≡ Ok (system_with reached.header rows)
+  pub system : r1cs_system file ≡ Ok (system_with reached.header rows)
   pub counts : survey_of file ≡ Ok (counts_of reached)

@@ -98,8 +98,8 @@ constraints_from file wires rows (suc n) at = do
   Ok (first.value ∷ others)
 
 -- the system, or the first fault of the file
-unfoldable pub system_of : List ℕ → Result System Fault
-system_of file = do
+unfoldable pub r1cs_system : List ℕ → Result System Fault
+r1cs_system file = do
   header ← header_of file
   list ← constraints_from file header.wires header.rows header.constraints header.rows.at
   Ok (record { wires = header.wires; outputs = header.outputs; inputs = header.inputs; constraints = list })

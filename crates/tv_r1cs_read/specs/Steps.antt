@@ -8,7 +8,7 @@ use Rattle.tv_container.specs.declared.why.ReadRefusal.{ReadRefusal}
 use Rattle.tv_r1cs_read.specs.declared.rows.Row.{Row}
 use Rattle.tv_r1cs_read.specs.Places.{IsAt, IsAll}
 use Rattle.tv_r1cs_read.specs.Progress.{Reached}
-use Rattle.tv_r1cs_read.specs.R1cs.{system_of}
+use Rattle.tv_r1cs_read.specs.R1cs.{r1cs_system}
 use Rattle.tv_r1cs_read.specs.Rows.{constraint_of, terms_in, IsOver}
 
 -- reading a name went on from one state to another, while all outside went from `before` to `after`
@@ -21,11 +21,11 @@ pub record Steps (before after : Outside) (name : List ℕ) (old new : Reached) 
   pub looks : old.stopped ≡ None → MatchOption new.stopped (after ≡ before) (λ why. Stopped before after name why)
   -- after these constraints of the file, the step returns what is next in it, or reading stops at the file's first
   -- fault
-  pub gives : (rows : List Constraint) → Known before name (λ file. IsAt old file rows → MatchOption new.stopped (Gives file rows) (λ why. Refuses why (system_of file)))
+  pub gives : (rows : List Constraint) → Known before name (λ file. IsAt old file rows → MatchOption new.stopped (Gives file rows) (λ why. Refuses why (r1cs_system file)))
 
 -- an answer is a refusal where reading has stopped, and says why
-abbrev pub Tells : {A : Type 0} → Result A ReadRefusal → Option ReadRefusal → Type 0
-Tells result stopped = MatchResult result (λ _. stopped ≡ None) (λ why. stopped ≡ Some why)
+abbrev pub ReportsStop : {A : Type 0} → Result A ReadRefusal → Option ReadRefusal → Type 0
+ReportsStop result stopped = MatchResult result (λ _. stopped ≡ None) (λ why. stopped ≡ Some why)
 
 -- a row that is the next constraint, or none, since those before are all
 abbrev pub Gave : Bool → Row → Reached → List ℕ → List Constraint → Type 0

@@ -3,7 +3,7 @@ ghost use Rattle.std.specs.Prelude.{◌≡◌, ℕ, ◌+◌, ◌≤◌, ◌<◌,
 ghost use Rattle.std.specs.Prelude.{Err, IfOk, IfErr, OnOk};
 ghost use Rattle.tv_container.specs.Found.{first_of, AllEnd, AllFit};
 ghost use Rattle.tv_container.specs.Places.{places};
-ghost use Rattle.tv_container.specs.Reading.{Gives, IsMissing, IsTold, InPiece, ReadsIn};
+ghost use Rattle.tv_container.specs.Reading.{ReadsAs, IsMissing, IsNotFault, InPiece, ReadsIn};
 ghost use Rattle.tv_r1cs_read.specs.R1cs.{HasRoom, checked, counted, header_in, header_of};
 ghost use Rattle.tv_container.specs.declared.sections.Section.{Section};
 
@@ -46,7 +46,7 @@ pub(crate) fn read_header<D: Files>(
 ) -> Result<Header, ReadRefusal>
     ensures reads { ReadsIn (D.seen files.old) (D.seen files.new) name.now window.old window.new
         result
-        (λ file. Gives result (header_of file)) }
+        (λ file. ReadsAs result (header_of file)) }
     ensures within { InPiece (D.seen files.old) name.now window.old
         (λ file. IfOk result (λ header. header.rows.at + header.rows.size ≤ places file)) }
     ensures ends { IfOk result (λ header. header.rows.at + header.rows.size < 2 ^ 64) }
@@ -71,7 +71,7 @@ fn header_in<D: Files>(
     ensures reads { ReadsIn (D.seen files.old) (D.seen files.new) name.now window.old window.new
         result
         (λ file. end ≡ length file → (sections : List Section) → found.now ≡ first_of sections
-        → AllFit file sections → Gives result (header_in file sections)) }
+        → AllFit file sections → ReadsAs result (header_in file sections)) }
     ensures within { (file : List ℕ) → (sections : List Section) → found.now ≡ first_of sections
         → AllFit file sections →
         IfOk result (λ header. header.rows.at + header.rows.size ≤ places file) }
@@ -95,7 +95,7 @@ fn counted<D: Files>(
 ) -> Result<Header, ReadRefusal>
     ensures reads { ReadsIn (D.seen files.old) (D.seen files.new) name.now window.old window.new
         result
-        (λ file. one.now.at + 40 ≤ places file → Gives result (Ok (counted file one.now rows))) }
+        (λ file. one.now.at + 40 ≤ places file → ReadsAs result (Ok (counted file one.now rows))) }
     ensures rows { IfOk result (λ header. header.rows ≡ rows) }
 {
     window.fit(files, name, one.at, HEADER_BYTES as usize)?;
@@ -111,10 +111,10 @@ fn counted<D: Files>(
 // There is a wire for the constant 1 and each public number, and section 3, where there is one, has
 // eight bytes for each wire.
 fn checked(header: Header, one: &Section, three: Option<Section>) -> Result<Header, ReadRefusal>
-    ensures gives { Gives result (checked header one.now three) }
+    ensures gives { ReadsAs result (checked header one.now three) }
     ensures same { IfOk result (λ checked. checked ≡ header) }
     ensures room { OnOk result (HasRoom header) }
-    ensures told { IfErr result IsTold }
+    ensures told { IfErr result IsNotFault }
 {
     let wires = u64::from(header.wires);
     let public = 1 + u64::from(header.outputs) + u64::from(header.inputs);

@@ -64,7 +64,7 @@ impl Held {
 
     /// Returns what is held after the combination at the place, of this many terms.
     #[inline(always)]
-    pub(crate) fn behind(self, terms: u32) -> Held
+    pub(crate) fn remainder(self, terms: u32) -> Held
         requires { self.from + 4 + 12 * terms ≤ self.to }
         ensures from { result.from ≡ self.from + 4 + 12 * terms }
         ensures to { result.to ≡ self.to }
@@ -84,7 +84,7 @@ impl Held {
         requires holds { self.from < self.to → Holds window.now self.from (self.to - self.from) }
     {
         match self.terms(window) {
-            Some(terms) => self.behind(terms).terms(window).is_some(),
+            Some(terms) => self.remainder(terms).terms(window).is_some(),
             None => false,
         }
     }

@@ -23,7 +23,7 @@ const NARROW: u32 = 16;
 struct Summed {
     sum: Sum,
     terms: u32,
-    behind: Held,
+    remainder: Held,
 }
 
 /// Tries the constraint at a place under an assignment; `None` where the window doesn't hold all of
@@ -48,13 +48,13 @@ pub(crate) fn try_held<const PASS: bool>(
         tried.holds tried.terms tried.next) }
 {
     let a = sum_held::<PASS, true>(window, bounds, held, values, Sum::new())?;
-    let b = sum_held::<PASS, false>(window, bounds, a.behind, values, Sum::new())?;
+    let b = sum_held::<PASS, false>(window, bounds, a.remainder, values, Sum::new())?;
     let rest = Sum::without(a.sum.residue(), b.sum.residue());
-    let c = sum_held::<PASS, false>(window, bounds, b.behind, values, rest)?;
+    let c = sum_held::<PASS, false>(window, bounds, b.remainder, values, rest)?;
     Some(Tried {
         holds: c.sum.value() == Sum::without(0, 0).value(),
         terms: u64::from(a.terms) + u64::from(b.terms) + u64::from(c.terms),
-        next: c.behind.from,
+        next: c.remainder.from,
     })
 }
 
@@ -73,14 +73,14 @@ fn sum_held<const PASS: bool, const FIRST: bool>(
     requires held { IsHeld window.now bounds.now.end held }
     requires small { sum < 2 ^ 128 }
     requires values { AreValues PASS bounds.now.wires values.now }
-    ensures held { IfSome result (λ summed. IsHeld window.now bounds.now.end summed.behind) }
-    ensures ends { IfSome result (λ summed. summed.behind.to ≡ held.to) }
+    ensures held { IfSome result (λ summed. IsHeld window.now bounds.now.end summed.remainder) }
+    ensures ends { IfSome result (λ summed. summed.remainder.to ≡ held.to) }
     ensures size { IfSome result
-        (λ summed. summed.behind.from ≡ held.from + 4 + 12 * summed.terms) }
+        (λ summed. summed.remainder.from ≡ held.from + 4 + 12 * summed.terms) }
     ensures small { IfSome result (λ summed. summed.sum < 2 ^ 151) }
     ensures gives { (file : List ℕ) → IsPiece window.now file → IfSome result
         (λ summed. ComesTo (combination_at file bounds.now.wires bounds.now.end held.from)
-        values.now sum summed.sum summed.terms summed.behind.from) }
+        values.now sum summed.sum summed.terms summed.remainder.from) }
 {
     if !held.has(4 + TERM_BYTES) {
         return None;
@@ -94,18 +94,22 @@ fn sum_held<const PASS: bool, const FIRST: bool>(
         return Some(Summed {
             sum,
             terms,
-            behind: held.behind(1),
+            remainder: held.remainder(1),
         });
     }
     if !held.has(4 + TERM_BYTES * u64::from(terms)) {
         return None;
     }
-    let behind = held.behind(terms);
-    if FIRST && terms > NARROW && !behind.has_two(window) {
+    let remainder = held.remainder(terms);
+    if FIRST && terms > NARROW && !remainder.has_two(window) {
         return None;
     }
     if add_terms::<PASS>(window, bounds, held.from + 4, terms, values, &mut sum) < terms {
         return None;
     }
-    Some(Summed { sum, terms, behind })
+    Some(Summed {
+        sum,
+        terms,
+        remainder,
+    })
 }

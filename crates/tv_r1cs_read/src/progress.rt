@@ -6,8 +6,8 @@ ghost use Rattle.tv_container.specs.Reading.{Looks, Refuses, IsMissing, Known};
 ghost use Rattle.tv_container.specs.declared.why.ReadRefusal.{ReadRefusal};
 ghost use Rattle.tv_r1cs_read.specs.Places.{IsAll, IsAt};
 ghost use Rattle.tv_r1cs_read.specs.Progress.{counts_of, IsBegun};
-ghost use Rattle.tv_r1cs_read.specs.R1cs.{header_of, system_of};
-ghost use Rattle.tv_r1cs_read.specs.Steps.{Failed, Fewer, Gave, Stays, Steps, Tells};
+ghost use Rattle.tv_r1cs_read.specs.R1cs.{header_of, r1cs_system};
+ghost use Rattle.tv_r1cs_read.specs.Steps.{Failed, Fewer, Gave, Stays, Steps, ReportsStop};
 ghost use Rattle.tv_r1cs_read.specs.Steps.{WentOn, WentOver};
 ghost use Rattle.tv_r1cs_read.specs.Sums.{AreValues};
 
@@ -52,12 +52,12 @@ impl Model for Progress {
 
 impl Progress {
     /// Reads all but the constraints.
-    #[tactic(auto, unfolding(crate::specs::R1cs::system_of))]
+    #[tactic(auto, unfolding(crate::specs::R1cs::r1cs_system))]
     pub(crate) fn begin<D: Files>(files: &mut D, name: &str) -> Result<Progress, ReadRefusal>
         ensures begun { IfOk result IsBegun }
         ensures gives { Known (D.seen files.old) name.now (λ file. MatchResult result
             (λ progress. IsAt progress file [])
-            (λ why. Refuses why (header_of file) × Refuses why (system_of file))) }
+            (λ why. Refuses why (header_of file) × Refuses why (r1cs_system file))) }
         ensures looks { Looks (D.seen files.old) (D.seen files.new) name.now result }
         ensures missing { IsMissing (D.seen files.old) name.now → result ≡ Err ReadRefusal.Fault }
     {
@@ -95,7 +95,7 @@ impl Progress {
     ) -> Result<bool, ReadRefusal>
         ensures steps { Steps (D.seen files.old) (D.seen files.new) name.now self.old self.new
             (λ file rows. IfOk result (λ more. Gave more row.new self.new file rows)) }
-        ensures tells { Tells result self.new.stopped }
+        ensures tells { ReportsStop result self.new.stopped }
         ensures counts { MatchResult result (λ more. WentOn more row.new self.old self.new)
             (λ _. Stays self.old self.new) }
     {

@@ -1,12 +1,12 @@
 //! A reader that borrows the files and yields a system's constraints in order.
 ghost use Rattle.std.specs.Prelude.{◌≡◌, ◌+◌, [], None, Err, IfOk, IfErr, IfSome, MatchResult};
-ghost use Rattle.tv_container.specs.Reading.{Looks, Stopped, Gives, Refuses, IsMissing, Known};
+ghost use Rattle.tv_container.specs.Reading.{Looks, Stopped, ReadsAs, Refuses, IsMissing, Known};
 ghost use Rattle.tv_container.specs.declared.why.ReadRefusal.{ReadRefusal};
 ghost use Rattle.tv_r1cs_read.specs.Places.{IsAt};
 ghost use Rattle.tv_r1cs_read.specs.Progress.{counts_of, IsBegun};
-ghost use Rattle.tv_r1cs_read.specs.R1cs.{header_of, system_of};
+ghost use Rattle.tv_r1cs_read.specs.R1cs.{header_of, r1cs_system};
 ghost use Rattle.tv_r1cs_read.specs.Steps.{Failed, Gave, GaveBy, Passed, Stays, Steps};
-ghost use Rattle.tv_r1cs_read.specs.Steps.{Tells, WentOn, WentOnBy};
+ghost use Rattle.tv_r1cs_read.specs.Steps.{ReportsStop, WentOn, WentOnBy};
 ghost use Rattle.tv_r1cs_read.specs.Survey.{survey_of};
 
 use crate::progress::Progress;
@@ -50,7 +50,8 @@ impl<'a, D: Files> SystemReader<'a, D> {
         ensures begun { IfOk result (λ reader. IsBegun reader.progress) }
         ensures gives { Known (D.seen files.old) name.now (λ file. MatchResult result
             (λ reader. IsAt reader.progress file [])
-            (λ unread. Refuses unread.why (header_of file) × Refuses unread.why (system_of file))) }
+            (λ unread. Refuses unread.why (header_of file) × Refuses unread.why
+            (r1cs_system file))) }
         ensures err_same { IfErr result (λ unread. unread.files.ghost_name
             ≡ files.entry.ghost_name) }
         ensures err_stopped { IfErr result (λ unread. Stopped (D.seen files.old)
@@ -89,7 +90,7 @@ impl<'a, D: Files> SystemReader<'a, D> {
         ensures steps { Steps (D.seen self.old.files.now) (D.seen self.new.files.now)
             self.old.name.now self.old.progress self.new.progress
             (λ file rows. IfOk result (λ more. Gave more row.new self.new.progress file rows)) }
-        ensures tells { Tells result self.new.progress.stopped }
+        ensures tells { ReportsStop result self.new.progress.stopped }
         ensures counts { MatchResult result
             (λ more. WentOn more row.new self.old.progress self.new.progress)
             (λ _. Stays self.old.progress self.new.progress) }
@@ -146,7 +147,7 @@ impl<'a, D: Files> SystemReader<'a, D> {
         ensures steps { Steps (D.seen self.old.files.now) (D.seen self.new.files.now)
             self.old.name.now self.old.progress self.new.progress
             (λ file rows. IfOk result (λ row. GaveBy row self.new.progress file rows)) }
-        ensures tells { Tells result self.new.progress.stopped }
+        ensures tells { ReportsStop result self.new.progress.stopped }
         ensures counts { MatchResult result
             (λ row. WentOnBy row self.old.progress self.new.progress)
             (λ _. Stays self.old.progress self.new.progress) }
@@ -166,7 +167,7 @@ impl<'a, D: Files> SystemReader<'a, D> {
 /// and no memory.
 #[tactic(auto, unfolding(crate::specs::Survey::survey_of))]
 pub fn survey<D: Files>(alloc: Global, files: &mut D, name: &str) -> Result<Counts, ReadRefusal>
-    ensures gives { Known (D.seen files.old) name.now (λ file. Gives result (survey_of file)) }
+    ensures gives { Known (D.seen files.old) name.now (λ file. ReadsAs result (survey_of file)) }
     ensures looks { Looks (D.seen files.old) (D.seen files.new) name.now result }
     ensures missing { IsMissing (D.seen files.old) name.now → result ≡ Err ReadRefusal.Fault }
 {

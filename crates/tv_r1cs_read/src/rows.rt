@@ -4,7 +4,7 @@ ghost use Rattle.std.specs.Prelude.{Ok, IfOk, IfSome, OnOk};
 ghost use Rattle.std.specs.Bool.{OnTrue};
 ghost use Rattle.std.specs.List.{All};
 ghost use Rattle.tv_container.specs.Places.{places};
-ghost use Rattle.tv_container.specs.Reading.{GivesBy, Holds, IsPiece, ReadsIn};
+ghost use Rattle.tv_container.specs.Reading.{ReadsAsBy, Holds, IsPiece, ReadsIn};
 ghost use Rattle.tv_r1cs_read.specs.Held.{IsHeld};
 ghost use Rattle.tv_r1cs_read.specs.R1cs.{combination_at, constraint_at, terms_at};
 ghost use Rattle.tv_r1cs_read.specs.Rows.{combination_read, constraint_read, terms_in, IsOver};
@@ -118,7 +118,7 @@ pub(crate) fn read_row<D: Files>(
     ensures reads { ReadsIn (D.seen files.old) (D.seen files.new) name.now window.old window.new
         result
         (λ file. bounds.now.end ≤ places file →
-        GivesBy result (constraint_read row.new)
+        ReadsAsBy result (constraint_read row.new)
         (constraint_at file bounds.now.wires bounds.now.end at)) }
 {
     let held = held_from(window, bounds, at);
@@ -139,17 +139,18 @@ fn read_combination<D: Files>(
     terms: &mut Terms,
 ) -> Result<Held, ReadRefusal>
     requires { IsHeld window.old bounds.now.end held }
-    ensures held { IfOk result (λ behind. IsHeld window.new bounds.now.end behind) }
-    ensures size { IfOk result (λ behind. behind.from ≡ held.from + 4 + 12 * length terms.new) }
+    ensures held { IfOk result (λ remainder. IsHeld window.new bounds.now.end remainder) }
+    ensures size { IfOk result (λ remainder. remainder.from
+        ≡ held.from + 4 + 12 * length terms.new) }
     ensures wires { OnOk result (All (λ t. t.0 < bounds.now.wires) terms.new) }
     ensures reads { ReadsIn (D.seen files.old) (D.seen files.new) name.now window.old window.new
         result
         (λ file. bounds.now.end ≤ places file →
-        GivesBy result (λ behind. combination_read terms.new behind.from)
+        ReadsAsBy result (λ remainder. combination_read terms.new remainder.from)
         (combination_at file bounds.now.wires bounds.now.end held.from)) }
 {
     match read_held(window, bounds, held, terms)? {
-        Some(behind) => Ok(behind),
+        Some(remainder) => Ok(remainder),
         None => read_far(files, name, window, bounds, held.from, terms),
     }
 }
@@ -165,20 +166,20 @@ fn read_held(
 ) -> Result<Option<Held>, AllocFailed<(u32, F)>>
     requires { IsHeld window.now bounds.now.end held }
     ensures held { IfOk result (λ taken. IfSome taken
-        (λ behind. IsHeld window.now bounds.now.end behind)) }
+        (λ remainder. IsHeld window.now bounds.now.end remainder)) }
     ensures size { IfOk result (λ taken. IfSome taken
-        (λ behind. behind.from ≡ held.from + 4 + 12 * length terms.new)) }
+        (λ remainder. remainder.from ≡ held.from + 4 + 12 * length terms.new)) }
     ensures wires { IfOk result (λ taken. IfSome taken
         (λ _. All (λ t. t.0 < bounds.now.wires) terms.new)) }
     ensures gives { (file : List ℕ) → IsPiece window.now file → IfOk result (λ taken. IfSome taken
-        (λ behind. combination_at file bounds.now.wires bounds.now.end held.from
-        ≡ Ok (combination_read terms.new behind.from))) }
+        (λ remainder. combination_at file bounds.now.wires bounds.now.end held.from
+        ≡ Ok (combination_read terms.new remainder.from))) }
 {
     let Some(count) = held.terms(window) else {
         return Ok(None);
     };
     if take_terms(window, bounds, held.from + 4, count, terms)? {
-        return Ok(Some(held.behind(count)));
+        return Ok(Some(held.remainder(count)));
     }
     Ok(None)
 }
@@ -227,13 +228,13 @@ fn read_far<D: Files>(
     terms: &mut Terms,
 ) -> Result<Held, ReadRefusal>
     requires { at ≤ bounds.now.end }
-    ensures held { IfOk result (λ behind. IsHeld window.new bounds.now.end behind) }
-    ensures size { IfOk result (λ behind. behind.from ≡ at + 4 + 12 * length terms.new) }
+    ensures held { IfOk result (λ remainder. IsHeld window.new bounds.now.end remainder) }
+    ensures size { IfOk result (λ remainder. remainder.from ≡ at + 4 + 12 * length terms.new) }
     ensures wires { OnOk result (All (λ t. t.0 < bounds.now.wires) terms.new) }
     ensures reads { ReadsIn (D.seen files.old) (D.seen files.new) name.now window.old window.new
         result
         (λ file. bounds.now.end ≤ places file →
-        GivesBy result (λ behind. combination_read terms.new behind.from)
+        ReadsAsBy result (λ remainder. combination_read terms.new remainder.from)
         (combination_at file bounds.now.wires bounds.now.end at)) }
 {
     let count = read_count(files, name, window, bounds, at)?;

@@ -2,7 +2,7 @@
 
 ghost use Rattle.std.specs.Prelude.{◌≡◌, ℕ, ◌+◌, ◌≤◌, ◌<◌, ◌^◌, List, Ok, OnOk, IfOk, IfSome};
 ghost use Rattle.tv_container.specs.Places.{fit, places};
-ghost use Rattle.tv_container.specs.Reading.{Gives, GivesBy, Holds, IsPiece, ReadsIn};
+ghost use Rattle.tv_container.specs.Reading.{ReadsAs, ReadsAsBy, Holds, IsPiece, ReadsIn};
 ghost use Rattle.tv_r1cs_read.specs.R1cs.{count_at, term_at};
 
 use tv_container::{ReadRefusal, ReadWhy, Window};
@@ -42,7 +42,7 @@ fn fit_below<D: Files>(
     ensures place { OnOk result (at + size < 2 ^ 64) }
     ensures reads { ReadsIn (D.seen files.old) (D.seen files.new) name.now window.old window.new
         result
-        (λ file. bounds.now.end ≤ places file → Gives result (fit size at bounds.now.end)) }
+        (λ file. bounds.now.end ≤ places file → ReadsAs result (fit size at bounds.now.end)) }
 {
     if bounds.end - at < size as u64 {
         return Err(ReadRefusal::Bad {
@@ -72,7 +72,7 @@ pub(crate) fn read_count<D: Files>(
     ensures place { OnOk result (at + 4 < 2 ^ 64) }
     ensures reads { ReadsIn (D.seen files.old) (D.seen files.new) name.now window.old window.new
         result
-        (λ file. bounds.now.end ≤ places file → Gives result (count_at file bounds.now.end at)) }
+        (λ file. bounds.now.end ≤ places file → ReadsAs result (count_at file bounds.now.end at)) }
 {
     fit_below(files, name, window, bounds, at, 4)?;
     let terms = window.word(at);
@@ -101,7 +101,7 @@ pub(crate) fn read_term<D: Files>(
     ensures wire { IfOk result (λ term. term.0 < bounds.now.wires) }
     ensures reads { ReadsIn (D.seen files.old) (D.seen files.new) name.now window.old window.new
         result
-        (λ file. bounds.now.end ≤ places file → GivesBy result (λ term. (term.1, term.0))
+        (λ file. bounds.now.end ≤ places file → ReadsAsBy result (λ term. (term.1, term.0))
         (term_at file bounds.now.wires bounds.now.end at)) }
 {
     fit_below(files, name, window, bounds, at, TERM_BYTES as usize)?;

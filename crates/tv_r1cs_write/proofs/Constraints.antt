@@ -13,7 +13,7 @@ use Rattle.tv_core.specs.Constraints.{Combination, Constraint}
 use Rattle.tv_core.specs.Sinks.{PutsIn}
 use Rattle.tv_core.specs.declared.sink.SinkFault.{SinkFault}
 use Rattle.tv_r1cs_write.specs.Bytes.{head_bytes, rows_bytes, constraint_bytes}
-use Rattle.tv_r1cs_write.specs.Narrow.{AreShort, IsNarrow, IsOver}
+use Rattle.tv_r1cs_write.specs.Narrow.{AreShort, IsNarrow, HasWiresBelow}
 use Rattle.tv_r1cs_write.specs.Streams.{Progress, Stream, Stands, Tried, begun_bytes, stream_meaning}
 use Rattle.tv_container.proofs.Buffers.{cause_seen, unrefused}
 use Rattle.tv_container.proofs.Written.{has_more, has_front}
@@ -28,7 +28,7 @@ begun_bytes-more old new list row counts labels =
     ∙ rw (counts, labels) refl
 
 -- the wires of a combination are below whatever is above its greatest
-over_top : (wires : ℕ) (x : Combination) → top x ≤ wires → IsOver wires x
+over_top : (wires : ℕ) (x : Combination) → top x ≤ wires → HasWiresBelow wires x
 over_top wires [] within = All-nil (λ t. t.1 < wires)
 over_top wires (t ∷ rest) within = All-cons (λ t. t.1 < wires) t rest (omega arith) (over_top wires rest (omega arith))
 
@@ -36,7 +36,7 @@ narrow : (wires : ℕ) (row : Constraint) → AreShort row → top row.a ≤ wir
 narrow wires row short a b c = record { short = short; a = over_top wires row.a a; b = over_top wires row.b b; c = over_top wires row.c c }
 
 -- and below whatever is above that
-over_more : (wires : ℕ) (x : Combination) → IsOver wires x → IsOver (wires + 1) x
+over_more : (wires : ℕ) (x : Combination) → HasWiresBelow wires x → HasWiresBelow (wires + 1) x
 over_more wires x over = All-weaker (λ t. t.1 < wires) (λ t. t.1 < wires + 1) (λ t below. omega arith) x over
 
 pub narrow_more : (wires : ℕ) (list : List Constraint) → All (IsNarrow wires) list → All (IsNarrow (wires + 1)) list

@@ -12,7 +12,7 @@ use Rattle.tv_r1cs_read.specs.R1cs.{Read, term_at, terms_at, combination_at, con
 use Rattle.tv_r1cs_read.proofs.Ahead.{combination_at-counted, count_at-good, term_at-good}
 use Rattle.tv_r1cs_read.proofs.Constraints.{constraints_from-end, constraints_from-next}
 use Rattle.tv_r1cs_write.specs.Bytes.{combination_bytes, constraint_bytes, rows_bytes}
-use Rattle.tv_r1cs_write.specs.Narrow.{IsShort, IsNarrow, IsOver}
+use Rattle.tv_r1cs_write.specs.Narrow.{IsShort, IsNarrow, HasWiresBelow}
 use Rattle.tv_r1cs_write.proofs.Sizes.{length-combination_bytes, length-constraint_bytes}
 
 -- one term, and others
@@ -25,7 +25,8 @@ terms_at-none : (file : List ℕ) (wires end at next : ℕ) → at ≡ next → 
 unfolding terms_at
 terms_at-none file wires end at next is = rw is refl
 
-terms_read : (file : List ℕ) (wires end at next : ℕ) (terms : Combination) → At file at (terms_bytes terms) → IsOver wires terms → All (λ t. t.0 < P) terms →
+terms_read : (file : List ℕ) (wires end at next : ℕ) (terms : Combination) → At file at (terms_bytes terms) → HasWiresBelow wires terms
+    → All (λ t. t.0 < P) terms →
     wires < 2 ^ 32 → at + 12 * length terms ≡ next → next ≤ end → terms_at file wires end (length terms) at ≡ Ok (record { value = terms; next = next })
 terms_read file wires end at next [] a over canonical short there within = terms_at-none file wires end at next (omega arith)
 terms_read file wires end at next (term ∷ terms) a over canonical short there within =
@@ -42,7 +43,7 @@ terms_read file wires end at next (term ∷ terms) a over canonical short there 
     terms_at-term file wires end (length terms) at term (record { value = terms; next = next })
     (term_at-good file wires end at term.1 term.0 (omega arith) wire_is below coefficient_is residue) rest
 
-combination_read : (file : List ℕ) (wires end at next : ℕ) (x : Combination) → At file at (combination_bytes x) → IsShort x → IsOver wires x →
+combination_read : (file : List ℕ) (wires end at next : ℕ) (x : Combination) → At file at (combination_bytes x) → IsShort x → HasWiresBelow wires x →
     wires < 2 ^ 32 → at + (4 + 12 * length x) ≡ next → next ≤ end → combination_at file wires end at ≡ Ok (record { value = x; next = next })
 combination_read file wires end at next x a is over short there within =
     let count = number_of_four file at (length x) (at_first file at (four_bytes (length x)) (terms_bytes x) a) (omega (arith, is.terms)) in

@@ -12,7 +12,7 @@ use Rattle.tv_core.specs.declared.sink.SinkFault.{SinkFault}
 use Rattle.tv_files.proofs.Cases.{OnOk-map}
 use Rattle.tv_files.specs.Calls.{Creates}
 use Rattle.tv_files.specs.Outside.{Outside}
-use Rattle.tv_r1cs_read.specs.R1cs.{system_of}
+use Rattle.tv_r1cs_read.specs.R1cs.{r1cs_system}
 use Rattle.tv_r1cs_write.proofs.Files.{files_are_fronts, files_of_systems}
 use Rattle.tv_r1cs_write.proofs.Systems.{systems_come_back}
 use Rattle.tv_r1cs_write.specs.Bytes.{system_bytes}
@@ -75,7 +75,7 @@ module _ {S A : Type 0} (seen : S → Stream) (name : List ℕ) (old : Outside) 
       let wires : (seen done).progress.wires ≡ system.wires = all.next ∙ ap (λ n. (circuit n).next) first ∙ is.next in
       let now = rw (named, bytes done all.keeps) at (finishes.whole system.constraints stands) in
       let front = rw (named, bytes done all.keeps) at (finishes.part system.constraints stands) in
-      let read : system_of (system_bytes system count (labels system.wires)) ≡ Ok system =
+      let read : r1cs_system (system_bytes system count (labels system.wires)) ≡ Ok system =
       systems_come_back system count (labels system.wires)
       (record {
         wires = rw is.counted at is.wires_fit;

@@ -13,7 +13,7 @@ use Rattle.tv_container.proofs.SectionLemmas.{sections_from-end}
 use Rattle.tv_core.specs.Constraints.{Constraint}
 use Rattle.tv_core.specs.Meanings.{terms_in, system_counts}
 use Rattle.tv_core.specs.declared.lines.Counts.{Counts}
-use Rattle.tv_r1cs_read.specs.R1cs.{checked, counted, header_in, header_of, constraints_from, system_of}
+use Rattle.tv_r1cs_read.specs.R1cs.{checked, counted, header_in, header_of, constraints_from, r1cs_system}
 use Rattle.tv_r1cs_read.specs.declared.header.Header.{Header}
 use Rattle.tv_r1cs_read.proofs.HeaderLemmas.{header_in-checked}
 use Rattle.tv_r1cs_write.specs.Bytes.{counts_bytes, label_bytes, numbers_bytes, rows_bytes, system_bytes}
@@ -144,8 +144,8 @@ checked_passes header one labels room size = grind (arith, nat_tests)
 
 system_found : (file : List ℕ) (header : Header) (list : List Constraint) → header_of file ≡ Ok header →
     constraints_from file header.wires header.rows header.constraints header.rows.at ≡ Ok list →
-    system_of file ≡ Ok (record { wires = header.wires; outputs = header.outputs; inputs = header.inputs; constraints = list })
-unfolding system_of
+    r1cs_system file ≡ Ok (record { wires = header.wires; outputs = header.outputs; inputs = header.inputs; constraints = list })
+unfolding r1cs_system
 system_found file header list found read = rw (found, read) refl
 
 pub systems_come_back : SystemsComeBack

@@ -8,7 +8,7 @@ use Rattle.tv_core.specs.declared.lines.Counts.{Counts}
 use Rattle.tv_files.specs.Calls.{Creates}
 use Rattle.tv_files.specs.Outside.{Outside, OnlyWrites}
 use Rattle.tv_files.specs.Whole.{HasBytes}
-use Rattle.tv_r1cs_read.specs.R1cs.{system_of}
+use Rattle.tv_r1cs_read.specs.R1cs.{r1cs_system}
 use Rattle.tv_r1cs_write.specs.Bytes.{AreCounts, file_bytes, system_bytes}
 use Rattle.tv_r1cs_write.specs.Narrow.{IsNarrow}
 use Rattle.tv_r1cs_write.specs.Streams.{Stream, Stands, Tried, finished_bytes}
@@ -25,7 +25,7 @@ pub record IsWritable (system : System) : Type 0 where
 -- the bytes of each such system are read as that system, whatever labels its wires have
 abbrev pub SystemsComeBack : Type 0
 SystemsComeBack = (system : System) (count : ℕ) (labels : List ℕ) → IsWritable system → length labels ≡ system.wires →
-    system_of (system_bytes system count labels) ≡ Ok system
+    r1cs_system (system_bytes system count labels) ≡ Ok system
 
 -- where the counts are those of the list, the file of the list is that of a system
 abbrev pub FilesAreOfSystems : Type 0

@@ -16,12 +16,12 @@ pub record AreShort (row : Constraint) : Type 0 where
   pub c : IsShort row.c
 
 -- each wire of a combination is below a number
-abbrev pub IsOver : ℕ → Combination → Type 0
-IsOver wires x = All (λ t. t.1 < wires) x
+abbrev pub HasWiresBelow : ℕ → Combination → Type 0
+HasWiresBelow wires x = All (λ t. t.1 < wires) x
 
 -- a constraint that a system of this many wires can have
 pub record IsNarrow (wires : ℕ) (row : Constraint) : Type 0 where
   pub short : AreShort row
-  pub a : IsOver wires row.a
-  pub b : IsOver wires row.b
-  pub c : IsOver wires row.c
+  pub a : HasWiresBelow wires row.a
+  pub b : HasWiresBelow wires row.b
+  pub c : HasWiresBelow wires row.c

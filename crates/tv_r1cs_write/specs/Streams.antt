@@ -10,7 +10,7 @@ use Rattle.tv_core.specs.Sinks.{Meaning}
 use Rattle.tv_core.specs.declared.lines.Counts.{Counts}
 use Rattle.tv_files.specs.Outside.{Outside}
 use Rattle.tv_core.specs.declared.sink.SinkFault.{SinkFault}
-use Rattle.tv_r1cs_read.specs.R1cs.{system_of}
+use Rattle.tv_r1cs_read.specs.R1cs.{r1cs_system}
 use Rattle.tv_r1cs_write.specs.Bytes.{file_bytes, head_bytes, rows_bytes, system_bytes}
 use Rattle.tv_r1cs_write.specs.Narrow.{IsNarrow}
 use Rattle.tv_r1cs_write.specs.declared.stream.StreamSink.{StreamSink}
@@ -143,4 +143,4 @@ pub record Finishes (sink : Stream) (new : Outside) (labels : List ℕ) (result 
 pub record IsSystemStreamed (old new : Outside) (name : List ℕ) (system : System) (count : ℕ) (labels : List ℕ)
     (result : Result (Unit {0}) SinkFault) : Type 0 where
   pub file : IsStreamed old new name (system_bytes system count labels) result
-  pub read : OnOk result (system_of (system_bytes system count labels) ≡ Ok system)
+  pub read : OnOk result (r1cs_system (system_bytes system count labels) ≡ Ok system)

@@ -19,7 +19,7 @@ use Rattle.tv_core.specs.Below.{each_below}
 use Rattle.tv_core.specs.Circuits.{here, fresh, put, pure, ◌>>=◌}
 use Rattle.tv_core.specs.Combinations.{wire, scaled, top}
 use Rattle.tv_core.specs.Constraints.{Combination}
-use Rattle.tv_core.specs.Loops.{times}
+use Rattle.tv_core.specs.Loops.{sequence}
 use Rattle.tv_core.specs.Normal.{IsNormal, IsNormalConstraint, AreNormal}
 use Rattle.tv_core.specs.declared.field.TheConstants.{P}
 use Rattle.tv_regs.proofs.Gates.{wires_top-at}
@@ -27,7 +27,7 @@ use Rattle.tv_regs.proofs.TripleLaws.{other_branch, negative_small, square_small
 use Rattle.tv_regs.proofs.TripleLaws.{curve_answer, curve_next, point_next}
 use Rattle.tv_regs.proofs.UpdateLaws.{turn_at}
 use Rattle.tv_regs.proofs.WriteLaws.{sum_of-suc}
-use Rattle.tv_regs.specs.Reading.{wires_top}
+use Rattle.tv_regs.specs.Reads.{wires_top}
 use Rattle.tv_regs.specs.Triple.{roots_of, sums_of, pairs_of, cubic, departure, passes_of, passes_turn, curve_of, point_of, triple_of}
 use Rattle.tv_regs.specs.Update.{number_less, stays_of, stays_turn, sum_rise, update_of}
 use Rattle.tv_regs.specs.declared.triple.Roots.{Roots}
@@ -87,8 +87,9 @@ pub update_normal : (on dest word result : ℕ) (regs : List ℕ) (next : ℕ) �
 unfolding update_of here put pure ◌>>=◌
 update_normal on dest word result regs next some before below rise =
     let turns = normal_turns (λ k _. stays_turn dest regs k) tt next 16
-    (λ i h. stays_normal dest (slice_index regs i) i (times i (stays_turn dest regs) next).next some h (omega (arith, below i h, turn_at dest regs next i))) in
-    normal_both (times 16 (stays_turn dest regs) next).list _ turns (
+    (λ i h. stays_normal dest (slice_index regs i) i (sequence i (stays_turn dest regs) next).next some h (omega
+    (arith, below i h, turn_at dest regs next i))) in
+    normal_both (sequence 16 (stays_turn dest regs) next).list _ turns (
       record {
         a = (omega arith, omega arith, omega arith, tt);
         b = rise_normal word result before;
@@ -154,8 +155,8 @@ unfolding curve_of fresh pure ◌>>=◌
 curve_normal roots regs next some k l below =
     let at = next + 1 + 1 + 1 in
     let turns = normal_turns (λ i _. passes_turn roots next regs i) tt at 16
-    (λ i h. passes_normal roots next (slice_index regs i) i (times i (passes_turn roots next regs) at).next h some k l (below i h)) in
-    normal_both (times 16 (passes_turn roots next regs) at).list [] turns tt
+    (λ i h. passes_normal roots next (slice_index regs i) i (sequence i (passes_turn roots next regs) at).next h some k l (below i h)) in
+    normal_both (sequence 16 (passes_turn roots next regs) at).list [] turns tt
 
 point_normal : (n : Combination) (curve next : ℕ) → IsNormal n → curve + 3 ≤ next → AreNormal (point_of n curve next).list
 unfolding point_of times_of fresh put pure ◌>>=◌

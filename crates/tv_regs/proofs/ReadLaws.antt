@@ -9,15 +9,15 @@ use Rattle.tv_core.proofs.LoopLaws.{turn_met, turns_met, turns-next}
 use Rattle.tv_core.proofs.Meeting.{Meets-split, Meets-join}
 use Rattle.tv_core.specs.Circuits.{fresh, put, pure, ◌>>=◌}
 use Rattle.tv_core.specs.Laws.{InField}
-use Rattle.tv_core.specs.Loops.{times}
+use Rattle.tv_core.specs.Loops.{sequence}
 use Rattle.tv_regs.proofs.Gates.{times_itself, word_of, product_value, word_below}
-use Rattle.tv_regs.specs.Reading.{read_of, read_turn, read_reg_of, read_reg_values, ReadRegIsSound, ReadRegIsComplete, ReadRegSizes}
+use Rattle.tv_regs.specs.Reads.{read_of, read_turn, read_reg_of, read_reg_values, ReadRegIsSound, ReadRegIsComplete, ReadRegSizes}
 use Rattle.tv_bits.proofs.SelectLaws.{times_one, times_zero}
 
 pub read_reg_sound : ReadRegIsSound
 unfolding read_reg_of read_of fresh put pure ◌>>=◌
 read_reg_sound z next sel regs i size assigns row meets =
-    let both = Meets-split z (times 16 (read_turn next sel regs) (next + 1)).list [] meets in
+    let both = Meets-split z (sequence 16 (read_turn next sel regs) (next + 1)).list [] meets in
     let turn = turn_met z (λ k _. read_turn next sel regs k) tt (next + 1) 16 i row.within both.0 in
     let r = slice_index regs i in
     let product = sym (product_value z assigns (sel + i) next r) ∙ turn.0 in
@@ -38,7 +38,7 @@ read_reg_complete z next sel regs i size assigns row has =
       )
       | inr apart ↦ (product_value z assigns (sel + k) next (slice_index regs k) ∙ times_zero (slice_index z (sel + k)) _ (row.cold k h apart), tt)
     ]) in
-    Meets-join z (times 16 (read_turn next sel regs) (next + 1)).list [] turns tt
+    Meets-join z (sequence 16 (read_turn next sel regs) (next + 1)).list [] turns tt
 
 -- ---- where the circuit ends, and what it answers
 read_turn-next : (w sel : ℕ) (regs : List ℕ) (i at : ℕ) → (read_turn w sel regs i at).next ≡ at + 0

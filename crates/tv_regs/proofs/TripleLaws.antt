@@ -26,13 +26,13 @@ use Rattle.tv_core.specs.Circuits.{fresh, put, pure, turns, ◌>>=◌}
 use Rattle.tv_core.specs.Combinations.{wire, scaled, less, top}
 use Rattle.tv_core.specs.Constraints.{Combination, value}
 use Rattle.tv_core.specs.Laws.{Assigns, Meets, HasFrom, InField}
-use Rattle.tv_core.specs.Loops.{times}
+use Rattle.tv_core.specs.Loops.{sequence}
 use Rattle.tv_core.specs.Meanings.{terms_in}
 use Rattle.tv_core.specs.Normal.{normal, IsNormal}
 use Rattle.tv_core.specs.declared.field.TheConstants.{P}
 use Rattle.tv_regs.proofs.Gates.{word_of, word_below}
 use Rattle.tv_regs.proofs.TripleNumbers.{cubic_number, root_other, root_named, root_dest, curve_passes, passing_divides}
-use Rattle.tv_regs.specs.Reading.{words_at}
+use Rattle.tv_regs.specs.Reads.{words_at}
 use Rattle.tv_regs.specs.Triple.{roots_of, sums_of, pairs_of, cubic, departure, passes_of, passes_turn, curve_of, point_of, triple_of, triple_wires}
 use Rattle.tv_regs.specs.Triple.{triple_values, roots_values, curve_values, passing_values, minus, curve_through, curve_at, root_product, passing}
 use Rattle.tv_regs.specs.Triple.{point_values, other_number, AreNumbers, TripleIsSound, TripleIsComplete, TripleSizes, TripleCosts}
@@ -190,7 +190,7 @@ turn-next : (roots : Roots) (curve : ℕ) (regs : List ℕ) (i at : ℕ) → (pa
 unfolding passes_of ratio_of fresh put pure ◌>>=◌
 turn-next roots curve regs i at = refl
 
-turn_at : (roots : Roots) (curve : ℕ) (regs : List ℕ) (at j : ℕ) → (times j (passes_turn roots curve regs) at).next ≡ at + j
+turn_at : (roots : Roots) (curve : ℕ) (regs : List ℕ) (at j : ℕ) → (sequence j (passes_turn roots curve regs) at).next ≡ at + j
 turn_at roots curve regs at j = turns-next (λ i _. passes_turn roots curve regs i) tt at 1 j (λ i a k. turn-next roots curve regs i k)
     ∙ ap (λ k. at + k) (mul-one j)
 
@@ -262,9 +262,9 @@ module _ (z : List ℕ) (assigns : Assigns z) where
   curve_sound roots regs o b d next ho hb hd has meets i hi none =
       let start = next + 1 + 1 + 1 in
       let turn = turn_met z (λ j _. passes_turn roots next regs j) tt start 16 i hi
-      (Meets-split z (times 16 (passes_turn roots next regs) start).list [] meets).0 in
+      (Meets-split z (sequence 16 (passes_turn roots next regs) start).list [] meets).0 in
       let reg = slice_index regs i in
-      let at = (times i (passes_turn roots next regs) start).next in
+      let at = (sequence i (passes_turn roots next regs) start).next in
       let product = ratio_sound z at (cubic roots i) (departure reg next i) assigns
       (Meets-split z (ratio_of (cubic roots i) (departure reg next i) at).list [] turn).0 in
       let none_left = ap (λ n. n * slice_index z (ratio_of (cubic roots i) (departure reg next i) at).answer % P)
@@ -285,7 +285,7 @@ module _ (z : List ℕ) (assigns : Assigns z) where
       let each = has_each z (next + 3) 16 (passing o b d words) had in
       let turns = turns_met z (λ j _. passes_turn roots next regs j) tt start 16 (λ i hi.
       let reg = slice_index regs i in
-      let at = (times i (passes_turn roots next regs) start).next in
+      let at = (sequence i (passes_turn roots next regs) start).next in
       let q = passing o b d words i in
       let here : slice_index z at ≡ q = ap (slice_index z) (turn_at roots next regs start i ∙ ap (λ k. k + i) (sym place)) ∙ each i hi in
       let word = word_of z regs i (omega arith) in
@@ -293,7 +293,7 @@ module _ (z : List ℕ) (assigns : Assigns z) where
       let divides = ap (λ n. n * q % P) (value-cubic roots o b d i ho hb hd hi has) ∙ passing_divides o b d words ho hb hd small i hi ∙ sym departs in
       Meets-join z (ratio_of (cubic roots i) (departure reg next i) at).list []
       (ratio_complete z at (cubic roots i) (departure reg next i) q assigns divides (here, tt)) tt) in
-      Meets-join z (times 16 (passes_turn roots next regs) start).list [] turns tt
+      Meets-join z (sequence 16 (passes_turn roots next regs) start).list [] turns tt
 
   -- ---- a point
   flat_point : (n f g l e u q m w : ℕ) → n * g ≡ u + P * m → f + u ≡ e + P * q → w < P → l < P → n * e % P ≡ minus w l

@@ -21,17 +21,17 @@ use Rattle.tv_core.specs.Circuits.{here, fresh, put, pure, turns, ◌>>=◌}
 use Rattle.tv_core.specs.Combinations.{wire, scaled}
 use Rattle.tv_core.specs.Constraints.{value}
 use Rattle.tv_core.specs.Laws.{Assigns}
-use Rattle.tv_core.specs.Loops.{times}
+use Rattle.tv_core.specs.Loops.{sequence}
 use Rattle.tv_core.specs.Meanings.{terms_in}
 use Rattle.tv_core.specs.declared.field.TheConstants.{P}
 use Rattle.tv_regs.proofs.Gates.{word_of}
 use Rattle.tv_regs.proofs.TripleLaws.{value-rise, other_branch}
 use Rattle.tv_regs.proofs.TripleNumbers.{minus_below}
 use Rattle.tv_regs.proofs.WriteLaws.{sum_apart, value-regs_sum, length-written, written_other, written_here, has_at}
-use Rattle.tv_regs.specs.Reading.{words_at}
+use Rattle.tv_regs.specs.Reads.{words_at}
 use Rattle.tv_regs.specs.Triple.{minus}
 use Rattle.tv_regs.specs.Update.{number_less, stays_of, stays_turn, sum_rise, update_of, UpdateIsSound, UpdateIsComplete, UpdateSizes, UpdateCosts}
-use Rattle.tv_regs.specs.Writing.{regs_sum, written_regs}
+use Rattle.tv_regs.specs.Writes.{regs_sum, written_regs}
 
 -- ---- values
 flat_less : (i n : ℕ) → i < 16 → n < 16 → ((P - i) * 1 + (1 * n + 0 % P) % P) % P ≡ minus n i
@@ -54,7 +54,7 @@ stays_turn-next : (dest : ℕ) (regs : List ℕ) (i at : ℕ) → (stays_turn de
 unfolding stays_of fresh put ◌>>=◌
 stays_turn-next dest regs i at = refl
 
-pub turn_at : (dest : ℕ) (regs : List ℕ) (at j : ℕ) → (times j (stays_turn dest regs) at).next ≡ at + j
+pub turn_at : (dest : ℕ) (regs : List ℕ) (at j : ℕ) → (sequence j (stays_turn dest regs) at).next ≡ at + j
 turn_at dest regs at j = turns-next (λ i _. stays_turn dest regs i) tt at 1 j (λ i a k. stays_turn-next dest regs i k) ∙ ap (λ k. at + k) (mul-one j)
 
 -- the sum rises by what one register rises
@@ -91,10 +91,10 @@ on_complete on x new old bit os e = elim (bit_cases on bit) [
 pub update_sound : UpdateIsSound
 unfolding update_of stays_of here fresh put pure ◌>>=◌
 update_sound z next on dest word result regs i assigns is meets =
-    let split = Meets-split z (times 16 (stays_turn dest regs) next).list _ meets in
+    let split = Meets-split z (sequence 16 (stays_turn dest regs) next).list _ meets in
     let others : (j : ℕ) → j < 16 → j ≢ i → slice_index z (next + j) ≡ slice_index z (slice_index regs j) = λ j h apart.
     let reg = slice_index regs j in
-    let new = (times j (stays_turn dest regs) next).next in
+    let new = (sequence j (stays_turn dest regs) next).next in
     let met = turn_met z (λ k _. stays_turn dest regs k) tt next 16 j h split.0 in
     let product = sym (ap₂ (λ a b. a * b % P) (value-number_less z assigns dest i is.number is.within j h) (value-rise z reg new assigns)) ∙ met.0 in
     ap (slice_index z) (sym (turn_at dest regs next j))
@@ -150,7 +150,7 @@ update_complete z next on dest word result regs i assigns is has =
     ∙ ap (λ n. if isOn then x else n) (word_of z regs i inside) in
     let turns = turns_met z (λ k _. stays_turn dest regs k) tt next 16 (λ j h.
     let reg = slice_index regs j in
-    let new = (times j (stays_turn dest regs) next).next in (
+    let new = (sequence j (stays_turn dest regs) next).next in (
       ap₂ (λ a b. a * b % P) (value-number_less z assigns dest i is.number is.within j h) (value-rise z reg new assigns
           ∙ ap (λ k. minus (slice_index z k) (slice_index z reg)) (turn_at dest regs next j)) ∙ elim (cases_eq j i) [
             | inl same ↦ times_zero (minus i j) _ (none_left i j (let w = is.within in omega arith) (sym same))
@@ -159,7 +159,7 @@ update_complete z next on dest word result regs i assigns is has =
       tt,
     )) in
     let sides = on_complete (slice_index z on) x (slice_index z (next + i)) old is.bit (wire-below assigns (slice_index regs i)) here_new in
-    Meets-join z (times 16 (stays_turn dest regs) next).list _ turns (
+    Meets-join z (sequence 16 (stays_turn dest regs) next).list _ turns (
       ap₂ (λ a b. a * b % P) (value-wire assigns on) (value-rise z word result assigns ∙ ap (minus x) same_old) ∙ sides
           ∙ sym (value-sum_rise z assigns regs next i is.within others),
       tt,

@@ -25,14 +25,14 @@ use Rattle.tv_core.specs.Circuits.{here, fresh, put, pure, ◌>>=◌}
 use Rattle.tv_core.specs.Combinations.{wire, less, top}
 use Rattle.tv_core.specs.Constraints.{Combination, value}
 use Rattle.tv_core.specs.Laws.{Assigns, HasFrom, InField}
-use Rattle.tv_core.specs.Loops.{times}
+use Rattle.tv_core.specs.Loops.{sequence}
 use Rattle.tv_core.specs.Normal.{normal}
 use Rattle.tv_core.specs.declared.field.TheConstants.{P}
 use Rattle.tv_regs.proofs.Gates.{word_of, word_below, product_value, wires_top-at}
 use Rattle.tv_regs.proofs.TripleLaws.{value-rise}
-use Rattle.tv_regs.specs.Reading.{words_at, wires_top}
-use Rattle.tv_regs.specs.Writing.{write_of, write_turn, tie_of, regs_sum, change, change_with, write_reg_of, written_regs, write_reg_values, WriteRegIsSound}
-use Rattle.tv_regs.specs.Writing.{WriteRegIsComplete, WriteRegSizes}
+use Rattle.tv_regs.specs.Reads.{words_at, wires_top}
+use Rattle.tv_regs.specs.Writes.{write_of, write_turn, tie_of, regs_sum, change, change_with, write_reg_of, written_regs, write_reg_values, WriteRegIsSound}
+use Rattle.tv_regs.specs.Writes.{WriteRegIsComplete, WriteRegSizes}
 use Rattle.tv_bits.proofs.SelectLaws.{times_one, times_zero}
 
 -- ---- the sums of the registers before and after
@@ -64,7 +64,7 @@ write_turn-next : (v sel : ℕ) (regs : List ℕ) (i at : ℕ) → (write_turn v
 unfolding write_of pick_of fresh put pure ◌>>=◌
 write_turn-next v sel regs i at = refl
 
-turn_at : (v sel : ℕ) (regs : List ℕ) (at j : ℕ) → (times j (write_turn v sel regs) at).next ≡ at + j
+turn_at : (v sel : ℕ) (regs : List ℕ) (at j : ℕ) → (sequence j (write_turn v sel regs) at).next ≡ at + j
 turn_at v sel regs at j = turns-next (λ i _. write_turn v sel regs i) tt at 1 j (λ i a k. write_turn-next v sel regs i k) ∙ ap (λ k. at + k) (mul-one j)
 
 module _ (z : List ℕ) (assigns : Assigns z) (regs : List ℕ) (first i : ℕ) (within : i < 16)
@@ -143,13 +143,13 @@ unfolding write_reg_of write_of pick_of tie_of here fresh put pure ◌>>=◌
 write_reg_sound z next sel on x regs i size assigns row bit meets =
     let v = next in
     let first = next + 1 in
-    let turns = times 16 (write_turn v sel regs) first in
+    let turns = sequence 16 (write_turn v sel regs) first in
     let split = Meets-split z turns.list _ meets in
     let turn : (j : ℕ) → j < 16 → slice_index z (sel + j) * ((slice_index z v + (P - slice_index z (slice_index regs j))) % P) % P
     ≡ (slice_index z (first + j) + (P - slice_index z (slice_index regs j))) % P =
     λ j h. let met = turn_met z (λ k _. write_turn v sel regs k) tt first 16 j h split.0 in
     sym (product_normal z assigns (sel + j) v (slice_index regs j)) ∙ met.0
-    ∙ value-rise z (slice_index regs j) (times j (write_turn v sel regs) first).next assigns
+    ∙ value-rise z (slice_index regs j) (sequence j (write_turn v sel regs) first).next assigns
     ∙ ap (λ k. (slice_index z k + (P - slice_index z (slice_index regs j))) % P) (turn_at v sel regs first j) in
     let others : (j : ℕ) → j < 16 → j ≢ i → slice_index z (first + j) ≡ slice_index z (slice_index regs j) =
     λ j h apart. same_of_minus (slice_index z (first + j)) (slice_index z (slice_index regs j)) (wire-below assigns (first + j))
@@ -210,12 +210,12 @@ write_reg_complete z next sel on x regs i size assigns row bit has =
         | inr apart ↦ times_zero (slice_index z (sel + j)) _ (row.cold j h apart)
             ∙ sym (none (slice_index z (first + j)) (slice_index z (slice_index regs j)) (wire-below assigns (slice_index regs j)) (others j h apart))
       ] ∙ ap (λ k. (slice_index z k + (P - slice_index z (slice_index regs j))) % P) (sym (turn_at v sel regs first j))
-          ∙ sym (value-rise z (slice_index regs j) (times j (write_turn v sel regs) first).next assigns),
+          ∙ sym (value-rise z (slice_index regs j) (sequence j (write_turn v sel regs) first).next assigns),
       tt,
     )) in
     let gate = on_complete (slice_index z on) (value x z) (slice_index z v) (slice_index z (first + i)) old bit (value-below x z)
     (wire-below assigns (slice_index regs i)) same_v here_new in
-    Meets-join z (times 16 (write_turn v sel regs) first).list _ turns (
+    Meets-join z (sequence 16 (write_turn v sel regs) first).list _ turns (
       ap₂ (λ m n. m * n % P) (value-wire assigns on) (value-change_with z assigns regs first i row.within others x v) ∙ gate
           ∙ sym (value-change z assigns regs first i row.within others),
       tt,

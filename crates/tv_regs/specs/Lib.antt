@@ -1,4 +1,4 @@
-pub mod Reading
-pub mod Writing
+pub mod Reads
+pub mod Writes
 pub mod Triple
 pub mod Update

@@ -14,11 +14,11 @@ use Rattle.tv_core.specs.Circuits.{Circuit, fresh, put, pure, ◌>>=◌}
 use Rattle.tv_core.specs.Combinations.{wire, top}
 use Rattle.tv_core.specs.Constraints.{Combination, value}
 use Rattle.tv_core.specs.Laws.{Assigns, Meets, HasFrom, Fills, InField}
-use Rattle.tv_core.specs.Loops.{times}
+use Rattle.tv_core.specs.Loops.{sequence}
 use Rattle.tv_core.specs.Meanings.{terms_in}
 use Rattle.tv_core.specs.Normal.{IsNormal}
 use Rattle.tv_core.specs.declared.field.TheConstants.{P}
-use Rattle.tv_regs.specs.Reading.{words_at}
+use Rattle.tv_regs.specs.Reads.{words_at}
 use Rattle.tv_regs.specs.declared.triple.Curve.{Curve}
 use Rattle.tv_regs.specs.declared.triple.Names.{Names}
 use Rattle.tv_regs.specs.declared.triple.Roots.{Roots}
@@ -75,7 +75,7 @@ curve_of roots regs = do
   curve ← fresh
   _ ← fresh
   _ ← fresh
-  _ ← times 16 (passes_turn roots curve regs)
+  _ ← sequence 16 (passes_turn roots curve regs)
   pure curve
 
 -- a new wire that is the curve at a number: c0 + n (c1 + n c2)

@@ -7,12 +7,12 @@ use Rattle.tv_core.specs.Circuits.{Circuit, here, fresh, put, pure, ◌>>=◌}
 use Rattle.tv_core.specs.Combinations.{wire, scaled}
 use Rattle.tv_core.specs.Constraints.{Combination}
 use Rattle.tv_core.specs.Laws.{Assigns, Meets, HasFrom, Fills}
-use Rattle.tv_core.specs.Loops.{times}
+use Rattle.tv_core.specs.Loops.{sequence}
 use Rattle.tv_core.specs.Meanings.{terms_in}
 use Rattle.tv_core.specs.declared.field.TheConstants.{P}
-use Rattle.tv_regs.specs.Reading.{words_at}
+use Rattle.tv_regs.specs.Reads.{words_at}
 use Rattle.tv_regs.specs.declared.update.Write.{Write}
-use Rattle.tv_regs.specs.Writing.{regs_sum, written_regs}
+use Rattle.tv_regs.specs.Writes.{regs_sum, written_regs}
 
 -- a wire less a number
 abbrev pub number_less : ℕ → ℕ → Combination
@@ -40,7 +40,7 @@ sum_rise first regs = scaled (P - 1) (regs_sum regs) ++ row_sum first 16
 unfoldable pub update_of : ℕ → ℕ → ℕ → ℕ → List ℕ → Circuit (List ℕ)
 update_of on dest word result regs = do
   first ← here
-  _ ← times 16 (stays_turn dest regs)
+  _ ← sequence 16 (stays_turn dest regs)
   _ ← put (wire on) (rise word result) (sum_rise first regs)
   pure (range_with_len first 16)
 

@@ -3,14 +3,12 @@
 //! `written_regs`, the registers after a write.
 #![tactic(auto)]
 
-mod reading;
+mod reads;
 mod triple;
 mod update;
-mod writing;
+mod writes;
 
-pub use reading::{
-    fill_read_reg, read_reg, read_reg_fills, read_reg_is_complete, read_reg_is_sound,
-};
+pub use reads::{fill_read_reg, read_reg, read_reg_fills, read_reg_is_complete, read_reg_is_sound};
 pub use triple::{
     Names, Triple, fill_triple, read_triple, triple_costs, triple_fills, triple_is_complete,
     triple_is_sound,
@@ -19,7 +17,7 @@ pub use update::{
     Write, fill_update, update_costs, update_fills, update_is_complete, update_is_sound,
     update_register,
 };
-pub use writing::{
+pub use writes::{
     fill_write_reg, wires_from, write_reg, write_reg_fills, write_reg_is_complete,
     write_reg_is_sound,
 };

@@ -8,11 +8,11 @@
 ghost use Rattle.std.specs.Prelude.{◌≡◌, ◌+◌, ◌*◌, ◌%◌, ◌≤◌, ◌<◌, ◌^◌, false, IfOk};
 ghost use Rattle.std.specs.Prelude.{OnOk};
 ghost use Rattle.tv_core.specs.Combinations.{top};
-ghost use Rattle.tv_core.specs.Giving.{GivesIn};
+ghost use Rattle.tv_core.specs.Values.{GivesIn};
 ghost use Rattle.tv_core.specs.Inverse.{inverse_of};
 ghost use Rattle.tv_core.specs.Sinks.{PutsIn, Grows, Room};
 ghost use Rattle.tv_core.specs.declared.field.TheConstants.{P};
-ghost use Rattle.tv_regs.specs.Reading.{wires_top};
+ghost use Rattle.tv_regs.specs.Reads.{wires_top};
 ghost use Rattle.tv_regs.specs.Triple.{number_of, roots_of, sums_of, pairs_of, cubic, departure};
 ghost use Rattle.tv_regs.specs.Triple.{passes_of, curve_of, point_of, triple_of, triple_wires};
 ghost use Rattle.tv_regs.specs.Triple.{AreNames};
@@ -112,7 +112,7 @@ pub fn read_triple<S: Sink>(
     let curve = new_curve(s, scratch, &roots, regs)?;
     scratch.a.set_wire(roots.other);
     let other_word = point(s, &scratch.a, &mut scratch.b, &mut scratch.c, curve)?;
-    names.named.fill(&mut scratch.a);
+    names.named.set_number(&mut scratch.a);
     let named_word = point(s, &scratch.a, &mut scratch.b, &mut scratch.c, curve)?;
     scratch.a.set_wire(roots.dest);
     let dest_word = point(s, &scratch.a, &mut scratch.b, &mut scratch.c, curve)?;
@@ -136,9 +136,9 @@ fn new_roots<S: Sink>(s: &mut S, scratch: &mut Scratch, stores: &Lc, names: &Nam
     ensures grows { IfOk result (λ _. Grows S.meaning s.old s.new 6 6) }
     ensures below { IfOk result (λ made. AreRoots (S.meaning.wires s.new) made) }
 {
-    names.dest.fill(&mut scratch.a);
+    names.dest.set_number(&mut scratch.a);
     let dest = kept_by(s, &mut scratch.b, &mut scratch.c, &scratch.a)?;
-    names.source.fill(&mut scratch.a);
+    names.source.set_number(&mut scratch.a);
     let other = pick_by(
         s,
         stores,
@@ -167,11 +167,11 @@ fn sums<S: Sink>(
     ensures grows { IfOk result (λ _. Grows S.meaning s.old s.new 4 4) }
     ensures below { IfOk result (λ made. AreRoots (S.meaning.wires s.new) made) }
 {
-    named.fill(&mut scratch.a);
+    named.set_number(&mut scratch.a);
     scratch.a.plus(F::ONE, dest);
     scratch.a.plus(F::ONE, other);
     let sum = kept_by(s, &mut scratch.b, &mut scratch.c, &scratch.a)?;
-    named.fill(&mut scratch.a);
+    named.set_number(&mut scratch.a);
     scratch.b.set_wire(other);
     let pair = times_by(s, &mut scratch.c, &scratch.b, &scratch.a)?;
     scratch.a.plus(F::ONE, other);

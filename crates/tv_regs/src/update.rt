@@ -3,16 +3,16 @@ ghost use Rattle.std.specs.Prelude.{◌≡◌, ◌+◌, ◌-◌, ◌++◌, ◌�
 ghost use Rattle.std.specs.Prelude.{max, IfOk, OnOk};
 ghost use Rattle.tv_bits.specs.OneHot.{row_sum};
 ghost use Rattle.tv_core.specs.Combinations.{scaled, top};
-ghost use Rattle.tv_core.specs.Giving.{GivesIn};
+ghost use Rattle.tv_core.specs.Values.{GivesIn};
 ghost use Rattle.tv_core.specs.Sinks.{PutsIn, Grows, Room};
 ghost use Rattle.tv_core.specs.declared.field.TheConstants.{P};
-ghost use Rattle.tv_regs.specs.Reading.{wires_top};
+ghost use Rattle.tv_regs.specs.Reads.{wires_top};
 ghost use Rattle.tv_regs.specs.Update.{number_less, rise, stays_of, update_of, AreMade};
 ghost use Rattle.tv_regs.specs.Update.{UpdateIsSound, UpdateIsComplete, UpdateSizes};
 ghost use Rattle.tv_regs.specs.Update.{UpdateCosts};
-ghost use Rattle.tv_regs.specs.Writing.{written_regs};
+ghost use Rattle.tv_regs.specs.Writes.{written_regs};
 
-use crate::writing::{set_sum, wires_from, written_regs};
+use crate::writes::{set_sum, wires_from, written_regs};
 use tv_bits::plus_row;
 use tv_core::{F, Lc, Put, Scratch, Sink, Values, Wire, give_words};
 

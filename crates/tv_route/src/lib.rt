@@ -5,10 +5,10 @@
 #![tactic(auto)]
 
 mod laws;
-mod marking;
+mod marks;
+mod permutations;
 mod settings;
-mod testing;
 
 pub use laws::{rearranged_is_a_permutation, route_is_right};
+pub use permutations::is_permutation;
 pub use settings::{Settings, route, route_w, routing_settings};
-pub use testing::is_permutation;

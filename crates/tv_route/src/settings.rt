@@ -6,7 +6,7 @@ ghost use Rattle.tv_benes.specs.declared.shape.Net.TheVariants.{Benes, Waksman};
 ghost use Rattle.tv_route.specs.Permutations.{Permutes, IsRoutable};
 ghost use Rattle.tv_route.specs.Route.{down, up_input, down_input, route, level_of, route_of};
 
-use crate::marking::halves;
+use crate::marks::halves;
 use std::alloc::{AllocError, Global};
 use std::marker::Model;
 use tv_benes::{Net, routing_switches};

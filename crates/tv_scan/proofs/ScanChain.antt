@@ -7,14 +7,14 @@ use Rattle.tv_core.proofs.TailCalls.{puts_in_then}
 use Rattle.tv_core.specs.Circuits.{put, pure, turns}
 use Rattle.tv_core.specs.Combinations.{constant, wire}
 use Rattle.tv_core.specs.Constraints.{Combination}
-use Rattle.tv_core.specs.Giving.{Giving, GivesSome}
+use Rattle.tv_core.specs.Values.{ValuesMeaning, GivesSome}
 use Rattle.tv_core.specs.Lines.{Line}
 use Rattle.tv_core.specs.Sinks.{Meaning, PutsAll, PutsSome, PutsIn}
 use Rattle.tv_core.specs.declared.field.TheConstants.{P}
 use Rattle.tv_core.specs.declared.lines.LineLc.{LineLc}
 use Rattle.tv_core.specs.declared.lines.LineNum.{LineNum}
 use Rattle.tv_core.specs.declared.sink.SinkFault.{SinkFault}
-use Rattle.tv_lines.specs.Packing.{line_of}
+use Rattle.tv_lines.specs.PackedLines.{line_of}
 use Rattle.tv_scan.proofs.Looking.{word_after-suc}
 use Rattle.tv_lines.specs.Placed.{no_line, zero_line}
 use Rattle.tv_scan.specs.Scan.{look_of, turn_of, scan_of, word_after, look_values}
@@ -51,7 +51,7 @@ module _ {S : Type 0} (m : Meaning S) (earlier : List LineLc) (line : LineLc) wh
       (subst (λ n. PutsAll m old mid (turns n (turn_of earlier line) []) word) all p) q
 
 -- what was passed of a list, the list being written in another way
-pub given_as : {V : Type 0} (m : Giving V) (xs ys : List ℕ) (old new : V) (fault : SinkFault) → xs ≡ ys → GivesSome m old new xs fault
+pub given_as : {V : Type 0} (m : ValuesMeaning V) (xs ys : List ℕ) (old new : V) (fault : SinkFault) → xs ≡ ys → GivesSome m old new xs fault
     → GivesSome m old new ys fault
 given_as m xs ys old new fault same p = subst (λ vs. GivesSome m old new vs fault) same p
 

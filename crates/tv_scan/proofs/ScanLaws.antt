@@ -20,10 +20,10 @@ use Rattle.tv_core.specs.Laws.{Assigns, Meets, HasFrom, InField}
 use Rattle.tv_core.specs.Lines.{Line, memory_after}
 use Rattle.tv_core.specs.declared.field.TheConstants.{P}
 use Rattle.tv_core.specs.declared.lines.LineLc.{LineLc}
-use Rattle.tv_lines.specs.Packing.{line_value}
+use Rattle.tv_lines.specs.PackedLines.{line_value}
 use Rattle.tv_scan.proofs.Looking.{word_after-suc, choice, flag_bit, word_small}
 use Rattle.tv_lines.specs.Placed.{no_line, zero_line}
-use Rattle.tv_scan.specs.Scan.{look_of, turn_of, scan_of, word_after, cells_apart, look_values, ScanIsSound, ScanIsComplete, ScanSizes}
+use Rattle.tv_scan.specs.Scan.{look_of, turn_of, scan_of, word_after, cell_gap, look_values, ScanIsSound, ScanIsComplete, ScanSizes}
 
 -- ---- where the circuits end
 look_next : (earlier : List LineLc) (line : LineLc) (i : ℕ) (word : Combination) (next : ℕ) → (turn_of earlier line i word next).next ≡ next + 3
@@ -62,16 +62,16 @@ module _ (z : List ℕ) (earlier : List LineLc) (line : LineLc) (assigns : Assig
   long : length (map (line_value z) earlier) ≡ length earlier
   long = length-map earlier (line_value z)
 
-  apart_is : (i : ℕ) → value (less line.cell (get_or earlier i no_line).cell) z ≡ cells_apart numbers m i
+  apart_is : (i : ℕ) → value (less line.cell (get_or earlier i no_line).cell) z ≡ cell_gap numbers m i
   apart_is i = value-less line.cell (get_or earlier i no_line).cell z ∙ ap (λ (l : Line). (value line.cell z + (P - l.cell)) % P) (sym (at_place i))
 
   -- the word after line i, as the circuit chooses it
   chosen : (i word : ℕ) → i < length earlier → word ≡ word_after numbers m i
-      → selected (zero_flag (cells_apart numbers m i)) (value (get_or earlier i no_line).new z) word ≡ word_after numbers m (i + 1)
+      → selected (zero_flag (cell_gap numbers m i)) (value (get_or earlier i no_line).new z) word ≡ word_after numbers m (i + 1)
   chosen i word h is =
       let l : Line = get_or (map (line_value z) earlier) i zero_line in
       let small : l.cell < P = subst (λ (k : Line). k.cell < P) (sym (at_place i)) (value-below (get_or earlier i no_line).cell z) in
-      ap₂ (λ new w. selected (zero_flag (cells_apart numbers m i)) new w) (ap (λ (k : Line). k.new) (sym (at_place i))) is
+      ap₂ (λ new w. selected (zero_flag (cell_gap numbers m i)) new w) (ap (λ (k : Line). k.new) (sym (at_place i))) is
       ∙ choice l.cell m.cell l.new (word_after numbers m i) small (value-below line.cell z)
       ∙ sym (word_after-suc (map (line_value z) earlier) m i (omega (arith, long)))
 
@@ -84,8 +84,8 @@ module _ (z : List ℕ) (earlier : List LineLc) (line : LineLc) (assigns : Assig
       let w = select_of same.answer (get_or earlier i no_line).new word same.next in
       let both = Meets-split z (same.list ++ w.list) [] meets in
       let one = Meets-split z same.list w.list both.0 in
-      let flag : slice_index z same.answer ≡ zero_flag (cells_apart numbers m i) = zero_sound z next x assigns one.0 ∙ ap zero_flag (apart_is i) in
-      let bit = subst IsBit (sym flag) (flag_bit (cells_apart numbers m i)) in
+      let flag : slice_index z same.answer ≡ zero_flag (cell_gap numbers m i) = zero_sound z next x assigns one.0 ∙ ap zero_flag (apart_is i) in
+      let bit = subst IsBit (sym flag) (flag_bit (cell_gap numbers m i)) in
       let is_w = select_sound z same.next same.answer (get_or earlier i no_line).new word assigns bit one.1 in
       value-wire assigns w.answer ∙ is_w
       ∙ ap (λ f. selected f (value (get_or earlier i no_line).new z) (value word z)) flag ∙ chosen i (value word z) h is
@@ -108,10 +108,10 @@ module _ (z : List ℕ) (earlier : List LineLc) (line : LineLc) (assigns : Assig
       let same = zero_of x next in
       let new : Combination = (get_or earlier i no_line).new in
       let w = select_of same.answer new word same.next in
-      let both = HasFrom-split z next (zero_values (cells_apart numbers m i)) (word_after numbers m (i + 1) ∷ []) has in
+      let both = HasFrom-split z next (zero_values (cell_gap numbers m i)) (word_after numbers m (i + 1) ∷ []) has in
       let flags = zero_complete z next x assigns (subst (λ v. HasFrom z next (zero_values v)) (sym (apart_is i)) both.0) in
-      let flag : slice_index z same.answer ≡ zero_flag (cells_apart numbers m i) = zero_sound z next x assigns flags ∙ ap zero_flag (apart_is i) in
-      let bit = subst IsBit (sym flag) (flag_bit (cells_apart numbers m i)) in
+      let flag : slice_index z same.answer ≡ zero_flag (cell_gap numbers m i) = zero_sound z next x assigns flags ∙ ap zero_flag (apart_is i) in
+      let bit = subst IsBit (sym flag) (flag_bit (cell_gap numbers m i)) in
       let word_is : selected (slice_index z same.answer) (value new z) (value word z) ≡ word_after numbers m (i + 1) =
       ap (λ f. selected f (value new z) (value word z)) flag ∙ chosen i (value word z) h is in
       let there : slice_index z same.next ≡ word_after numbers m (i + 1) = ap (λ n. slice_index z n) (zero_next x next) ∙ both.1.0 in
@@ -164,7 +164,7 @@ scan_complete z next earlier line assigns is has =
 look_small : (earlier : List Line) (line : Line) → ((i : ℕ) → i < length earlier → (get_or earlier i zero_line).new < P) → (i : ℕ) → i < length earlier
     → InField (look_values earlier line i)
 look_small earlier line small i h =
-    InField-append (zero_values (cells_apart earlier line i)) (word_after earlier line (i + 1) ∷ []) (zero_in_field (cells_apart earlier line i))
+    InField-append (zero_values (cell_gap earlier line i)) (word_after earlier line (i + 1) ∷ []) (zero_in_field (cell_gap earlier line i))
     (InField-cons (word_after earlier line (i + 1)) [] (word_small earlier line small (i + 1) (omega arith)) InField-none)
 
 pub scan_fill : ScanSizes

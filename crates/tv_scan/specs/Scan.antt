@@ -10,7 +10,7 @@ use Rattle.tv_core.specs.Laws.{Assigns, Meets, HasFrom, Fills, InField}
 use Rattle.tv_core.specs.Lines.{Line, memory_after}
 use Rattle.tv_core.specs.declared.field.TheConstants.{P}
 use Rattle.tv_core.specs.declared.lines.LineLc.{LineLc}
-use Rattle.tv_lines.specs.Packing.{line_value}
+use Rattle.tv_lines.specs.PackedLines.{line_value}
 use Rattle.tv_lines.specs.Placed.{line_in, number_in}
 
 -- the combinations of a line are short, and made of wires below a number
@@ -46,12 +46,12 @@ abbrev pub word_after : List Line → Line → ℕ → ℕ
 word_after earlier line n = memory_after (take n earlier) line.cell
 
 -- by how much the line's cell is above that of earlier line i, modulo P
-abbrev pub cells_apart : List Line → Line → ℕ → ℕ
-cells_apart earlier line i = (line.cell + (P - (number_in earlier i).cell)) % P
+abbrev pub cell_gap : List Line → Line → ℕ → ℕ
+cell_gap earlier line i = (line.cell + (P - (number_in earlier i).cell)) % P
 
 -- the values of the wires that are made for earlier line i, and for all
 abbrev pub look_values : List Line → Line → ℕ → List ℕ
-look_values earlier line i = zero_values (cells_apart earlier line i) ++ word_after earlier line (i + 1) ∷ []
+look_values earlier line i = zero_values (cell_gap earlier line i) ++ word_after earlier line (i + 1) ∷ []
 
 abbrev pub scan_values : List Line → Line → List ℕ
 scan_values earlier line = joined_below (length earlier) (look_values earlier line)

@@ -3,6 +3,6 @@
 //! each pair of lines.
 #![tactic(auto)]
 
-mod scanning;
+mod scans;
 
-pub use scanning::{fill_scan, scan, scan_fills, scan_is_complete, scan_is_sound};
+pub use scans::{fill_scan, scan, scan_fills, scan_is_complete, scan_is_sound};

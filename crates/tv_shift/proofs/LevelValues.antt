@@ -2,8 +2,8 @@
 use Rattle.std.proofs.Common.{◌≡◌, ℕ, zero, suc, ◌+◌, ◌-◌, ◌^◌, ◌<◌, [], ◌++◌, length, length-append, inl, inr, refl, subst, ◌∙◌, ap, ap₂, arith, add-one}
 use Rattle.std.proofs.lemmas.Bool.{cases_eq}
 use Rattle.tv_core.proofs.BelowLaws.{length-each_below}
-use Rattle.tv_core.proofs.GivingChain.{gives_then, gives_then_refused, gives_refused_then, gives_nothing}
-use Rattle.tv_core.specs.Giving.{Giving, GivesAll, GivesSome}
+use Rattle.tv_core.proofs.ValuesChain.{gives_then, gives_then_refused, gives_refused_then, gives_nothing}
+use Rattle.tv_core.specs.Values.{ValuesMeaning, GivesAll, GivesSome}
 use Rattle.tv_core.specs.declared.sink.SinkFault.{SinkFault}
 use Rattle.tv_shift.proofs.MarkTerms.{products-more}
 use Rattle.tv_shift.specs.Thermometer.{products_below, level_value, level_values, thermometer_values}
@@ -23,7 +23,7 @@ length-values (suc k) y =
     ap length (values-more k y) ∙ length-append (thermometer_values k y) (level_values y k)
     ∙ ap₂ (λ a b. a + b) (length-values k y) (length-each_below (2 ^ k - 1) (level_value y k)) ∙ products-more k ∙ ap products_below same
 
-module _ {V : Type 0} (m : Giving V) (y : ℕ) where
+module _ {V : Type 0} (m : ValuesMeaning V) (y : ℕ) where
   pub gives_no_level : (v : V) → GivesAll m v v (thermometer_values 0 y)
   gives_no_level v = rw values-none (gives_nothing m v)
 

@@ -8,9 +8,9 @@ use Rattle.std.proofs.lemmas.Nat.Bits.{bit_at-lt}
 use Rattle.std.specs.Int.{bit_at}
 use Rattle.std.specs.Prelude.{slice_index}
 use Rattle.tv_bits.proofs.PairLaws.{two_ands_sound, two_ands_complete}
-use Rattle.tv_bits.proofs.SpelledNumbers.{sum_below-plus, Spells-below, Spells-bit_at, Spells-low, Spells-high, picked-bit_at}
+use Rattle.tv_bits.proofs.BitNumbers.{sum_below-plus, HasBits-below, HasBits-bit_at, HasBits-low, HasBits-high, picked-bit_at}
 use Rattle.tv_bits.specs.Bit.{IsBit}
-use Rattle.tv_bits.specs.Bits.{Spells, bits_combination}
+use Rattle.tv_bits.specs.Bits.{HasBits, bits_combination}
 use Rattle.tv_bits.specs.Pairs.{two_ands, two_ands_of}
 use Rattle.tv_bits.specs.Select.{selected}
 use Rattle.tv_core.proofs.BelowLaws.{sum_below-same, sum_below-mod_same, sum_below-zeros, sum_below-add, value-weighted, has_each}
@@ -22,7 +22,7 @@ use Rattle.tv_core.specs.Circuits.{here, fresh, put, pure, ◌>>=◌}
 use Rattle.tv_core.specs.Combinations.{wire}
 use Rattle.tv_core.specs.Constraints.{Combination, value}
 use Rattle.tv_core.specs.Laws.{Assigns, Meets, HasFrom}
-use Rattle.tv_core.specs.Loops.{times}
+use Rattle.tv_core.specs.Loops.{sequence}
 use Rattle.tv_core.specs.declared.field.TheConstants.{P}
 use Rattle.tv_bits.proofs.BitLaws.{bit_cases, product_bit}
 use Rattle.tv_shift.proofs.ShiftNumbers.{half_power}
@@ -66,7 +66,7 @@ pair-next : (mask digit : ℕ → Combination) (n i at : ℕ) → (masked_pair_o
 unfolding masked_pair_of two_ands_of fresh put ◌>>=◌
 pair-next mask digit n i at = refl
 
-turn-next : (mask digit : ℕ → Combination) (n next i : ℕ) → (times i (masked_pair_of mask digit n) next).next ≡ next + i
+turn-next : (mask digit : ℕ → Combination) (n next i : ℕ) → (sequence i (masked_pair_of mask digit n) next).next ≡ next + i
 turn-next mask digit n next i = turns-next (λ i _. masked_pair_of mask digit n i) tt next 1 i (λ i a at. pair-next mask digit n i at)
     ∙ ap (λ k. next + k) (mul-one i)
 
@@ -126,7 +126,7 @@ module _ (w : ℕ) (width : IsWidth w) (z : List ℕ) (assigns : Assigns z) (mas
       → value (bits_combination next (w / 4)) z ≡ sum_below (w / 2) (λ i. 2 ^ i * (m i * d i)) % P
   unfolding masked_of here pure ◌>>=◌
   masked_sound next meets =
-      let turns = (Meets-split z (times (w / 4) (masked_pair_of mask digit (w / 4)) next).list [] meets).0 in
+      let turns = (Meets-split z (sequence (w / 4) (masked_pair_of mask digit (w / 4)) next).list [] meets).0 in
       let each : (i : ℕ) → i < w / 4 → slice_index z (next + i) ≡ m i * d i + 2 ^ (w / 4) * (m (w / 4 + i) * d (w / 4 + i)) = λ i h.
       rw (turn-next mask digit (w / 4) next i) at (pair_sound i _ h (turn_met z (λ i _. masked_pair_of mask digit (w / 4) i) tt next (w / 4) i h turns)) in
       let f : ℕ → ℕ = λ i. 2 ^ i * (m i * d i) in
@@ -142,7 +142,7 @@ module _ (w : ℕ) (width : IsWidth w) (z : List ℕ) (assigns : Assigns z) (mas
       → Meets z (masked_of mask digit (w / 4) next).list
   unfolding masked_of here pure ◌>>=◌
   masked_complete next each =
-      Meets-join z (times (w / 4) (masked_pair_of mask digit (w / 4)) next).list []
+      Meets-join z (sequence (w / 4) (masked_pair_of mask digit (w / 4)) next).list []
       (turns_met z (λ i _. masked_pair_of mask digit (w / 4) i) tt next (w / 4)
       (λ i h. pair_complete i _ h (rw (turn-next mask digit (w / 4) next i) (each i h)))) tt
 
@@ -153,9 +153,9 @@ half_of n b v Low = chosen_half n b v
 half_of n b v High = other_half n b v
 
 module _ (w : ℕ) (width : IsWidth w) (z : List ℕ) (assigns : Assigns z) (p : Places) (s b v : ℕ) (small : s < w / 2) (bit : IsBit b)
-    (marks : Marks z p.distance p.products (half_log w) s) (word : Spells z p.word w v) (chosen : Spells z p.chosen (w / 2) (chosen_half (w / 2) b v)) where
-  halves : Spells z p.word (w / 2 + w / 2) v
-  halves = subst (λ n. Spells z p.word n v) (let same : w ≡ w / 2 + w / 2 = omega arith in same) word
+    (marks : Marks z p.distance p.products (half_log w) s) (word : HasBits z p.word w v) (chosen : HasBits z p.chosen (w / 2) (chosen_half (w / 2) b v)) where
+  halves : HasBits z p.word (w / 2 + w / 2) v
+  halves = subst (λ n. HasBits z p.word n v) (let same : w ≡ w / 2 + w / 2 = omega arith in same) word
 
   -- the marks are as many as half a word has bits
   among_marks : (i : ℕ) → i < w / 2 → i < 2 ^ half_log w
@@ -166,12 +166,12 @@ module _ (w : ℕ) (width : IsWidth w) (z : List ℕ) (assigns : Assigns z) (p :
 
   -- each half has half a word's bits
   pub chosen-below : chosen_half (w / 2) b v < 2 ^ (w / 2)
-  chosen-below = Spells-below chosen
+  chosen-below = HasBits-below chosen
 
   pub other-below : other_half (w / 2) b v < 2 ^ (w / 2)
   other-below = elim (bit_cases b bit) [
-    | inl none ↦ rw none (Spells-below (Spells-high z p.word (w / 2) (w / 2) v halves))
-    | inr one ↦ rw one (Spells-below (Spells-low z p.word (w / 2) (w / 2) v halves))
+    | inl none ↦ rw none (HasBits-below (HasBits-high z p.word (w / 2) (w / 2) v halves))
+    | inr one ↦ rw one (HasBits-below (HasBits-low z p.word (w / 2) (w / 2) v halves))
   ]
 
   mask-is : (part : Part) (i : ℕ) → i < w / 2 → value (mask_at w p part i) z ≡ mask_value w s part i
@@ -197,17 +197,17 @@ module _ (w : ℕ) (width : IsWidth w) (z : List ℕ) (assigns : Assigns z) (p :
 
   digit-is : (part : Part) (i : ℕ) → i < w / 2 → value (digit_at w p part i) z ≡ bit_at (half_of (w / 2) b v part) i
   unfolding digit_at
-  digit-is Low i h = value-wire assigns (p.chosen + i) ∙ Spells-bit_at chosen i h
+  digit-is Low i h = value-wire assigns (p.chosen + i) ∙ HasBits-bit_at chosen i h
   digit-is High i h =
-      let l = Spells-bit_at (Spells-low z p.word (w / 2) (w / 2) v halves) i h in
+      let l = HasBits-bit_at (HasBits-low z p.word (w / 2) (w / 2) v halves) i h in
       let place : p.word + (w / 2 + i) ≡ p.word + w / 2 + i = omega arith in
-      let u = ap (λ k. slice_index z k) place ∙ Spells-bit_at (Spells-high z p.word (w / 2) (w / 2) v halves) i h in
+      let u = ap (λ k. slice_index z k) place ∙ HasBits-bit_at (HasBits-high z p.word (w / 2) (w / 2) v halves) i h in
       let low_bit = bit_at-lt (v % 2 ^ (w / 2)) i in
       let high_bit = bit_at-lt (v / 2 ^ (w / 2)) i in
       value-less (wire (p.word + i) ++ wire (p.word + (w / 2 + i))) (wire (p.chosen + i)) z
       ∙ ap₂ (λ m n. (m + (P - n)) % P) (value-append (wire (p.word + i)) (wire (p.word + (w / 2 + i))) z
       ∙ ap₂ (λ m n. (m + n) % P) (value-wire assigns (p.word + i) ∙ l) (value-wire assigns (p.word + (w / 2 + i)) ∙ u))
-      (value-wire assigns (p.chosen + i) ∙ Spells-bit_at chosen i h)
+      (value-wire assigns (p.chosen + i) ∙ HasBits-bit_at chosen i h)
       ∙ difference (bit_at (v % 2 ^ (w / 2)) i) (bit_at (v / 2 ^ (w / 2)) i) (bit_at (chosen_half (w / 2) b v) i) low_bit high_bit (chosen_digit i)
       ∙ sym (other_digit i)
 

@@ -4,9 +4,9 @@ use Rattle.std.specs.Int.{bit_at}
 use Rattle.std.specs.Prelude.{slice_index}
 use Rattle.std.proofs.lemmas.Nat.Bits.{bit_at-lt}
 use Rattle.tv_bits.proofs.BitLaws.{product_bit}
-use Rattle.tv_bits.proofs.SpelledNumbers.{Spells-bit_at}
+use Rattle.tv_bits.proofs.BitNumbers.{HasBits-bit_at}
 use Rattle.tv_bits.specs.Bit.{IsBit}
-use Rattle.tv_bits.specs.Bits.{Spells}
+use Rattle.tv_bits.specs.Bits.{HasBits}
 use Rattle.tv_bits.specs.Times.{times_of}
 use Rattle.tv_bits.specs.declared.bit_wires.Bits.{Bits}
 use Rattle.tv_core.proofs.CombinationLaws.{value-wire}
@@ -40,28 +40,28 @@ module _ (z : List ℕ) (assigns : Assigns z) where
       → value (pair_power a b c) z ≡ 1 + m + 3 * n + 3 * p
   value-pair a b c m n p e f g h k l = omega (arith, assigns.one)
 
-  module _ (y n d : ℕ) (s : Spells z y n d) where
+  module _ (y n d : ℕ) (s : HasBits z y n d) where
     first_bit : 1 ≤ n → slice_index z y ≡ bit_at d 0
-    first_bit short = let place : y + 0 ≡ y = omega arith in ap (slice_index z) (sym place) ∙ Spells-bit_at s 0 (omega arith)
+    first_bit short = let place : y + 0 ≡ y = omega arith in ap (slice_index z) (sym place) ∙ HasBits-bit_at s 0 (omega arith)
 
     -- ---- what the factors of each constraint are
     both_value : 2 ≤ n → value (wire y) z * value (wire (y + 1)) z % P ≡ bit_at d 0 * bit_at d 1
     both_value short =
-        ap₂ (λ m n. m * n % P) (value-wire assigns y ∙ first_bit (omega arith)) (value-wire assigns (y + 1) ∙ Spells-bit_at s 1 (omega arith))
+        ap₂ (λ m n. m * n % P) (value-wire assigns y ∙ first_bit (omega arith)) (value-wire assigns (y + 1) ∙ HasBits-bit_at s 1 (omega arith))
         ∙ both_is d
 
     middle_value : 4 ≤ n → value (factor_by 16 (y + 2)) z * value (factor_by 256 (y + 3)) z % P ≡ 2 ^ (4 * (d / 4 % 4))
     middle_value short =
         ap₂ (λ m n. m * n % P)
-        (value-factor_16 (y + 2) (bit_at d 2) (Spells-bit_at s 2 (omega arith)) (bit_at-lt d 2))
-        (value-factor_256 (y + 3) (bit_at d 3) (Spells-bit_at s 3 (omega arith)) (bit_at-lt d 3))
+        (value-factor_16 (y + 2) (bit_at d 2) (HasBits-bit_at s 2 (omega arith)) (bit_at-lt d 2))
+        (value-factor_256 (y + 3) (bit_at d 3) (HasBits-bit_at s 3 (omega arith)) (bit_at-lt d 3))
         ∙ middle_is d
 
     low_value : (both middle : ℕ) → 2 ≤ n → slice_index z both ≡ bit_at d 0 * bit_at d 1 → slice_index z middle ≡ 2 ^ (4 * (d / 4 % 4))
         → value (pair_power y (y + 1) both) z * value (wire middle) z % P ≡ 2 ^ (d % 16)
     low_value both middle short e f =
         let first = first_bit (omega arith) in
-        let second = Spells-bit_at s 1 (omega arith) in
+        let second = HasBits-bit_at s 1 (omega arith) in
         let product = product_bit (bit_at d 0) (bit_at d 1) (bit_at-lt d 0) (bit_at-lt d 1) in
         ap₂ (λ m n. m * n % P)
         (value-pair y (y + 1) both (bit_at d 0) (bit_at d 1) (bit_at d 0 * bit_at d 1) first second e (bit_at-lt d 0) (bit_at-lt d 1) product)
@@ -70,7 +70,7 @@ module _ (z : List ℕ) (assigns : Assigns z) where
 
     wide_value : (low : ℕ) → 5 ≤ n → slice_index z low ≡ 2 ^ (d % 16) → value (wire low) z * value (factor_by 65536 (y + 4)) z % P ≡ 2 ^ (d % 32)
     wide_value low short e =
-        ap₂ (λ m n. m * n % P) (value-wire assigns low ∙ e) (value-factor_65536 (y + 4) (bit_at d 4) (Spells-bit_at s 4 (omega arith)) (bit_at-lt d 4))
+        ap₂ (λ m n. m * n % P) (value-wire assigns low ∙ e) (value-factor_65536 (y + 4) (bit_at d 4) (HasBits-bit_at s 4 (omega arith)) (bit_at-lt d 4))
         ∙ wide_is d
 
     -- ---- the laws
@@ -109,7 +109,7 @@ module _ (z : List ℕ) (assigns : Assigns z) where
         (low.0, (low.1.0, (low.1.1.0, (power, tt))))
 
 abbrev sound_at : ℕ → Type 0
-sound_at w = (z : List ℕ) (next : ℕ) (y : Bits) (d : ℕ) → Assigns z → Spells z y.first w d
+sound_at w = (z : List ℕ) (next : ℕ) (y : Bits) (d : ℕ) → Assigns z → HasBits z y.first w d
     → Meets z (shift_power_of w y next).list → IsShiftPower w z (shift_power_of w y next).answer d
 
 sound_16 : sound_at 16
@@ -124,7 +124,7 @@ pub shift_power_sound : ShiftPowerIsSound
 shift_power_sound = for_widths sound_at sound_16 sound_32
 
 abbrev complete_at : ℕ → Type 0
-complete_at w = (z : List ℕ) (next : ℕ) (y : Bits) (d : ℕ) → Assigns z → Spells z y.first w d
+complete_at w = (z : List ℕ) (next : ℕ) (y : Bits) (d : ℕ) → Assigns z → HasBits z y.first w d
     → HasFrom z next (shift_power_values w d) → Meets z (shift_power_of w y next).list
 
 complete_16 : complete_at 16

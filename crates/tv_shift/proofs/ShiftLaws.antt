@@ -8,10 +8,10 @@ use Rattle.std.proofs.lemmas.Nat.Bits.{bit_at-lt}
 use Rattle.std.specs.Int.{bit_at}
 use Rattle.std.specs.Prelude.{slice_index}
 use Rattle.tv_bits.proofs.SelectLaws.{select_sound, select_complete}
-use Rattle.tv_bits.proofs.SpelledNumbers.{Spells-below, Spells-bit_at, Spells-low, Spells-high, value-bits_below}
+use Rattle.tv_bits.proofs.BitNumbers.{HasBits-below, HasBits-bit_at, HasBits-low, HasBits-high, value-bits_below}
 use Rattle.tv_bits.proofs.ZeroLaws.{zero_flag-zero, zero_flag-other, zero_sound, zero_complete, zero_next}
 use Rattle.tv_bits.specs.Bit.{IsBit}
-use Rattle.tv_bits.specs.Bits.{Spells, bits_combination, bits_values}
+use Rattle.tv_bits.specs.Bits.{HasBits, bits_combination, bits_values}
 use Rattle.tv_bits.specs.Select.{selected, select_of, pick_of}
 use Rattle.tv_bits.specs.Zero.{zero_flag, zero_of, zero_values}
 use Rattle.tv_core.proofs.BelowLaws.{length-each_below}
@@ -47,17 +47,17 @@ use Rattle.tv_word.proofs.WidthLaws.{word_small}
 -- what is known of places, and of parts, for a word v, a distance whose low bits represent s, and the bit b above them
 record ArePlaces (w : ℕ) (z : List ℕ) (p : Places) (s b v : ℕ) : Type 0 where
   marks : Marks z p.distance p.products (half_log w) s
-  chosen : Spells z p.chosen (w / 2) (chosen_half (w / 2) b v)
+  chosen : HasBits z p.chosen (w / 2) (chosen_half (w / 2) b v)
 
 record AreParts (w : ℕ) (z : List ℕ) (p : Parts) (s b v : ℕ) : Type 0 where
   marks : Marks z p.places.distance p.places.products (half_log w) s
   low : value (bits_combination p.low (w / 4)) z ≡ chosen_half (w / 2) b v % 2 ^ s
   high : value (bits_combination p.high (w / 4)) z + other_half (w / 2) b v % 2 ^ (w / 2 - s) ≡ other_half (w / 2) b v
 
-module _ (w : ℕ) (width : IsWidth w) (z : List ℕ) (assigns : Assigns z) (x y v d : ℕ) (word : Spells z x w v) (distance : Spells z y w d) where
+module _ (w : ℕ) (width : IsWidth w) (z : List ℕ) (assigns : Assigns z) (x y v d : ℕ) (word : HasBits z x w v) (distance : HasBits z y w d) where
   -- the word in two halves
-  word_halves : Spells z x (w / 2 + w / 2) v
-  word_halves = subst (λ n. Spells z x n v) (let same : w ≡ w / 2 + w / 2 = omega arith in same) word
+  word_halves : HasBits z x (w / 2 + w / 2) v
+  word_halves = subst (λ n. HasBits z x n v) (let same : w ≡ w / 2 + w / 2 = omega arith in same) word
 
   s-small : d % 2 ^ half_log w < w / 2
   s-small = subst (λ n. d % 2 ^ half_log w < n) (half_power w width) (mod-lt d (pow_pos (half_log w)))
@@ -66,16 +66,16 @@ module _ (w : ℕ) (width : IsWidth w) (z : List ℕ) (assigns : Assigns z) (x y
   b-bit = bit_at-lt d (half_log w)
 
   b-is : slice_index z (y + half_log w) ≡ bit_at d (half_log w)
-  b-is = Spells-bit_at distance (half_log w) (omega arith)
+  b-is = HasBits-bit_at distance (half_log w) (omega arith)
 
   b-wire : IsBit (slice_index z (y + half_log w))
   b-wire = distance.bits (half_log w) (omega arith)
 
   left-below : half_left (w / 2) (bit_at d (half_log w)) v < 2 ^ w
-  left-below = half_left-below w width (bit_at d (half_log w)) v b-bit (Spells-below word)
+  left-below = half_left-below w width (bit_at d (half_log w)) v b-bit (HasBits-below word)
 
   right-below : half_right (w / 2) (bit_at d (half_log w)) v < 2 ^ w
-  right-below = half_right-below w width (bit_at d (half_log w)) v b-bit (Spells-below word)
+  right-below = half_right-below w width (bit_at d (half_log w)) v b-bit (HasBits-below word)
 
   -- ---- places
   places_sound : (next : ℕ) → Meets z (places_of w x y next).list → ArePlaces w z (places_of w x y next).answer (d % 2 ^ half_log w) (bit_at d (half_log w)) v
@@ -104,8 +104,8 @@ module _ (w : ℕ) (width : IsWidth w) (z : List ℕ) (assigns : Assigns z) (x y
   places_word next = refl
 
   -- ---- parts
-  word_at : (next : ℕ) → Spells z (places_of w x y next).answer.word w v
-  word_at next = subst (λ k. Spells z k w v) (sym (places_word next)) word
+  word_at : (next : ℕ) → HasBits z (places_of w x y next).answer.word w v
+  word_at next = subst (λ k. HasBits z k w v) (sym (places_word next)) word
 
   parts_sound : (next : ℕ) → Meets z (parts_of w x y next).list → AreParts w z (parts_of w x y next).answer (d % 2 ^ half_log w) (bit_at d (half_log w)) v
   unfolding parts_of masked_of here pure ◌>>=◌
@@ -159,10 +159,10 @@ module _ (w : ℕ) (width : IsWidth w) (z : List ℕ) (assigns : Assigns z) (x y
 
   low_value : value (scaled (2 ^ (w / 2) % P) (bits_combination x (w / 2))) z ≡ 2 ^ (w / 2) * (v % 2 ^ (w / 2))
   low_value = value-scaled (2 ^ (w / 2) % P) (bits_combination x (w / 2)) z
-      ∙ ap (λ n. 2 ^ (w / 2) % P * n % P) (value-bits_below (Spells-low z x (w / 2) (w / 2) v word_halves) (omega arith)) ∙ half_up v
+      ∙ ap (λ n. 2 ^ (w / 2) % P * n % P) (value-bits_below (HasBits-low z x (w / 2) (w / 2) v word_halves) (omega arith)) ∙ half_up v
 
   high_value : value (bits_combination (x + w / 2) (w / 2)) z ≡ v / 2 ^ (w / 2)
-  high_value = value-bits_below (Spells-high z x (w / 2) (w / 2) v word_halves) (omega arith)
+  high_value = value-bits_below (HasBits-high z x (w / 2) (w / 2) v word_halves) (omega arith)
 
   word_value : value (bits_combination x w) z ≡ v
   word_value = value-bits_below word (omega arith)
@@ -230,10 +230,10 @@ module _ (w : ℕ) (width : IsWidth w) (z : List ℕ) (assigns : Assigns z) (x y
     high_is : value (bits_combination p.high (w / 4)) z + half_left (w / 2) (bit_at d (half_log w)) v / 2 ^ (w / 2) % 2 ^ (w / 2 - d % 2 ^ half_log w)
         ≡ half_left (w / 2) (bit_at d (half_log w)) v / 2 ^ (w / 2)
     high_is = subst (λ k. value (bits_combination p.high (w / 4)) z + k % 2 ^ (w / 2 - d % 2 ^ half_log w) ≡ k)
-        (other_is w width (bit_at d (half_log w)) v b-bit (Spells-below word)) known.high
+        (other_is w width (bit_at d (half_log w)) v b-bit (HasBits-below word)) known.high
 
     low_is : value (bits_combination p.low (w / 4)) z ≡ half_right (w / 2) (bit_at d (half_log w)) v % 2 ^ (d % 2 ^ half_log w)
-    low_is = known.low ∙ chosen_rest w width (bit_at d (half_log w)) v b-bit (Spells-below word) (d % 2 ^ half_log w) s-small
+    low_is = known.low ∙ chosen_rest w width (bit_at d (half_log w)) v b-bit (HasBits-below word) (d % 2 ^ half_log w) s-small
 
     left_product : value power z * value (less (wire half.left) (scaled (2 ^ (w / 2) % P) (bits_combination p.high (w / 4)))) z % P
         ≡ shifted_left w (half_left (w / 2) (bit_at d (half_log w)) v) (d % 2 ^ half_log w)
@@ -279,10 +279,10 @@ module _ (w : ℕ) (width : IsWidth w) (z : List ℕ) (assigns : Assigns z) (x y
   zero_times n = omega arith
 
   far_value : value (bits_combination (y + (half_log w + 1)) (w - (half_log w + 1))) z ≡ d / 2 ^ (half_log w + 1)
-  far_value = value-bits_below (Spells-high z y (half_log w + 1) (w - (half_log w + 1)) d apart) (omega arith)
+  far_value = value-bits_below (HasBits-high z y (half_log w + 1) (w - (half_log w + 1)) d apart) (omega arith)
     where
-      apart : Spells z y (half_log w + 1 + (w - (half_log w + 1))) d
-      apart = subst (λ n. Spells z y n d) (let same : w ≡ half_log w + 1 + (w - (half_log w + 1)) = omega arith in same) distance
+      apart : HasBits z y (half_log w + 1 + (w - (half_log w + 1))) d
+      apart = subst (λ n. HasBits z y n d) (let same : w ≡ half_log w + 1 + (w - (half_log w + 1)) = omega arith in same) distance
 
   left_gated : zero_flag (d / 2 ^ (half_log w + 1)) * shifted_left w (half_left (w / 2) (bit_at d (half_log w)) v) (d % 2 ^ half_log w) % P ≡ shifted_left w v d
   left_gated = elim (cases_eq (d / 2 ^ (half_log w + 1)) 0) [
@@ -291,8 +291,8 @@ module _ (w : ℕ) (width : IsWidth w) (z : List ℕ) (assigns : Assigns z) (x y
         let number = word_small w width _ small in
         ap (λ f. f * shifted_left w (half_left (w / 2) (bit_at d (half_log w)) v) (d % 2 ^ half_log w) % P) (zero_flag-zero (d / 2 ^ (half_log w + 1)) near)
         ∙ one_times (shifted_left w (half_left (w / 2) (bit_at d (half_log w)) v) (d % 2 ^ half_log w)) (omega arith)
-        ∙ left_whole w width (bit_at d (half_log w)) v b-bit (Spells-below word) (d % 2 ^ half_log w) s-small
-        ∙ ap (λ n. v * 2 ^ n % 2 ^ w) (distance_near w width d (Spells-below distance) near)
+        ∙ left_whole w width (bit_at d (half_log w)) v b-bit (HasBits-below word) (d % 2 ^ half_log w) s-small
+        ∙ ap (λ n. v * 2 ^ n % 2 ^ w) (distance_near w width d (HasBits-below distance) near)
     | inr far ↦
         ap (λ f. f * shifted_left w (half_left (w / 2) (bit_at d (half_log w)) v) (d % 2 ^ half_log w) % P) (zero_flag-other (d / 2 ^ (half_log w + 1)) far)
         ∙ zero_times (shifted_left w (half_left (w / 2) (bit_at d (half_log w)) v) (d % 2 ^ half_log w))
@@ -306,12 +306,12 @@ module _ (w : ℕ) (width : IsWidth w) (z : List ℕ) (assigns : Assigns z) (x y
         let less = word_small w width _ right-below in
         ap (λ f. f * shifted_right (half_right (w / 2) (bit_at d (half_log w)) v) (d % 2 ^ half_log w) % P) (zero_flag-zero (d / 2 ^ (half_log w + 1)) near)
         ∙ one_times (shifted_right (half_right (w / 2) (bit_at d (half_log w)) v) (d % 2 ^ half_log w)) (omega arith)
-        ∙ right_whole w width (bit_at d (half_log w)) v b-bit (Spells-below word) (d % 2 ^ half_log w)
-        ∙ ap (λ n. v / 2 ^ n) (distance_near w width d (Spells-below distance) near)
+        ∙ right_whole w width (bit_at d (half_log w)) v b-bit (HasBits-below word) (d % 2 ^ half_log w)
+        ∙ ap (λ n. v / 2 ^ n) (distance_near w width d (HasBits-below distance) near)
     | inr far ↦
         ap (λ f. f * shifted_right (half_right (w / 2) (bit_at d (half_log w)) v) (d % 2 ^ half_log w) % P) (zero_flag-other (d / 2 ^ (half_log w + 1)) far)
         ∙ zero_times (shifted_right (half_right (w / 2) (bit_at d (half_log w)) v) (d % 2 ^ half_log w))
-        ∙ sym (far_right w v d (Spells-below word) (distance_far w width d far))
+        ∙ sym (far_right w v d (HasBits-below word) (distance_far w width d far))
   ]
 
   module _ (in_range : ℕ) (near : Shift) (in_range_is : slice_index z in_range ≡ zero_flag (d / 2 ^ (half_log w + 1)))

@@ -3,7 +3,7 @@ use Rattle.std.specs.Prelude.{ℕ, ◌+◌, ◌/◌, ◌%◌, ◌^◌}
 use Rattle.tv_bits.specs.Select.{selected, select_of}
 use Rattle.tv_core.specs.Circuits.{Circuit, here, pure, ◌>>=◌}
 use Rattle.tv_core.specs.Combinations.{wire}
-use Rattle.tv_core.specs.Loops.{times}
+use Rattle.tv_core.specs.Loops.{sequence}
 
 -- the half of a number of 2 n bits that b chooses: its high half for 1, its low half for 0
 abbrev pub chosen_half : ℕ → ℕ → ℕ → ℕ
@@ -23,5 +23,5 @@ half_bit_of n b x i = do
 unfoldable pub halves_of : ℕ → ℕ → ℕ → Circuit ℕ
 halves_of n b x = do
   first ← here
-  _ ← times n (half_bit_of n b x)
+  _ ← sequence n (half_bit_of n b x)
   pure first

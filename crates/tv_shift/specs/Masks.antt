@@ -6,7 +6,7 @@ use Rattle.tv_core.specs.Below.{each_below}
 use Rattle.tv_core.specs.Circuits.{Circuit, here, fresh, pure, ◌>>=◌}
 use Rattle.tv_core.specs.Combinations.{wire, less}
 use Rattle.tv_core.specs.Constraints.{Combination}
-use Rattle.tv_core.specs.Loops.{times}
+use Rattle.tv_core.specs.Loops.{sequence}
 use Rattle.tv_shift.specs.Thermometer.{mark, below, products_below}
 use Rattle.tv_shift.specs.declared.masks.Part.{Part}
 use Rattle.tv_shift.specs.declared.masks.Part.TheVariants.{Low, High}
@@ -22,7 +22,7 @@ masked_pair_of mask digit n i = do
 unfoldable pub masked_of : (ℕ → Combination) → (ℕ → Combination) → ℕ → Circuit ℕ
 masked_of mask digit n = do
   first ← here
-  _ ← times n (masked_pair_of mask digit n)
+  _ ← sequence n (masked_pair_of mask digit n)
   pure first
 
 -- the values of the wires that are made for the word x

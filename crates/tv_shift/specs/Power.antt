@@ -1,7 +1,7 @@
 -- Two to the power of a distance's remainder by a word's width, by which a word is multiplied or divided in a shift.
 use Rattle.std.specs.Prelude.{◌≡◌, ℕ, ◌+◌, ◌-◌, ◌*◌, ◌/◌, ◌%◌, ◌^◌, ◌==◌, if◌then◌else◌, List, [], ◌∷◌, ◌++◌, length, slice_index}
 use Rattle.std.specs.Int.{bit_at}
-use Rattle.tv_bits.specs.Bits.{Spells}
+use Rattle.tv_bits.specs.Bits.{HasBits}
 use Rattle.tv_bits.specs.Times.{times_of}
 use Rattle.tv_bits.specs.declared.bit_wires.Bits.{Bits}
 use Rattle.tv_core.specs.Circuits.{Circuit, pure, ◌>>=◌}
@@ -66,12 +66,12 @@ pub record IsShiftPower (w : ℕ) (z : List ℕ) (answer : ShiftPower) (d : ℕ)
 
 -- in an assignment that satisfies the constraints the result is the distance's power
 abbrev pub ShiftPowerIsSound : Type 0
-ShiftPowerIsSound = (w : ℕ) → IsWidth w → (z : List ℕ) (next : ℕ) (y : Bits) (d : ℕ) → Assigns z → Spells z y.first w d
+ShiftPowerIsSound = (w : ℕ) → IsWidth w → (z : List ℕ) (next : ℕ) (y : Bits) (d : ℕ) → Assigns z → HasBits z y.first w d
     → Meets z (shift_power_of w y next).list → IsShiftPower w z (shift_power_of w y next).answer d
 
 -- an assignment that has these values at the wires that were made satisfies the constraints
 abbrev pub ShiftPowerIsComplete : Type 0
-ShiftPowerIsComplete = (w : ℕ) → IsWidth w → (z : List ℕ) (next : ℕ) (y : Bits) (d : ℕ) → Assigns z → Spells z y.first w d
+ShiftPowerIsComplete = (w : ℕ) → IsWidth w → (z : List ℕ) (next : ℕ) (y : Bits) (d : ℕ) → Assigns z → HasBits z y.first w d
     → HasFrom z next (shift_power_values w d) → Meets z (shift_power_of w y next).list
 
 -- which wires are returned, and that the values are one number of the field for each wire that is made

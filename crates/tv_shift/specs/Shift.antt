@@ -2,7 +2,7 @@
 -- its k low bits, b is bit k, and c is represented by the others.
 use Rattle.std.specs.Prelude.{◌≡◌, ℕ, ◌+◌, ◌-◌, ◌*◌, ◌/◌, ◌%◌, ◌<◌, ◌^◌, List, [], ◌∷◌, ◌++◌, slice_index}
 use Rattle.std.specs.Int.{bit_at}
-use Rattle.tv_bits.specs.Bits.{Spells, bits_combination, bits_values}
+use Rattle.tv_bits.specs.Bits.{HasBits, bits_combination, bits_values}
 use Rattle.tv_bits.specs.Select.{selected, select_of}
 use Rattle.tv_bits.specs.Zero.{zero_of, zero_values}
 use Rattle.tv_bits.specs.declared.bit_wires.Bits.{Bits}
@@ -123,12 +123,12 @@ shift_values w x y =
 
 -- in an assignment that satisfies the constraints, the result is the word shifted by the other
 abbrev pub ShiftIsSound : Type 0
-ShiftIsSound = (w : ℕ) → IsWidth w → (z : List ℕ) (next : ℕ) (x y : Bits) (v d : ℕ) → Assigns z → Spells z x.first w v → Spells z y.first w d
+ShiftIsSound = (w : ℕ) → IsWidth w → (z : List ℕ) (next : ℕ) (x y : Bits) (v d : ℕ) → Assigns z → HasBits z x.first w v → HasBits z y.first w d
     → Meets z (shift_of w x y next).list → IsShifted w z (shift_of w x y next).answer v d
 
 -- an assignment that has these values at the wires that were made satisfies the constraints
 abbrev pub ShiftIsComplete : Type 0
-ShiftIsComplete = (w : ℕ) → IsWidth w → (z : List ℕ) (next : ℕ) (x y : Bits) (v d : ℕ) → Assigns z → Spells z x.first w v → Spells z y.first w d
+ShiftIsComplete = (w : ℕ) → IsWidth w → (z : List ℕ) (next : ℕ) (x y : Bits) (v d : ℕ) → Assigns z → HasBits z x.first w v → HasBits z y.first w d
     → HasFrom z next (shift_values w v d) → Meets z (shift_of w x y next).list
 
 -- what the circuit returns and where it ends; it has one value for each wire that it makes, and those of words are in

@@ -8,7 +8,7 @@ use Rattle.tv_core.specs.Below.{each_below}
 use Rattle.tv_core.specs.Circuits.{Circuit, here, pure, ◌>>=◌}
 use Rattle.tv_core.specs.Combinations.{wire, constant, scaled}
 use Rattle.tv_core.specs.Constraints.{Combination}
-use Rattle.tv_core.specs.Loops.{times}
+use Rattle.tv_core.specs.Loops.{sequence}
 use Rattle.tv_core.specs.declared.field.TheConstants.{P}
 use Rattle.tv_bits.specs.Times.{times_of}
 
@@ -40,13 +40,13 @@ level_product_of bits products k j = do
 
 -- the products of bit k with each of these marks but the last
 unfoldable pub level_of : ℕ → ℕ → ℕ → Circuit (Unit {0})
-level_of bits products k = times (2 ^ k - 1) (level_product_of bits products k)
+level_of bits products k = sequence (2 ^ k - 1) (level_product_of bits products k)
 
 -- the products for k bits; the first is returned
 unfoldable pub thermometer_of : ℕ → ℕ → Circuit ℕ
 thermometer_of k bits = do
   products ← here
-  _ ← times k (level_of bits products)
+  _ ← sequence k (level_of bits products)
   pure products
 
 -- the values of the wires that are made for the k lowest bits of y

@@ -9,7 +9,7 @@ ghost use Rattle.tv_shift.specs.Shift.{by_half_of, by_rest_of, ends_of};
 ghost use Rattle.tv_word.specs.Widths.{IsWidth};
 
 use crate::masks::{Parts, half_log};
-use crate::thermometer::fill_power;
+use crate::thermometer::set_mark_power;
 use tv_bits::{Bits, ratio_by, select_terms, times_by};
 use tv_core::{F, Lc, Put, Scratch, Sink, Wire};
 
@@ -39,19 +39,19 @@ pub(crate) fn by_half<const W: u32, S: Sink>(
 {
     let x = Bits { first: word, n: W }.lc();
     let mut shifted = Lc::empty();
-    fill_times_half::<W>(&mut shifted, word, W / 2);
+    set_times_half::<W>(&mut shifted, word, W / 2);
     let left = select_terms(s, scratch, b, shifted.terms(), x.terms())?;
     let high = Bits {
         first: word.offset(W / 2),
         n: W / 2,
     };
-    high.fill(&mut shifted);
+    high.set_number(&mut shifted);
     let right = select_terms(s, scratch, b, shifted.terms(), x.terms())?;
     Ok(Shift { left, right })
 }
 
 // Makes `lc` two to the power of half a word's bits, times the number of `n` bits.
-fn fill_times_half<const W: u32>(lc: &mut Lc, first: Wire, n: u32)
+fn set_times_half<const W: u32>(lc: &mut Lc, first: Wire, n: u32)
     requires width { IsWidth W }
     requires short { n ≤ 16 }
     requires made { first + n < 2 ^ 32 }
@@ -80,8 +80,8 @@ pub(crate) fn by_rest<const W: u32, S: Sink>(
     ensures below { IfOk result (λ near. max near.left near.right < S.meaning.wires s.new) }
 {
     let marks = parts.places.marks();
-    fill_power(&mut scratch.a, &mut scratch.b, &marks, half_log::<W>());
-    fill_times_half::<W>(&mut scratch.c, parts.high, W / 4);
+    set_mark_power(&mut scratch.a, &mut scratch.b, &marks, half_log::<W>());
+    set_times_half::<W>(&mut scratch.c, parts.high, W / 4);
     scratch.b.set_wire(half.left);
     scratch.b.minus(&scratch.c);
     let left = times_by(s, &mut scratch.c, &scratch.a, &scratch.b)?;

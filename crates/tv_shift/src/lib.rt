@@ -5,16 +5,15 @@
 #![tactic(auto)]
 
 mod ends;
-mod filling;
 mod halves;
 mod masks;
 mod powers;
 mod row_shifts;
-mod shifting;
+mod shifts;
 mod thermometer;
+mod values;
 
 pub use ends::Shift;
-pub use filling::fill_shift;
 pub use masks::{Part, Parts, Places};
 pub use powers::{
     ShiftPower, fill_shift_power, shift_power, shift_power_costs, shift_power_fills,
@@ -25,4 +24,5 @@ pub use row_shifts::{
     left_shift_is_complete, left_shift_is_sound, right_shift, right_shift_costs, right_shift_fills,
     right_shift_is_complete, right_shift_is_sound, shifts_by_any_distance,
 };
-pub use shifting::{shift, shift_fills, shift_is_complete, shift_is_sound};
+pub use shifts::{shift, shift_fills, shift_is_complete, shift_is_sound};
+pub use values::fill_shift;

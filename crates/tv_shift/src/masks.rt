@@ -3,7 +3,7 @@ ghost use Rattle.std.specs.Prelude.{◌≡◌, ◌+◌, ◌*◌, ◌/◌, ◌≤
 ghost use Rattle.std.specs.Prelude.{false, IfOk, OnOk};
 ghost use Rattle.std.specs.Int.{bit_at};
 ghost use Rattle.tv_core.specs.Combinations.{top};
-ghost use Rattle.tv_core.specs.Giving.{GivesIn};
+ghost use Rattle.tv_core.specs.Values.{GivesIn};
 ghost use Rattle.tv_core.specs.Sinks.{PutsIn, Grows, Room};
 ghost use Rattle.tv_shift.specs.declared.masks.Part.TheVariants.{Low, High};
 ghost use Rattle.tv_shift.specs.Masks.{half_log, mask_at, mask_value, digit_at, masked_pair_of};
@@ -61,7 +61,7 @@ impl Places {
     }
 
     // Makes `mask` that of bit `i` of a part.
-    fn fill_mask<const W: u32>(&self, mask: &mut Lc, part: Part, i: u32)
+    fn set_mask<const W: u32>(&self, mask: &mut Lc, part: Part, i: u32)
         requires width { IsWidth W }
         requires there { i < W / 2 }
         requires distance_made { self.now.distance + half_log W < 2 ^ 32 }
@@ -72,8 +72,8 @@ impl Places {
             (self.now.products + products_below (half_log W)) }
     {
         match part {
-            Part::Low => self.marks().fill_mark(mask, half_log::<W>(), i),
-            Part::High => self.marks().fill_mark(mask, half_log::<W>(), W / 2 - 1 - i),
+            Part::Low => self.marks().set_mark(mask, half_log::<W>(), i),
+            Part::High => self.marks().set_mark(mask, half_log::<W>(), W / 2 - 1 - i),
         }
     }
 
@@ -148,8 +148,8 @@ fn pair<const W: u32, S: Sink>(
     ensures grows { IfOk result (λ _. Grows S.meaning s.old s.new 1 1) }
 {
     let m = [(F::ONE, s.fresh())];
-    places.fill_mask::<W>(mask, part, i);
-    places.fill_mask::<W>(mask_above, part, W / 4 + i);
+    places.set_mask::<W>(mask, part, i);
+    places.set_mask::<W>(mask_above, part, W / 4 + i);
     let weight = root_of_weight::<W>();
     match part {
         Part::Low => two_ands(

@@ -2,7 +2,7 @@
 ghost use Rattle.std.specs.Prelude.{◌≡◌, ◌+◌, ◌-◌, ◌*◌, ◌≤◌, ◌<◌, ◌^◌, ◌++◌, length, max};
 ghost use Rattle.std.specs.Prelude.{false, IfOk, OnOk};
 ghost use Rattle.tv_core.specs.Combinations.{top};
-ghost use Rattle.tv_core.specs.Giving.{GivesIn};
+ghost use Rattle.tv_core.specs.Values.{GivesIn};
 ghost use Rattle.tv_core.specs.Sinks.{PutsIn, Grows, Room};
 ghost use Rattle.tv_shift.specs.Thermometer.{products_below, both, mark, level_of, thermometer_of};
 ghost use Rattle.tv_shift.specs.Thermometer.{level_value, level_values, thermometer_values};
@@ -21,7 +21,7 @@ pub(crate) struct Marks {
 
 impl Marks {
     // Makes `lc` mark `j` of the `k` low bits.
-    pub fn fill_mark(&self, lc: &mut Lc, k: u32, j: u32)
+    pub fn set_mark(&self, lc: &mut Lc, k: u32, j: u32)
         requires few { k ≤ 4 }
         requires there { j < 2 ^ k }
         requires bits_made { self.now.bits + k < 2 ^ 32 }
@@ -77,7 +77,7 @@ impl Marks {
 }
 
 // Makes `lc` 2^s, s being the number that the `k` low bits represent; `one_mark` is overwritten.
-pub(crate) fn fill_power(lc: &mut Lc, one_mark: &mut Lc, marks: &Marks, k: u32)
+pub(crate) fn set_mark_power(lc: &mut Lc, one_mark: &mut Lc, marks: &Marks, k: u32)
     requires few { k ≤ 4 }
     requires bits_made { marks.now.bits + k < 2 ^ 32 }
     requires products_made { marks.now.products + products_below k < 2 ^ 32 }
@@ -88,7 +88,7 @@ pub(crate) fn fill_power(lc: &mut Lc, one_mark: &mut Lc, marks: &Marks, k: u32)
     lc.set_wire(Wire(0));
     let mut coefficient = F::ONE;
     for i in 0..power(k) - 1 {
-        marks.fill_mark(one_mark, k, i);
+        marks.set_mark(one_mark, k, i);
         lc.plus_scaled(coefficient, one_mark.terms());
         coefficient = coefficient + coefficient;
     }
@@ -132,7 +132,7 @@ fn level<S: Sink>(s: &mut S, scratch: &mut Scratch, marks: &Marks, k: u32) -> Pu
 {
     for j in 0..power(k) - 1 {
         scratch.a.set_wire(marks.bits.offset(k));
-        marks.fill_mark(&mut scratch.b, k, j);
+        marks.set_mark(&mut scratch.b, k, j);
         times_by(s, &mut scratch.c, &scratch.a, &scratch.b)?;
     }
     Ok(())

@@ -8,7 +8,7 @@ use Rattle.tv_core.specs.Combinations.{scaled}
 use Rattle.tv_core.specs.Constraints.{Combination}
 use Rattle.tv_core.specs.declared.field.TheConstants.{P}
 use Rattle.tv_core.specs.Normal.{coefficient, IsNormalFrom}
-use Rattle.tv_shrink.specs.Replacing.{has_wire, constant_in}
+use Rattle.tv_shrink.specs.Substitution.{has_wire, constant_in}
 use Rattle.tv_shrink.proofs.ReplacingLaws.{found_here, found_later}
 use Rattle.tv_core.proofs.Unique.{coefficient-first, coefficient-other}
 

@@ -9,7 +9,7 @@ use Rattle.std.proofs.lemmas.List.{get_or-set_other, get_or-set_same, length-app
 use Rattle.std.proofs.lemmas.List.Sums.{fold_push}
 use Rattle.tv_r1cs_write.specs.Bytes.{others}
 use Rattle.tv_r1cs_write.proofs.Others.{none_before, others_more, Rising}
-use Rattle.tv_shrink.specs.Shrinking.{kept, place}
+use Rattle.tv_shrink.specs.Shrunk.{kept, place}
 use Rattle.tv_shrink.specs.Tidy.{marked}
 use Rattle.tv_shrink.proofs.Labels.{kept_below, kept_is, place_is, Rising-at}
 use Rattle.tv_shrink.proofs.Solutions.{none_gone}

@@ -8,7 +8,7 @@ use Rattle.std.proofs.lemmas.List.Elements.{filter-append}
 use Rattle.std.proofs.lemmas.List.{ext_get_or, get_or-map, length-map}
 use Rattle.tv_core.proofs.BelowLaws.{range-append}
 use Rattle.tv_r1cs_write.proofs.Others.{Rising}
-use Rattle.tv_shrink.specs.Shrinking.{kept, place}
+use Rattle.tv_shrink.specs.Shrunk.{kept, place}
 
 place-here : (w x : ℕ) (xs : List ℕ) → eqb x w ≡ true → place w (x ∷ xs) ≡ 0
 place-here w x xs e = cond-false (not (eqb x w)) _ 0 (ap not e)

@@ -9,7 +9,7 @@ use Rattle.tv_core.specs.Constraints.{Combination, Constraint}
 use Rattle.tv_core.specs.Inverse.{inverse_of}
 use Rattle.tv_core.specs.declared.field.TheConstants.{P}
 use Rattle.tv_core.specs.Normal.{coefficient, normal, IsNormalFrom}
-use Rattle.tv_shrink.specs.Replacing.{has_wire, without, constant_in, difference, linear_form, solved, replaced, fits}
+use Rattle.tv_shrink.specs.Substitution.{has_wire, without, constant_in, difference, linear_form, solved, replaced, fits}
 use Rattle.tv_core.proofs.NormalLaws.{IsNormalFrom-lower, length-normal}
 use Rattle.tv_shrink.proofs.Constants.{scaled_once}
 

@@ -9,8 +9,8 @@ use Rattle.tv_core.specs.Combinations.{scaled}
 use Rattle.tv_core.specs.Constraints.{Combination, value}
 use Rattle.tv_core.specs.declared.field.TheConstants.{P}
 use Rattle.tv_core.specs.Normal.{normal, IsNormalFrom, with_term}
-use Rattle.tv_shrink.specs.Replacing.{without}
-use Rattle.tv_shrink.specs.Merging.{leaving_out, first_wire, head_at, tail_at, unless_left}
+use Rattle.tv_shrink.specs.Substitution.{without}
+use Rattle.tv_shrink.specs.Merge.{leaving_out, first_wire, head_at, tail_at, unless_left}
 use Rattle.tv_core.proofs.NormalLaws.{Over, Over-append, Over-scaled, normal_from, IsNormalFrom-lower}
 use Rattle.tv_core.proofs.Unique.{normal-step}
 

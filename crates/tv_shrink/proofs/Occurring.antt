@@ -6,7 +6,7 @@ use Rattle.std.specs.Prelude.{slice_index}
 use Rattle.std.proofs.lemmas.Bool.{cond_both, cases_eq, or_left, or_right}
 use Rattle.std.proofs.lemmas.List.{get_or-map, get_or-reverse, get_or-set_other, get_or-set_same, length-map, length-reverse, reverse-append}
 use Rattle.std.proofs.lemmas.Nat.{mod_below}
-use Rattle.tv_shrink.specs.Occurring.{rows_from, rows_of, with_row, AreLinked, LeadBack}
+use Rattle.tv_shrink.specs.Occurrences.{rows_from, rows_of, with_row, AreLinked, LeadBack}
 use Rattle.tv_shrink.proofs.Passes.{same_default}
 use Rattle.tv_shrink.specs.declared.occurrences.Entry.{Entry}
 

@@ -11,8 +11,8 @@ use Rattle.tv_core.specs.Constraints.{Combination, Constraint, value, Holds}
 use Rattle.tv_core.specs.Laws.{Assigns}
 use Rattle.tv_core.specs.declared.field.TheConstants.{P}
 use Rattle.tv_core.specs.Normal.{IsNormalFrom}
-use Rattle.tv_shrink.specs.Replacing.{linear_form, greatest_from, solved, replaced, replaced_in}
-use Rattle.tv_shrink.specs.Passing.{Pass, dropped, substituted, row_fits, attempted, eliminated, treated, linear_row, turn}
+use Rattle.tv_shrink.specs.Substitution.{linear_form, greatest_from, solved, replaced, replaced_in}
+use Rattle.tv_shrink.specs.Pass.{Pass, dropped, substituted, row_fits, attempted, eliminated, treated, linear_row, turn}
 use Rattle.tv_core.proofs.NormalLaws.{Over, Over-weaker, value-local}
 use Rattle.tv_shrink.proofs.ReplacingLaws.{value-replaced, solved-from_zero, zero-from_solved, holds_where_zero, zero_where_holds, Over-linear_form}
 use Rattle.tv_shrink.proofs.ReplacingLaws.{Over-solved, Over-replaced, Over-has_wire, greatest_is, coefficient-apart}

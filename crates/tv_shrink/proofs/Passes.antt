@@ -15,9 +15,9 @@ use Rattle.tv_core.specs.Inverse.{inverse_of}
 use Rattle.tv_core.specs.declared.field.TheConstants.{P}
 use Rattle.tv_core.specs.Constraints.{Combination, Constraint}
 use Rattle.tv_core.specs.Normal.{coefficient, normal, IsNormalFrom}
-use Rattle.tv_shrink.specs.Passing.{Pass, all_replaced, attempted, dropped, substituted, eliminated, linear_row, row_fits, treated, turn}
-use Rattle.tv_shrink.specs.Occurring.{rows_of}
-use Rattle.tv_shrink.specs.Replacing.{greater_from, greatest_from, has_wire, without, solved, replaced, replaced_in, fits}
+use Rattle.tv_shrink.specs.Pass.{Pass, all_replaced, attempted, dropped, substituted, eliminated, linear_row, row_fits, treated, turn}
+use Rattle.tv_shrink.specs.Occurrences.{rows_of}
+use Rattle.tv_shrink.specs.Substitution.{greater_from, greatest_from, has_wire, without, solved, replaced, replaced_in, fits}
 use Rattle.tv_shrink.specs.Tidy.{RowIsNormal, RowsAreNormal, Covers, pass_of, row_has}
 use Rattle.tv_shrink.proofs.Linear.{replaced-lacking}
 use Rattle.tv_core.proofs.NormalLaws.{Over, Over-weaker, IsNormalFrom-normal}

@@ -13,7 +13,7 @@ use Rattle.tv_core.specs.Meanings.{system_counts}
 use Rattle.tv_files.specs.Outside.{Outside}
 use Rattle.tv_r1cs_read.specs.Places.{IsAt, system_with}
 use Rattle.tv_r1cs_read.specs.Progress.{Reached, ahead}
-use Rattle.tv_r1cs_read.specs.R1cs.{system_of}
+use Rattle.tv_r1cs_read.specs.R1cs.{r1cs_system}
 use Rattle.tv_shrink.specs.declared.fault.ShrinkFault.{ShrinkFault}
 use Rattle.tv_shrink.specs.declared.fault.ShrinkFault.TheVariants as fault
 use Rattle.std.proofs.lemmas.List.{map_push}
@@ -27,7 +27,7 @@ use Rattle.tv_core.specs.Constraints.{Combination, Constraint, System}
 use Rattle.tv_core.specs.declared.field.TheConstants.{P}
 use Rattle.tv_r1cs_read.specs.Rows.{combination_of, constraint_of, IsOver}
 use Rattle.tv_r1cs_read.specs.declared.rows.Row.{Row}
-use Rattle.tv_shrink.specs.Answers.{first_wide, read_fault, start_rows, wide, wide_in, all_terms, most, Halted, IsLong, IsSmall, IsTooWide, Tells}
+use Rattle.tv_shrink.specs.Answers.{first_wide, read_fault, start_rows, wide, wide_in, all_terms, most, Halted, IsLong, IsSmall, IsTooWide, FaultMeans}
 use Rattle.tv_core.specs.Normal.{normal, normal_constraint, IsNormalFrom}
 use Rattle.tv_core.proofs.NormalLaws.{Over, Over-normal, IsNormalFrom-normal}
 use Rattle.tv_shrink.specs.Tidy.{RowsAreNormal, IsWithin, RowIsNormal}
@@ -137,7 +137,7 @@ wide_front [] more n e = absurd (cc)
 wide_front (d ∷ list) more n e = first_stays (wide_in d) (first_wide list) (first_wide (list ++ more)) n (λ k. wide_front list more n k) e
 
 -- what a refusal to read says of the file
-pub tells_read : (why : ReadRefusal) (file : List ℕ) → Refuses why (system_of file) → Tells (read_fault why) file
+pub tells_read : (why : ReadRefusal) (file : List ℕ) → Refuses why (r1cs_system file) → FaultMeans (read_fault why) file
 tells_read (refusal.Bad at what) file refuses = refuses.bad at what refl
 tells_read refusal.Fault file refuses = tt
 tells_read refusal.Memory file refuses = tt
@@ -159,9 +159,9 @@ wide_halted outside name fault.Memory found e = halted outside outside name refu
     (stopped_here outside name refusal.Memory (record { told = λ is. absurd (cc) }))
 
 -- where reading has returned some constraints, they are the system's first
-is_front : (reached : Reached) (file : List ℕ) (done : List Constraint) (system : System) → IsAt reached file done → system_of file ≡ Ok system
+is_front : (reached : Reached) (file : List ℕ) (done : List Constraint) (system : System) → IsAt reached file done → r1cs_system file ≡ Ok system
     → (others : List Constraint) × (system.constraints ≡ done ++ others)
-unfolding system_of
+unfolding r1cs_system
 is_front reached file done system at is = by_list (ahead reached file) refl
   where
     by_list : (left : Result (List Constraint) Fault) → ahead reached file ≡ left → (others : List Constraint) × (system.constraints ≡ done ++ others)
@@ -177,7 +177,7 @@ is_front reached file done system at is = by_list (ahead reached file) refl
 
 -- a constraint that is too wide, in the file of a system within the limit of terms
 pub wide_read : (why : ShrinkFault) (reached : Reached) (file : List ℕ) (done : List Constraint) (c : Constraint) → IsSmall file → first_wide done ≡ None
-    → IsAt reached file (done ++ c ∷ []) → IsTooWide why (wide_in c) → Tells why file
+    → IsAt reached file (done ++ c ∷ []) → IsTooWide why (wide_in c) → FaultMeans why file
 wide_read (fault.Bad place why) reached file done c small none at err = absurd err
 wide_read (fault.Terms has) reached file done c small none at err = absurd err
 wide_read (fault.Combination has) reached file done c small none at err =
@@ -193,7 +193,7 @@ wide_read fault.Fault reached file done c small none at err = absurd err
 wide_read fault.Memory reached file done c small none at err = tt
 
 -- a system within the limit of terms is the only one that its file holds
-pub few_terms : (file : List ℕ) (system : System) → IsSmall file → system_of file ≡ Ok system → all_terms system ≤ most
+pub few_terms : (file : List ℕ) (system : System) → IsSmall file → r1cs_system file ≡ Ok system → all_terms system ≤ most
 few_terms file system small is = let both : Ok small.system ≡ Ok system = sym small.is
     ∙ is in let same : small.system ≡ system = cc in subst (λ s. all_terms s ≤ most) same small.few
 
@@ -202,20 +202,21 @@ pub start_more : (done : List Constraint) (c : Constraint) → start_rows (done 
 start_more done c = map_push (λ d. Some (normal_constraint d)) done c
 
 -- what a survey says of a system
-survey_refused : (file : List ℕ) (at : ℕ) (why : ReadWhy) → survey_of file ≡ wrong at why → system_of file ≡ wrong at why
+survey_refused : (file : List ℕ) (at : ℕ) (why : ReadWhy) → survey_of file ≡ wrong at why → r1cs_system file ≡ wrong at why
 unfolding survey_of
-survey_refused file at why e = by_system (system_of file) e
+survey_refused file at why e = by_system (r1cs_system file) e
   where
     by_system : (answer : Result System Fault) → (answer >>= (λ system. Ok (system_counts system))) ≡ wrong at why → answer ≡ wrong at why
     by_system (Ok system) e = absurd (cc)
     by_system (Err fault) e = let same : fault ≡ record { at = at; why = why } = cc in ap Err same
 
-survey_system : (file : List ℕ) (counts : Counts) → survey_of file ≡ Ok counts → (system : System) × (system_of file ≡ Ok system)
+survey_system : (file : List ℕ) (counts : Counts) → survey_of file ≡ Ok counts → (system : System) × (r1cs_system file ≡ Ok system)
     × (counts ≡ system_counts system)
 unfolding survey_of
-survey_system file counts e = by_system (system_of file) refl
+survey_system file counts e = by_system (r1cs_system file) refl
   where
-    by_system : (answer : Result System Fault) → system_of file ≡ answer → (system : System) × (system_of file ≡ Ok system) × (counts ≡ system_counts system)
+    by_system : (answer : Result System Fault) → r1cs_system file ≡ answer
+        → (system : System) × (r1cs_system file ≡ Ok system) × (counts ≡ system_counts system)
     by_system (Ok system) is = let counted = rw is at e in let same : system_counts system ≡ counts = cc in (system, is, sym same)
     by_system (Err fault) is = let counted = rw is at e in absurd (cc)
 
@@ -230,7 +231,7 @@ survey_long file counts e many =
     let found = survey_system file counts e in
     record { system = found.0; is = found.1; terms = ap (λ (c : Counts). c.terms) found.2; many = many }
 
-pub tells_survey : (why : ReadRefusal) (file : List ℕ) → Refuses why (survey_of file) → Tells (read_fault why) file
+pub tells_survey : (why : ReadRefusal) (file : List ℕ) → Refuses why (survey_of file) → FaultMeans (read_fault why) file
 tells_survey (refusal.Bad at what) file refuses = survey_refused file at what (refuses.bad at what refl)
 tells_survey refusal.Fault file refuses = tt
 tells_survey refusal.Memory file refuses = tt

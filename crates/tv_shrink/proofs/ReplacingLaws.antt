@@ -18,7 +18,7 @@ use Rattle.tv_core.specs.Inverse.{inverse_of}
 use Rattle.tv_core.specs.Laws.{Assigns}
 use Rattle.tv_core.specs.declared.field.TheConstants.{P}
 use Rattle.tv_core.specs.Normal.{coefficient, normal, IsNormalFrom}
-use Rattle.tv_shrink.specs.Replacing.{has_wire, without, constant_in, difference, linear_form, greater_from, greatest_from, solved, replaced}
+use Rattle.tv_shrink.specs.Substitution.{has_wire, without, constant_in, difference, linear_form, greater_from, greatest_from, solved, replaced}
 use Rattle.tv_core.proofs.NormalLaws.{Over, Over-normal, Over-append, Over-scaled, value-normal, regrouped, exchanged, residue_first, IsNormalFrom-normal}
 
 -- the sum of a wire's coefficients

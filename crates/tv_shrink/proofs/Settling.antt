@@ -10,11 +10,11 @@ use Rattle.std.proofs.lemmas.List.FromFn.{length-range_with_len}
 use Rattle.tv_core.specs.Constraints.{Combination, Constraint, System}
 use Rattle.tv_core.specs.declared.lines.Counts.{Counts}
 use Rattle.tv_shrink.specs.Answers.{counted_system, start_rows, IsReady}
-use Rattle.tv_shrink.specs.Moving.{moved, moved_in, moved_rows}
+use Rattle.tv_shrink.specs.Renumbering.{moved, moved_in, moved_rows}
 use Rattle.tv_core.specs.Normal.{normal_constraint}
-use Rattle.tv_shrink.specs.Passing.{Pass, all_replaced, attempted, begun, dropped, eliminated, passed, row_fits, substituted, treated, turn, linear_row}
-use Rattle.tv_shrink.specs.Replacing.{fits, greatest_from, has_wire, replaced, replaced_in, solved}
-use Rattle.tv_shrink.specs.Shrinking.{kept, left_over, renumbered, renumbered_in, shrink}
+use Rattle.tv_shrink.specs.Pass.{Pass, all_replaced, attempted, begun, dropped, eliminated, passed, row_fits, substituted, treated, turn, linear_row}
+use Rattle.tv_shrink.specs.Substitution.{fits, greatest_from, has_wire, replaced, replaced_in, solved}
+use Rattle.tv_shrink.specs.Shrunk.{kept, left_over, renumbered, renumbered_in, shrink}
 use Rattle.tv_shrink.specs.Tidy.{AreWithin, pass_of}
 use Rattle.tv_shrink.proofs.Labels.{front-kept, inside-kept}
 use Rattle.tv_shrink.proofs.Linear.{replaced-lacking}

@@ -14,8 +14,8 @@ use Rattle.tv_core.specs.Laws.{Assigns, Meets}
 use Rattle.tv_core.specs.declared.field.TheConstants.{P}
 use Rattle.tv_shrink.specs.Laws.{AreOver, IsWhole, KeepsSolutions, SolutionsAreOne, KeepsPublics}
 use Rattle.tv_core.specs.Normal.{normal_constraint}
-use Rattle.tv_shrink.specs.Passing.{begun, passed}
-use Rattle.tv_shrink.specs.Shrinking.{kept, place, renumbered, renumbered_in, left_over, shrink, at_wires}
+use Rattle.tv_shrink.specs.Pass.{begun, passed}
+use Rattle.tv_shrink.specs.Shrunk.{kept, place, renumbered, renumbered_in, left_over, shrink, at_wires}
 use Rattle.tv_core.proofs.NormalLaws.{Over, Over-normal, Over-weaker, value-normal}
 use Rattle.tv_shrink.proofs.PassLaws.{RowsOver, RowsHold, Stays, Agree, Extended, Sound, same_holds, turns-sound}
 use Rattle.tv_shrink.proofs.Labels.{place-at, Rising-kept, at_place-kept, inside-kept, kept_stay, none_below, looked_up, front-kept}

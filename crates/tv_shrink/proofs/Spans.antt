@@ -8,7 +8,7 @@ use Rattle.tv_r1cs_write.specs.Bytes.{others}
 use Rattle.std.proofs.Math.Seq.{drop-append_seam, take-add, take-append_seam}
 use Rattle.std.proofs.lemmas.List.{append_assoc, drop-append-le, drop-drop, length-append, length-drop, length-map, length-take, map-append, take-append-le}
 use Rattle.tv_core.specs.Constraints.{Combination, Constraint}
-use Rattle.tv_shrink.specs.Moving.{moved, moved_in}
+use Rattle.tv_shrink.specs.Renumbering.{moved, moved_in}
 use Rattle.tv_shrink.specs.Spans.{end_of, row_at, row_terms, span_of, AreInside}
 use Rattle.tv_shrink.specs.declared.arena.Span.{Span}
 

@@ -7,9 +7,9 @@ use Rattle.std.specs.Option.{option_map}
 use Rattle.std.proofs.lemmas.Bool.{cond_both}
 use Rattle.std.proofs.lemmas.List.{length-map, set-get_or}
 use Rattle.tv_core.specs.Constraints.{Combination, Constraint}
-use Rattle.tv_shrink.specs.Passing.{Pass, all_replaced, attempted, dropped, eliminated, linear_row, row_fits, substituted, treated, turn}
-use Rattle.tv_shrink.specs.Occurring.{rows_of}
-use Rattle.tv_shrink.specs.Replacing.{greatest_from, has_wire, replaced_in, solved}
+use Rattle.tv_shrink.specs.Pass.{Pass, all_replaced, attempted, dropped, eliminated, linear_row, row_fits, substituted, treated, turn}
+use Rattle.tv_shrink.specs.Occurrences.{rows_of}
+use Rattle.tv_shrink.specs.Substitution.{greatest_from, has_wire, replaced_in, solved}
 use Rattle.tv_shrink.specs.Tidy.{pass_of, row_has, IsKept, State}
 use Rattle.tv_shrink.proofs.Passes.{covers-more, covers-replaced, normal-at, normal-replaced_row, normal-set, row-lacking-same}
 

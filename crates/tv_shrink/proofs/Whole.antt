@@ -10,8 +10,8 @@ use Rattle.tv_container.specs.declared.why.ReadWhy.{ReadWhy}
 use Rattle.tv_container.specs.declared.why.ReadWhy.TheVariants.{BadCount, WireRange, NotCanonical}
 use Rattle.tv_core.specs.Constraints.{Constraint}
 use Rattle.tv_core.specs.declared.field.TheConstants.{P}
-use Rattle.tv_r1cs_read.specs.R1cs.{term_at, terms_at, count_at, combination_at, constraint_at, constraints_from, header_of, system_of}
-use Rattle.tv_r1cs_write.specs.Narrow.{IsOver}
+use Rattle.tv_r1cs_read.specs.R1cs.{term_at, terms_at, count_at, combination_at, constraint_at, constraints_from, header_of, r1cs_system}
+use Rattle.tv_r1cs_write.specs.Narrow.{HasWiresBelow}
 use Rattle.tv_shrink.specs.Laws.{AreOver, SystemsAreOver}
 
 bind_if : {A B : Type 0} (read : Result A Fault) (f : A → Result B Fault) (P : A → Type 0) (Q : B → Type 0) → IfOk read P → ((x : A) → P x → IfOk (f x) Q)
@@ -37,7 +37,7 @@ term_over file wires end at =
     (any (unless (not (ltb (number file 8 (at + 4)) P)) (at + 4) NotCanonical)) (λ _ _.
     ltb-true (number file 4 at) wires below)))
 
-terms_over : (file : List ℕ) (wires end n at : ℕ) → IfOk (terms_at file wires end n at) (λ read. IsOver wires read.value)
+terms_over : (file : List ℕ) (wires end n at : ℕ) → IfOk (terms_at file wires end n at) (λ read. HasWiresBelow wires read.value)
 unfolding terms_at
 terms_over file wires end zero at = All-nil (λ t. t.1 < wires)
 terms_over file wires end (suc n) at =
@@ -45,7 +45,7 @@ terms_over file wires end (suc n) at =
     bind_if (terms_at file wires end n (at + 12)) _ _ _ (terms_over file wires end n (at + 12)) (λ others over.
     All-cons (λ t. t.1 < wires) term others.value below over))
 
-combination_over : (file : List ℕ) (wires end at : ℕ) → IfOk (combination_at file wires end at) (λ read. IsOver wires read.value)
+combination_over : (file : List ℕ) (wires end at : ℕ) → IfOk (combination_at file wires end at) (λ read. HasWiresBelow wires read.value)
 unfolding combination_at
 combination_over file wires end at =
     bind_if (count_at file end at) _ _ _ (any (count_at file end at)) (λ count _. terms_over file wires end count (at + 4))
@@ -75,7 +75,7 @@ constraints_over file wires rows (suc n) at =
     All-cons (AreOver wires) first.value others over each))
 
 pub systems_are_over : SystemsAreOver
-unfolding system_of
+unfolding r1cs_system
 systems_are_over file =
     bind_if (header_of file) _ _ _ (any (header_of file)) (λ header _.
     bind_if (constraints_from file header.wires header.rows header.constraints header.rows.at) _ _ _

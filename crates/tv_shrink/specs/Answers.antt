@@ -7,14 +7,14 @@ use Rattle.tv_container.specs.declared.why.ReadRefusal.TheVariants as refusal
 use Rattle.tv_core.specs.Constraints.{Combination, Constraint, System}
 use Rattle.tv_core.specs.Meanings.{terms_in}
 use Rattle.tv_files.specs.Outside.{Outside, OnlyReads, MissesOnly, RanOut}
-use Rattle.tv_r1cs_read.specs.R1cs.{system_of}
+use Rattle.tv_r1cs_read.specs.R1cs.{r1cs_system}
 use Rattle.tv_shrink.specs.declared.fault.ShrinkFault.{ShrinkFault}
 use Rattle.tv_shrink.specs.declared.fault.ShrinkFault.TheVariants as fault
-use Rattle.tv_shrink.specs.declared.shrinking.TheConstants.{MOST_TERMS}
+use Rattle.tv_shrink.specs.declared.shrinker.TheConstants.{MOST_TERMS}
 use Rattle.tv_core.specs.declared.lines.Counts.{Counts}
 use Rattle.tv_core.specs.Normal.{normal, normal_constraint}
 use Rattle.tv_shrink.specs.Tidy.{RowsAreNormal, AreWithin}
-use Rattle.tv_shrink.specs.Shrinking.{Shrunken, shrink}
+use Rattle.tv_shrink.specs.Shrunk.{Shrunken, shrink}
 use Rattle.tv_word.specs.Counts.{Rose}
 
 -- a refusal of reading, as one of shrinking
@@ -54,13 +54,13 @@ all_terms system = terms_in system.constraints
 -- a file holds a system of no more terms than the limit
 pub record IsSmall (file : List ℕ) : Type 0 where
   pub system : System
-  pub is : system_of file ≡ Ok system
+  pub is : r1cs_system file ≡ Ok system
   pub few : all_terms system ≤ most
 
 -- a file's system has no more terms than the limit, no combination of it is too wide, and this is the shrunk system
 pub record Shrinks (shrunken : Shrunken) (file : List ℕ) : Type 0 where
   pub system : System
-  pub is : system_of file ≡ Ok system
+  pub is : r1cs_system file ≡ Ok system
   pub few : all_terms system ≤ most
   pub narrow : first_wide system.constraints ≡ None
   pub same : shrunken ≡ shrink system
@@ -68,24 +68,24 @@ pub record Shrinks (shrunken : Shrunken) (file : List ℕ) : Type 0 where
 -- a file's system has too many terms
 pub record IsLong (has : ℕ) (file : List ℕ) : Type 0 where
   pub system : System
-  pub is : system_of file ≡ Ok system
+  pub is : r1cs_system file ≡ Ok system
   pub terms : has ≡ all_terms system
   pub many : most < has
 
 -- it has not, but a combination of it is too wide
 pub record IsWide (has : ℕ) (file : List ℕ) : Type 0 where
   pub system : System
-  pub is : system_of file ≡ Ok system
+  pub is : r1cs_system file ≡ Ok system
   pub few : all_terms system ≤ most
   pub first : first_wide system.constraints ≡ Some has
 
 -- what a refusal says of a file
-abbrev pub Tells : ShrinkFault → List ℕ → Type 0
-Tells (fault.Bad at why) file = system_of file ≡ wrong at why
-Tells (fault.Terms has) file = IsLong has file
-Tells (fault.Combination has) file = IsWide has file
-Tells fault.Fault file = Unit {0}
-Tells fault.Memory file = Unit {0}
+abbrev pub FaultMeans : ShrinkFault → List ℕ → Type 0
+FaultMeans (fault.Bad at why) file = r1cs_system file ≡ wrong at why
+FaultMeans (fault.Terms has) file = IsLong has file
+FaultMeans (fault.Combination has) file = IsWide has file
+FaultMeans fault.Fault file = Unit {0}
+FaultMeans fault.Memory file = Unit {0}
 
 -- what a refusal leaves: all, where it says what is wrong; a fault is a fault of a read; and where memory ran out
 -- all is as before, or the files ran out of it, which leaves every other count
@@ -127,7 +127,7 @@ pub record IsReady (counts : Counts) (rows : List (Option Constraint)) : Type 0 
 -- the rows are the constraints of the file's system, which are not too many terms, and none of which is too wide
 pub record IsRead (counts : Counts) (rows : List (Option Constraint)) (file : List ℕ) : Type 0 where
   pub list : List Constraint
-  pub is : system_of file ≡ Ok (counted_system counts list)
+  pub is : r1cs_system file ≡ Ok (counted_system counts list)
   pub same : rows ≡ start_rows list
   pub few : terms_in list ≤ most
   pub narrow : first_wide list ≡ None

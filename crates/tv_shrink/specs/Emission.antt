@@ -2,7 +2,7 @@
 use Rattle.std.specs.Prelude.{ℕ, List, Option, None, Some, slice_index_or}
 use Rattle.tv_core.specs.Circuits.{Circuit, pure, put, fresh, ◌>>=◌}
 use Rattle.tv_core.specs.Constraints.{Constraint}
-use Rattle.tv_core.specs.Loops.{times}
+use Rattle.tv_core.specs.Loops.{sequence}
 
 -- the constraint at a place, unless it was dropped
 abbrev pub row_circuit : Option Constraint → Circuit (Unit {0})
@@ -16,7 +16,7 @@ row_count (Some c) = 1
 
 -- the constraints of the first rows
 abbrev pub rows_circuit : List (Option Constraint) → ℕ → Circuit (Unit {0})
-rows_circuit rows n = times n (λ i. row_circuit (slice_index_or rows i None))
+rows_circuit rows n = sequence n (λ i. row_circuit (slice_index_or rows i None))
 
 -- one wire, unconstrained
 abbrev pub one_wire : Circuit (Unit {0})
@@ -24,4 +24,4 @@ one_wire = fresh >>= (λ _. pure tt)
 
 -- this many wires
 abbrev pub wires_circuit : ℕ → Circuit (Unit {0})
-wires_circuit n = times n (λ _. one_wire)
+wires_circuit n = sequence n (λ _. one_wire)

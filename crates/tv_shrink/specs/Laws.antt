@@ -2,15 +2,15 @@
 use Rattle.std.specs.Prelude.{◌≡◌, ◌↔◌, ℕ, ◌+◌, ◌≤◌, List, take, IfOk}
 use Rattle.std.specs.List.{All, range_with_len}
 use Rattle.tv_core.specs.Constraints.{Constraint, System, Sat}
-use Rattle.tv_r1cs_read.specs.R1cs.{system_of}
-use Rattle.tv_r1cs_write.specs.Narrow.{IsOver}
-use Rattle.tv_shrink.specs.Shrinking.{shrink, at_wires}
+use Rattle.tv_r1cs_read.specs.R1cs.{r1cs_system}
+use Rattle.tv_r1cs_write.specs.Narrow.{HasWiresBelow}
+use Rattle.tv_shrink.specs.Shrunk.{shrink, at_wires}
 
 -- each wire of a constraint is
 pub record AreOver (wires : ℕ) (row : Constraint) : Type 0 where
-  pub a : IsOver wires row.a
-  pub b : IsOver wires row.b
-  pub c : IsOver wires row.c
+  pub a : HasWiresBelow wires row.a
+  pub b : HasWiresBelow wires row.b
+  pub c : HasWiresBelow wires row.c
 
 -- there is a wire for the constant 1 and each public number, and the constraints are of wires that there are
 pub record IsWhole (system : System) : Type 0 where
@@ -19,7 +19,7 @@ pub record IsWhole (system : System) : Type 0 where
 
 -- the constraints of a system that a file holds are of wires that there are
 abbrev pub SystemsAreOver : Type 0
-SystemsAreOver = (file : List ℕ) → IfOk (system_of file) (λ system. All (AreOver system.wires) system.constraints)
+SystemsAreOver = (file : List ℕ) → IfOk (r1cs_system file) (λ system. All (AreOver system.wires) system.constraints)
 
 -- the assignments that satisfy the shrunk system are those that some assignment which satisfies the system
 -- has at the kept wires

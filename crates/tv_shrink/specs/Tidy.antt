@@ -3,9 +3,9 @@ use Rattle.std.specs.Prelude.{◌≡◌, ℕ, ◌^◌, ◌<◌, ◌≤◌, ◌==
 use Rattle.std.specs.List.{AllByRecursion, fold, list_any}
 use Rattle.tv_core.specs.Constraints.{Constraint}
 use Rattle.tv_core.specs.Normal.{IsNormalConstraint}
-use Rattle.tv_shrink.specs.Occurring.{rows_of}
-use Rattle.tv_shrink.specs.Passing.{Pass}
-use Rattle.tv_shrink.specs.Replacing.{has_wire}
+use Rattle.tv_shrink.specs.Occurrences.{rows_of}
+use Rattle.tv_shrink.specs.Pass.{Pass}
+use Rattle.tv_shrink.specs.Substitution.{has_wire}
 
 -- each combination of a constraint has at most 128 terms, whose wires are below a number
 pub record IsWithin (wires : ℕ) (row : Constraint) : Type 0 where

@@ -4,9 +4,9 @@ ghost use Rattle.std.specs.Prelude.{◌≡◌, ◌+◌, ◌≤◌, ◌<◌, ◌+
 ghost use Rattle.std.specs.Prelude.{OnOk, OnErr, IfOk, IfErr};
 ghost use Rattle.tv_r1cs_read.specs.Rows.{combination_of};
 ghost use Rattle.tv_shrink.specs.Answers.{wide, IsTooWide};
-ghost use Rattle.tv_shrink.specs.Moving.{moved, moved_in};
+ghost use Rattle.tv_shrink.specs.Renumbering.{moved, moved_in};
 ghost use Rattle.tv_core.specs.Normal.{normal, IsNormalFrom, IsNormalConstraint};
-ghost use Rattle.tv_shrink.specs.Replacing.{fits, fits_in, replaced, replaced_in};
+ghost use Rattle.tv_shrink.specs.Substitution.{fits, fits_in, replaced, replaced_in};
 ghost use Rattle.tv_shrink.specs.Spans.{end_of, laid, row_at, row_terms, span_of, IsFree};
 
 use crate::fault::ShrinkFault;

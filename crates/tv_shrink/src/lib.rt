@@ -17,12 +17,12 @@ mod output;
 mod pass;
 mod row;
 mod rows;
-mod shrinking;
+mod shrinker;
 mod shrunk;
 mod state;
 mod substitution;
 
 pub use fault::ShrinkFault;
 pub use laws::{keeps_publics, keeps_solutions, solutions_are_one, systems_are_over};
-pub use shrinking::{MOST_TERMS, shrink};
+pub use shrinker::{MOST_TERMS, shrink};
 pub use shrunk::Shrunk;

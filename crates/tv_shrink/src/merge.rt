@@ -4,7 +4,7 @@ ghost use Rattle.std.specs.Prelude.{◌≡◌, ◌≤◌, ◌<◌, ◌+◌, ◌*
 ghost use Rattle.std.specs.Prelude.{min};
 ghost use Rattle.tv_core.specs.Combinations.{scaled};
 ghost use Rattle.tv_core.specs.declared.field.TheConstants.{P};
-ghost use Rattle.tv_shrink.specs.Merging.{first_wire, head_at, leaving_out, unless_left, GoesPast};
+ghost use Rattle.tv_shrink.specs.Merge.{first_wire, head_at, leaving_out, unless_left, GoesPast};
 ghost use Rattle.tv_core.specs.Normal.{normal, with_term, IsNormalFrom};
 
 use std::alloc::AllocError;

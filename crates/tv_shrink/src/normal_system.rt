@@ -2,7 +2,7 @@
 
 ghost use Rattle.std.specs.Prelude.{IfOk, MatchResult};
 ghost use Rattle.tv_container.specs.Reading.{Known};
-ghost use Rattle.tv_shrink.specs.Answers.{HaltsBy, IsReady, IsRead, IsSmall, Tells};
+ghost use Rattle.tv_shrink.specs.Answers.{HaltsBy, IsReady, IsRead, IsSmall, FaultMeans};
 
 use crate::fault::ShrinkFault;
 use crate::rows::Rows;
@@ -30,7 +30,7 @@ pub(crate) fn read<D: Files>(
     requires small { Known (D.seen files.old) name.now IsSmall }
     ensures ready { IfOk result (λ read. IsReady read.counts read.rows) }
     ensures gives { Known (D.seen files.old) name.now (λ file. MatchResult result
-        (λ read. IsRead read.counts read.rows file) (λ fault. Tells fault file)) }
+        (λ read. IsRead read.counts read.rows file) (λ fault. FaultMeans fault file)) }
     ensures looks { HaltsBy (D.seen files.old) (D.seen files.new) name.now result }
 {
     let mut reader = match SystemReader::begin(alloc, files, name) {

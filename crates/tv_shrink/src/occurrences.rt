@@ -6,9 +6,9 @@ ghost use Rattle.std.specs.Prelude.{IfOk};
 ghost use Rattle.std.specs.Prelude.{◌^◌, false, None, Ok, IfSome};
 ghost use Rattle.std.specs.Prelude.{if◌then◌else◌};
 ghost use Rattle.std.specs.List.{list_any};
-ghost use Rattle.tv_shrink.specs.Passing.{row_fits};
-ghost use Rattle.tv_shrink.specs.Occurring.{rows_from, rows_of, with_row, LeadBack};
-ghost use Rattle.tv_shrink.specs.Replacing.{has_wire};
+ghost use Rattle.tv_shrink.specs.Pass.{row_fits};
+ghost use Rattle.tv_shrink.specs.Occurrences.{rows_from, rows_of, with_row, LeadBack};
+ghost use Rattle.tv_shrink.specs.Substitution.{has_wire};
 ghost use Rattle.tv_shrink.specs.Tidy.{row_has, RowsAreNormal, Covers, RowIsNormal};
 
 use crate::row::Row;
@@ -59,7 +59,7 @@ impl Model for Occurrences {
 
     ghost Value = { List (List ℕ) };
 
-    ghost use Rattle.tv_shrink.specs.Occurring.{rows_from, AreLinked};
+    ghost use Rattle.tv_shrink.specs.Occurrences.{rows_from, AreLinked};
 
     ghost view = { λ p. map (rows_from (reverse p.entries.items)) p.heads.items };
 

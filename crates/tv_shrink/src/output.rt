@@ -3,7 +3,7 @@ ghost use Rattle.std.specs.Prelude.{◌≡◌, ◌*◌, ◌+◌, ◌-◌, ◌≤
 ghost use Rattle.std.specs.List.{filter_map};
 ghost use Rattle.tv_core.specs.Meanings.{terms_in};
 ghost use Rattle.tv_shrink.specs.Tidy.{AreWithin};
-ghost use Rattle.tv_shrink.specs.Written.{Writes};
+ghost use Rattle.tv_shrink.specs.Output.{Writes};
 
 use crate::emission::{make_wires, put_rows};
 use crate::row::Row;

@@ -4,8 +4,8 @@ ghost use Rattle.std.specs.Prelude.{◌≡◌, ◌≤◌, ◌<◌, ◌^◌, fals
 ghost use Rattle.std.specs.Prelude.{IfOk, OnOk};
 ghost use Rattle.std.specs.List.{fold, range_with_len};
 ghost use Rattle.tv_core.specs.Normal.{IsNormalFrom};
-ghost use Rattle.tv_shrink.specs.Passing.{attempted, dropped, turn};
-ghost use Rattle.tv_shrink.specs.Replacing.{has_wire};
+ghost use Rattle.tv_shrink.specs.Pass.{attempted, dropped, turn};
+ghost use Rattle.tv_shrink.specs.Substitution.{has_wire};
 ghost use Rattle.tv_shrink.specs.Tidy.{RowsAreNormal};
 
 use crate::row::solve;

@@ -5,8 +5,8 @@ ghost use Rattle.tv_core.specs.Combinations.{scaled};
 ghost use Rattle.tv_core.specs.Inverse.{inverse_of};
 ghost use Rattle.tv_core.specs.declared.field.TheConstants.{P};
 ghost use Rattle.tv_core.specs.Normal.{coefficient, normal, IsNormalFrom, IsNormalConstraint};
-ghost use Rattle.tv_shrink.specs.Replacing.{constant_in, fits, fits_in, has_wire};
-ghost use Rattle.tv_shrink.specs.Replacing.{linear_form, replaced, solved};
+ghost use Rattle.tv_shrink.specs.Substitution.{constant_in, fits, fits_in, has_wire};
+ghost use Rattle.tv_shrink.specs.Substitution.{linear_form, replaced, solved};
 ghost use Rattle.tv_shrink.specs.Tidy.{row_has, RowIsNormal};
 
 use crate::merge::{Side, merge};

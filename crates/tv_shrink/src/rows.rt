@@ -5,10 +5,10 @@ ghost use Rattle.std.specs.Prelude.{slice_index_or, slice_set, OnOk, OnErr, IfOk
 ghost use Rattle.std.specs.Option.{option_map};
 ghost use Rattle.tv_r1cs_read.specs.Rows.{constraint_of};
 ghost use Rattle.tv_shrink.specs.Answers.{wide_in, IsTooWide};
-ghost use Rattle.tv_shrink.specs.Moving.{moved_in, moved_rows};
+ghost use Rattle.tv_shrink.specs.Renumbering.{moved_in, moved_rows};
 ghost use Rattle.tv_core.specs.Normal.{normal_constraint};
-ghost use Rattle.tv_shrink.specs.Passing.{row_fits};
-ghost use Rattle.tv_shrink.specs.Replacing.{replaced_in};
+ghost use Rattle.tv_shrink.specs.Pass.{row_fits};
+ghost use Rattle.tv_shrink.specs.Substitution.{replaced_in};
 ghost use Rattle.tv_shrink.specs.Spans.{row_at, IsInside};
 ghost use Rattle.tv_shrink.specs.Tidy.{RowsAreNormal, RowIsNormal};
 

@@ -2,7 +2,7 @@
 ghost use Rattle.std.specs.Prelude.{◌≡◌, ◌+◌, ◌≤◌, ◌<◌, ◌^◌, List, length, IfOk};
 ghost use Rattle.tv_core.specs.Constraints.{Constraint};
 ghost use Rattle.tv_shrink.specs.Answers.{counted_system, start_rows, IsReady};
-ghost use Rattle.tv_shrink.specs.Shrinking.{shrink};
+ghost use Rattle.tv_shrink.specs.Shrunk.{shrink};
 
 use crate::normal_system::NormalSystem;
 use crate::numbers::Numbers;
@@ -32,7 +32,7 @@ impl Model for Shrunk {
     ghost use Rattle.std.specs.List.{filter_map};
     ghost use Rattle.std.specs.List.Sorted.{IsStrictlyIncreasing};
     ghost use Rattle.tv_r1cs_write.specs.Bytes.{others};
-    ghost use Rattle.tv_shrink.specs.Shrinking.{Shrunken};
+    ghost use Rattle.tv_shrink.specs.Shrunk.{Shrunken};
     ghost use Rattle.tv_shrink.specs.Tidy.{AreWithin};
 
     ghost Value = { Shrunken };

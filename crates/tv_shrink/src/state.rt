@@ -4,8 +4,8 @@ ghost use Rattle.std.specs.Prelude.{◌≡◌, ◌+◌, ◌≤◌, ◌<◌, ◌^
 ghost use Rattle.std.specs.Prelude.{slice_index_or, slice_set, None, Some, IfOk, IfSome, OnOk};
 ghost use Rattle.std.specs.List.{list_all};
 ghost use Rattle.std.specs.Option.{option_map};
-ghost use Rattle.tv_shrink.specs.Passing.{dropped, row_fits, substituted};
-ghost use Rattle.tv_shrink.specs.Replacing.{replaced_in};
+ghost use Rattle.tv_shrink.specs.Pass.{dropped, row_fits, substituted};
+ghost use Rattle.tv_shrink.specs.Substitution.{replaced_in};
 ghost use Rattle.tv_shrink.specs.Tidy.{marked, row_has, RowsAreNormal, RowIsNormal};
 
 use crate::occurrences::Occurrences;

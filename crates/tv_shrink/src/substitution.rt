@@ -11,7 +11,7 @@ pub(crate) struct Substitution<'a> {
 }
 
 impl<'a> Model for Substitution<'a> {
-    ghost use Rattle.tv_shrink.specs.Replacing.{IsReplacement, Replacement};
+    ghost use Rattle.tv_shrink.specs.Substitution.{IsReplacement, Replacement};
 
     ghost Value = { Replacement };
 

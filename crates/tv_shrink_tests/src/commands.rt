@@ -1,6 +1,6 @@
 //! What the command `shrink` prints and writes.
 
-use crate::building::{long, wide};
+use crate::system_files::{long, wide};
 use crate::systems::{SUM, SUM_SHRUNK, VALUES};
 use std::alloc::Global;
 use std::process::Abort;

@@ -2,7 +2,7 @@
 ghost use Rattle.std.specs.Prelude.{◌≡◌, codes, Some, None};
 ghost use Rattle.tv_top.specs.declared.refusal.Refusal.TheVariants.{SameName};
 ghost use Rattle.tv_top.specs.Plan.{name_at, refusal_of};
-ghost use Rattle.tv_top.specs.Shrinking.{shrink_plan};
+ghost use Rattle.tv_top.specs.Shrink.{shrink_plan};
 
 /// One name for both files is refused, and two names aren't. It is no test, so it is proved where
 /// the crate is proved without its tests too.

@@ -4,11 +4,11 @@
 #![tactic(auto)]
 
 #[cfg(test)]
-mod building;
-#[cfg(test)]
 mod commands;
 pub mod examples;
 #[cfg(test)]
-mod shrinking;
+mod shrinks;
+#[cfg(test)]
+mod system_files;
 #[cfg(test)]
 mod systems;

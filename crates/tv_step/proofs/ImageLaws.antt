@@ -14,15 +14,15 @@ use Rattle.tv_step.specs.Machine.{image_bytes}
 
 -- after the first words of a list there is nothing
 past : (image : List ℕ) (i j : ℕ) → i ≤ length image → i ≤ j → slice_index (take i image) j ≡ 0
-past image i j within behind = get_or_past (take i image) j 0 (omega (arith, length-take-le i image within, behind))
+past image i j within following = get_or_past (take i image) j 0 (omega (arith, length-take-le i image within, following))
 
 -- one word more changes no other
 elsewhere : (image : List ℕ) (i j : ℕ) → i < length image → j ≢ i → slice_index (take i image) j ≡ slice_index (take (i + 1) image) j
 elsewhere image i j within other = elim (leb_tells i j) [
   | inr before ↦ get_or-take i image j 0 before.1 ∙ sym (get_or-take (i + 1) image j 0 (omega (arith, before)))
-  | inl behind ↦
-      let beyond : i + 1 ≤ j = grind (arith, behind, other) in
-      past image i j (omega arith) behind.1 ∙ sym (past image (i + 1) j (omega arith) beyond)
+  | inl following ↦
+      let beyond : i + 1 ≤ j = grind (arith, following, other) in
+      past image i j (omega arith) following.1 ∙ sym (past image (i + 1) j (omega arith) beyond)
 ]
 
 -- once the next word is stored

@@ -8,7 +8,7 @@ use Rattle.tv_step.specs.Cells.{LinesAreThreeAStep, StatesAreOneMore, LinesByPla
 use Rattle.tv_step.specs.Machine.{fetched, operand, state_after}
 use Rattle.tv_step.specs.Ops.{op_of}
 use Rattle.tv_step.specs.State.{State}
-use Rattle.tv_step.specs.Trace.{line_of, tape_line, step_lines, lines_of, states_of, state_told}
+use Rattle.tv_step.specs.Trace.{line_of, tape_line, step_lines, lines_of, states_of, traced_state_after}
 use Rattle.tv_step.specs.declared.op.Op.{Op}
 use Rattle.tv_step.specs.declared.op.Op.TheVariants.{StoreB, LoadB, StoreW, LoadW, Read}
 
@@ -38,7 +38,7 @@ states_by_place w n m st (suc t) i past h = elim (cases_eq i (suc t)) [
   | inl last ↦
       let none : i - (t + 1) ≡ 0 = omega arith in
       get_or-append_right (states_of w n m st t) _ (t + 1) i past (states_are_one_more w n m st t) (omega arith)
-      ∙ ap (λ k. get_or (state_told w n m st (suc t) ∷ []) k past) none ∙ ap (state_told w n m st) (sym last)
+      ∙ ap (λ k. get_or (traced_state_after w n m st (suc t) ∷ []) k past) none ∙ ap (traced_state_after w n m st) (sym last)
   | inr before ↦ get_or_append_left (states_of w n m st t) _ past i (omega (arith, states_are_one_more w n m st t))
       ∙ states_by_place w n m st t i past (omega arith)
 ]

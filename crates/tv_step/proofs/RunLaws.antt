@@ -51,9 +51,9 @@ module _ (w k : ℕ) (first st : State) (ran : Ran w k first st) where
 -- the state after one more step
 one_more : (w k : ℕ) (st : State) → ((after : State) → state_after w 1 (state_after w k after) ≡ state_after w (k + 1) after) → (came : Next) → next w st ≡ came
     → state_after w 1 (left_in (λ after. state_after w k after) st came) ≡ left_in (λ after. state_after w (k + 1) after) st came
-one_more w k st behind (Next.Gone after) same = behind after
-one_more w k st behind (Next.Answered v) same = ap (left_in (λ after. after) st) same
-one_more w k st behind (Next.Undefined op) same = ap (left_in (λ after. after) st) same
+one_more w k st following (Next.Gone after) same = following after
+one_more w k st following (Next.Answered v) same = ap (left_in (λ after. after) st) same
+one_more w k st following (Next.Undefined op) same = ap (left_in (λ after. after) st) same
 
 pub state_next : (w k : ℕ) (st : State) → state_after w 1 (state_after w k st) ≡ state_after w (k + 1) st
 state_next w zero st = refl

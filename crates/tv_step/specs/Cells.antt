@@ -9,7 +9,7 @@ use Rattle.tv_step.specs.Ops.{op_of}
 use Rattle.tv_step.specs.Range.{AreWords, InRange}
 use Rattle.tv_step.specs.Reads.{IsRest}
 use Rattle.tv_step.specs.State.{State}
-use Rattle.tv_step.specs.Trace.{data_line, step_lines, lines_of, states_of, state_told}
+use Rattle.tv_step.specs.Trace.{data_line, step_lines, lines_of, states_of, traced_state_after}
 use Rattle.tv_step.specs.declared.lines.TraceState.{TraceState}
 use Rattle.tv_step.specs.declared.op.Op.{Op}
 use Rattle.tv_step.specs.declared.op.Op.TheVariants.{StoreB, StoreW}
@@ -30,7 +30,7 @@ LinesByPlace = (w n time : ℕ) (st : State) (t i j : ℕ) (past : Line) → i <
 -- state i of the trace describes the state after i steps
 abbrev pub StatesByPlace : Type 0
 StatesByPlace = (w n m : ℕ) (st : State) (t i : ℕ) (past : TraceState) → i ≤ t
-    → slice_index_or (states_of w n m st t) i past ≡ state_told w n m st i
+    → slice_index_or (states_of w n m st t) i past ≡ traced_state_after w n m st i
 
 -- each line's time is its place, from the first one's on
 abbrev pub TimesFollow : Type 0

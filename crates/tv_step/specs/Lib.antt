@@ -7,5 +7,5 @@ pub mod Rows
 pub mod Runs
 pub mod State
 pub mod Trace
-pub mod Tracing
+pub mod RunTrace
 pub mod Views

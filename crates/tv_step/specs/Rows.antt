@@ -15,12 +15,12 @@ abbrev pub instruction_size : ℕ → ℕ
 instruction_size w = w / 4
 
 -- the address of the next instruction in memory
-abbrev pub behind : ℕ → State → ℕ
-behind w st = (st.pc + instruction_size w) % 2 ^ w
+abbrev pub following : ℕ → State → ℕ
+following w st = (st.pc + instruction_size w) % 2 ^ w
 
 -- register i gets v, and the flag is f
 abbrev pub gives : ℕ → State → ℕ → ℕ → Bool → Next
-gives w st i v f = Next.Gone (record st { pc = behind w st; regs = slice_set st.regs i v; flag = f })
+gives w st i v f = Next.Gone (record st { pc = following w st; regs = slice_set st.regs i v; flag = f })
 
 -- register i gets v, and the flag is set exactly where that is 0
 abbrev pub logic : ℕ → State → ℕ → ℕ → Next
@@ -32,7 +32,7 @@ moves w st i v = gives w st i v st.flag
 
 -- the flag is f
 abbrev pub tests : ℕ → State → Bool → Next
-tests w st f = Next.Gone (record st { pc = behind w st; flag = f })
+tests w st f = Next.Gone (record st { pc = following w st; flag = f })
 
 -- nothing but that the next instruction comes
 abbrev pub goes_on : ℕ → State → Next
@@ -44,7 +44,7 @@ jumps w st a = Next.Gone (record st { pc = a - a % instruction_size w })
 
 -- memory is now m
 abbrev pub stores : ℕ → State → Bytes → Next
-stores w st m = Next.Gone (record st { pc = behind w st; memory = m })
+stores w st m = Next.Gone (record st { pc = following w st; memory = m })
 
 -- register i gets the first word that is left of a tape, of which `rest` is the state without it; where none is left,
 -- it gets 0 and the flag is set

@@ -64,14 +64,14 @@ lines_of w n time st (suc t) = lines_of w n time st t ++ step_lines w n (state_a
 
 -- what a trace has of a state, the tapes having had n and m words: how many of them are gone, and whether a read of the
 -- auxiliary tape has found nothing before
-abbrev pub told_of : ℕ → ℕ → State → Bool → TraceState
-told_of n m st ended = record { pc = st.pc; regs = st.regs; flag = st.flag; primary = n - length st.primary; aux = m - length st.aux; ended = ended }
+abbrev pub traced_state : ℕ → ℕ → State → Bool → TraceState
+traced_state n m st ended = record { pc = st.pc; regs = st.regs; flag = st.flag; primary = n - length st.primary; aux = m - length st.aux; ended = ended }
 
 -- what a trace has of the state after t steps from one on
-abbrev pub state_told : ℕ → ℕ → ℕ → State → ℕ → TraceState
-state_told w n m st t = told_of n m (state_after w t st) (ended_after w t st)
+abbrev pub traced_state_after : ℕ → ℕ → ℕ → State → ℕ → TraceState
+traced_state_after w n m st t = traced_state n m (state_after w t st) (ended_after w t st)
 
 -- the states before, between and after t steps
 abbrev pub states_of : ℕ → ℕ → ℕ → State → ℕ → List TraceState
-states_of w n m st zero = state_told w n m st zero ∷ []
-states_of w n m st (suc t) = states_of w n m st t ++ state_told w n m st (suc t) ∷ []
+states_of w n m st zero = traced_state_after w n m st zero ∷ []
+states_of w n m st (suc t) = states_of w n m st t ++ traced_state_after w n m st (suc t) ∷ []

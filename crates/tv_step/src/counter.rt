@@ -43,7 +43,7 @@ impl<const W: u32> Counter<W> {
     }
 
     /// Returns the counter of the next instruction in memory: the first one after the last.
-    pub fn behind(self) -> Counter<W>
+    pub fn following(self) -> Counter<W>
         requires width { IsWidth W }
         ensures { result ≡ (self.entry + W / 4) % 2 ^ W }
     {

@@ -31,7 +31,7 @@ impl<const W: u32> Machine<W> {
     {
         self.regs.set(i, value);
         self.flag = flag;
-        self.pc = self.pc.behind();
+        self.pc = self.pc.following();
     }
 
     // Register `i` gets `value`, and the flag is set exactly where that is 0.
@@ -50,7 +50,7 @@ impl<const W: u32> Machine<W> {
         ensures { tests W (state_of self.old) flag ≡ Next.Gone (state_of self.new) }
     {
         self.flag = flag;
-        self.pc = self.pc.behind();
+        self.pc = self.pc.following();
     }
 
     // The instruction in which an address lies comes next where `taken`, else the next one in
@@ -64,7 +64,7 @@ impl<const W: u32> Machine<W> {
         self.pc = if taken {
             Counter::of(to)
         } else {
-            self.pc.behind()
+            self.pc.following()
         };
     }
 
@@ -76,7 +76,7 @@ impl<const W: u32> Machine<W> {
         ensures err { OnErr result (state_of self.new ≡ state_of self.old) }
     {
         self.memory.store_byte(at, value)?;
-        self.pc = self.pc.behind();
+        self.pc = self.pc.following();
         Ok(())
     }
 
@@ -89,7 +89,7 @@ impl<const W: u32> Machine<W> {
         ensures err { OnErr result (state_of self.new ≡ state_of self.old) }
     {
         self.memory.store_word::<W>(at, word)?;
-        self.pc = self.pc.behind();
+        self.pc = self.pc.following();
         Ok(())
     }
 

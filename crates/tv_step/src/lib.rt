@@ -13,8 +13,8 @@ mod machine;
 mod op;
 mod recorder;
 mod registers;
+mod run_trace;
 mod state;
-mod tracing;
 
 pub use end::{End, Outcome};
 pub use laws::{
@@ -22,6 +22,6 @@ pub use laws::{
     steps_follow, tapes_are_taken_in_order, traces_are_by_place,
 };
 pub use lines::{Lines, States, Trace, TraceState};
+pub use run_trace::{TraceFault, trace};
 pub use state::Machine;
-pub use tracing::{TraceFault, trace};
 pub use tv_core::Line;

@@ -8,7 +8,7 @@ ghost use Rattle.tv_word.specs.Widths.{IsWidth};
 ghost use Rattle.tv_step.specs.Machine.{fetched, operand, state_after};
 ghost use Rattle.tv_step.specs.Ops.{op_of};
 ghost use Rattle.tv_step.specs.Reads.{is_read, finds_end};
-ghost use Rattle.tv_step.specs.Trace.{looked_at, line_of, data_line, step_lines, told_of};
+ghost use Rattle.tv_step.specs.Trace.{looked_at, line_of, data_line, step_lines, traced_state};
 ghost use Rattle.tv_step.specs.Views.{state_of};
 
 use crate::lines::TraceState;
@@ -150,7 +150,7 @@ impl<const W: u32> Machine<W> {
     /// Returns what the trace has of the state, the tapes having had `n` and `m` words, and a read
     /// of the auxiliary one having found nothing before or not.
     pub(crate) fn told(&self, n: u32, m: u32, ended: bool) -> TraceState
-        ensures { result ≡ told_of n m (state_of self.now) ended }
+        ensures { result ≡ traced_state n m (state_of self.now) ended }
     {
         TraceState {
             pc: self.pc.address(),

@@ -4,9 +4,9 @@
 #![tactic(auto)]
 
 #[cfg(test)]
-mod assembling;
+mod assembly;
 #[cfg(test)]
-mod disassembling;
+mod disassembly;
 pub mod examples;
 #[cfg(test)]
 mod tapes;

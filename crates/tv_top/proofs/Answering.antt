@@ -7,7 +7,7 @@ use Rattle.tv_top.proofs.Common.{Memory, Contents, Size, What, Status, words_of,
 use Rattle.tv_top.proofs.Common.{bytes_in, AreRead, files_with, IsCutAt, IsCutInWriting, Said, SaidPart, Ends, IsConcluded, Concludes, Writes, IsCut}
 use Rattle.tv_top.proofs.Common.{Completes, Does, ending_of, IsOneOf, IsFound, Finds, Leaves, IsQuiet, NoneFell, RanOut, SameCounts, Named, Look}
 use Rattle.tv_top.proofs.Common.{Outcome, Plan, Answer}
-use Rattle.tv_top.proofs.Common.{files_of, answer_of, ending_by, comes_by, writes_by, MayEnd, quantity_what, size_what, bad_status, refusal_status}
+use Rattle.tv_top.proofs.Common.{files_of, answer_of, ending_by, outcome_by, writes_by, MayEnd, quantity_what, size_what, bad_status, refusal_status}
 use Rattle.tv_top.proofs.Common.{stop_status, finish_status, ending_status}
 use Rattle.tv_top.specs.declared.refusal.Bad.TheVariants as bad
 use Rattle.tv_top.specs.declared.refusal.Finish.TheVariants as finishes
@@ -285,13 +285,13 @@ answers_refused request words why old new result refused concludes = rw refused 
 
 ends_found : (plan : Plan) (found : Result Outcome Stop) (words : ℕ) (files : Names) (old new : Outside) (result : Status)
     → new.contents ≡ files_with (writes_by plan.writes found) old.contents → old.contents ≡ Some files →
-    AreRead (writes_by plan.writes found) → IsFound (λ (o : Outcome). o) (plan.comes files) found → IsConcluded (ending_by found) words old new result
+    AreRead (writes_by plan.writes found) → IsFound (λ (o : Outcome). o) (plan.leads_to files) found → IsConcluded (ending_by found) words old new result
     → Ends (answer_of (Ok plan) files) words files old new result
 ends_found plan (Ok outcome) words files old new result held told read is concluded =
-    rw is (ends_answered (found_answer plan (plan.comes files).at outcome) words files old new result
+    rw is (ends_answered (found_answer plan (plan.leads_to files).at outcome) words files old new result
     (held ∙ ap (files_with (files_of plan.writes outcome.files)) told) read concluded)
 ends_found plan (Err (Contents bad)) words files old new result held told read is concluded =
-    rw is (ends_answered (record { looked = (plan.comes files).at; writes = []; ending = Stopped (Contents bad) }) words files old new result
+    rw is (ends_answered (record { looked = (plan.leads_to files).at; writes = []; ending = Stopped (Contents bad) }) words files old new result
     (held ∙ told) tt concluded)
 ends_found plan (Err (Fault word)) words files old new result held told read within concluded =
     let nothing = silent (Stopped (Fault word)) words old new result refl concluded in
@@ -358,7 +358,8 @@ found_memory (Err stop) e = let same : stop ≡ Memory = cc in ap Err same
 -- what was found was written, and the line said
 answers_ended : (plan : Plan) (found : Result Outcome Stop) (words : ℕ) (old mid after new : Outside) (result : Status) → AreApart plan.amounts plan.sizes
     → IfOk found (λ outcome. plan.ends_by outcome.finish ≡ true) →
-    Finds (λ (o : Outcome). o) (words_of plan.reads) plan.sizes plan.comes old mid found → Writes {X = Unit {0}} (writes_by plan.writes found) mid after (Ok tt)
+    Finds (λ (o : Outcome). o) (words_of plan.reads) plan.sizes plan.leads_to old mid found
+    → Writes {X = Unit {0}} (writes_by plan.writes found) mid after (Ok tt)
     → Concludes (ending_by found) words after new result → Answers (Ok plan) words old new result
 answers_ended plan found words old mid after new result apart may finds writes concludes =
     let concluded = concluded_since (ending_by found) words old after new result (writes.only.said ∙ finds.only.said)
@@ -390,7 +391,7 @@ answers_ended plan found words old mid after new result apart may finds writes c
 
 -- a plan whose files were found, and writing was cut short at a word, by a fault or an allocation failure
 answers_cut : (plan : Plan) (outcome : Outcome) (words at : ℕ) (old mid new : Outside) (result : Status)
-    → Finds (λ (o : Outcome). o) (words_of plan.reads) plan.sizes plan.comes old mid (Ok outcome) → OnlyWrites mid new →
+    → Finds (λ (o : Outcome). o) (words_of plan.reads) plan.sizes plan.leads_to old mid (Ok outcome) → OnlyWrites mid new →
     IsCutAt at (files_of plan.writes outcome.files) mid.contents new.contents → ((result ≡ status.FileFault at) × Rose mid.write_faults new.write_faults)
     ⊎ ((result ≡ status.Memory) × RanOut mid new) → Answers (Ok plan) words old new result
 answers_cut plan outcome words at old mid new result finds only cut ended =
@@ -398,7 +399,7 @@ answers_cut plan outcome words at old mid new result finds only cut ended =
     let held : IsCutAt at (files_of plan.writes outcome.files) old.contents new.contents = rw finds.only.contents at cut in
     record {
       ends = λ files told. let here : IsCutInWriting at
-          (found_answer plan (plan.comes files).at outcome) files old new = record { contents = rw told at held; said = said } in
+          (found_answer plan (plan.leads_to files).at outcome) files old new = record { contents = rw told at held; said = said } in
           rw (finds.told files told) (elim ended [
             | inl fault ↦ inr (inr (inl (at, fault.0, here)))
             | inr memory ↦ inr
@@ -447,7 +448,7 @@ nothing_written : {X : Type 0} {x : X} (outside : Outside) → Writes [] outside
 nothing_written outside = record { ended = (refl, tt); quiet = counts_stay outside; only = still outside }
 
 answers_halted : (plan : Plan) (outcome : Outcome) (stop : Stop) (words : ℕ) (old mid after new : Outside) (result : Status) → AreApart plan.amounts plan.sizes
-    → Finds (λ (o : Outcome). o) (words_of plan.reads) plan.sizes plan.comes old mid (Ok outcome) →
+    → Finds (λ (o : Outcome). o) (words_of plan.reads) plan.sizes plan.leads_to old mid (Ok outcome) →
     OnlyWrites mid after → IsCut (files_of plan.writes outcome.files) mid after stop → Concludes (Stopped stop) words after new result
     → Answers (Ok plan) words old new result
 answers_halted plan outcome (Fault at) words old mid after new result apart finds only cut concludes =
@@ -476,7 +477,7 @@ answers_done plan (Err stop) words old after new result apart (inr (outcome, mid
       | inl writes ↦ answers_halted plan outcome stop words old mid after new result apart finds writes.only writes.ended concludes
       | inr wanting ↦ let is = wanting.0 in let memory : stop ≡ Memory = cc in
           answers_ended plan (Err Memory) words old mid mid new result apart tt
-          (finds_wanting (λ (o : Outcome). o) (λ (o : Outcome). o) (words_of plan.reads) plan.sizes plan.comes outcome old mid (Err Memory) refl finds)
+          (finds_wanting (λ (o : Outcome). o) (λ (o : Outcome). o) (words_of plan.reads) plan.sizes plan.leads_to outcome old mid (Err Memory) refl finds)
           (nothing_written mid)
           (rw (memory, wanting.1) at concludes)
     ]
@@ -486,7 +487,8 @@ answers_done plan (Err stop) words old after new result apart (inr (outcome, mid
 -- a look was refused, and `?` passes that on
 pub does_stopped : {X A : Type 0} (plan : Plan) (view : X → A) (ends : A → Outcome) (due : Names → Look A) (stop : Stop) (old new : Outside)
     (result : Result Finish Stop) →
-    plan.comes ≡ (λ files. comes_by ends (due files)) → Finds view (words_of plan.reads) plan.sizes due old new (Err stop) → IsErrAnd result (λ e. e ≡ stop)
+    plan.leads_to ≡ (λ files. outcome_by ends (due files)) → Finds view (words_of plan.reads) plan.sizes due old new (Err stop)
+    → IsErrAnd result (λ e. e ≡ stop)
     → Does plan old new result
 does_stopped plan view ends due stop old new (Ok finish) is finds same = absurd same
 does_stopped plan view ends due stop old new (Err other) is finds same = inl
@@ -494,7 +496,7 @@ does_stopped plan view ends due stop old new (Err other) is finds same = inl
 
 pub does_found : {X A : Type 0} (plan : Plan) (view : X → A) (ends : A → Outcome) (due : Names → Look A) (found : X) (old mid new : Outside)
     (result : Result Finish Stop) →
-    plan.comes ≡ (λ files. comes_by ends (due files)) → plan.ends_by (ends (view found)).finish ≡ true
+    plan.leads_to ≡ (λ files. outcome_by ends (due files)) → plan.ends_by (ends (view found)).finish ≡ true
     → Finds view (words_of plan.reads) plan.sizes due old mid (Ok found) → Completes plan.writes (ends (view found)) mid new result
     → Does plan old new result
 does_found plan view ends due found old mid new result is may finds completes = inr

@@ -5,7 +5,7 @@ use Rattle.std.proofs.lemmas.Bool.{le-ltb, false_from_ne_true}
 use Rattle.std.proofs.lemmas.Slice.Eq.{bytes_eq-Decides}
 use Rattle.std.specs.Str.{bytes_eq}
 use Rattle.tv_top.proofs.Common.{Names, Amount, Bad, Stop, Fault, Memory, Contents, Answers, Call, IsStopped, Holds, Then}
-use Rattle.tv_top.proofs.Common.{Comes, IsAnswered, Ends, Named, Plan, Look, Outcome, AreWithin, ◌>>=◌, held_at, input, made_of, comes_by, answer_by}
+use Rattle.tv_top.proofs.Common.{AnswersOrStops, IsAnswered, Ends, Named, Plan, Look, Outcome, AreWithin, ◌>>=◌, held_at, input, made_of, outcome_by, answer_by}
 use Rattle.tv_top.proofs.Common.{answer_of, same_in, same_of, limit_of, request_of}
 use Rattle.tv_top.specs.declared.status.Status.TheVariants as status
 use Rattle.tv_top.specs.Form.{form}
@@ -33,7 +33,7 @@ IsHeld {A} gives Held = (held : Result A Bad) → gives ≡ made_of held → Hel
 
 ended_by : {A : Type 0} (plan : Plan) (ends : A → Outcome) (look : Look A) (gives : Result A Stop) (Held : Result A Bad → Type 0) (words : ℕ) (files : Names)
     (call : Call) → look.gives ≡ gives → Answers (Ok plan) words call.before call.after call.status → IsHeld gives Held
-    → IsAnswered (answer_by plan.writes (comes_by ends look)) files call.before call.after call.status → Comes plan.writes ends Held files call
+    → IsAnswered (answer_by plan.writes (outcome_by ends look)) files call.before call.after call.status → AnswersOrStops plan.writes ends Held files call
 ended_by plan ends look (Ok x) Held words files call is answers holds answered = let due = rw is at answered in
     inl (record { held = Ok x; is = holds (Ok x) refl; status = due.status; contents = due.contents; read = due.read; said = due.said })
 ended_by plan ends look (Err (Contents bad)) Held words files call is answers holds answered = let due = rw is at answered in
@@ -122,12 +122,13 @@ granted plan words count call has other within asked = rw (has, other_of plan.re
 -- ---- any command
 
 -- words that have the form of a plan, which isn't refused, end as its look finds
-pub comes : {A : Type 0} (plan : Plan) (ends : A → Outcome) (look : Names → Look A) (Held : Result A Bad → Type 0) (words : List (List ℕ)) (count : ℕ)
+pub leads_to : {A : Type 0} (plan : Plan) (ends : A → Outcome) (look : Names → Look A) (Held : Result A Bad → Type 0) (words : List (List ℕ)) (count : ℕ)
     (files : Names) (call : Call) →
-    form words ≡ Some plan → AreOther plan.reads plan.writes → AreWithin plan.amounts → plan.comes ≡ (λ files. comes_by ends (look files))
+    form words ≡ Some plan → AreOther plan.reads plan.writes → AreWithin plan.amounts → plan.leads_to ≡ (λ files. outcome_by ends (look files))
     → call.before.contents ≡ Some files →
-    Answers (request_of (form words)) count call.before call.after call.status → IsHeld (look files).gives Held → Comes plan.writes ends Held files call
-comes plan ends look Held words count files call has other within is told asked shows =
+    Answers (request_of (form words)) count call.before call.after call.status → IsHeld (look files).gives Held
+    → AnswersOrStops plan.writes ends Held files call
+leads_to plan ends look Held words count files call has other within is told asked shows =
     let answers = granted plan words count call has other within asked in
     elim (due_or_stopped plan count files call answers (answers.ends files told)) [
       | inl answered ↦ ended_by plan ends (look files) (look files).gives Held count files call refl answers shows (rw is at answered)

@@ -17,7 +17,7 @@ pub use Rattle.tv_top.specs.declared.inputs.Inputs.{Inputs}
 pub use Rattle.tv_top.specs.declared.programs.Program.{Program}
 pub use Rattle.tv_top.specs.declared.programs.Width.{Width}
 pub use Rattle.tv_top.specs.declared.programs.Width.TheVariants.{Bits16, Bits32}
-pub use Rattle.tv_top.specs.Plan.{Named, name_at, Look, Outcome, Plan, Write, Answer, files_of, answer_by, answer_of, ending_by, writes_by, comes_by}
+pub use Rattle.tv_top.specs.Plan.{Named, name_at, Look, Outcome, Plan, Write, Answer, files_of, answer_by, answer_of, ending_by, writes_by, outcome_by}
 pub use Rattle.tv_top.specs.Plan.{AreWithin, ◌>>=◌, held_at, made_of, settled, same_in, same_of, is_out, limit_of, request_of, map_ok, look_on, within}
 pub use Rattle.tv_top.specs.Plan.{refusal_of}
 unfoldable pub use Rattle.tv_top.specs.Plan.{input}
@@ -25,8 +25,8 @@ pub use Rattle.tv_top.specs.Finds.{IsOneOf, IsFound, Finds, Leaves, Makes, Spare
 pub use Rattle.tv_top.specs.Ends.{AreRead, files_with, IsCutAt, IsCutInWriting, Said, SaidPart, Ends, IsConcluded, IsQuiet, IsUntouched, Concludes, Writes}
 pub use Rattle.tv_top.specs.Ends.{IsCut, Completes, IsAnswered, sink_stop, streamed, HasPartOf}
 pub use Rattle.tv_top.specs.Answers.{words_of, MayStop, MayEnd, quantities_of, IsOfWords, ChangedAt, IsSaid, Answers, Does, ending_of}
-pub use Rattle.tv_top.specs.Claims.{Call, Holds, Then, IsStopped, status_by, Answered, Comes}
-pub use Rattle.tv_top.specs.Programs.{bits, program_in, program_sizes, image_words, image_bytes, program_result, HasImage, width_told, program_of}
+pub use Rattle.tv_top.specs.Claims.{Call, Holds, Then, IsStopped, status_by, Answered, AnswersOrStops}
+pub use Rattle.tv_top.specs.Programs.{bits, program_in, program_sizes, image_words, image_bytes, program_result, HasImage, width_of_text, program_of}
 unfoldable pub use Rattle.tv_top.specs.Programs.{program_by, image_of}
 pub use Rattle.tv_top.specs.Status.{quantity_what, size_what, bad_status, refusal_status, stop_status, finish_status, ending_status}
 pub use Rattle.tv_top.specs.Contents.{Content, bytes_in, IsRead}

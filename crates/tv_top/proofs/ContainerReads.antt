@@ -5,7 +5,7 @@ use Rattle.tv_top.proofs.Common.{Names, Outside, OnlyReads, MissesOnly, Rose, Ba
 use Rattle.tv_top.proofs.Common.{made_of, map_ok}
 use Rattle.tv_container.specs.Places.{Fault, ◌>>=◌}
 use Rattle.tv_container.specs.Reading as reading
-use Rattle.tv_container.specs.Reading.{bytes_of, Known, GivesBy, Looks, Stopped, IsMissing}
+use Rattle.tv_container.specs.Reading.{bytes_of, Known, ReadsAsBy, Looks, Stopped, IsMissing}
 use Rattle.tv_container.specs.declared.why.ReadRefusal.{ReadRefusal}
 use Rattle.tv_container.specs.declared.why.ReadRefusal.TheVariants as refusal
 use Rattle.tv_top.specs.declared.refusal.Bad.TheVariants.{Limit}
@@ -78,7 +78,7 @@ read_caused refusal.Fault old new rose is = rose
 read_caused (refusal.Bad at what) old new leaves is = cc
 read_caused refusal.Memory old new leaves is = cc
 
-read_told : {Y A : Type 0} (view : Y → A) (word : ℕ) (bad : Fault → Bad) (due : Result A Fault) (result : Result Y ReadRefusal) → GivesBy result view due →
+read_told : {Y A : Type 0} (view : Y → A) (word : ℕ) (bad : Fault → Bad) (due : Result A Fault) (result : Result Y ReadRefusal) → ReadsAsBy result view due →
     IsFound view (record { at = word; gives = made_of (container_result bad due) }) (came (refusal_stop word bad) result)
 read_told view word bad due (Ok y) gives = rw gives refl
 read_told view word bad due (Err (refusal.Bad at what)) gives = rw (gives.bad at what refl) refl
@@ -88,7 +88,8 @@ read_told view word bad due (Err refusal.Memory) gives = tt
 -- what reading a container found
 pub finds_read : {Y A : Type 0} (view : Y → A) (place : Named) (bad : Fault → Bad) (read : List ℕ → Result A Fault) (old new : Outside)
     (result : Result Y ReadRefusal) → NoLimit bad →
-    Known old place.name (λ file. GivesBy result view (read file)) → Looks old new place.name result → (IsMissing old place.name → result ≡ Err refusal.Fault) →
+    Known old place.name (λ file. ReadsAsBy result view (read file)) → Looks old new place.name result → (IsMissing old place.name
+    → result ≡ Err refusal.Fault) →
     Finds view (place.word ∷ []) [] (input place (λ file. container_result bad (read file))) old new (came (refusal_stop place.word bad) result)
 unfolding input
 finds_read view place bad read old new result none gives looks missing =

@@ -3,7 +3,7 @@ use Rattle.std.proofs.Common.{◌≡◌, ℕ, ◌+◌, nat_le, List, [], ◌∷�
 use Rattle.std.proofs.Common.{◌≤◌, arith, rules}
 use Rattle.std.proofs.lemmas.Bool.{cond_both}
 use Rattle.tv_top.proofs.Common.{Names, Outside, OnlyReads, SameCounts, Bad, Size, Stop, Fault, Memory, Contents, IsOneOf, IsFound, Finds, Leaves, Makes}
-use Rattle.tv_top.proofs.Common.{Named, Look, ◌>>=◌, look_on, Outcome, comes_by, map_ok, input, within, held_at, made_of}
+use Rattle.tv_top.proofs.Common.{Named, Look, ◌>>=◌, look_on, Outcome, outcome_by, map_ok, input, within, held_at, made_of}
 use Rattle.tv_top.specs.declared.refusal.Bad.TheVariants as bad
 
 -- the outside is as it was where its contents, what was said and its counts are
@@ -224,7 +224,7 @@ finds_wanting view other words sizes due found old new (Err stop) is finds = rw 
 -- ---- how a command ends by what was found
 
 told_comes : {X A : Type 0} (view : X → A) (f : A → Outcome) (due : Look A) (found : Result X Stop) → IsFound view due found
-    → IsFound (λ (o : Outcome). o) (comes_by f due) (map_ok (λ x. f (view x)) found)
+    → IsFound (λ (o : Outcome). o) (outcome_by f due) (map_ok (λ x. f (view x)) found)
 told_comes view f due (Ok x) is = ap (map_ok f) is
 told_comes view f due (Err (Contents why)) is = ap (map_ok f) is
 told_comes view f due (Err (Fault word)) within = within
@@ -240,7 +240,8 @@ same_err f (Err other) why e = cc
 
 pub finds_comes : {X A : Type 0} (view : X → A) (f : A → Outcome) (words : List ℕ) (sizes : List Size) (due : Names → Look A) (old new : Outside)
     (found : Result X Stop) →
-    Finds view words sizes due old new found → Finds (λ (o : Outcome). o) words sizes (λ files. comes_by f (due files)) old new (map_ok (λ x. f (view x)) found)
+    Finds view words sizes due old new found
+    → Finds (λ (o : Outcome). o) words sizes (λ files. outcome_by f (due files)) old new (map_ok (λ x. f (view x)) found)
 finds_comes view f words sizes due old new found finds = record {
   told = λ files told. told_comes view f (due files) found (finds.told files told);
   absent = λ files told. elim (finds.absent files told) [ inl same ↦ inl same | inr missing ↦ inr (missing.0, ap (map_ok f) missing.1) ];

@@ -4,7 +4,7 @@ use Rattle.tv_core.specs.declared.limits.TheConstants.{STEPS}
 use Rattle.tv_top.specs.declared.job.Job.{Job}
 use Rattle.tv_top.specs.declared.job.Job.TheVariants.{Run, Build, Witness, Extract, Trial, Listing}
 use Rattle.tv_top.specs.declared.refusal.Quantity.TheVariants.{Steps}
-use Rattle.tv_top.specs.Building.{size_amounts}
+use Rattle.tv_top.specs.Build.{size_amounts}
 use Rattle.tv_top.specs.Form.{plan_of}
 use Rattle.tv_top.specs.Inputs.{input_sizes}
 use Rattle.tv_top.proofs.Answering.{AreApart}

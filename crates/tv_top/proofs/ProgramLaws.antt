@@ -18,7 +18,7 @@ use Rattle.tv_top.specs.Inputs.{AreInputs, HasInputs}
 use Rattle.tv_top.specs.Finds.{made_by}
 use Rattle.tv_top.specs.Tapes.{tape_stop, numbers_of, numbers_in}
 use Rattle.tv_top.proofs.Common.{Names, Inputs, Amount, Program, Width, Bits16, Bits32, Bad, Refusal, Size, Holds, Named, AreWithin, same_of, is_out}
-use Rattle.tv_top.proofs.Common.{limit_of, refusal_of, within, HasImage, bits, image_words, width_told, program_result, program_by, program_of, program_in}
+use Rattle.tv_top.proofs.Common.{limit_of, refusal_of, within, HasImage, bits, image_words, width_of_text, program_result, program_by, program_of, program_in}
 use Rattle.tv_top.specs.declared.refusal.Bad.TheVariants as bad
 use Rattle.tv_top.specs.declared.refusal.Refusal.TheVariants.{Limit}
 use Rattle.tv_top.specs.declared.refusal.Size.TheVariants.{TapeWords, AuxWords, TextBytes}
@@ -45,7 +45,7 @@ pub has_image : (file : Option (List ℕ)) (program : Program) → Holds program
 unfolding program_by
 has_image file program holds =
     let text = holds.bytes in
-    let width = width_told text in
+    let width = width_of_text text in
     image_by width (assembled (bits width) (image_words width) text) program (images_short (bits width) (image_words width) text)
     (images_words (bits width) (is_width width) (image_words width) text)
     (within_ok TextBytes TEXT_BYTES program_of text program holds.reads)

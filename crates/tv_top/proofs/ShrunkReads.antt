@@ -4,13 +4,13 @@ use Rattle.std.specs.Prelude.{MatchResult}
 use Rattle.std.proofs.lemmas.Bool.{le-ltb, lt-ltb}
 use Rattle.tv_container.specs.Reading.{Known, IsMissing}
 use Rattle.tv_core.specs.Constraints.{System}
-use Rattle.tv_shrink.specs.Answers.{most, all_terms, Tells, Halted, HaltsBy}
+use Rattle.tv_shrink.specs.Answers.{most, all_terms, FaultMeans, Halted, HaltsBy}
 use Rattle.tv_shrink.specs.Answers as shrinking
-use Rattle.tv_shrink.specs.Shrinking.{Shrunken}
+use Rattle.tv_shrink.specs.Shrunk.{Shrunken}
 use Rattle.tv_shrink.specs.declared.fault.ShrinkFault.{ShrinkFault}
 use Rattle.tv_shrink.specs.declared.fault.ShrinkFault.TheVariants as fault
 use Rattle.tv_top.specs.Containers.{system_in}
-use Rattle.tv_top.specs.Shrinking.{shrink_sizes, shrink_stop, shrunk_of, shrunk_look}
+use Rattle.tv_top.specs.Shrink.{shrink_sizes, shrink_stop, shrunk_of, shrunk_look}
 use Rattle.tv_top.proofs.Common.{Outside, Rose, Bad, IsFound, Finds, Spares, Named, Look, ◌>>=◌, look_on, held_at, input, made_of, settled}
 use Rattle.tv_top.proofs.ContainerReads.{StopsBy, came, finds_file}
 
@@ -40,7 +40,7 @@ due_at word (Ok system) = omega arith
 due_at word (Err bad) = omega arith
 
 shrink_told : (word : ℕ) (result : Result Shrunken ShrinkFault) (file : List ℕ)
-    → MatchResult result (λ shrunken. shrinking.Shrinks shrunken file) (λ fault. Tells fault file) →
+    → MatchResult result (λ shrunken. shrinking.Shrinks shrunken file) (λ fault. FaultMeans fault file) →
     IsFound (λ (s : Shrunken). s) (shrunk_due word (Some file)) (came (shrink_stop word) result)
 shrink_told word (Ok shrunken) file is = rw (is.is, le-ltb most (all_terms is.system) is.few, is.narrow, is.same) refl
 shrink_told word (Err (fault.Bad at why)) file is = rw is refl
@@ -51,7 +51,7 @@ shrink_told word (Err fault.Memory) file is = tt
 
 -- what shrinking a system found
 pub finds_shrunk : (place : Named) (old new : Outside) (result : Result Shrunken ShrinkFault)
-    → Known old place.name (λ file. MatchResult result (λ shrunken. shrinking.Shrinks shrunken file) (λ fault. Tells fault file))
+    → Known old place.name (λ file. MatchResult result (λ shrunken. shrinking.Shrinks shrunken file) (λ fault. FaultMeans fault file))
     → HaltsBy old new place.name result →
     (IsMissing old place.name → result ≡ Err fault.Fault)
     → Finds (λ (s : Shrunken). s) (place.word ∷ []) shrink_sizes (shrunk_look place) old new (came (shrink_stop place.word) result)

@@ -8,10 +8,10 @@ use Rattle.tv_disasm.specs.Disassembly.{disassembly_of}
 use Rattle.tv_tape.specs.Tape.{tape_of}
 use Rattle.tv_tape.specs.declared.items.TapeFault.{TapeFault}
 use Rattle.tv_tape.specs.declared.items.TapeFault.TheVariants as tape
-use Rattle.tv_top.proofs.Common.{Width, Size, bits, image_words, width_told, image_bytes, program_result, program_by, program_of, image_of}
+use Rattle.tv_top.proofs.Common.{Width, Size, bits, image_words, width_of_text, image_bytes, program_result, program_by, program_of, image_of}
 use Rattle.tv_top.specs.declared.refusal.Bad.TheVariants.{Limit, Image}
 use Rattle.tv_top.specs.declared.refusal.Size.TheVariants.{ImageWords}
-use Rattle.tv_top.specs.Disassembling.{text_of}
+use Rattle.tv_top.specs.Disasm.{text_of}
 use Rattle.tv_top.specs.Finds.{made_by}
 use Rattle.tv_top.specs.Tapes.{tape_stop, numbers_of}
 use Rattle.tv_top.proofs.Looking.{IsLimited, same_err}
@@ -24,7 +24,7 @@ program_result_limited width (Err asm.Memory) what has most e = inl cc
 
 pub program_limited : (text : List ℕ) → IsLimited (program_of text) (ImageWords ∷ [])
 unfolding program_by
-program_limited text = program_result_limited (width_told text) (assembled (bits (width_told text)) (image_words (width_told text)) text)
+program_limited text = program_result_limited (width_of_text text) (assembled (bits (width_of_text text)) (image_words (width_of_text text)) text)
 
 pub image_limited : (text : List ℕ) → IsLimited (image_of text) (ImageWords ∷ [])
 unfolding image_of

@@ -1,6 +1,6 @@
 -- What every call of the command promises, by what its words ask for.
 use Rattle.std.specs.Prelude.{◌≡◌, ℕ, ◌⊎◌, List, [], ◌∷◌, map, Option, option_map, true, Result, Ok, Err}
-use Rattle.tv_files.specs.Outside.{Names, Outside, Told, NoneFell, RanOut, with_bytes}
+use Rattle.tv_files.specs.Outside.{Names, Outside, WhereKnown, NoneFell, RanOut, with_bytes}
 use Rattle.tv_word.specs.Counts.{Rose}
 use Rattle.tv_top.specs.declared.refusal.Ending.{Ending}
 use Rattle.tv_top.specs.declared.refusal.Ending.TheVariants.{Refused, Stopped, Finished}
@@ -80,9 +80,9 @@ IsSaid ending words old new result = ((result ≡ ending_status ending) × Said 
 -- what a plan does up to its line: a look was refused; or what was found is completed, and its end may be
 abbrev pub Does : Plan → Outside → Outside → Result Finish Stop → Type 0
 Does plan old new result =
-    ((stop : Stop) × (result ≡ Err stop) × Finds (λ (o : Outcome). o) (words_of plan.reads) plan.sizes plan.comes old new (Err stop))
+    ((stop : Stop) × (result ≡ Err stop) × Finds (λ (o : Outcome). o) (words_of plan.reads) plan.sizes plan.leads_to old new (Err stop))
     ⊎ ((outcome : Outcome) × (mid : Outside) × (plan.ends_by outcome.finish ≡ true)
-    × Finds (λ (o : Outcome). o) (words_of plan.reads) plan.sizes plan.comes old mid (Ok outcome) × Completes plan.writes outcome mid new result)
+    × Finds (λ (o : Outcome). o) (words_of plan.reads) plan.sizes plan.leads_to old mid (Ok outcome) × Completes plan.writes outcome mid new result)
 
 -- the end of what was done
 abbrev pub ending_of : Result Finish Stop → Ending
@@ -93,9 +93,9 @@ ending_of (Err stop) = Stopped stop
 -- of any files.
 pub record Answers (request : Result Plan Refusal) (words : ℕ) (old new : Outside) (result : Status) : Type 0 where
   -- the answer is that of the words and the files, up to faults and allocation failures
-  pub ends : Told old (λ files. Ends (answer_of request files) words files old new result)
+  pub ends : WhereKnown old (λ files. Ends (answer_of request files) words files old new result)
   -- no name was looked for in vain, unless the answer is that one isn't there
-  pub absent : Told old (λ files. (new.absent ≡ old.absent)
+  pub absent : WhereKnown old (λ files. (new.absent ≡ old.absent)
       ⊎ ((word : ℕ) × ((answer_of request files).ending ≡ Stopped (Fault word))))
   -- what the words alone refuse is answered so; memory can then run out only in printing it
   pub refused : (why : Refusal) → request ≡ Err why → IsConcluded (Refused why) words old new result

@@ -68,5 +68,5 @@ pub record Answered {A : Type 0} (places : List Named) (ends : A → Outcome) (H
 -- How a call ends over files whose contents are known: they held something, or were refused for something, of which
 -- this is so, and the answer, the line and what the files hold after the call go by it; or it was stopped. A name has
 -- one contents, and what is read of it is a function of these: so each answer comes exactly where it is due.
-abbrev pub Comes : {A : Type 0} → List Named → (A → Outcome) → (Result A Bad → Type 0) → Names → Call → Type 0
-Comes places ends Held files call = Answered places ends Held files call ⊎ IsStopped places call
+abbrev pub AnswersOrStops : {A : Type 0} → List Named → (A → Outcome) → (Result A Bad → Type 0) → Names → Call → Type 0
+AnswersOrStops places ends Held files call = Answered places ends Held files call ⊎ IsStopped places call

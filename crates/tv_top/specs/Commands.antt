@@ -1,19 +1,19 @@
 -- What `command` promises.
 use Rattle.std.specs.Prelude.{ℕ, List}
 use Rattle.tv_top.specs.Answers.{Answers}
-use Rattle.tv_top.specs.Assembling.{OnAsm}
-use Rattle.tv_top.specs.Building.{OnBuild}
-use Rattle.tv_top.specs.Checking.{OnCheck}
+use Rattle.tv_top.specs.Asm.{OnAsm}
+use Rattle.tv_top.specs.Build.{OnBuild}
+use Rattle.tv_top.specs.Check.{OnCheck}
 use Rattle.tv_top.specs.Claims.{Call}
-use Rattle.tv_top.specs.Disassembling.{OnDisasm}
-use Rattle.tv_top.specs.Extracting.{OnExtract}
+use Rattle.tv_top.specs.Disasm.{OnDisasm}
+use Rattle.tv_top.specs.Extract.{OnExtract}
 use Rattle.tv_top.specs.Form.{form}
 use Rattle.tv_top.specs.Listing.{OnListing}
 use Rattle.tv_top.specs.Plan.{request_of}
-use Rattle.tv_top.specs.Running.{OnRun}
-use Rattle.tv_top.specs.Shrinking.{OnShrink}
-use Rattle.tv_top.specs.Trialing.{OnTrial}
-use Rattle.tv_top.specs.Witnessing.{OnWitness}
+use Rattle.tv_top.specs.Run.{OnRun}
+use Rattle.tv_top.specs.Shrink.{OnShrink}
+use Rattle.tv_top.specs.Trial.{OnTrial}
+use Rattle.tv_top.specs.Witness.{OnWitness}
 
 -- what a call with these words does, of which there are `count`: what every call does, and what the command does whose
 -- words they are

@@ -5,7 +5,7 @@ use Rattle.tv_check.specs.declared.verdict.Verdict.{Verdict}
 use Rattle.tv_core.specs.Constraints.{System}
 use Rattle.tv_core.specs.declared.lines.Counts.{Counts}
 use Rattle.tv_container.specs.Places.{Fault}
-use Rattle.tv_r1cs_read.specs.R1cs.{system_of}
+use Rattle.tv_r1cs_read.specs.R1cs.{r1cs_system}
 use Rattle.tv_r1cs_read.specs.Survey.{survey_of}
 use Rattle.tv_container.specs.declared.why.ReadRefusal.{ReadRefusal}
 use Rattle.tv_container.specs.declared.why.ReadRefusal.TheVariants as refusal
@@ -29,7 +29,7 @@ container_result bad (Err fault) = Err (bad fault)
 
 -- the file of a system, and of an assignment, which may have any size
 abbrev pub system_in : List ℕ → Result System Bad
-system_in file = container_result system_bad (system_of file)
+system_in file = container_result system_bad (r1cs_system file)
 
 abbrev pub witness_in : List ℕ → Result (List ℕ) Bad
 witness_in file = container_result witness_bad (assignment_of file)

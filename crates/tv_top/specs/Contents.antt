@@ -2,10 +2,10 @@
 use Rattle.std.specs.Prelude.{◌≡◌, ℕ, List, Ok}
 use Rattle.std.specs.List.{range_with_len}
 use Rattle.tv_core.specs.Constraints.{System}
-use Rattle.tv_r1cs_read.specs.R1cs.{system_of}
+use Rattle.tv_r1cs_read.specs.R1cs.{r1cs_system}
 use Rattle.tv_r1cs_write.specs.Bytes.{system_bytes}
-use Rattle.tv_shrink.specs.Shrinking.{Shrunken}
-use Rattle.tv_shrink.specs.Written.{shrunken_bytes}
+use Rattle.tv_shrink.specs.Shrunk.{Shrunken}
+use Rattle.tv_shrink.specs.Output.{shrunken_bytes}
 use Rattle.tv_wtns.specs.Bytes.{assignment_bytes}
 use Rattle.tv_wtns.specs.Wtns.{assignment_of}
 
@@ -26,6 +26,6 @@ bytes_in (Values z) = assignment_bytes z
 -- a system, or an assignment, is what is read of its file
 abbrev pub IsRead : Content → Type 0
 IsRead (Bytes bytes) = Unit {0}
-IsRead (Constraints system) = system_of (bytes_in (Constraints system)) ≡ Ok system
-IsRead (Rest shrunken) = system_of (bytes_in (Rest shrunken)) ≡ Ok shrunken.system
+IsRead (Constraints system) = r1cs_system (bytes_in (Constraints system)) ≡ Ok system
+IsRead (Rest shrunken) = r1cs_system (bytes_in (Rest shrunken)) ≡ Ok shrunken.system
 IsRead (Values z) = assignment_of (bytes_in (Values z)) ≡ Ok z

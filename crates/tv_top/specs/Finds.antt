@@ -1,6 +1,6 @@
 -- What reading and judging files finds, against what is due by what they hold.
 use Rattle.std.specs.Prelude.{◌≡◌, ℕ, ◌≤◌, ◌⊎◌, List, [], ◌∷◌, Result, Ok, Err, MatchResult}
-use Rattle.tv_files.specs.Outside.{Names, Outside, Told, OnlyReads, RanOut}
+use Rattle.tv_files.specs.Outside.{Names, Outside, WhereKnown, OnlyReads, RanOut}
 use Rattle.tv_word.specs.Counts.{Rose}
 use Rattle.tv_top.specs.declared.refusal.Bad.{Bad}
 use Rattle.tv_top.specs.declared.refusal.Bad.TheVariants as bad
@@ -46,8 +46,8 @@ Leaves found old new = MatchResult found (λ _. new ≡ old) (λ stop. Spares st
 -- these quantities alone, be their contents known or not.
 pub record Finds {X A : Type 0} (view : X → A) (words : List ℕ) (sizes : List Size) (due : Names → Look A)
     (old new : Outside) (found : Result X Stop) : Type 0 where
-  pub told : Told old (λ files. IsFound view (due files) found)
-  pub absent : Told old (λ files.
+  pub told : WhereKnown old (λ files. IsFound view (due files) found)
+  pub absent : WhereKnown old (λ files.
       (new.absent ≡ old.absent) ⊎ ((word : ℕ) × ((due files).gives ≡ Err (Fault word))))
   pub only : OnlyReads old new
   pub leaves : Leaves found old new

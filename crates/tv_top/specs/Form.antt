@@ -4,17 +4,17 @@ use Rattle.std.specs.Str.{bytes_eq}
 use Rattle.tv_word.specs.Numeral.{numeral}
 use Rattle.tv_top.specs.declared.job.Job.{Job}
 use Rattle.tv_top.specs.declared.job.Job.TheVariants.{Asm, Disasm, Run, Build, Witness, Check, Extract, Trial, Shrink, Listing}
-use Rattle.tv_top.specs.Assembling.{asm_asks, asm_plan}
-use Rattle.tv_top.specs.Building.{net_word, build_asks, build_plan}
-use Rattle.tv_top.specs.Checking.{check_asks, check_plan}
-use Rattle.tv_top.specs.Disassembling.{width_word, disasm_asks, disasm_plan}
-use Rattle.tv_top.specs.Extracting.{extract_asks, extract_plan}
+use Rattle.tv_top.specs.Asm.{asm_asks, asm_plan}
+use Rattle.tv_top.specs.Build.{net_word, build_asks, build_plan}
+use Rattle.tv_top.specs.Check.{check_asks, check_plan}
+use Rattle.tv_top.specs.Disasm.{width_word, disasm_asks, disasm_plan}
+use Rattle.tv_top.specs.Extract.{extract_asks, extract_plan}
 use Rattle.tv_top.specs.Listing.{by_word, listing_asks, listing_plan}
 use Rattle.tv_top.specs.Plan.{Plan, name_at}
-use Rattle.tv_top.specs.Running.{run_asks, run_plan}
-use Rattle.tv_top.specs.Shrinking.{shrink_asks, shrink_plan}
-use Rattle.tv_top.specs.Trialing.{trial_asks, trial_plan}
-use Rattle.tv_top.specs.Witnessing.{witness_asks, witness_plan}
+use Rattle.tv_top.specs.Run.{run_asks, run_plan}
+use Rattle.tv_top.specs.Shrink.{shrink_asks, shrink_plan}
+use Rattle.tv_top.specs.Trial.{trial_asks, trial_plan}
+use Rattle.tv_top.specs.Witness.{witness_asks, witness_plan}
 
 -- what two words mean together, where each means something, and what three do
 abbrev pub with_two : {A B C : Type 0} → (A → B → C) → Option A → Option B → Option C

@@ -5,7 +5,7 @@ use Rattle.tv_benes.specs.declared.shape.Net.TheVariants.{Benes}
 use Rattle.tv_core.specs.Constraints.{Sat}
 use Rattle.tv_core.specs.declared.limits.TheConstants.{TAPE_WORDS, STEPS}
 use Rattle.tv_extract.specs.declared.run.Run.{Run}
-use Rattle.tv_files.specs.Outside.{Names, Told}
+use Rattle.tv_files.specs.Outside.{Names, WhereKnown}
 use Rattle.tv_listing.specs.Laws.{HasListing}
 use Rattle.tv_listing.specs.Listing.{assigned_lines, text_by}
 use Rattle.tv_listing.specs.declared.row.By.{By}
@@ -13,11 +13,11 @@ use Rattle.tv_listing.specs.declared.row.By.TheVariants.{Time, Cell}
 use Rattle.tv_word.specs.Numeral.{numeral}
 use Rattle.tv_top.specs.declared.listing.ListingArgs.{ListingArgs}
 use Rattle.tv_top.specs.declared.refusal.Bad.{Bad}
-use Rattle.tv_top.specs.Building.{program_system, size_amounts}
-use Rattle.tv_top.specs.Claims.{Call, Comes}
-use Rattle.tv_top.specs.Assigned.{Assigned, assigned_of, assigned_run, run_ends, HasAssigned}
+use Rattle.tv_top.specs.Build.{program_system, size_amounts}
+use Rattle.tv_top.specs.Claims.{Call, AnswersOrStops}
+use Rattle.tv_top.specs.Assignment.{Assigned, assigned_of, assigned_run, run_ends, HasAssigned}
 use Rattle.tv_top.specs.Kinds.{is_listing}
-use Rattle.tv_top.specs.Plan.{Named, Plan, Outcome, name_at, named, comes_by, writes_bytes}
+use Rattle.tv_top.specs.Plan.{Named, Plan, Outcome, name_at, named, outcome_by, writes_bytes}
 use Rattle.tv_top.specs.Programs.{bits, program_sizes}
 
 -- the order that a word names
@@ -51,7 +51,7 @@ listing_plan given = record {
   amounts = size_amounts given.n given.t;
   sizes = program_sizes;
   ends_by = is_listing;
-  comes = λ files. comes_by (listing_ends given.by given.n given.t) (assigned_of given.text given.witness files);
+  leads_to = λ files. outcome_by (listing_ends given.by given.n given.t) (assigned_of given.text given.witness files);
 }
 
 -- the plan that the command's words ask for
@@ -75,7 +75,7 @@ pub record HasListed (n t : ℕ) (text witness : Option (List ℕ)) (held : Resu
 -- What `listing` promises over files whose contents are known, OUT being none of the other names and N and T within
 -- their limits.
 abbrev pub Lists : ListingWords → Names → Call → Type 0
-Lists given files = Comes (given.out ∷ []) (listing_ends given.by given.n given.t)
+Lists given files = AnswersOrStops (given.out ∷ []) (listing_ends given.by given.n given.t)
     (HasListed given.n given.t (files given.text.name) (files given.witness.name)) files
 
 -- What a call promises that has these words, where they are those of `listing`.
@@ -84,5 +84,5 @@ OnListing words call = (text first second witness order out : List ℕ) (by : By
     → words ≡ codes "listing" ∷ text ∷ first ∷ second ∷ witness ∷ order ∷ out ∷ []
     → by_word order ≡ Some by → numeral 10 (2 ^ 64) first ≡ Some n → numeral 10 (2 ^ 64) second ≡ Some t
     → text ≢ out → witness ≢ out → n ≤ TAPE_WORDS → 0 < t → t ≤ STEPS
-    → Told call.before (λ files. Lists
+    → WhereKnown call.before (λ files. Lists
     (record { by = by; text = name_at 1 text; n = n; t = t; witness = name_at 4 witness; out = name_at 6 out }) files call)

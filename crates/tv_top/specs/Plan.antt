@@ -57,7 +57,7 @@ pub record Plan : Type 0 where
   pub amounts : List Amount
   pub sizes : List Size
   pub ends_by : Finish → Bool
-  pub comes : Names → Look Outcome
+  pub leads_to : Names → Look Outcome
 
 -- ---- words
 
@@ -137,8 +137,8 @@ map_ok f (Ok x) = Ok (f x)
 map_ok f (Err e) = Err e
 
 -- how a command ends by what was found
-abbrev pub comes_by : {A : Type 0} → (A → Outcome) → Look A → Look Outcome
-comes_by f look = record { at = look.at; gives = map_ok f look.gives }
+abbrev pub outcome_by : {A : Type 0} → (A → Outcome) → Look A → Look Outcome
+outcome_by f look = record { at = look.at; gives = map_ok f look.gives }
 
 -- ---- answers
 
@@ -181,4 +181,4 @@ answer_by places look = record { looked = look.at; writes = writes_by places loo
 -- what is asked for is answered, over files that hold this; a fault stands for a name that isn't there
 abbrev pub answer_of : Result Plan Refusal → Names → Answer
 answer_of (Err why) files = record { looked = 0; writes = []; ending = Refused why }
-answer_of (Ok plan) files = answer_by plan.writes (plan.comes files)
+answer_of (Ok plan) files = answer_by plan.writes (plan.leads_to files)

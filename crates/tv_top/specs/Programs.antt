@@ -35,8 +35,8 @@ abbrev pub image_bytes_most : Width → ℕ
 image_bytes_most width = bits width / 8 * image_words width
 
 -- the width of words that a text sets
-abbrev pub width_told : List ℕ → Width
-width_told text = if width_of text == 16 then Bits16 else Bits32
+abbrev pub width_of_text : List ℕ → Width
+width_of_text text = if width_of text == 16 then Bits16 else Bits32
 
 -- words of the width, and no more of them than there is memory for
 pub record HasImage (program : Program) : Type 0 where
@@ -63,7 +63,7 @@ program_by width text = program_result width (assembled (bits width) (image_word
 
 -- the program of a text, for words of the width that it sets
 abbrev pub program_of : List ℕ → Result Program Bad
-program_of text = program_by (width_told text) text
+program_of text = program_by (width_of_text text) text
 
 -- and its image, in bytes
 unfoldable pub image_of : List ℕ → Result (List ℕ) Bad

@@ -2,7 +2,7 @@
 ghost use Rattle.std.specs.Prelude.{◌≡◌};
 ghost use Rattle.tv_core.specs.declared.limits.TheConstants.{STEPS};
 ghost use Rattle.tv_top.specs.declared.refusal.Quantity.TheVariants.{Steps};
-ghost use Rattle.tv_top.specs.Building.{size_amounts};
+ghost use Rattle.tv_top.specs.Build.{size_amounts};
 ghost use Rattle.tv_top.specs.Plan.{limit_of};
 
 use crate::refusal::{Quantity, Refusal};

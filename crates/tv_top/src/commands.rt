@@ -6,9 +6,9 @@ ghost use Rattle.tv_top.specs.Form.{form};
 ghost use Rattle.tv_top.specs.Plan.{request_of};
 
 use crate::job::Job;
+use crate::output::conclude;
 use crate::refusal::Ending;
 use crate::status::Status;
-use crate::writing::conclude;
 use std::alloc::Global;
 use tv_files::Files;
 

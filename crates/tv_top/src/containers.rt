@@ -1,11 +1,11 @@
 //! Systems and assignments, each read from its file to the end.
 ghost use Rattle.std.specs.Prelude.{◌≡◌, [], ◌∷◌};
-ghost use Rattle.tv_shrink.specs.Shrinking.{Shrunken};
+ghost use Rattle.tv_shrink.specs.Shrunk.{Shrunken};
 ghost use Rattle.tv_top.specs.Containers.{counts_in, firsts_in_witness, verdict_in};
 ghost use Rattle.tv_top.specs.Containers.{refusal_stop, system_bad, witness_bad};
 ghost use Rattle.tv_top.specs.Finds.{Finds};
 ghost use Rattle.tv_top.specs.Plan.{input, named};
-ghost use Rattle.tv_top.specs.Shrinking.{shrink_sizes, shrink_stop, shrunk_look};
+ghost use Rattle.tv_top.specs.Shrink.{shrink_sizes, shrink_stop, shrunk_look};
 ghost use Rattle.tv_wtns.specs.Wtns.{firsts_in};
 
 use crate::place::Place;

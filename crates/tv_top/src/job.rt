@@ -5,17 +5,17 @@ ghost use Rattle.tv_top.specs.Answers.{Does};
 ghost use Rattle.tv_top.specs.Form.{form, plan_of};
 ghost use Rattle.tv_top.specs.Plan.{AreWithin, request_of, refusal_of};
 
-use crate::assembling::AsmArgs;
-use crate::building::BuildArgs;
-use crate::checking::CheckArgs;
-use crate::disassembling::DisasmArgs;
-use crate::extracting::ExtractArgs;
+use crate::asm::AsmArgs;
+use crate::build::BuildArgs;
+use crate::check::CheckArgs;
+use crate::disasm::DisasmArgs;
+use crate::extract::ExtractArgs;
 use crate::listing::ListingArgs;
 use crate::refusal::{Finish, Refusal, Stop};
-use crate::running::RunArgs;
-use crate::shrinking::ShrinkArgs;
-use crate::trialing::TrialArgs;
-use crate::witnessing::WitnessArgs;
+use crate::run::RunArgs;
+use crate::shrink::ShrinkArgs;
+use crate::trial::TrialArgs;
+use crate::witness::WitnessArgs;
 use std::alloc::Global;
 use tv_files::Files;
 

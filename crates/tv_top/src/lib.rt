@@ -3,35 +3,35 @@
 #![tactic(auto)]
 
 mod amount;
-mod assembling;
-mod assigned;
-mod building;
+mod asm;
+mod assignment;
+mod build;
 mod bytes;
-mod checking;
+mod check;
 mod commands;
 mod containers;
-mod disassembling;
-mod extracting;
+mod disasm;
+mod extract;
 mod inputs;
 mod job;
-mod law;
+mod laws;
 mod line;
 mod listing;
 mod network;
+mod output;
 mod place;
 mod programs;
 mod reasons;
 mod refusal;
-mod running;
-mod shrinking;
+mod run;
+mod shrink;
 mod status;
 mod tapes;
-mod trialing;
-mod witnessing;
-mod writing;
+mod trial;
+mod witness;
 
 pub use commands::command;
-pub use law::{definitions_want_no_memory, image_comes_back, limits_are_these, tapes_come_back};
+pub use laws::{definitions_want_no_memory, image_comes_back, limits_are_these, tapes_come_back};
 pub use programs::Width;
 pub use refusal::{Quantity, Refusal};
 pub use status::{NoWhy, Status, What};

@@ -4,7 +4,7 @@ ghost use Rattle.std.specs.Prelude.{◌≡◌, ◌≤◌, [], ◌∷◌, map, st
 ghost use Rattle.std.specs.Prelude.{Some, None, MatchOption};
 ghost use Rattle.tv_top.specs.Answers.{Does};
 ghost use Rattle.tv_top.specs.Ends.{Completes};
-ghost use Rattle.tv_top.specs.Assigned.{assigned_in};
+ghost use Rattle.tv_top.specs.Assignment.{assigned_in};
 ghost use Rattle.tv_top.specs.Form.{listing_form};
 ghost use Rattle.tv_top.specs.Listing.{assigned_text, by_word, lines_written};
 ghost use Rattle.tv_top.specs.Listing.{listing_asks};
@@ -12,11 +12,11 @@ ghost use Rattle.tv_top.specs.Plan.{AreWithin, named, refusal_of};
 ghost use Rattle.tv_top.specs.Programs.{HasImage};
 
 use crate::amount::size_amounts;
-use crate::assigned::{Assignment, not_run, read_assigned, run_of};
+use crate::assignment::{Assignment, not_run, read_assigned, run_of};
+use crate::output::write_bytes;
 use crate::place::Place;
 use crate::programs::Width;
 use crate::refusal::{Finish, Refusal, Stop, refusal_of};
-use crate::writing::write_bytes;
 use std::alloc::{AllocError, Global};
 use tv_benes::Net;
 use tv_extract::Run;

@@ -1,6 +1,6 @@
 //! The network that words name.
 ghost use Rattle.std.specs.Prelude.{◌≡◌, map, string_bytes};
-ghost use Rattle.tv_top.specs.Building.{net_word};
+ghost use Rattle.tv_top.specs.Build.{net_word};
 
 use tv_benes::Net;
 

@@ -4,7 +4,7 @@ ghost use Rattle.tv_asm.specs.Header.{width_of};
 ghost use Rattle.tv_top.specs.declared.programs.Width.TheVariants.{Bits16};
 ghost use Rattle.tv_top.specs.Finds.{Finds, Makes};
 ghost use Rattle.tv_top.specs.Plan.{input, named};
-ghost use Rattle.tv_top.specs.Programs.{HasImage, bits, image_bytes_most, width_told};
+ghost use Rattle.tv_top.specs.Programs.{HasImage, bits, image_bytes_most, width_of_text};
 ghost use Rattle.tv_top.specs.Programs.{program_of, program_in, program_sizes};
 
 use crate::bytes::limited_bytes;
@@ -66,8 +66,8 @@ pub(crate) struct Program {
 }
 
 /// The width of words that a text sets.
-fn width_told(text: &[u8]) -> Width
-    ensures width { result ≡ width_told text.now }
+fn width_of_text(text: &[u8]) -> Width
+    ensures width { result ≡ width_of_text text.now }
     ensures short { result ≡ Bits16 → width_of text.now ≡ 16 }
 {
     if width(text) == 16 {
@@ -83,7 +83,7 @@ pub(crate) fn program_of(alloc: Global, text: &[u8]) -> Result<Program, Stop>
     ensures made { Makes (λ program. program) (program_of text.now) result }
     ensures fits { IfOk result (λ program. HasImage program) }
 {
-    match width_told(text) {
+    match width_of_text(text) {
         Width::Bits16 => Ok(Program {
             width: Width::Bits16,
             words: assemble::<16>(alloc, text, IMAGE_WORDS_16)?,

@@ -170,7 +170,7 @@ impl From<AsmFault> for Stop {
 
 impl From<DisFault> for Stop {
     ghost use Rattle.std.specs.Prelude.{◌≡◌};
-    ghost use Rattle.tv_top.specs.Disassembling.{dis_stop};
+    ghost use Rattle.tv_top.specs.Disasm.{dis_stop};
 
     ghost from_gives = { λ fault stop. stop ≡ dis_stop fault };
 

@@ -4,5 +4,5 @@ pub use Rattle.tv_benes.specs.Levels
 pub use Rattle.tv_benes.specs.Network
 pub use Rattle.tv_benes.specs.Places
 pub use Rattle.tv_benes.specs.Through
-pub use Rattle.tv_core.specs.Giving
+pub use Rattle.tv_core.specs.Values
 pub use Rattle.tv_core.specs.Sinks

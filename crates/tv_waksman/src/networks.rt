@@ -6,7 +6,7 @@ ghost use Rattle.tv_benes.specs.Network.{network_of, network_values};
 ghost use Rattle.tv_benes.specs.Places.{AreMade, AreBelow};
 ghost use Rattle.tv_benes.specs.Through.{switches};
 ghost use Rattle.tv_benes.specs.declared.shape.Net.TheVariants.{Waksman};
-ghost use Rattle.tv_core.specs.Giving.{GivesIn};
+ghost use Rattle.tv_core.specs.Values.{GivesIn};
 ghost use Rattle.tv_core.specs.Sinks.{PutsIn, Grows, Room};
 
 use tv_benes::{Inputs, Net, Outputs, fill_routing_network, routing_network, routing_switches};

@@ -10,13 +10,13 @@ abbrev pub has_bit : ℕ → ℕ → Bool
 has_bit n v = v / 2 ^ n % 2 == 1
 
 -- the number with these bytes, the lowest first
-abbrev pub spelled : List ℕ → ℕ
-spelled [] = 0
-spelled (b ∷ bs) = b + 256 * spelled bs
+abbrev pub little_endian : List ℕ → ℕ
+little_endian [] = 0
+little_endian (b ∷ bs) = b + 256 * little_endian bs
 
 -- the word that stands at a place of bytes
 abbrev pub word_at : ℕ → List ℕ → ℕ → ℕ
-word_at w bytes at = spelled (take (w / 8) (drop at bytes))
+word_at w bytes at = little_endian (take (w / 8) (drop at bytes))
 
 -- the n lowest bytes of a number, the lowest first
 abbrev pub low_bytes : ℕ → ℕ → List ℕ

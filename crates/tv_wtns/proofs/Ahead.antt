@@ -10,7 +10,7 @@ use Rattle.tv_container.specs.declared.why.ReadWhy.TheVariants.{NotCanonical}
 use Rattle.tv_container.specs.Places.{Fault, number, wrong}
 use Rattle.tv_container.specs.Reading.{Refuses}
 use Rattle.tv_container.proofs.Chain.{refuses_wrong}
-use Rattle.tv_word.specs.Word.{spelled}
+use Rattle.tv_word.specs.Word.{little_endian}
 use Rattle.tv_wtns.specs.Values.{AreWords, with_front, IsAhead}
 use Rattle.tv_wtns.specs.Wtns.{values_at, firsts}
 use Rattle.tv_wtns.proofs.ValueLaws.{values_counted}
@@ -108,5 +108,5 @@ are_words bytes file words at some piece is enough = record {
       let within : 8 * k + 8 ≤ length bytes = omega arith in
       let word : get_or (take some words) k d ≡ take 8 (drop (8 * k) bytes) =
       get_or-take some words k d here ∙ ap (λ all. get_or all k d) is ∙ get_or-first_chunks 8 (length bytes / 8) k (8 * k) bytes d counted refl in
-      ap spelled (word ∙ part_of bytes file at (8 * k) 8 piece within);
+      ap little_endian (word ∙ part_of bytes file at (8 * k) 8 piece within);
 }

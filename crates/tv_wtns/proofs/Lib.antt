@@ -3,7 +3,7 @@ pub mod Firsts
 pub mod Sections
 pub mod ValueLaws
 pub mod Vectors
-mod Giving
+mod Takers
 mod Finishing
 pub mod Files
 pub mod Streaming

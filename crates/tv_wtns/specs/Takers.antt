@@ -6,7 +6,7 @@ use Rattle.std.specs.List.{All}
 use Rattle.tv_container.proofs.Buffers.{nothing_appended, appends_then, cause_here, cause_from_then}
 use Rattle.tv_container.specs.Writing.{OnlyAppends}
 use Rattle.tv_container.specs.Written.{HasBut, HasCause, HasCauseFrom, HasFront, HasNow, faults_in, wants_in}
-use Rattle.tv_core.specs.Giving.{Giving}
+use Rattle.tv_core.specs.Values.{ValuesMeaning}
 use Rattle.tv_core.specs.declared.field.TheConstants.{P}
 use Rattle.tv_core.specs.declared.sink.SinkFault.{SinkFault}
 use Rattle.tv_files.specs.Outside.{Outside}
@@ -63,7 +63,7 @@ pub record KeepsFile (old new : Taker) : Type 0 where
   pub cause : HasCauseFrom old.progress.outcome old.outside new.outside new.progress.outcome
 
 -- what such a taker means, however it is seen; its faults are those of writing, of which it meets one at most
-abbrev pub taker_giving : {V : Type 0} → (V → Taker) → Giving V
+abbrev pub taker_giving : {V : Type 0} → (V → Taker) → ValuesMeaning V
 taker_giving {V} seen = record {
   stands = λ taker values. Stands (seen taker) values;
   tried = λ taker values. Tried (seen taker) values;

@@ -6,7 +6,8 @@ ghost use Rattle.std.specs.List.{All};
 ghost use Rattle.tv_core.specs.declared.field.TheConstants.{P};
 ghost use Rattle.tv_container.specs.Found.{first_of, AllEnd, AllFit};
 ghost use Rattle.tv_container.specs.Places.{places};
-ghost use Rattle.tv_container.specs.Reading.{Looks, Gives, GivesBy, IsMissing, IsTold, Known};
+ghost use Rattle.tv_container.specs.Reading.{Looks, ReadsAs, ReadsAsBy};
+ghost use Rattle.tv_container.specs.Reading.{IsMissing, IsNotFault, Known};
 ghost use Rattle.tv_container.specs.Reading.{InPiece, ReadsIn};
 ghost use Rattle.tv_container.specs.declared.sections.Section.{Section};
 ghost use Rattle.tv_container.specs.declared.why.ReadRefusal.{ReadRefusal};
@@ -43,7 +44,7 @@ pub fn read_values<D: Files>(
     name: &str,
 ) -> Result<Vec<F>, ReadRefusal>
     ensures gives { Known (D.seen files.old) name.now
-        (λ file. GivesBy result (λ values. values.items) (assignment_of file)) }
+        (λ file. ReadsAsBy result (λ values. values.items) (assignment_of file)) }
     ensures below { IfOk result (λ values. All (λ v. v < P) values.items) }
     ensures looks { Looks (D.seen files.old) (D.seen files.new) name.now result }
     ensures missing { IsMissing (D.seen files.old) name.now → result ≡ Err ReadRefusal.Fault }
@@ -64,7 +65,7 @@ pub fn read_first_values<D: Files>(
     most: u32,
 ) -> Result<FirstValues, ReadRefusal>
     ensures gives { Known (D.seen files.old) name.now
-        (λ file. GivesBy result firsts_in (firsts most (assignment_of file))) }
+        (λ file. ReadsAsBy result firsts_in (firsts most (assignment_of file))) }
     ensures below { IfOk result (λ first. All (λ v. v < P) first.values.items) }
     ensures looks { Looks (D.seen files.old) (D.seen files.new) name.now result }
     ensures missing { IsMissing (D.seen files.old) name.now → result ≡ Err ReadRefusal.Fault }
@@ -95,7 +96,7 @@ fn read_assignment<D: Files>(
     ensures gives { InPiece (D.seen files.old) name.now window.old
         (λ file. end ≡ length file → (sections : List Section) →
         found.now ≡ first_of sections → AllFit file sections →
-        GivesBy result firsts_in (firsts most (assignment_in file sections))) }
+        ReadsAsBy result firsts_in (firsts most (assignment_in file sections))) }
     ensures below { IfOk result (λ first. All (λ v. v < P) first.values.items) }
     ensures looks { Looks (D.seen files.old) (D.seen files.new) name.now result }
 {
@@ -116,7 +117,7 @@ fn read_count<D: Files>(
 ) -> Result<u32, ReadRefusal>
     ensures reads { ReadsIn (D.seen files.old) (D.seen files.new) name.now window.old window.new
         result
-        (λ file. one.now.at + 16 ≤ places file → Gives result (Ok (counted file one.now))) }
+        (λ file. one.now.at + 16 ≤ places file → ReadsAs result (Ok (counted file one.now))) }
 {
     window.fit(files, name, one.at, HEADER_BYTES as usize)?;
     Ok(window.word(one.at + 12))
@@ -124,9 +125,9 @@ fn read_count<D: Files>(
 
 // Section 2 has the size of `count` values.
 fn fills(count: u32, two: &Section) -> Result<(), ReadRefusal>
-    ensures gives { Gives result (fills count two.now) }
+    ensures gives { ReadsAs result (fills count two.now) }
     ensures size { OnOk result (two.now.size ≡ 8 * count) }
-    ensures told { IfErr result IsTold }
+    ensures told { IfErr result IsNotFault }
 {
     let wants = 8 * u64::from(count);
     if two.size != wants {

@@ -5,8 +5,8 @@ ghost use Rattle.std.specs.Prelude.{Result, IfOk, IfErr, OnOk, MatchResult};
 ghost use Rattle.std.specs.List.{All};
 ghost use Rattle.tv_core.specs.declared.field.TheConstants.{P};
 ghost use Rattle.tv_container.specs.Places.{Fault, places};
-ghost use Rattle.tv_container.specs.Reading.{Looks, Refuses, GivesBy, IsTold, InPiece};
-ghost use Rattle.tv_word.specs.Word.{spelled};
+ghost use Rattle.tv_container.specs.Reading.{Looks, Refuses, ReadsAsBy, IsNotFault, InPiece};
+ghost use Rattle.tv_word.specs.Word.{little_endian};
 ghost use Rattle.tv_wtns.specs.Values.{AreWords, IsAhead};
 ghost use Rattle.tv_wtns.specs.Wtns.{firsts, firsts_in, values_at};
 
@@ -40,7 +40,7 @@ pub(crate) fn read_all<D: Files>(
     requires { at + 8 * count < 2 ^ 64 }
     ensures gives { InPiece (D.seen files.old) name.now window.old
         (λ file. at + 8 * count ≤ places file →
-        GivesBy result firsts_in (firsts most (values_at file count at))) }
+        ReadsAsBy result firsts_in (firsts most (values_at file count at))) }
     ensures below { IfOk result (λ first. All (λ v. v < P) first.values.items) }
     ensures looks { Looks (D.seen files.old) (D.seen files.new) name.now result }
 {
@@ -75,7 +75,7 @@ fn take_values(
         (λ why. Refuses why answer) }
     ensures below { All (λ v. v < P) values.old.items
         → OnOk result (All (λ v. v < P) values.new.items) }
-    ensures told { IfErr result IsTold }
+    ensures told { IfErr result IsNotFault }
 {
     for (index, word) in words.iter().enumerate() {
         let Some(value) = F::canon(number_of(word)) else {
@@ -93,7 +93,7 @@ fn take_values(
 
 // The number in eight bytes, the lowest first.
 fn number_of(word: &[u8; 8]) -> u64
-    ensures { result ≡ spelled word.now }
+    ensures { result ≡ little_endian word.now }
 {
     u64::from_le_bytes(*word)
 }

@@ -1,5 +1,5 @@
 use Rattle.std.proofs.Common.{◌∙◌, subst}
-use Rattle.tinyr1cs_c.specs.Running.{Ran, Runs}
+use Rattle.tinyr1cs_c.specs.Command.{Ran, Runs}
 use Rattle.tinyr1cs_c.proofs.Done.{on_session}
 use Rattle.tinyr1cs_c.specs.declared.session.Session.{Session}
 use Rattle.tinyr1cs_c.proofs.tinyr1cs_c_run.Goals as goal

@@ -27,8 +27,8 @@ bound_switch-requires g c =
         wires = omega (arith, room.wires, grown.wires);
         constraints = omega (arith, room.constraints, grown.constraints);
       };
-      x_made = rw c.fill.ensures (made_at pair _ _ made (2 * c.loop-j.j) (omega arith));
-      y_made = rw c.fill-in-loop-j.ensures (made_at pair _ _ made (2 * c.loop-j.j + 1) (omega arith));
+      x_made = rw c.set_item.ensures (made_at pair _ _ made (2 * c.loop-j.j) (omega arith));
+      y_made = rw c.set_item-in-loop-j.ensures (made_at pair _ _ made (2 * c.loop-j.j + 1) (omega arith));
     }
 
 pub loop-j-preserved : goal.loop-j-preserved
@@ -36,7 +36,7 @@ loop-j-preserved g c =
     let pair = g.T.Pairs.pair c.args.items.now in
     let piece : ℕ → Unit {0} → Circuit (Unit {0}) = λ j _. switch_of Bound (pair (2 * j)) (pair (2 * j + 1)) in
     let grown = c.in_ok-bound_switch.ensures.grows in
-    let switch = rw (c.fill.ensures, c.fill-in-loop-j.ensures) at c.in_ok-bound_switch.ensures.puts in
+    let switch = rw (c.set_item.ensures, c.set_item-in-loop-j.ensures) at c.in_ok-bound_switch.ensures.puts in
     record {
       puts = puts_turn g.S.Sink.meaning _ piece tt _ _ _ _ _ c.loop-j.invariant.puts switch;
       grows = record { wires = omega (arith, grown.wires); constraints = omega (arith, grown.constraints); whole = grown.whole };
@@ -48,7 +48,7 @@ returns-in_err-bound_switch-clause-puts g c =
     let m = g.S.Sink.meaning in
     let pair = g.T.Pairs.pair c.args.items.now in
     let piece : ℕ → Unit {0} → Circuit (Unit {0}) = λ j _. switch_of Bound (pair (2 * j)) (pair (2 * j + 1)) in
-    let switch = rw (c.fill.ensures, c.fill-in-loop-j.ensures) at c.in_err-bound_switch.ensures.puts in
+    let switch = rw (c.set_item.ensures, c.set_item-in-loop-j.ensures) at c.in_err-bound_switch.ensures.puts in
     refused m _ _ _ c.from_residual.result c.from_residual.ensures.1
     (turn_refused m c.args.n c.loop-j.j piece tt tt c.args.s.now c.loop-j.s c.bound_switch.new.s c.in_err-bound_switch.field-0.0 c.loop-j-test.true
     c.loop-j.invariant.puts switch)

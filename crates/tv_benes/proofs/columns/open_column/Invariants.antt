@@ -1,5 +1,5 @@
 use Rattle.std.proofs.Common.{◌+◌, ◌*◌}
-use Rattle.tv_core.specs.Loops.{times}
+use Rattle.tv_core.specs.Loops.{sequence}
 use Rattle.tv_core.specs.Sinks.{PutsAll, Grows}
 use Rattle.tv_benes.specs.Network.{switch_of}
 use Rattle.tv_benes.specs.Places.{wires_at}
@@ -9,6 +9,6 @@ use Rattle.tv_benes.proofs.columns.open_column.Given as goal
 abbrev pub invariant-loop-j : goal.invariant-loop-j
 invariant-loop-j g l = record {
   puts : PutsAll g.S.Sink.meaning l.initial.s l.s
-      (times l.j (λ j. switch_of Open (wires_at (g.P.Places.place l.items (2 * j))) (wires_at (g.P.Places.place l.items (2 * j + 1))))) tt;
+      (sequence l.j (λ j. switch_of Open (wires_at (g.P.Places.place l.items (2 * j))) (wires_at (g.P.Places.place l.items (2 * j + 1))))) tt;
   grows : Grows g.S.Sink.meaning l.initial.s l.s (3 * l.j) (3 * l.j);
 }

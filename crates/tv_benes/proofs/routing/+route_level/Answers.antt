@@ -7,8 +7,8 @@ use Rattle.tv_benes.proofs.ThroughLaws.{above, missing_small}
 use Rattle.tv_benes.specs.Items.{bit_at, pair_at}
 use Rattle.tv_benes.specs.Levels.{innermost}
 use Rattle.tv_benes.specs.Through.{from, passed, to_upper, to_lower, places}
-use Rattle.tv_core.proofs.GivingChain.{gives_refused}
-use Rattle.tv_core.specs.Giving.{GivesAll, GivesSome, GivesIn}
+use Rattle.tv_core.proofs.ValuesChain.{gives_refused}
+use Rattle.tv_core.specs.Values.{GivesAll, GivesSome, GivesIn}
 use Rattle.tv_benes.proofs.routing.+route_level.Goals as goal
 
 -- ---- the lowest level

@@ -4,8 +4,8 @@ use Rattle.tv_benes.proofs.Moved.{is_places, place_more, read_item}
 use Rattle.tv_benes.proofs.ThroughLaws.{passed-same}
 use Rattle.tv_benes.specs.Items.{bit_at, pair_at}
 use Rattle.tv_benes.specs.Through.{from, to_upper, to_lower}
-use Rattle.tv_core.proofs.GivingChain.{gives_refused}
-use Rattle.tv_core.specs.Giving.{GivesAll, GivesSome}
+use Rattle.tv_core.proofs.ValuesChain.{gives_refused}
+use Rattle.tv_core.specs.Values.{GivesAll, GivesSome}
 use Rattle.tv_benes.proofs.routing.first_column.Goals as goal
 
 pub loop-j-init : goal.loop-j-init

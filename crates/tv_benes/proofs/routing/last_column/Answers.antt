@@ -6,8 +6,8 @@ use Rattle.tv_benes.proofs.ThroughLaws.{passed-same}
 use Rattle.tv_benes.specs.Items.{bit_at, pair_at}
 use Rattle.tv_benes.specs.Network.{column_values}
 use Rattle.tv_benes.specs.Through.{missing, from, alternating, joined, last_bit}
-use Rattle.tv_core.proofs.GivingChain.{gives_refused}
-use Rattle.tv_core.specs.Giving.{GivesAll, GivesSome}
+use Rattle.tv_core.proofs.ValuesChain.{gives_refused}
+use Rattle.tv_core.specs.Values.{GivesAll, GivesSome}
 use Rattle.tv_benes.proofs.routing.last_column.Goals as goal
 
 pub loop-j-init : goal.loop-j-init

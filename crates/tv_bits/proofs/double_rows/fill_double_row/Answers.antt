@@ -1,6 +1,6 @@
 use Rattle.std.specs.Prelude.{◌∷◌, if◌then◌else◌}
-use Rattle.tv_core.proofs.GivingChain.{gives_then_refused, gives_refused_then, gives_refused}
-use Rattle.tv_core.proofs.GivingTails.{gives_in_then}
+use Rattle.tv_core.proofs.ValuesChain.{gives_then_refused, gives_refused_then, gives_refused}
+use Rattle.tv_core.proofs.ValuesTails.{gives_in_then}
 use Rattle.tv_bits.specs.DoubleRow.{above_edge_in}
 use Rattle.tv_bits.specs.Ratio.{ratio_values}
 use Rattle.tv_bits.proofs.double_rows.fill_double_row.Goals as goal

@@ -10,18 +10,18 @@ pub loop-i-init : goal.loop-i-init
 loop-i-init g c =
     let factor : ℕ → Combination = λ j. prefix_less c.args.x.now c.args.y.now c.args.d.now (c.args.chunk * j) in
     let place : c.args.chunk * 0 ≡ 0 = mul-zero c.args.chunk in
-    let first : c.fill_prefix_less.new.lc ≡ factor 0 = rw place c.fill_prefix_less.ensures.terms in
+    let first : c.set_prefix_less.new.lc ≡ factor 0 = rw place c.set_prefix_less.ensures.terms in
     record {
-      puts = no_product g.S.Sink.meaning factor c.args.s.now c.fill_prefix_less.new.lc first;
+      puts = no_product g.S.Sink.meaning factor c.args.s.now c.set_prefix_less.new.lc first;
       grows = record { wires = omega arith; constraints = omega arith; whole = c.requires.room.whole };
-      made = omega (arith, c.fill_prefix_less.ensures.top, c.requires);
+      made = omega (arith, c.set_prefix_less.ensures.top, c.requires);
     }
 
 pub loop-i-preserved : goal.loop-i-preserved
 loop-i-preserved g c =
     let factor : ℕ → Combination = λ j. prefix_less c.args.x.now c.args.y.now c.args.d.now (c.args.chunk * j) in
     let grown = c.in_ok-w.ensures.grows in
-    let product = rw c.fill_prefix_less-in-loop-i.ensures.terms at c.in_ok-w.ensures.puts in
+    let product = rw c.set_prefix_less-in-loop-i.ensures.terms at c.in_ok-w.ensures.puts in
     let made = c.set_wire.ensures.terms in
     record {
       puts = one_product g.S.Sink.meaning factor c.loop-i.i _ _ _ _ _ _ c.loop-i.invariant.puts product made;
@@ -34,7 +34,7 @@ unfolding prefix_difference_of
 returns-in_err-w-clause-puts g c =
     let m = g.S.Sink.meaning in
     let factor : ℕ → Combination = λ j. prefix_less c.args.x.now c.args.y.now c.args.d.now (c.args.chunk * j) in
-    let product = rw c.fill_prefix_less-in-loop-i.ensures.terms at c.in_err-w.ensures.puts in
+    let product = rw c.set_prefix_less-in-loop-i.ensures.terms at c.in_err-w.ensures.puts in
     refused m _ _ _ c.from_residual.result c.from_residual.ensures.1
     (product_refused m factor c.args.count c.loop-i.i _ _ _ _ _ (omega arith) c.loop-i.invariant.puts product)
 
@@ -42,5 +42,5 @@ pub returns-clause-puts : goal.returns-clause-puts
 unfolding prefix_difference_of
 returns-clause-puts g c =
     let factor : ℕ → Combination = λ j. prefix_less c.args.x.now c.args.y.now c.args.d.now (c.args.chunk * j) in
-    let last = rw (c.fill_prefix_less-2.ensures.terms, c.clear.ensures) at c.put.ensures.puts in
+    let last = rw (c.set_prefix_less-2.ensures.terms, c.clear.ensures) at c.put.ensures.puts in
     last_product g.S.Sink.meaning factor c.args.count c.loop-i.i _ _ _ _ _ (omega arith) c.loop-i.invariant.puts last

@@ -15,7 +15,7 @@ returns-clause-puts g c =
     let zero = rw (
       c.set_wire.ensures.terms,
       c.plus.ensures.terms,
-      c.fill.ensures.terms,
+      c.set_number.ensures.terms,
       c.clear.ensures,
       c.neg.ensures,
       c.from.ensures,

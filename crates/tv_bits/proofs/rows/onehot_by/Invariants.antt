@@ -1,4 +1,4 @@
-use Rattle.tv_core.specs.Loops.{times}
+use Rattle.tv_core.specs.Loops.{sequence}
 use Rattle.tv_core.specs.Sinks.{PutsAll, Grows}
 use Rattle.tv_bits.specs.Bits.{bits_combination}
 use Rattle.tv_bits.specs.OneHot.{mark_of}
@@ -6,6 +6,6 @@ use Rattle.tv_bits.proofs.rows.onehot_by.Given as goal
 
 abbrev pub invariant-loop-i : goal.invariant-loop-i
 invariant-loop-i g l = record {
-  puts : PutsAll g.S.Sink.meaning l.initial.s l.s (times l.i (mark_of (bits_combination l.x.first l.x.n))) tt;
+  puts : PutsAll g.S.Sink.meaning l.initial.s l.s (sequence l.i (mark_of (bits_combination l.x.first l.x.n))) tt;
   grows : Grows g.S.Sink.meaning l.initial.s l.s l.i l.i;
 }

@@ -15,7 +15,7 @@ returns-clause-numbers g c =
     let a = c.operand-operand.result in
     let words = numbers_are_words g.row.W c.requires.width x a c.args.word other.word operand.word c.requires.data_word c.decode-instr.result.op instr.op in
     record {
-      spelled = c.spelled_word.ensures;
+      spelled = c.decomposed_word.ensures;
       numbers = record {
         fields = instr;
         operand = operand.operand;

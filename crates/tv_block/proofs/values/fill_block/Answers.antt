@@ -1,7 +1,7 @@
 use Rattle.std.proofs.Common.{refl, List, ℕ, subst}
-use Rattle.tv_block.proofs.ToldFills.{same_values}
+use Rattle.tv_block.proofs.StepFills.{same_values}
 use Rattle.tv_block.specs.Values.{block_values}
-use Rattle.tv_core.specs.Giving.{GivesIn}
+use Rattle.tv_core.specs.Values.{GivesIn}
 use Rattle.tv_numbers.specs.Numbers.{step_words}
 use Rattle.tv_block.proofs.values.fill_block.Goals as goal
 

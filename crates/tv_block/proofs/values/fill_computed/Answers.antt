@@ -1,6 +1,6 @@
 use Rattle.std.specs.Prelude.{◌%◌, [], ◌∷◌, ◌++◌}
-use Rattle.tv_core.proofs.GivingChain.{gives_then_refused, gives_refused_then, gives_refused}
-use Rattle.tv_core.proofs.GivingTails.{gives_in_then}
+use Rattle.tv_core.proofs.ValuesChain.{gives_then_refused, gives_refused_then, gives_refused}
+use Rattle.tv_core.proofs.ValuesTails.{gives_in_then}
 use Rattle.tv_isa.specs.declared.instr.Instr.{Instr}
 use Rattle.tv_parts.specs.Arithmetic.{arithmetic_values}
 use Rattle.tv_parts.specs.Inputs.{operation_of}

@@ -1,11 +1,11 @@
 use Rattle.std.specs.Prelude.{◌++◌}
 use Rattle.tv_bits.specs.ZeroSign.{zero_sign_values}
-use Rattle.tv_core.proofs.GivingChain.{gives_then_refused, gives_refused_then, gives_refused}
-use Rattle.tv_core.proofs.GivingTails.{gives_in_then}
+use Rattle.tv_core.proofs.ValuesChain.{gives_then_refused, gives_refused_then, gives_refused}
+use Rattle.tv_core.proofs.ValuesTails.{gives_in_then}
 use Rattle.tv_isa.specs.declared.instr.Instr.{Instr}
 use Rattle.tv_numbers.specs.Numbers.{operand_word, other_word, found}
 use Rattle.tv_numbers.specs.Views.{View}
-use Rattle.tv_parts.specs.Arithmetic.{spelled_word}
+use Rattle.tv_parts.specs.Arithmetic.{decomposed_word}
 use Rattle.tv_parts.specs.Flag.{sign_at, flag_values}
 use Rattle.tv_parts.specs.Inputs.{input_of}
 use Rattle.tv_parts.specs.Memory.{memory_values}
@@ -31,7 +31,7 @@ returns-in_err-fill_tapes-clause-gives g c =
     let r4 = written_values w n v i low takes ++ r5 in
     let r3 = zero_sign_values (tested_in w n v i low high takes) (sign_at i.op) ++ r4 in
     let r2 = results_values w i.op (operand_word v i) low high (found w n v i low takes) ++ r3 in
-    let r1 = memory_values w (input_of n v i low) (spelled_word w i.op (other_word v i) (operand_word v i)) takes ++ r2 in
+    let r1 = memory_values w (input_of n v i low) (decomposed_word w i.op (other_word v i) (operand_word v i)) takes ++ r2 in
     let p0 = c.in_err-fill_tapes.ensures.gives in
     gives_refused m _ _ _ c.from_residual.result c.from_residual.ensures.1
     (gives_refused_then m _ r1 _ _ _ p0)
@@ -51,7 +51,7 @@ returns-in_err-fill_memory-clause-gives g c =
     let r4 = written_values w n v i low takes ++ r5 in
     let r3 = zero_sign_values (tested_in w n v i low high takes) (sign_at i.op) ++ r4 in
     let r2 = results_values w i.op (operand_word v i) low high (found w n v i low takes) ++ r3 in
-    let r1 = memory_values w (input_of n v i low) (spelled_word w i.op (other_word v i) (operand_word v i)) takes ++ r2 in
+    let r1 = memory_values w (input_of n v i low) (decomposed_word w i.op (other_word v i) (operand_word v i)) takes ++ r2 in
     let p0 = c.in_ok-fill_tapes.ensures.gives in
     let p1 = rw (c.requires.numbers.spelled, c.requires.numbers.numbers.other, c.requires.numbers.numbers.operand) at c.in_err-fill_memory.ensures.gives in
     gives_refused m _ _ _ c.from_residual-in_err-fill_memory.result c.from_residual-in_err-fill_memory.ensures.1
@@ -72,7 +72,7 @@ returns-in_err-give_values-clause-gives g c =
     let r4 = written_values w n v i low takes ++ r5 in
     let r3 = zero_sign_values (tested_in w n v i low high takes) (sign_at i.op) ++ r4 in
     let r2 = results_values w i.op (operand_word v i) low high (found w n v i low takes) ++ r3 in
-    let r1 = memory_values w (input_of n v i low) (spelled_word w i.op (other_word v i) (operand_word v i)) takes ++ r2 in
+    let r1 = memory_values w (input_of n v i low) (decomposed_word w i.op (other_word v i) (operand_word v i)) takes ++ r2 in
     let p0 = c.in_ok-fill_tapes.ensures.gives in
     let p1 = rw (c.requires.numbers.spelled, c.requires.numbers.numbers.other, c.requires.numbers.numbers.operand) at c.in_ok-fill_memory.ensures.gives in
     let p2 = rw (c.requires.results, c.requires.numbers.numbers.operand, c.requires.numbers.numbers.finds) at c.in_err-give_values.ensures.gives in
@@ -94,7 +94,7 @@ returns-in_err-fill_zero_sign-clause-gives g c =
     let r4 = written_values w n v i low takes ++ r5 in
     let r3 = zero_sign_values (tested_in w n v i low high takes) (sign_at i.op) ++ r4 in
     let r2 = results_values w i.op (operand_word v i) low high (found w n v i low takes) ++ r3 in
-    let r1 = memory_values w (input_of n v i low) (spelled_word w i.op (other_word v i) (operand_word v i)) takes ++ r2 in
+    let r1 = memory_values w (input_of n v i low) (decomposed_word w i.op (other_word v i) (operand_word v i)) takes ++ r2 in
     let p0 = c.in_ok-fill_tapes.ensures.gives in
     let p1 = rw (c.requires.numbers.spelled, c.requires.numbers.numbers.other, c.requires.numbers.numbers.operand) at c.in_ok-fill_memory.ensures.gives in
     let p2 = rw (c.requires.results, c.requires.numbers.numbers.operand, c.requires.numbers.numbers.finds) at c.in_ok-give_values.ensures.gives in
@@ -119,7 +119,7 @@ returns-in_err-fill_written-clause-gives g c =
     let r4 = written_values w n v i low takes ++ r5 in
     let r3 = zero_sign_values (tested_in w n v i low high takes) (sign_at i.op) ++ r4 in
     let r2 = results_values w i.op (operand_word v i) low high (found w n v i low takes) ++ r3 in
-    let r1 = memory_values w (input_of n v i low) (spelled_word w i.op (other_word v i) (operand_word v i)) takes ++ r2 in
+    let r1 = memory_values w (input_of n v i low) (decomposed_word w i.op (other_word v i) (operand_word v i)) takes ++ r2 in
     let p0 = c.in_ok-fill_tapes.ensures.gives in
     let p1 = rw (c.requires.numbers.spelled, c.requires.numbers.numbers.other, c.requires.numbers.numbers.operand) at c.in_ok-fill_memory.ensures.gives in
     let p2 = rw (c.requires.results, c.requires.numbers.numbers.operand, c.requires.numbers.numbers.finds) at c.in_ok-give_values.ensures.gives in
@@ -145,7 +145,7 @@ returns-in_err-fill_flag-clause-gives g c =
     let r4 = written_values w n v i low takes ++ r5 in
     let r3 = zero_sign_values (tested_in w n v i low high takes) (sign_at i.op) ++ r4 in
     let r2 = results_values w i.op (operand_word v i) low high (found w n v i low takes) ++ r3 in
-    let r1 = memory_values w (input_of n v i low) (spelled_word w i.op (other_word v i) (operand_word v i)) takes ++ r2 in
+    let r1 = memory_values w (input_of n v i low) (decomposed_word w i.op (other_word v i) (operand_word v i)) takes ++ r2 in
     let p0 = c.in_ok-fill_tapes.ensures.gives in
     let p1 = rw (c.requires.numbers.spelled, c.requires.numbers.numbers.other, c.requires.numbers.numbers.operand) at c.in_ok-fill_memory.ensures.gives in
     let p2 = rw (c.requires.results, c.requires.numbers.numbers.operand, c.requires.numbers.numbers.finds) at c.in_ok-give_values.ensures.gives in
@@ -172,7 +172,7 @@ returns-clause-gives g c =
     let r4 = written_values w n v i low takes ++ r5 in
     let r3 = zero_sign_values (tested_in w n v i low high takes) (sign_at i.op) ++ r4 in
     let r2 = results_values w i.op (operand_word v i) low high (found w n v i low takes) ++ r3 in
-    let r1 = memory_values w (input_of n v i low) (spelled_word w i.op (other_word v i) (operand_word v i)) takes ++ r2 in
+    let r1 = memory_values w (input_of n v i low) (decomposed_word w i.op (other_word v i) (operand_word v i)) takes ++ r2 in
     let p0 = c.in_ok-fill_tapes.ensures.gives in
     let p1 = rw (c.requires.numbers.spelled, c.requires.numbers.numbers.other, c.requires.numbers.numbers.operand) at c.in_ok-fill_memory.ensures.gives in
     let p2 = rw (c.requires.results, c.requires.numbers.numbers.operand, c.requires.numbers.numbers.finds) at c.in_ok-give_values.ensures.gives in

@@ -1,6 +1,6 @@
 use Rattle.tv_core.proofs.Chain.{chain, refused}
 use Rattle.tv_cmp.specs.Compare.{compare_of}
-use Rattle.tv_bits.proofs.SpelledNumbers.{bits_sized}
+use Rattle.tv_bits.proofs.BitNumbers.{bits_sized}
 use Rattle.tv_cmp.proofs.comparison.compare.Goals as goal
 
 pub returns-in_err-order_flags-clause-puts : goal.returns-in_err-order_flags-clause-puts

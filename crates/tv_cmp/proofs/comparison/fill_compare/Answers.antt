@@ -1,5 +1,5 @@
-use Rattle.tv_core.proofs.GivingChain.{gives_then_refused, gives_refused_then, gives_refused}
-use Rattle.tv_core.proofs.GivingTails.{gives_in_then}
+use Rattle.tv_core.proofs.ValuesChain.{gives_then_refused, gives_refused_then, gives_refused}
+use Rattle.tv_core.proofs.ValuesTails.{gives_in_then}
 use Rattle.tv_cmp.proofs.comparison.fill_compare.Goals as goal
 
 pub returns-in_err-give_values-clause-gives : goal.returns-in_err-give_values-clause-gives

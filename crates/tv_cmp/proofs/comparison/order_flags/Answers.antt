@@ -14,7 +14,7 @@ returns-in_err-put-clause-puts g c =
     let same = rw (
       c.plus_to.ensures.terms,
       c.neg.ensures,
-      c.fill.ensures.terms,
+      c.set_number.ensures.terms,
       c.set_wire.ensures.terms,
       c.clear.ensures,
       c.requires.x_word.size,
@@ -29,7 +29,7 @@ returns-clause-puts g c =
     let same = rw (
       c.plus_to.ensures.terms,
       c.neg.ensures,
-      c.fill.ensures.terms,
+      c.set_number.ensures.terms,
       c.set_wire.ensures.terms,
       c.clear.ensures,
       c.requires.x_word.size,

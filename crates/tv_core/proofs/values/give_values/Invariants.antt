@@ -1,5 +1,5 @@
 use Rattle.std.proofs.Common.{◌≡◌, take, false}
-use Rattle.tv_core.specs.Giving.{GivesAll}
+use Rattle.tv_core.specs.Values.{GivesAll}
 use Rattle.tv_core.proofs.values.give_values.Given as goal
 
 abbrev pub invariant-loop-value : goal.invariant-loop-value

@@ -1,7 +1,7 @@
 use Rattle.std.proofs.Common.{◌≡◌, ◌∷◌, ◌++◌, drop, take, get_or, suc, sym, ap, ◌∙◌, arith}
 use Rattle.std.proofs.lemmas.List.{take-append-drop}
 use Rattle.std.proofs.Math.Seq.{drop-cons}
-use Rattle.tv_core.proofs.GivingChain.{gives_then_refused, gives_one_refused_then, gives_refused}
+use Rattle.tv_core.proofs.ValuesChain.{gives_then_refused, gives_one_refused_then, gives_refused}
 use Rattle.tv_core.proofs.values.give_words.Goals as goal
 
 pub returns-in_err-give-clause-gives : goal.returns-in_err-give-clause-gives

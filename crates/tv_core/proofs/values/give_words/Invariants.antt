@@ -1,5 +1,5 @@
 use Rattle.std.proofs.Common.{◌≡◌, take, false}
-use Rattle.tv_core.specs.Giving.{GivesAll}
+use Rattle.tv_core.specs.Values.{GivesAll}
 use Rattle.tv_core.proofs.values.give_words.Given as goal
 
 abbrev pub invariant-loop-word : goal.invariant-loop-word

@@ -1,5 +1,5 @@
-use Rattle.tv_core.proofs.GivingChain.{gives_then_refused, gives_refused_then, gives_refused}
-use Rattle.tv_core.proofs.GivingTails.{gives_in_then}
+use Rattle.tv_core.proofs.ValuesChain.{gives_then_refused, gives_refused_then, gives_refused}
+use Rattle.tv_core.proofs.ValuesTails.{gives_in_then}
 use Rattle.tv_decode.proofs.instructions.fill_instruction.Goals as goal
 
 pub returns-in_err-fill_bits-clause-gives : goal.returns-in_err-fill_bits-clause-gives

@@ -1,7 +1,7 @@
 use Rattle.std.proofs.Common.{◌≡◌, false}
 use Rattle.tv_bits.specs.OneHot.{one_at}
 use Rattle.tv_core.specs.Below.{each_below}
-use Rattle.tv_core.specs.Giving.{GivesAll}
+use Rattle.tv_core.specs.Values.{GivesAll}
 use Rattle.tv_decode.specs.Instructions.{place}
 use Rattle.tv_decode.proofs.instructions.fill_row.Given as goal
 

@@ -42,7 +42,7 @@ returns-in_err-head-clause-puts g c =
     let row = c.in_ok-row.ensures.puts in
     let second = c.in_ok-second.ensures.puts in
     let one_opcode = c.in_ok-one_opcode.ensures.puts in
-    let head = rw (c.plus_opcodes.ensures.terms, c.fill.ensures.terms, c.in_ok-low.ensures.size) at c.in_err-head.ensures.puts in
+    let head = rw (c.plus_opcodes.ensures.terms, c.set_number.ensures.terms, c.in_ok-low.ensures.size) at c.in_err-head.ensures.puts in
     refused g.S.Sink.meaning _ _ _ c.from_residual-in_err-head.result c.from_residual-in_err-head.ensures.1
     (search (chain, low, row, second, one_opcode, head) depth 8)
 
@@ -53,8 +53,8 @@ returns-in_err-tail-clause-puts g c =
     let row = c.in_ok-row.ensures.puts in
     let second = c.in_ok-second.ensures.puts in
     let one_opcode = c.in_ok-one_opcode.ensures.puts in
-    let head = rw (c.plus_opcodes.ensures.terms, c.fill.ensures.terms, c.in_ok-low.ensures.size) at c.in_ok-head.ensures.puts in
-    let tail = rw (c.fill-2.ensures.terms) at c.in_err-tail.ensures.puts in
+    let head = rw (c.plus_opcodes.ensures.terms, c.set_number.ensures.terms, c.in_ok-low.ensures.size) at c.in_ok-head.ensures.puts in
+    let tail = rw (c.set_number-2.ensures.terms) at c.in_err-tail.ensures.puts in
     refused g.S.Sink.meaning _ _ _ c.from_residual-in_err-tail.result c.from_residual-in_err-tail.ensures.1
     (search (chain, low, row, second, one_opcode, head, tail) depth 9)
 
@@ -65,8 +65,8 @@ returns-clause-puts g c =
     let row = c.in_ok-row.ensures.puts in
     let second = c.in_ok-second.ensures.puts in
     let one_opcode = c.in_ok-one_opcode.ensures.puts in
-    let head = rw (c.plus_opcodes.ensures.terms, c.fill.ensures.terms, c.in_ok-low.ensures.size) at c.in_ok-head.ensures.puts in
-    let tail = rw (c.fill-2.ensures.terms) at c.in_ok-tail.ensures.puts in
+    let head = rw (c.plus_opcodes.ensures.terms, c.set_number.ensures.terms, c.in_ok-low.ensures.size) at c.in_ok-head.ensures.puts in
+    let tail = rw (c.set_number-2.ensures.terms) at c.in_ok-tail.ensures.puts in
     search (chain, low, row, second, one_opcode, head, tail) depth 10
 
 pub returns-clause-places : goal.returns-clause-places

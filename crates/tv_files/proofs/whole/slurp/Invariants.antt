@@ -1,5 +1,5 @@
 use Rattle.std.proofs.Common.{◌≡◌, ℕ, ◌≤◌, ◌-◌, List, length, take, Some}
-use Rattle.tv_files.specs.Outside.{Outside, SameCounts, Told}
+use Rattle.tv_files.specs.Outside.{Outside, SameCounts, WhereKnown}
 use Rattle.tv_files.proofs.whole.slurp.Given as goal
 
 abbrev pub invariant-loop-contents : goal.invariant-loop-contents
@@ -9,7 +9,7 @@ invariant-loop-contents g l = let old : Outside = g.D.Files.seen l.initial.files
       said_stays : new.said ≡ old.said;
       counts : SameCounts old new;
       short : length l.contents.items ≤ l.most;
-      front : Told old (λ held. (bytes : List ℕ) → held l.name ≡ Some bytes → l.contents.items ≡ take (length l.contents.items) bytes);
+      front : WhereKnown old (λ held. (bytes : List ℕ) → held l.name ≡ Some bytes → l.contents.items ≡ take (length l.contents.items) bytes);
     }
 
 abbrev pub decreases-loop-contents : goal.decreases-loop-contents

@@ -1,7 +1,7 @@
 use Rattle.std.proofs.Common.{ℕ, [], ◌∷◌, replicate, ap}
-use Rattle.tv_core.proofs.GivingChain.{gives_then_refused, gives_refused_then, gives_refused}
-use Rattle.tv_core.proofs.GivingTails.{gives_in_then}
-use Rattle.tv_memory.proofs.FillingLaws.{given_all, given_some}
+use Rattle.tv_core.proofs.ValuesChain.{gives_then_refused, gives_refused_then, gives_refused}
+use Rattle.tv_core.proofs.ValuesTails.{gives_in_then}
+use Rattle.tv_argument.proofs.FillingLaws.{given_all, given_some}
 use Rattle.tv_layout.specs.declared.places.TheConstants.{STATE_WIRES}
 use Rattle.tv_fill.proofs.front.fill_front.Goals as goal
 

@@ -15,6 +15,6 @@ unfolding row_difference_of gated_of
 returns-clause-puts g c =
     let w = g.row.W in
     let a = c.args in
-    let last = rw (c.fill_difference.ensures.terms, c.clear.ensures) at c.put.ensures.puts in
+    let last = rw (c.set_row_difference.ensures.terms, c.clear.ensures) at c.put.ensures.puts in
     puts_in_then g.S.Sink.meaning (times_of a.by_sign.now (sign_difference a.x.now a.y.now))
     (λ signs. gated_of a.gate.now (minuend w a.strict.now a.x.now.word) (subtrahend w a.y.now.word a.row.now signs)) _ _ _ _ _ c.in_ok-signs.ensures.puts last

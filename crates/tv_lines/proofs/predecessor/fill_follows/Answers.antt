@@ -1,7 +1,7 @@
 use Rattle.std.proofs.Common.{◌≡◌, ◌%◌, ◌∙◌, ap, arith}
-use Rattle.tv_core.proofs.GivingChain.{gives_refused_then, gives_refused}
-use Rattle.tv_core.proofs.GivingTails.{gives_in_then}
-use Rattle.tv_lines.specs.Packing.{unpacked}
+use Rattle.tv_core.proofs.ValuesChain.{gives_refused_then, gives_refused}
+use Rattle.tv_core.proofs.ValuesTails.{gives_in_then}
+use Rattle.tv_lines.specs.PackedLines.{unpacked}
 use Rattle.tv_lines.specs.Predecessor.{reach_between, excess_between}
 use Rattle.tv_lines.proofs.predecessor.fill_follows.Goals as goal
 

@@ -1,6 +1,6 @@
 use Rattle.std.proofs.Common.{[], ◌∷◌}
-use Rattle.tv_core.proofs.GivingChain.{giving, gives_refused}
-use Rattle.tv_core.proofs.GivingTails.{gives_in_then}
+use Rattle.tv_core.proofs.ValuesChain.{giving, gives_refused}
+use Rattle.tv_core.proofs.ValuesTails.{gives_in_then}
 use Rattle.tv_logic.proofs.ands.fill_and.Goals as goal
 
 pub returns-in_err-give-clause-gives : goal.returns-in_err-give-clause-gives

@@ -1,6 +1,6 @@
 use Rattle.std.proofs.Common.{bit_and, bit_or, bit_xor}
-use Rattle.tv_core.proofs.GivingChain.{gives_refused_then, gives_refused}
-use Rattle.tv_core.proofs.GivingTails.{gives_in_then}
+use Rattle.tv_core.proofs.ValuesChain.{gives_refused_then, gives_refused}
+use Rattle.tv_core.proofs.ValuesTails.{gives_in_then}
 use Rattle.tv_logic.specs.Flags.{flag_values}
 use Rattle.tv_logic.specs.Words.{bits_turned, word_values}
 use Rattle.tv_logic.proofs.gadget.fill_logic.Goals as goal

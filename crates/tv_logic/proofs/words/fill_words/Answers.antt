@@ -1,6 +1,6 @@
 use Rattle.std.proofs.Common.{ℕ, List, [], ◌∷◌, bit_and, bit_or, bit_xor}
-use Rattle.tv_core.proofs.GivingChain.{gives_refused_then, gives_refused}
-use Rattle.tv_core.proofs.GivingTails.{gives_in_then}
+use Rattle.tv_core.proofs.ValuesChain.{gives_refused_then, gives_refused}
+use Rattle.tv_core.proofs.ValuesTails.{gives_in_then}
 use Rattle.tv_logic.specs.Ands.{and_values}
 use Rattle.tv_logic.specs.Words.{bits_turned}
 use Rattle.tv_logic.proofs.words.fill_words.Goals as goal

@@ -10,31 +10,31 @@ returns-in_err-and_word-clause-puts g c =
 pub returns-in_err-or_word-clause-puts : goal.returns-in_err-or_word-clause-puts
 unfolding logic_words_of
 returns-in_err-or_word-clause-puts g c =
-    let ors = rw c.fill_sum_less.ensures.terms at c.in_err-or_word.ensures.puts in
+    let ors = rw c.set_sum_less.ensures.terms at c.in_err-or_word.ensures.puts in
     refused g.S.Sink.meaning _ _ _ c.from_residual-in_err-or_word.result c.from_residual-in_err-or_word.ensures.1
     (search (chain, c.in_ok-and_word.ensures.puts, ors))
 
 pub returns-in_err-xor_word-clause-puts : goal.returns-in_err-xor_word-clause-puts
 unfolding logic_words_of
 returns-in_err-xor_word-clause-puts g c =
-    let ors = rw c.fill_sum_less.ensures.terms at c.in_ok-or_word.ensures.puts in
-    let xors = rw (c.fill_sum_less-2.ensures.terms, c.of.ensures) at c.in_err-xor_word.ensures.puts in
+    let ors = rw c.set_sum_less.ensures.terms at c.in_ok-or_word.ensures.puts in
+    let xors = rw (c.set_sum_less-2.ensures.terms, c.of.ensures) at c.in_err-xor_word.ensures.puts in
     refused g.S.Sink.meaning _ _ _ c.from_residual-in_err-xor_word.result c.from_residual-in_err-xor_word.ensures.1
     (search (chain, c.in_ok-and_word.ensures.puts, ors, xors))
 
 pub returns-in_err-not_word-clause-puts : goal.returns-in_err-not_word-clause-puts
 unfolding logic_words_of
 returns-in_err-not_word-clause-puts g c =
-    let ors = rw c.fill_sum_less.ensures.terms at c.in_ok-or_word.ensures.puts in
-    let xors = rw (c.fill_sum_less-2.ensures.terms, c.of.ensures) at c.in_ok-xor_word.ensures.puts in
-    let nots = rw c.fill_complement.ensures.terms at c.in_err-not_word.ensures.puts in
+    let ors = rw c.set_sum_less.ensures.terms at c.in_ok-or_word.ensures.puts in
+    let xors = rw (c.set_sum_less-2.ensures.terms, c.of.ensures) at c.in_ok-xor_word.ensures.puts in
+    let nots = rw c.set_complement.ensures.terms at c.in_err-not_word.ensures.puts in
     refused g.S.Sink.meaning _ _ _ c.from_residual-in_err-not_word.result c.from_residual-in_err-not_word.ensures.1
     (search (chain, c.in_ok-and_word.ensures.puts, ors, xors, nots))
 
 pub returns-clause-puts : goal.returns-clause-puts
 unfolding logic_words_of
 returns-clause-puts g c =
-    let ors = rw c.fill_sum_less.ensures.terms at c.in_ok-or_word.ensures.puts in
-    let xors = rw (c.fill_sum_less-2.ensures.terms, c.of.ensures) at c.in_ok-xor_word.ensures.puts in
-    let nots = rw c.fill_complement.ensures.terms at c.in_ok-not_word.ensures.puts in
+    let ors = rw c.set_sum_less.ensures.terms at c.in_ok-or_word.ensures.puts in
+    let xors = rw (c.set_sum_less-2.ensures.terms, c.of.ensures) at c.in_ok-xor_word.ensures.puts in
+    let nots = rw c.set_complement.ensures.terms at c.in_ok-not_word.ensures.puts in
     search (chain, c.in_ok-and_word.ensures.puts, ors, xors, nots)

@@ -10,11 +10,11 @@ returns-in_err-first-clause-puts g c =
 pub returns-in_err-over-clause-puts : goal.returns-in_err-over-clause-puts
 unfolding product_of
 returns-in_err-over-clause-puts g c =
-    let over = rw (c.fill.ensures.terms, c.offset.ensures) at c.in_err-over.ensures.puts in
+    let over = rw (c.set_number.ensures.terms, c.offset.ensures) at c.in_err-over.ensures.puts in
     refused g.S.Sink.meaning _ _ _ c.from_residual-in_err-over.result c.from_residual-in_err-over.ensures.1 (search (chain, c.in_ok-first.ensures.puts, over))
 
 pub returns-clause-puts : goal.returns-clause-puts
 unfolding product_of
 returns-clause-puts g c =
-    let over = rw (c.fill.ensures.terms, c.offset.ensures) at c.in_ok-over.ensures.puts in
+    let over = rw (c.set_number.ensures.terms, c.offset.ensures) at c.in_ok-over.ensures.puts in
     rw c.offset.ensures (search (chain, c.in_ok-first.ensures.puts, over))

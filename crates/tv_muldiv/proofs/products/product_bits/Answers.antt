@@ -20,9 +20,9 @@ unfolding product_bits_of
 returns-in_err-put-2-clause-puts g c =
     let lowest = rw (c.set_wire.ensures.terms, c.set_wire-2.ensures.terms, c.set_wire-3.ensures.terms) at c.in_ok-put.ensures.puts in
     let whole = rw (
-      c.fill.ensures.terms,
-      c.fill-2.ensures.terms,
-      c.fill_long.ensures.terms,
+      c.set_number.ensures.terms,
+      c.set_number-2.ensures.terms,
+      c.set_long_number.ensures.terms,
       c.requires.x_word.size,
       c.requires.y_word.size,
     ) at c.in_err-put-2.ensures.puts in
@@ -34,9 +34,9 @@ unfolding product_bits_of
 returns-clause-puts g c =
     let lowest = rw (c.set_wire.ensures.terms, c.set_wire-2.ensures.terms, c.set_wire-3.ensures.terms) at c.in_ok-put.ensures.puts in
     let whole = rw (
-      c.fill.ensures.terms,
-      c.fill-2.ensures.terms,
-      c.fill_long.ensures.terms,
+      c.set_number.ensures.terms,
+      c.set_number-2.ensures.terms,
+      c.set_long_number.ensures.terms,
       c.requires.x_word.size,
       c.requires.y_word.size,
     ) at c.in_ok-put-2.ensures.puts in

@@ -1,7 +1,7 @@
 use Rattle.std.proofs.Common.{◌≡◌, ◌-◌, ◌/◌, ◌^◌, ◌<◌, ◌∙◌, ap₂, arith}
-use Rattle.tv_core.proofs.GivingChain.{giving, gives_refused}
+use Rattle.tv_core.proofs.ValuesChain.{giving, gives_refused}
 use Rattle.tv_bits.specs.Order.{first_difference}
-use Rattle.tv_core.proofs.GivingTails.{gives_in_then}
+use Rattle.tv_core.proofs.ValuesTails.{gives_in_then}
 use Rattle.tv_muldiv.proofs.QuotientNumbers.{above-below}
 use Rattle.tv_muldiv.specs.Quotient.{remainder_in, above_in}
 use Rattle.tv_muldiv.proofs.quotients.fill_above.Goals as goal

@@ -1,5 +1,5 @@
-use Rattle.tv_core.proofs.GivingChain.{giving, gives_then_refused, gives_refused_then, gives_refused}
-use Rattle.tv_core.proofs.GivingTails.{gives_in_then}
+use Rattle.tv_core.proofs.ValuesChain.{giving, gives_then_refused, gives_refused_then, gives_refused}
+use Rattle.tv_core.proofs.ValuesTails.{gives_in_then}
 use Rattle.tv_muldiv.specs.Quotient.{above_values}
 use Rattle.tv_muldiv.proofs.quotients.fill_quotient.Goals as goal
 

@@ -1,4 +1,4 @@
-use Rattle.tv_core.proofs.GivingTails.{gives_in_then}
+use Rattle.tv_core.proofs.ValuesTails.{gives_in_then}
 use Rattle.tv_muldiv.proofs.quotients.fill_words.Goals as goal
 
 pub returns-clause-gives : goal.returns-clause-gives

@@ -9,7 +9,7 @@ returns-in_err-put-clause-puts g c =
       c.set_wire.ensures.terms,
       c.set_wire-2.ensures.terms,
       c.plus_to.ensures.terms,
-      c.fill.ensures.terms,
+      c.set_number.ensures.terms,
       c.requires.x_word.size,
       c.requires.made.quot.size,
     ) at c.in_err-put.ensures.puts in
@@ -22,7 +22,7 @@ returns-clause-puts g c =
       c.set_wire.ensures.terms,
       c.set_wire-2.ensures.terms,
       c.plus_to.ensures.terms,
-      c.fill.ensures.terms,
+      c.set_number.ensures.terms,
       c.requires.x_word.size,
       c.requires.made.quot.size,
     ) at c.in_ok-put.ensures.puts in

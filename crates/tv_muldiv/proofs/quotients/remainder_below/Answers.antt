@@ -1,6 +1,6 @@
 use Rattle.tv_core.proofs.Chain.{chain, refused}
 use Rattle.tv_core.proofs.TailCalls.{puts_in_then}
-use Rattle.tv_bits.proofs.SpelledNumbers.{bits_sized}
+use Rattle.tv_bits.proofs.BitNumbers.{bits_sized}
 use Rattle.tv_muldiv.specs.Quotient.{remainder_below_of}
 use Rattle.tv_muldiv.proofs.quotients.remainder_below.Goals as goal
 

@@ -22,12 +22,12 @@ returns-in_err-gated-clause-puts g c =
 pub returns-in_err-put-clause-puts : goal.returns-in_err-put-clause-puts
 unfolding row_division_of
 returns-in_err-put-clause-puts g c =
-    let tie = rw (c.fill_room_below.ensures.terms, c.fill_bits_less.ensures.terms) at c.in_err-put.ensures.puts in
+    let tie = rw (c.set_room_below.ensures.terms, c.set_bits_less.ensures.terms) at c.in_err-put.ensures.puts in
     refused g.S.Sink.meaning _ _ _ c.from_residual-in_err-put.result c.from_residual-in_err-put.ensures.1
     (search (chain, c.in_ok-kept.ensures.puts, c.in_ok-product.ensures.puts, c.in_ok-gated.ensures.puts, tie) depth 8)
 
 pub returns-clause-puts : goal.returns-clause-puts
 unfolding row_division_of
 returns-clause-puts g c =
-    let tie = rw (c.fill_room_below.ensures.terms, c.fill_bits_less.ensures.terms) at c.in_ok-put.ensures.puts in
+    let tie = rw (c.set_room_below.ensures.terms, c.set_bits_less.ensures.terms) at c.in_ok-put.ensures.puts in
     search (chain, c.in_ok-kept.ensures.puts, c.in_ok-product.ensures.puts, c.in_ok-gated.ensures.puts, tie) depth 8

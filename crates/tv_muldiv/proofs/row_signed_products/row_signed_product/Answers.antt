@@ -16,6 +16,6 @@ unfolding row_signed_product_of gated_of
 returns-clause-puts g c =
     let a = c.args in
     let w = g.row.W in
-    let last = rw (c.fill_difference.ensures.terms, c.clear.ensures) at c.put.ensures.puts in
+    let last = rw (c.set_product_less.ensures.terms, c.clear.ensures) at c.put.ensures.puts in
     puts_in_then g.S.Sink.meaning (times_of (signed_word w a.x.now) (signed_word w a.y.now))
     (λ product. gated_of a.gate.now (signed_row w a.row.now) (wire product)) _ _ _ _ _ c.in_ok-product.ensures.puts last

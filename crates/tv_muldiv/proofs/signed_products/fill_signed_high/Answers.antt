@@ -1,5 +1,5 @@
-use Rattle.tv_core.proofs.GivingChain.{giving, gives_refused}
-use Rattle.tv_core.proofs.GivingTails.{gives_in_then}
+use Rattle.tv_core.proofs.ValuesChain.{giving, gives_refused}
+use Rattle.tv_core.proofs.ValuesTails.{gives_in_then}
 use Rattle.tv_muldiv.proofs.signed_products.fill_signed_high.Goals as goal
 
 pub returns-in_err-fill_halves-clause-gives : goal.returns-in_err-fill_halves-clause-gives

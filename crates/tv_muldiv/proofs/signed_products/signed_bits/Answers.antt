@@ -11,9 +11,9 @@ pub returns-in_err-put-clause-puts : goal.returns-in_err-put-clause-puts
 unfolding signed_bits_of
 returns-in_err-put-clause-puts g c =
     let product = rw (
-      c.fill_signed_number.ensures.terms,
-      c.fill_signed_number-2.ensures.terms,
-      c.fill_signed_number-3.ensures.terms,
+      c.set_signed_number.ensures.terms,
+      c.set_signed_number-2.ensures.terms,
+      c.set_signed_number-3.ensures.terms,
     ) at c.in_err-put.ensures.puts in
     refused g.S.Sink.meaning _ _ _ c.from_residual-in_err-put.result c.from_residual-in_err-put.ensures.1 (search (chain, c.in_ok-made.ensures.puts, product))
 
@@ -21,8 +21,8 @@ pub returns-clause-puts : goal.returns-clause-puts
 unfolding signed_bits_of
 returns-clause-puts g c =
     let product = rw (
-      c.fill_signed_number.ensures.terms,
-      c.fill_signed_number-2.ensures.terms,
-      c.fill_signed_number-3.ensures.terms,
+      c.set_signed_number.ensures.terms,
+      c.set_signed_number-2.ensures.terms,
+      c.set_signed_number-3.ensures.terms,
     ) at c.in_ok-put.ensures.puts in
     search (chain, c.in_ok-made.ensures.puts, product)

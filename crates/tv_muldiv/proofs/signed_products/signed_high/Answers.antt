@@ -12,7 +12,7 @@ returns-in_err-made-clause-puts g c =
 pub returns-in_err-over-clause-puts : goal.returns-in_err-over-clause-puts
 unfolding signed_high_of
 returns-in_err-over-clause-puts g c =
-    let over = rw (c.fill_excess.ensures.terms) at c.in_err-over.ensures.puts in
+    let over = rw (c.set_high_excess.ensures.terms) at c.in_err-over.ensures.puts in
     refused g.S.Sink.meaning _ _ _ c.from_residual-in_err-over.result c.from_residual-in_err-over.ensures.1 (search (chain, c.in_ok-made.ensures.puts, over))
 
 row_is : (x : Bits) (f k : ℕ) → x.first ≡ f → x.n ≡ k → x ≡ record { first = f; n = k }
@@ -21,6 +21,6 @@ row_is x f k first n = ap₂ (λ f k. record { first = f; n = k }) first n
 pub returns-clause-puts : goal.returns-clause-puts
 unfolding signed_high_of
 returns-clause-puts g c =
-    let over = rw (c.fill_excess.ensures.terms) at c.in_ok-over.ensures.puts in
+    let over = rw (c.set_high_excess.ensures.terms) at c.in_ok-over.ensures.puts in
     let size : c.above-high.result.n ≡ g.row.W = omega (arith, c.above-high.ensures.n, c.in_ok-made.ensures.below.size) in
     rw (row_is c.above-high.result _ g.row.W c.above-high.ensures.first size) (search (chain, c.in_ok-made.ensures.puts, over))

@@ -2,8 +2,8 @@ use Rattle.std.specs.Prelude.{◌*◌, ◌%◌, ◌^◌, ◌++◌}
 use Rattle.tv_core.specs.declared.field.TheConstants.{P}
 use Rattle.tv_shift.specs.Power.{shift_power_values}
 use Rattle.tv_shift.specs.RowShift.{left_shift_values, right_shift_values}
-use Rattle.tv_core.proofs.GivingChain.{gives_then_refused, gives_refused_then, gives_refused}
-use Rattle.tv_core.proofs.GivingTails.{gives_in_then}
+use Rattle.tv_core.proofs.ValuesChain.{gives_then_refused, gives_refused_then, gives_refused}
+use Rattle.tv_core.proofs.ValuesTails.{gives_in_then}
 use Rattle.tv_parts.proofs.arithmetic.fill_shifts.Goals as goal
 
 pub returns-in_err-fill_row_division-clause-gives : goal.returns-in_err-fill_row_division-clause-gives

@@ -7,14 +7,14 @@ pub returns-in_err-change-clause-puts : goal.returns-in_err-change-clause-puts
 unfolding new_of
 returns-in_err-change-clause-puts g c =
     let m = g.S.Sink.meaning in
-    let p0 = rw (c.set_power.ensures.terms, c.plus.ensures.terms, c.fill.ensures.terms, c.neg-minus.ensures) at c.in_err-change.ensures.puts in
+    let p0 = rw (c.set_power.ensures.terms, c.plus.ensures.terms, c.set_number.ensures.terms, c.neg-minus.ensures) at c.in_err-change.ensures.puts in
     refused m _ _ _ c.from_residual.result c.from_residual.ensures.1 (refused_then m _ _ _ _ _ p0)
 
 pub returns-in_err-changed-clause-puts : goal.returns-in_err-changed-clause-puts
 unfolding new_of
 returns-in_err-changed-clause-puts g c =
     let m = g.S.Sink.meaning in
-    let p0 = rw (c.set_power.ensures.terms, c.plus.ensures.terms, c.fill.ensures.terms, c.neg-minus.ensures) at c.in_ok-change.ensures.puts in
+    let p0 = rw (c.set_power.ensures.terms, c.plus.ensures.terms, c.set_number.ensures.terms, c.neg-minus.ensures) at c.in_ok-change.ensures.puts in
     let p1 = rw (c.set_wire.ensures.terms, c.set_wire-2.ensures.terms, c.opcode_wire.ensures) at c.in_err-changed.ensures.puts in
     refused m _ _ _ c.from_residual-in_err-changed.result c.from_residual-in_err-changed.ensures.1
     (puts_then_refused m _ _ _ _ _ _ _ p0 (refused_then m _ _ _ _ _ p1))
@@ -23,7 +23,7 @@ pub returns-clause-puts : goal.returns-clause-puts
 unfolding new_of
 returns-clause-puts g c =
     let m = g.S.Sink.meaning in
-    let p0 = rw (c.set_power.ensures.terms, c.plus.ensures.terms, c.fill.ensures.terms, c.neg-minus.ensures) at c.in_ok-change.ensures.puts in
+    let p0 = rw (c.set_power.ensures.terms, c.plus.ensures.terms, c.set_number.ensures.terms, c.neg-minus.ensures) at c.in_ok-change.ensures.puts in
     let p1 = rw (c.set_wire.ensures.terms, c.set_wire-2.ensures.terms, c.opcode_wire.ensures) at c.in_ok-changed.ensures.puts in
     let last = rw (
       c.set_wire-3.ensures.terms,

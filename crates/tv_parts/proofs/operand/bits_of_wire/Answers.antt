@@ -14,7 +14,7 @@ unfolding bits_of
 returns-in_err-put-clause-puts g c =
     let m = g.S.Sink.meaning in
     let p0 = c.in_ok-bits.ensures.puts in
-    let p1 = rw (c.fill.ensures.terms, c.set_wire.ensures.terms, c.set_wire-2.ensures.terms) at c.in_err-put.ensures.puts in
+    let p1 = rw (c.set_number.ensures.terms, c.set_wire.ensures.terms, c.set_wire-2.ensures.terms) at c.in_err-put.ensures.puts in
     refused m _ _ _ c.from_residual-in_err-put.result c.from_residual-in_err-put.ensures.1 (puts_then_refused m _ _ _ _ _ _ _ p0 (refused_then m _ _ _ _ _ p1))
 
 pub returns-clause-puts : goal.returns-clause-puts
@@ -22,5 +22,5 @@ unfolding bits_of
 returns-clause-puts g c =
     let m = g.S.Sink.meaning in
     let p0 = c.in_ok-bits.ensures.puts in
-    let p1 = rw (c.fill.ensures.terms, c.set_wire.ensures.terms, c.set_wire-2.ensures.terms) at c.in_ok-put.ensures.puts in
+    let p1 = rw (c.set_number.ensures.terms, c.set_wire.ensures.terms, c.set_wire-2.ensures.terms) at c.in_ok-put.ensures.puts in
     puts_then m _ _ _ _ _ _ _ p0 (puts_then m _ _ _ _ _ _ _ p1 (puts_nothing m _ _))

@@ -1,6 +1,6 @@
 use Rattle.std.proofs.Common.{List, ℕ}
-use Rattle.tv_core.proofs.GivingChain.{gives_refused_then, gives_refused}
-use Rattle.tv_core.proofs.GivingTails.{gives_in_then}
+use Rattle.tv_core.proofs.ValuesChain.{gives_refused_then, gives_refused}
+use Rattle.tv_core.proofs.ValuesTails.{gives_in_then}
 use Rattle.tv_numbers.specs.Numbers.{stepped}
 use Rattle.tv_parts.specs.Traced.{traced_view}
 use Rattle.tv_parts.proofs.written.fill_written.Goals as goal

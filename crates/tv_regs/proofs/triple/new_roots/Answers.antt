@@ -6,19 +6,19 @@ use Rattle.tv_regs.proofs.triple.new_roots.Goals as goal
 pub returns-in_err-dest-clause-puts : goal.returns-in_err-dest-clause-puts
 unfolding roots_of
 returns-in_err-dest-clause-puts g c =
-    let dest = rw (c.fill.ensures.terms) at c.in_err-dest.ensures.puts in
+    let dest = rw (c.set_number.ensures.terms) at c.in_err-dest.ensures.puts in
     refused g.S.Sink.meaning _ _ _ c.from_residual.result c.from_residual.ensures.1 (search (chain, dest) depth 4)
 
 pub returns-in_err-other-clause-puts : goal.returns-in_err-other-clause-puts
 unfolding roots_of
 returns-in_err-other-clause-puts g c =
-    let dest = rw (c.fill.ensures.terms) at c.in_ok-dest.ensures.puts in
-    let other = rw (c.terms.ensures.terms, c.fill-2.ensures.terms) at c.in_err-other.ensures.puts in
+    let dest = rw (c.set_number.ensures.terms) at c.in_ok-dest.ensures.puts in
+    let other = rw (c.terms.ensures.terms, c.set_number-2.ensures.terms) at c.in_err-other.ensures.puts in
     refused g.S.Sink.meaning _ _ _ c.from_residual-in_err-other.result c.from_residual-in_err-other.ensures.1 (search (chain, dest, other) depth 5)
 
 pub returns-clause-puts : goal.returns-clause-puts
 unfolding roots_of
 returns-clause-puts g c =
-    let dest = rw (c.fill.ensures.terms) at c.in_ok-dest.ensures.puts in
-    let other = rw (c.terms.ensures.terms, c.fill-2.ensures.terms) at c.in_ok-other.ensures.puts in
+    let dest = rw (c.set_number.ensures.terms) at c.in_ok-dest.ensures.puts in
+    let other = rw (c.terms.ensures.terms, c.set_number-2.ensures.terms) at c.in_ok-other.ensures.puts in
     puts_in_then g.S.Sink.meaning _ _ _ _ _ _ _ dest (puts_in_then g.S.Sink.meaning _ _ _ _ _ _ _ other c.sums.ensures.puts)

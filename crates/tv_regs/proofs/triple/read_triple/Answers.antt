@@ -32,7 +32,7 @@ returns-in_err-named_word-clause-puts g c =
     let roots = c.in_ok-roots.ensures.puts in
     let curve = c.in_ok-curve.ensures.puts in
     let other_word = rw c.set_wire.ensures.terms at c.in_ok-other_word.ensures.puts in
-    let named_word = rw c.fill.ensures.terms at c.in_err-named_word.ensures.puts in
+    let named_word = rw c.set_number.ensures.terms at c.in_err-named_word.ensures.puts in
     refused g.S.Sink.meaning _ _ _ c.from_residual-in_err-named_word.result c.from_residual-in_err-named_word.ensures.1
     (search (chain, roots, curve, other_word, named_word) depth 7)
 
@@ -42,7 +42,7 @@ returns-in_err-dest_word-clause-puts g c =
     let roots = c.in_ok-roots.ensures.puts in
     let curve = c.in_ok-curve.ensures.puts in
     let other_word = rw c.set_wire.ensures.terms at c.in_ok-other_word.ensures.puts in
-    let named_word = rw c.fill.ensures.terms at c.in_ok-named_word.ensures.puts in
+    let named_word = rw c.set_number.ensures.terms at c.in_ok-named_word.ensures.puts in
     let dest_word = rw c.set_wire-2.ensures.terms at c.in_err-dest_word.ensures.puts in
     refused g.S.Sink.meaning _ _ _ c.from_residual-in_err-dest_word.result c.from_residual-in_err-dest_word.ensures.1
     (search (chain, roots, curve, other_word, named_word, dest_word) depth 8)
@@ -53,7 +53,7 @@ returns-clause-puts g c =
     let roots = c.in_ok-roots.ensures.puts in
     let curve = c.in_ok-curve.ensures.puts in
     let other_word = rw c.set_wire.ensures.terms at c.in_ok-other_word.ensures.puts in
-    let named_word = rw c.fill.ensures.terms at c.in_ok-named_word.ensures.puts in
+    let named_word = rw c.set_number.ensures.terms at c.in_ok-named_word.ensures.puts in
     let dest_word = rw c.set_wire-2.ensures.terms at c.in_ok-dest_word.ensures.puts in
     search (chain, roots, curve, other_word, named_word, dest_word) depth 9
 

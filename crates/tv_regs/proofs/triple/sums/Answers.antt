@@ -5,30 +5,30 @@ use Rattle.tv_regs.proofs.triple.sums.Goals as goal
 pub returns-in_err-sum-clause-puts : goal.returns-in_err-sum-clause-puts
 unfolding sums_of
 returns-in_err-sum-clause-puts g c =
-    let sum = rw (c.plus-2.ensures.terms, c.plus.ensures.terms, c.fill.ensures.terms) at c.in_err-sum.ensures.puts in
+    let sum = rw (c.plus-2.ensures.terms, c.plus.ensures.terms, c.set_number.ensures.terms) at c.in_err-sum.ensures.puts in
     refused g.S.Sink.meaning _ _ _ c.from_residual.result c.from_residual.ensures.1 (search (chain, sum) depth 4)
 
 pub returns-in_err-pair-clause-puts : goal.returns-in_err-pair-clause-puts
 unfolding sums_of
 returns-in_err-pair-clause-puts g c =
-    let sum = rw (c.plus-2.ensures.terms, c.plus.ensures.terms, c.fill.ensures.terms) at c.in_ok-sum.ensures.puts in
-    let pair = rw (c.set_wire.ensures.terms, c.fill-2.ensures.terms) at c.in_err-pair.ensures.puts in
+    let sum = rw (c.plus-2.ensures.terms, c.plus.ensures.terms, c.set_number.ensures.terms) at c.in_ok-sum.ensures.puts in
+    let pair = rw (c.set_wire.ensures.terms, c.set_number-2.ensures.terms) at c.in_err-pair.ensures.puts in
     refused g.S.Sink.meaning _ _ _ c.from_residual-in_err-pair.result c.from_residual-in_err-pair.ensures.1 (search (chain, sum, pair) depth 5)
 
 pub returns-in_err-pairs-clause-puts : goal.returns-in_err-pairs-clause-puts
 unfolding sums_of
 returns-in_err-pairs-clause-puts g c =
-    let sum = rw (c.plus-2.ensures.terms, c.plus.ensures.terms, c.fill.ensures.terms) at c.in_ok-sum.ensures.puts in
-    let pair = rw (c.set_wire.ensures.terms, c.fill-2.ensures.terms) at c.in_ok-pair.ensures.puts in
-    let pairs = rw (c.plus-3.ensures.terms, c.fill-2.ensures.terms) at c.in_err-pairs.ensures.puts in
+    let sum = rw (c.plus-2.ensures.terms, c.plus.ensures.terms, c.set_number.ensures.terms) at c.in_ok-sum.ensures.puts in
+    let pair = rw (c.set_wire.ensures.terms, c.set_number-2.ensures.terms) at c.in_ok-pair.ensures.puts in
+    let pairs = rw (c.plus-3.ensures.terms, c.set_number-2.ensures.terms) at c.in_err-pairs.ensures.puts in
     refused g.S.Sink.meaning _ _ _ c.from_residual-in_err-pairs.result c.from_residual-in_err-pairs.ensures.1 (search (chain, sum, pair, pairs) depth 6)
 
 pub returns-in_err-product-clause-puts : goal.returns-in_err-product-clause-puts
 unfolding sums_of
 returns-in_err-product-clause-puts g c =
-    let sum = rw (c.plus-2.ensures.terms, c.plus.ensures.terms, c.fill.ensures.terms) at c.in_ok-sum.ensures.puts in
-    let pair = rw (c.set_wire.ensures.terms, c.fill-2.ensures.terms) at c.in_ok-pair.ensures.puts in
-    let pairs = rw (c.plus-3.ensures.terms, c.fill-2.ensures.terms) at c.in_ok-pairs.ensures.puts in
+    let sum = rw (c.plus-2.ensures.terms, c.plus.ensures.terms, c.set_number.ensures.terms) at c.in_ok-sum.ensures.puts in
+    let pair = rw (c.set_wire.ensures.terms, c.set_number-2.ensures.terms) at c.in_ok-pair.ensures.puts in
+    let pairs = rw (c.plus-3.ensures.terms, c.set_number-2.ensures.terms) at c.in_ok-pairs.ensures.puts in
     let product = rw (c.set_wire-2.ensures.terms, c.set_wire-3.ensures.terms) at c.in_err-product.ensures.puts in
     refused g.S.Sink.meaning _ _ _ c.from_residual-in_err-product.result c.from_residual-in_err-product.ensures.1
     (search (chain, sum, pair, pairs, product) depth 7)
@@ -36,8 +36,8 @@ returns-in_err-product-clause-puts g c =
 pub returns-clause-puts : goal.returns-clause-puts
 unfolding sums_of
 returns-clause-puts g c =
-    let sum = rw (c.plus-2.ensures.terms, c.plus.ensures.terms, c.fill.ensures.terms) at c.in_ok-sum.ensures.puts in
-    let pair = rw (c.set_wire.ensures.terms, c.fill-2.ensures.terms) at c.in_ok-pair.ensures.puts in
-    let pairs = rw (c.plus-3.ensures.terms, c.fill-2.ensures.terms) at c.in_ok-pairs.ensures.puts in
+    let sum = rw (c.plus-2.ensures.terms, c.plus.ensures.terms, c.set_number.ensures.terms) at c.in_ok-sum.ensures.puts in
+    let pair = rw (c.set_wire.ensures.terms, c.set_number-2.ensures.terms) at c.in_ok-pair.ensures.puts in
+    let pairs = rw (c.plus-3.ensures.terms, c.set_number-2.ensures.terms) at c.in_ok-pairs.ensures.puts in
     let product = rw (c.set_wire-2.ensures.terms, c.set_wire-3.ensures.terms) at c.in_ok-product.ensures.puts in
     search (chain, sum, pair, pairs, product) depth 8

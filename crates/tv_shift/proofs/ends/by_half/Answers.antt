@@ -6,17 +6,17 @@ pub returns-in_err-left-clause-puts : goal.returns-in_err-left-clause-puts
 unfolding by_half_of
 returns-in_err-left-clause-puts g c =
     let m = g.S.Sink.meaning in
-    let left = rw (c.terms.ensures.terms, c.fill_times_half.ensures.terms, c.terms-2.ensures.terms, c.lc-x.ensures.terms) at c.in_err-left.ensures.puts in
+    let left = rw (c.terms.ensures.terms, c.set_times_half.ensures.terms, c.terms-2.ensures.terms, c.lc-x.ensures.terms) at c.in_err-left.ensures.puts in
     refused m _ _ _ c.from_residual.result c.from_residual.ensures.1 (refused_then m _ _ _ _ _ left)
 
 pub returns-in_err-right-clause-puts : goal.returns-in_err-right-clause-puts
 unfolding by_half_of
 returns-in_err-right-clause-puts g c =
     let m = g.S.Sink.meaning in
-    let left = rw (c.terms.ensures.terms, c.fill_times_half.ensures.terms, c.terms-2.ensures.terms, c.lc-x.ensures.terms) at c.in_ok-left.ensures.puts in
+    let left = rw (c.terms.ensures.terms, c.set_times_half.ensures.terms, c.terms-2.ensures.terms, c.lc-x.ensures.terms) at c.in_ok-left.ensures.puts in
     let right = rw (
       c.terms-3.ensures.terms,
-      c.fill.ensures.terms,
+      c.set_number.ensures.terms,
       c.terms-4.ensures.terms,
       c.lc-x.ensures.terms,
       c.offset.ensures,
@@ -28,10 +28,10 @@ pub returns-clause-puts : goal.returns-clause-puts
 unfolding by_half_of
 returns-clause-puts g c =
     let m = g.S.Sink.meaning in
-    let left = rw (c.terms.ensures.terms, c.fill_times_half.ensures.terms, c.terms-2.ensures.terms, c.lc-x.ensures.terms) at c.in_ok-left.ensures.puts in
+    let left = rw (c.terms.ensures.terms, c.set_times_half.ensures.terms, c.terms-2.ensures.terms, c.lc-x.ensures.terms) at c.in_ok-left.ensures.puts in
     let right = rw (
       c.terms-3.ensures.terms,
-      c.fill.ensures.terms,
+      c.set_number.ensures.terms,
       c.terms-4.ensures.terms,
       c.lc-x.ensures.terms,
       c.offset.ensures,

@@ -7,14 +7,14 @@ pub returns-in_err-left-clause-puts : goal.returns-in_err-left-clause-puts
 unfolding by_rest_of
 returns-in_err-left-clause-puts g c =
     let left = rw (
-      c.fill_power.ensures.terms,
+      c.set_mark_power.ensures.terms,
       c.half_log.ensures,
       half_power g.row.W c.requires.width,
       c.marks-marks.ensures.bits,
       c.marks-marks.ensures.products,
       c.minus.ensures.terms,
       c.set_wire.ensures.terms,
-      c.fill_times_half.ensures.terms,
+      c.set_times_half.ensures.terms,
     ) at c.in_err-left.ensures.puts in
     refused g.S.Sink.meaning _ _ _ c.from_residual.result c.from_residual.ensures.1 (search (chain, left))
 
@@ -22,17 +22,17 @@ pub returns-in_err-right-clause-puts : goal.returns-in_err-right-clause-puts
 unfolding by_rest_of
 returns-in_err-right-clause-puts g c =
     let left = rw (
-      c.fill_power.ensures.terms,
+      c.set_mark_power.ensures.terms,
       c.half_log.ensures,
       half_power g.row.W c.requires.width,
       c.marks-marks.ensures.bits,
       c.marks-marks.ensures.products,
       c.minus.ensures.terms,
       c.set_wire.ensures.terms,
-      c.fill_times_half.ensures.terms,
+      c.set_times_half.ensures.terms,
     ) at c.in_ok-left.ensures.puts in
     let right = rw (
-      c.fill_power.ensures.terms,
+      c.set_mark_power.ensures.terms,
       c.half_log.ensures,
       half_power g.row.W c.requires.width,
       c.marks-marks.ensures.bits,
@@ -48,17 +48,17 @@ unfolding by_rest_of
 returns-clause-puts g c =
     let m = g.S.Sink.meaning in
     let left = rw (
-      c.fill_power.ensures.terms,
+      c.set_mark_power.ensures.terms,
       c.half_log.ensures,
       half_power g.row.W c.requires.width,
       c.marks-marks.ensures.bits,
       c.marks-marks.ensures.products,
       c.minus.ensures.terms,
       c.set_wire.ensures.terms,
-      c.fill_times_half.ensures.terms,
+      c.set_times_half.ensures.terms,
     ) at c.in_ok-left.ensures.puts in
     let right = rw (
-      c.fill_power.ensures.terms,
+      c.set_mark_power.ensures.terms,
       c.half_log.ensures,
       half_power g.row.W c.requires.width,
       c.marks-marks.ensures.bits,

@@ -1,5 +1,5 @@
 use Rattle.std.proofs.Common.{◌/◌}
-use Rattle.tv_core.specs.Loops.{times}
+use Rattle.tv_core.specs.Loops.{sequence}
 use Rattle.tv_core.specs.Sinks.{PutsAll, Grows}
 use Rattle.tv_shift.specs.Masks.{mask_at, digit_at, masked_pair_of}
 use Rattle.tv_shift.proofs.masks.masked.Given as goal
@@ -7,6 +7,6 @@ use Rattle.tv_shift.proofs.masks.masked.Given as goal
 abbrev pub invariant-loop-i : goal.invariant-loop-i
 invariant-loop-i g l = record {
   puts : PutsAll g.S.Sink.meaning l.initial.s l.s
-      (times l.i (masked_pair_of (mask_at g.row.W l.places l.part) (digit_at g.row.W l.places l.part) (g.row.W / 4))) tt;
+      (sequence l.i (masked_pair_of (mask_at g.row.W l.places l.part) (digit_at g.row.W l.places l.part) (g.row.W / 4))) tt;
   grows : Grows g.S.Sink.meaning l.initial.s l.s l.i l.i;
 }

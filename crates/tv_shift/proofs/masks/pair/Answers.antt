@@ -7,10 +7,10 @@ unfolding masked_pair_of
 returns-in-Low-clause-puts g c =
     let both = rw (
       c.terms.ensures.terms,
-      c.fill_mask.ensures.terms,
+      c.set_mask.ensures.terms,
       c.chosen_bit.ensures.terms,
       c.terms-in-Low.ensures.terms,
-      c.fill_mask-2.ensures.terms,
+      c.set_mask-2.ensures.terms,
       c.chosen_bit-in-Low.ensures.terms,
       c.root_of_weight-weight.ensures,
       c.in-Low.is,
@@ -22,10 +22,10 @@ unfolding masked_pair_of
 returns-in-High-clause-puts g c =
     let both = rw (
       c.terms-in-High.ensures.terms,
-      c.fill_mask.ensures.terms,
+      c.set_mask.ensures.terms,
       c.other_bit.ensures.terms,
       c.terms-in-High-2.ensures.terms,
-      c.fill_mask-2.ensures.terms,
+      c.set_mask-2.ensures.terms,
       c.other_bit-in-High.ensures.terms,
       c.root_of_weight-weight.ensures,
       c.in-High.is,

@@ -15,7 +15,7 @@ unfolding level_product_of
 loop-j-preserved g c =
     let piece : ℕ → Unit {0} → Circuit (Unit {0}) = λ j _. level_product_of c.args.marks.now.bits c.args.marks.now.products c.args.k j in
     let grown = c.in_ok-times_by.ensures.grows in
-    let one = rw (c.set_wire.ensures.terms, c.offset.ensures, c.fill_mark.ensures.terms) at c.in_ok-times_by.ensures.puts in
+    let one = rw (c.set_wire.ensures.terms, c.offset.ensures, c.set_mark.ensures.terms) at c.in_ok-times_by.ensures.puts in
     record {
       puts = puts_turn g.S.Sink.meaning _ piece tt _ _ _ _ _ c.loop-j.invariant.puts (search (chain, one));
       grows = record { wires = omega (arith, grown.wires); constraints = omega (arith, grown.constraints); whole = grown.whole };
@@ -27,7 +27,7 @@ returns-in_err-times_by-clause-puts g c =
     let m = g.S.Sink.meaning in
     let piece : ℕ → Unit {0} → Circuit (Unit {0}) = λ j _. level_product_of c.args.marks.now.bits c.args.marks.now.products c.args.k j in
     let within : c.loop-j.j < 2 ^ c.args.k - 1 = omega arith in
-    let one = rw (c.set_wire.ensures.terms, c.offset.ensures, c.fill_mark.ensures.terms) at c.in_err-times_by.ensures.puts in
+    let one = rw (c.set_wire.ensures.terms, c.offset.ensures, c.set_mark.ensures.terms) at c.in_err-times_by.ensures.puts in
     let turn = turn_refused m
     (2 ^ c.args.k - 1) c.loop-j.j piece tt tt c.args.s.now c.loop-j.s c.times_by.new.s c.in_err-times_by.field-0.0 within c.loop-j.invariant.puts
     (search (chain, one)) in

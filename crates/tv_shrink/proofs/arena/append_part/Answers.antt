@@ -1,6 +1,6 @@
 use Rattle.std.proofs.Common.{arith, ap, length}
 use Rattle.std.proofs.lemmas.List.{length-append}
-use Rattle.tv_shrink.specs.Replacing.{replaced}
+use Rattle.tv_shrink.specs.Substitution.{replaced}
 use Rattle.tv_shrink.proofs.Linear.{part_short}
 use Rattle.tv_shrink.proofs.arena.append_part.Goals as goal
 

@@ -2,7 +2,7 @@ use Rattle.std.proofs.Common.{◌≡◌, ◌∙◌, ◌+◌, ◌-◌, ◌++◌, 
 use Rattle.std.specs.Prelude.{slice_range}
 use Rattle.tv_r1cs_write.specs.Bytes.{others}
 use Rattle.std.proofs.lemmas.List.{length-map, with_items_is}
-use Rattle.tv_shrink.specs.Moving.{moved, moved_in}
+use Rattle.tv_shrink.specs.Renumbering.{moved, moved_in}
 use Rattle.tv_shrink.specs.Spans.{end_of, row_at, row_terms}
 use Rattle.tv_shrink.proofs.Spans.{part_size, terms_moved, terms_there}
 use Rattle.tv_shrink.proofs.arena.renumber_span.Goals as goal

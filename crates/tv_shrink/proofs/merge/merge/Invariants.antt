@@ -1,6 +1,6 @@
 use Rattle.std.proofs.Common.{◌≡◌, ◌+◌, ◌++◌, length, None}
 use Rattle.tv_core.specs.Combinations.{scaled}
-use Rattle.tv_shrink.specs.Merging.{leaving_out}
+use Rattle.tv_shrink.specs.Merge.{leaving_out}
 use Rattle.tv_core.specs.Normal.{normal, IsNormalFrom}
 use Rattle.tv_shrink.proofs.merge.merge.Given as goal
 

@@ -5,7 +5,7 @@ use Rattle.std.proofs.lemmas.Option.{MatchOption-at_none, MatchOption-at_some}
 use Rattle.tv_core.specs.declared.lines.Counts.{Counts}
 use Rattle.tv_files.specs.Outside.{Outside}
 use Rattle.tv_r1cs_read.specs.Places.{system_with}
-use Rattle.tv_r1cs_read.specs.R1cs.{system_of}
+use Rattle.tv_r1cs_read.specs.R1cs.{r1cs_system}
 use Rattle.tv_r1cs_read.specs.Rows.{constraint_of, IsOver}
 use Rattle.tv_shrink.specs.Answers.{counted_system, wide_in, HaltsBy}
 use Rattle.tv_core.specs.Normal.{normal_constraint}
@@ -124,7 +124,7 @@ returns-clause-gives g c = λ file told.
     let before = c.loop-scratch.invariant.place file begun (c.in-Ok.ensures.gives file told) in
     let all = rw c.if-branch.false at (MatchOption-at_none _ _ c.in_ok-next_into.ensures.tells
     (c.in_ok-next_into.ensures.steps.gives before.0 file (rw (← c.loop-scratch.invariant.outside, ← c.loop-scratch.invariant.name) at begun) before.1)) in
-    let is : system_of file ≡ Ok (counted_system c.counts-counts.result before.0) =
+    let is : r1cs_system file ≡ Ok (counted_system c.counts-counts.result before.0) =
     all.system ∙ ap (λ system. Ok system) (ap (λ header. system_with header before.0) (c.in_ok-next_into.ensures.steps.header ∙ c.loop-scratch.invariant.header)
     ∙ sym (ap (λ counts. counted_system counts before.0) c.counts-counts.ensures)) in
     record {

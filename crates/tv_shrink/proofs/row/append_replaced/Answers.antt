@@ -2,7 +2,7 @@ use Rattle.std.proofs.Common.{◌≡◌, ◌++◌, Result, Ok, Err, OnOk, cond, 
 use Rattle.std.proofs.lemmas.Result.{on_ok_weaker}
 use Rattle.tv_core.specs.Combinations.{scaled}
 use Rattle.tv_core.specs.Normal.{coefficient, normal}
-use Rattle.tv_shrink.specs.Replacing.{has_wire, without}
+use Rattle.tv_shrink.specs.Substitution.{has_wire, without}
 use Rattle.tv_shrink.proofs.Linear.{lacks_by, replaced-made, replaced-lacking}
 use Rattle.tv_shrink.proofs.row.append_replaced.Goals as goal
 

@@ -1,5 +1,5 @@
 use Rattle.std.proofs.Common.{◌≡◌, ◌++◌, arith, ap, not, sym, ◌∙◌, leb, length}
-use Rattle.tv_shrink.specs.Replacing.{replaced}
+use Rattle.tv_shrink.specs.Substitution.{replaced}
 use Rattle.tv_shrink.proofs.Linear.{fits-few, fits-lacking, fits-having}
 use Rattle.tv_shrink.proofs.row.fits.Goals as goal
 use Rattle.tv_shrink.proofs.row.fits.Goals.{then-terms-by-le-TERMS-via-then-terms-by-le-TERMS}

@@ -2,7 +2,7 @@ use Rattle.std.proofs.Common.{◌++◌, ◌∙◌, ap}
 use Rattle.std.proofs.lemmas.Result.{on_ok_weaker}
 use Rattle.tv_core.specs.Combinations.{scaled}
 use Rattle.tv_core.specs.Normal.{normal}
-use Rattle.tv_shrink.specs.Replacing.{without}
+use Rattle.tv_shrink.specs.Substitution.{without}
 use Rattle.tv_shrink.proofs.Linear.{solve-made}
 use Rattle.tv_shrink.proofs.row.solve.Goals as goal
 

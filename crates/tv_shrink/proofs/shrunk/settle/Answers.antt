@@ -3,8 +3,8 @@ use Rattle.std.specs.List.{filter_map, fold, list_any, range_with_len}
 use Rattle.std.specs.Option.{option_map}
 use Rattle.std.proofs.lemmas.List.{length-map}
 use Rattle.tv_r1cs_write.specs.Bytes.{others}
-use Rattle.tv_shrink.specs.Moving.{moved_in}
-use Rattle.tv_shrink.specs.Passing.{turn}
+use Rattle.tv_shrink.specs.Renumbering.{moved_in}
+use Rattle.tv_shrink.specs.Pass.{turn}
 use Rattle.tv_shrink.specs.Tidy.{marked, pass_of, AreWithin}
 use Rattle.tv_shrink.proofs.Gone.{marks}
 use Rattle.tv_shrink.proofs.Settling.{flags_each, labels_enough, rows_within, system_is}

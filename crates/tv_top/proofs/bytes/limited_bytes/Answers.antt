@@ -1,6 +1,6 @@
 use Rattle.std.proofs.Common.{◌≡◌, ℕ, ◌+◌, ◌≤◌, List, length, Some, Result, Ok, Err, IfOk, inl, inr, refl, arith, rules}
 use Rattle.std.proofs.lemmas.Bool.{le-leb, lt-leb}
-use Rattle.tv_files.specs.Outside.{Told}
+use Rattle.tv_files.specs.Outside.{WhereKnown}
 use Rattle.tv_files.specs.Whole as whole
 use Rattle.tv_files.specs.Whole.{IsLonger}
 use Rattle.tv_files.specs.declared.outcome.Slurp.{Slurp}
@@ -19,10 +19,10 @@ stop_of word what most slurp.Memory = Memory
 stop_of word what most (slurp.TooLong limit) = Contents (Limit what (most + 1) most)
 
 module _ {V : Type 0} (view : V → List ℕ) (place : Named) (what : Size) (most : ℕ) where
-  told : (old : Outside) (result : Result V Slurp) → IfOk result (λ v. Told old (λ held. held place.name ≡ Some (view v)))
+  told : (old : Outside) (result : Result V Slurp) → IfOk result (λ v. WhereKnown old (λ held. held place.name ≡ Some (view v)))
       → IfOk result (λ v. length (view v) ≤ most) →
-      ((limit : ℕ) → result ≡ Err (slurp.TooLong limit) → (limit ≡ most) × Told old (λ held. IsLonger most (held place.name))) →
-      Told old (λ files. IsFound view (input place (within what most (λ bytes. Ok bytes)) files) (came (stop_of place.word what most) result))
+      ((limit : ℕ) → result ≡ Err (slurp.TooLong limit) → (limit ≡ most) × WhereKnown old (λ held. IsLonger most (held place.name))) →
+      WhereKnown old (λ files. IsFound view (input place (within what most (λ bytes. Ok bytes)) files) (came (stop_of place.word what most) result))
   unfolding input
   told old (Ok v) whole short longer files is = rw (whole files is, le-leb (length (view v)) most short) refl
   told old (Err (slurp.TooLong limit)) whole short longer files is = let long = (longer limit refl).1 files is in

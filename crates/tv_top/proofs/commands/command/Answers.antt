@@ -1,13 +1,13 @@
-use Rattle.tv_top.proofs.AssemblingClaim.{asms}
-use Rattle.tv_top.proofs.BuildingClaim.{builds}
-use Rattle.tv_top.proofs.CheckingClaim.{checks}
-use Rattle.tv_top.proofs.DisassemblingClaim.{disasms}
-use Rattle.tv_top.proofs.ExtractingClaim.{extracts}
+use Rattle.tv_top.proofs.AsmClaim.{asms}
+use Rattle.tv_top.proofs.BuildClaim.{builds}
+use Rattle.tv_top.proofs.CheckClaim.{checks}
+use Rattle.tv_top.proofs.DisasmClaim.{disasms}
+use Rattle.tv_top.proofs.ExtractClaim.{extracts}
 use Rattle.tv_top.proofs.ListingClaim.{lists}
-use Rattle.tv_top.proofs.RunningClaim.{runs}
-use Rattle.tv_top.proofs.ShrinkingClaim.{shrinks}
-use Rattle.tv_top.proofs.TrialingClaim.{trials}
-use Rattle.tv_top.proofs.WitnessingClaim.{witnesses}
+use Rattle.tv_top.proofs.RunClaim.{runs}
+use Rattle.tv_top.proofs.ShrinkClaim.{shrinks}
+use Rattle.tv_top.proofs.TrialClaim.{trials}
+use Rattle.tv_top.proofs.WitnessClaim.{witnesses}
 use Rattle.std.proofs.Common.{ℕ, List}
 use Rattle.tv_top.proofs.Common.{Answers, Call, request_of}
 use Rattle.tv_top.specs.Commands.{Commands}

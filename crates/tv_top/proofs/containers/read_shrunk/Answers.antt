@@ -1,6 +1,6 @@
 use Rattle.std.proofs.Common.{◌≡◌, rules}
 use Rattle.tv_top.specs.Plan.{named}
-use Rattle.tv_top.specs.Shrinking.{shrink_stop}
+use Rattle.tv_top.specs.Shrink.{shrink_stop}
 use Rattle.tv_top.proofs.ContainerReads.{came}
 use Rattle.tv_top.proofs.ShrunkReads.{finds_shrunk}
 use Rattle.tv_top.proofs.containers.read_shrunk.Goals as goal

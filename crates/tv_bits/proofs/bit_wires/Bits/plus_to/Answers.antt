@@ -3,7 +3,7 @@ use Rattle.std.proofs.Math.Nat.{pow-suc, add-mod}
 use Rattle.std.proofs.lemmas.List.{append-nil}
 use Rattle.tv_core.specs.Combinations.{scaled}
 use Rattle.tv_core.specs.declared.field.TheConstants.{P}
-use Rattle.tv_bits.proofs.SpelledNumbers.{scaled-bits-zero, scaled-bits-suc}
+use Rattle.tv_bits.proofs.BitNumbers.{scaled-bits-zero, scaled-bits-suc}
 use Rattle.tv_bits.specs.Bits.{bits_combination}
 use Rattle.tv_bits.proofs.bit_wires.Bits.plus_to.Goals as goal
 

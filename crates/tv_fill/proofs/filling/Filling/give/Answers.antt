@@ -1,12 +1,12 @@
 use Rattle.std.proofs.Common.{List, length, ap, ap₂, refl, sym, ◌∙◌}
 use Rattle.tv_benes.specs.Items.{bit_at}
-use Rattle.tv_core.proofs.GivingChain.{gives_refused}
+use Rattle.tv_core.proofs.ValuesChain.{gives_refused}
 use Rattle.tv_core.specs.Lines.{Line}
 use Rattle.tv_core.specs.declared.lines.PairNum.{PairNum}
-use Rattle.tv_fill.proofs.Giving.{same_filled, front_refused, steps_refused, all_given}
-use Rattle.tv_fill.specs.Filled.{Filled, lines_told, checks_told}
-use Rattle.tv_memory.proofs.FillingLaws.{given_some, given_in}
-use Rattle.tv_memory.specs.Memory.{routed_values}
+use Rattle.tv_fill.proofs.PartValues.{same_filled, front_refused, steps_refused, all_given}
+use Rattle.tv_fill.specs.Filled.{Filled, filled_lines, filled_checks}
+use Rattle.tv_argument.proofs.FillingLaws.{given_some, given_in}
+use Rattle.tv_argument.specs.Memory.{routed_values}
 use Rattle.tv_fill.proofs.filling.Filling.give.Goals as goal
 
 pub returns-in_err-fill_front-clause-gives : goal.returns-in_err-fill_front-clause-gives
@@ -40,10 +40,10 @@ returns-clause-gives g c =
     c.as_slice-3.ensures
     ∙ ap (λ (f : Filled). f.values) c.self.view_is in
     let same = ap₂ (λ (ls : List Line) (items : List PairNum).
-    routed_values i.net (checks_told (length i.image.now) (length i.tape.now) (length ls) i.k) i.k (bit_at c.as_slice-3.result.now) items
-    (lines_told i.image.now i.tape.now ls i.k))
+    routed_values i.net (filled_checks (length i.image.now) (length i.tape.now) (length ls) i.k) i.k (bit_at c.as_slice-3.result.now) items
+    (filled_lines i.image.now i.tape.now ls i.k))
     (c.as_slice-4.ensures ∙ sym c.as_slice-2.ensures) c.as_mut_slice.ensures.value in
     given_in m _ _ _ _ is _
     (all_given m g.row.W i.answer i.t i.k i.net i.image.now i.tape.now i.aux.now c.as_slice.result.now c.as_slice-2.result.now i.items.items
     c.as_slice-3.result.now _ _ _ _ _
-    c.in_ok-fill_front.ensures.gives c.in_ok-fill.ensures.gives (given_in m _ _ _ _ same _ c.fill_memory.ensures.gives))
+    c.in_ok-fill_front.ensures.gives c.in_ok-fill.ensures.gives (given_in m _ _ _ _ same _ c.fill_argument.ensures.gives))

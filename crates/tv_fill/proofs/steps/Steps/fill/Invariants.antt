@@ -1,11 +1,11 @@
 use Rattle.std.proofs.Common.{◌≡◌, false}
 use Rattle.tv_core.specs.Below.{joined_below}
-use Rattle.tv_core.specs.Giving.{GivesAll}
-use Rattle.tv_fill.specs.Told.{told_values}
+use Rattle.tv_core.specs.Values.{GivesAll}
+use Rattle.tv_fill.specs.TraceValues.{traced_values}
 use Rattle.tv_fill.proofs.steps.Steps.fill.Given as goal
 
 abbrev pub invariant-loop-i : goal.invariant-loop-i
 invariant-loop-i g l = record {
-  gives : GivesAll g.V.Values.giving l.initial.v l.v (joined_below l.i (told_values g.row.W l.n l.self.states.now l.self.aux.now l.self.lines.now));
+  gives : GivesAll g.V.Values.giving l.initial.v l.v (joined_below l.i (traced_values g.row.W l.n l.self.states.now l.self.aux.now l.self.lines.now));
   whole : g.V.Values.giving.broken l.v ≡ false;
 }

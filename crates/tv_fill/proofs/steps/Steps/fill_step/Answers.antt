@@ -1,18 +1,18 @@
 use Rattle.std.proofs.Common.{refl, List, ℕ, Option, subst, ap, ap₂, ◌∙◌}
 use Rattle.std.specs.Prelude.{is_some, unwrap_or}
-use Rattle.tv_block.proofs.ToldFills.{same_values}
+use Rattle.tv_block.proofs.StepFills.{same_values}
 use Rattle.tv_block.specs.Values.{block_values}
-use Rattle.tv_core.specs.Giving.{GivesIn}
+use Rattle.tv_core.specs.Values.{GivesIn}
 use Rattle.tv_numbers.specs.Numbers.{step_words}
 use Rattle.tv_parts.specs.Traced.{traced_view}
-use Rattle.tv_fill.specs.Told.{state_at, told_values}
+use Rattle.tv_fill.specs.TraceValues.{traced_state_at, traced_values}
 use Rattle.tv_fill.proofs.steps.Steps.fill_step.Goals as goal
 
 pub returns-clause-gives : goal.returns-clause-gives
-unfolding told_values
+unfolding traced_values
 returns-clause-gives g c =
     let same = same_values (λ v head tail o takes. block_values g.row.W c.args.n v (step_words head tail o takes)) {v = traced_view
-    (state_at c.args.self.now.states.now c.args.i)} refl c.old-head.ensures c.old-tail.ensures
+    (traced_state_at c.args.self.now.states.now c.args.i)} refl c.old-head.ensures c.old-tail.ensures
     (c.unwrap_or-word.ensures ∙ ap₂ (λ (word : Option ℕ) (old : ℕ). unwrap_or word old) c.taken-taken.ensures c.old.ensures)
     (c.is_some.ensures ∙ ap is_some c.taken-taken.ensures) in
     subst (λ (l : List ℕ). GivesIn g.V.Values.giving c.args.v.now c.fill_traced_step.new.v l c.fill_traced_step.result) same c.fill_traced_step.ensures.gives

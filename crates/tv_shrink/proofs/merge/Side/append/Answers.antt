@@ -1,5 +1,5 @@
 use Rattle.std.proofs.Common.{◌≤◌, ◌<◌, ◌^◌, arith, sym, ◌∙◌, subst}
-use Rattle.tv_shrink.specs.Merging.{first_wire}
+use Rattle.tv_shrink.specs.Merge.{first_wire}
 use Rattle.tv_core.specs.Normal.{IsNormalFrom}
 use Rattle.tv_shrink.proofs.Merging.{append-turn, empty_from, normal-rest, nothing_left}
 use Rattle.tv_shrink.proofs.merge.Side.append.Goals as goal

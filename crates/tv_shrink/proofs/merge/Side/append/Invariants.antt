@@ -1,6 +1,6 @@
 use Rattle.std.proofs.Common.{◌≡◌, ◌++◌, length}
 use Rattle.tv_core.specs.Combinations.{scaled}
-use Rattle.tv_shrink.specs.Merging.{leaving_out}
+use Rattle.tv_shrink.specs.Merge.{leaving_out}
 use Rattle.tv_core.specs.Normal.{normal, IsNormalFrom}
 use Rattle.tv_shrink.proofs.merge.Side.append.Given as goal
 

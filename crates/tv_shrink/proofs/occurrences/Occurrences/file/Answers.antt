@@ -1,7 +1,7 @@
 use Rattle.std.proofs.Common.{◌≡◌, ℕ, true, eqb, take_all, sym, ◌∙◌, ap, subst, arith}
 use Rattle.std.specs.List.{list_any}
-use Rattle.tv_shrink.specs.Occurring.{rows_of}
-use Rattle.tv_shrink.specs.Replacing.{has_wire}
+use Rattle.tv_shrink.specs.Occurrences.{rows_of}
+use Rattle.tv_shrink.specs.Substitution.{has_wire}
 use Rattle.tv_shrink.proofs.Occurring.{with_row-has}
 use Rattle.tv_shrink.proofs.Passes.{filed-more, filed-none}
 use Rattle.tv_shrink.proofs.ReplacingLaws.{none_has}

@@ -1,7 +1,7 @@
 use Rattle.std.proofs.Common.{◌≡◌, ◌≤◌, ℕ, true, eqb, take}
 use Rattle.std.specs.List.{list_any}
-use Rattle.tv_shrink.specs.Occurring.{rows_of}
-use Rattle.tv_shrink.specs.Replacing.{has_wire}
+use Rattle.tv_shrink.specs.Occurrences.{rows_of}
+use Rattle.tv_shrink.specs.Substitution.{has_wire}
 use Rattle.tv_shrink.proofs.occurrences.Occurrences.file.Given as goal
 
 abbrev pub invariant-loop-wire : goal.invariant-loop-wire

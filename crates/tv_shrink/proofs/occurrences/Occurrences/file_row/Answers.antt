@@ -1,8 +1,8 @@
 use Rattle.std.proofs.Common.{◌≡◌, ◌∙◌, ◌||◌, Some, true, ap, eqb, inl, inr, subst, sym}
 use Rattle.std.specs.List.{list_any}
 use Rattle.std.proofs.lemmas.Bool.{or_cases}
-use Rattle.tv_shrink.specs.Occurring.{rows_of}
-use Rattle.tv_shrink.specs.Replacing.{has_wire}
+use Rattle.tv_shrink.specs.Occurrences.{rows_of}
+use Rattle.tv_shrink.specs.Substitution.{has_wire}
 use Rattle.tv_shrink.specs.Tidy.{row_has}
 use Rattle.tv_shrink.proofs.occurrences.Occurrences.file_row.Goals as goal
 

@@ -1,11 +1,11 @@
 use Rattle.std.proofs.Common.{◌≡◌, ◌≤◌, ◌%◌, ◌∙◌, None, true, false, inl, inr, sym, ap, subst, arith, eqb, eqb-true, get_or, length, set, reverse}
 use Rattle.std.specs.List.{list_any}
 use Rattle.std.proofs.lemmas.Bool.{or_cases}
-use Rattle.tv_shrink.specs.Passing.{row_fits}
-use Rattle.tv_shrink.specs.Replacing.{Replacement}
+use Rattle.tv_shrink.specs.Pass.{row_fits}
+use Rattle.tv_shrink.specs.Substitution.{Replacement}
 use Rattle.tv_shrink.specs.declared.substitution.Substitution.TheInside.{Inside}
 use Rattle.std.proofs.lemmas.Nat.{mod_below}
-use Rattle.tv_shrink.specs.Occurring.{rows_from, rows_of}
+use Rattle.tv_shrink.specs.Occurrences.{rows_from, rows_of}
 use Rattle.tv_shrink.proofs.Occurring.{head_inside, rows_from-at, rows_from-none, rows_seen}
 use Rattle.tv_shrink.proofs.occurrences.Occurrences.misfit.Goals as goal
 use Rattle.tv_shrink.proofs.occurrences.Occurrences.misfit.Goals.{After-index-number}

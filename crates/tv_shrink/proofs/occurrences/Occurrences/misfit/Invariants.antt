@@ -1,7 +1,7 @@
 use Rattle.std.proofs.Common.{◌≡◌, ◌⊎◌, ◌≤◌, ℕ, true, None, eqb, get_or, set, length, reverse}
 use Rattle.std.specs.List.{list_any}
-use Rattle.tv_shrink.specs.Passing.{row_fits}
-use Rattle.tv_shrink.specs.Occurring.{rows_from}
+use Rattle.tv_shrink.specs.Pass.{row_fits}
+use Rattle.tv_shrink.specs.Occurrences.{rows_from}
 use Rattle.tv_shrink.proofs.occurrences.Occurrences.misfit.Given as goal
 
 abbrev pub invariant-loop-number : goal.invariant-loop-number

@@ -1,7 +1,7 @@
 use Rattle.std.proofs.Common.{◌≡◌, ◌∙◌, None, true, ap, arith, eqb, get_or, inl, inr, subst, sym}
 use Rattle.std.specs.List.{list_any}
 use Rattle.std.proofs.lemmas.Bool.{cases_eq}
-use Rattle.tv_shrink.specs.Occurring.{rows_of}
+use Rattle.tv_shrink.specs.Occurrences.{rows_of}
 use Rattle.tv_shrink.specs.Tidy.{row_has}
 use Rattle.tv_shrink.proofs.occurrences.Occurrences.of.Goals as goal
 

@@ -1,6 +1,6 @@
 use Rattle.std.proofs.Common.{◌≡◌, ◌<◌, ◌≤◌, ℕ, None, true, eqb, get_or}
 use Rattle.std.specs.List.{list_any}
-use Rattle.tv_shrink.specs.Occurring.{rows_of}
+use Rattle.tv_shrink.specs.Occurrences.{rows_of}
 use Rattle.tv_shrink.specs.Tidy.{row_has}
 use Rattle.tv_shrink.proofs.occurrences.Occurrences.of.Given as goal
 

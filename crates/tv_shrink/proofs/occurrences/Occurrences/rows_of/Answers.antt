@@ -1,7 +1,7 @@
 use Rattle.std.proofs.Common.{◌≡◌, ◌++◌, ◌∷◌, ◌%◌, [], ◌∙◌, sym, ap, arith, append-nil, get_or, length, reverse, subst}
 use Rattle.std.proofs.lemmas.List.{append_assoc}
 use Rattle.std.proofs.lemmas.Nat.{mod_below}
-use Rattle.tv_shrink.specs.Occurring.{rows_from}
+use Rattle.tv_shrink.specs.Occurrences.{rows_from}
 use Rattle.tv_shrink.proofs.Occurring.{head_inside, rows_from-at, rows_from-none, rows_seen}
 use Rattle.tv_shrink.proofs.occurrences.Occurrences.rows_of.Goals as goal
 

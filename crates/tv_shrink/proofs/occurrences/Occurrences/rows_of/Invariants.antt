@@ -1,5 +1,5 @@
 use Rattle.std.proofs.Common.{◌≡◌, ◌≤◌, ◌++◌, length, reverse}
-use Rattle.tv_shrink.specs.Occurring.{rows_from}
+use Rattle.tv_shrink.specs.Occurrences.{rows_from}
 use Rattle.tv_shrink.proofs.occurrences.Occurrences.rows_of.Given as goal
 
 abbrev pub invariant-loop-number : goal.invariant-loop-number

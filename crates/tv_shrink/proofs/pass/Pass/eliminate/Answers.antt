@@ -1,7 +1,7 @@
 use Rattle.std.proofs.Common.{◌≡◌, ◌∙◌, ℕ, None, true, false, ap, ap₂, refl, set, sym}
 use Rattle.std.specs.List.{list_all}
 use Rattle.std.proofs.lemmas.Result.{on_ok_weaker}
-use Rattle.tv_shrink.specs.Passing.{dropped, row_fits, substituted}
+use Rattle.tv_shrink.specs.Pass.{dropped, row_fits, substituted}
 use Rattle.tv_shrink.specs.Tidy.{State}
 use Rattle.tv_shrink.proofs.Passes.{attempted-all, not-attempted}
 use Rattle.tv_shrink.proofs.States.{staged}

@@ -1,6 +1,6 @@
 use Rattle.std.proofs.Common.{◌∙◌, ap, arith, length, sym}
 use Rattle.std.specs.List.{range_with_len}
-use Rattle.tv_shrink.specs.Passing.{turn}
+use Rattle.tv_shrink.specs.Pass.{turn}
 use Rattle.tv_shrink.specs.Tidy.{State}
 use Rattle.tv_shrink.proofs.Passes.{passed-more}
 use Rattle.tv_shrink.proofs.States.{turns_length}

@@ -1,6 +1,6 @@
 use Rattle.std.proofs.Common.{◌≡◌}
 use Rattle.std.specs.List.{fold, range_with_len}
-use Rattle.tv_shrink.specs.Passing.{turn}
+use Rattle.tv_shrink.specs.Pass.{turn}
 use Rattle.tv_shrink.proofs.pass.Pass.run.Given as goal
 
 abbrev pub invariant-loop-at : goal.invariant-loop-at

@@ -1,8 +1,8 @@
 use Rattle.std.proofs.Common.{◌≡◌, ◌<◌, ◌≤◌, ◌-◌, ◌∙◌, Some, None, true, ap, arith, get_or, length, subst, sym}
 use Rattle.std.proofs.lemmas.Result.{on_ok_weaker}
 use Rattle.tv_core.specs.Normal.{coefficient, IsNormalFrom}
-use Rattle.tv_shrink.specs.Passing.{attempted, dropped, linear_row}
-use Rattle.tv_shrink.specs.Replacing.{has_wire, solved}
+use Rattle.tv_shrink.specs.Pass.{attempted, dropped, linear_row}
+use Rattle.tv_shrink.specs.Substitution.{has_wire, solved}
 use Rattle.tv_shrink.proofs.Passes.{form_there, form_missing, form-normal, last_at, last-own, nil_of, solved-lacks, solved-normal, turn-empty}
 use Rattle.tv_shrink.proofs.Passes.{turn-private, turn-public, turn-unlinear}
 use Rattle.tv_shrink.proofs.States.{staged}

@@ -2,7 +2,7 @@ use Rattle.std.proofs.Common.{◌-◌, ◌++◌, sym, ◌∙◌, ap, ap₂}
 use Rattle.tv_core.specs.Combinations.{scaled}
 use Rattle.tv_core.specs.declared.field.TheConstants.{P}
 use Rattle.tv_core.specs.Normal.{normal}
-use Rattle.tv_shrink.specs.Replacing.{constant_in}
+use Rattle.tv_shrink.specs.Substitution.{constant_in}
 use Rattle.tv_shrink.proofs.Linear.{linear-first, linear-second, linear-none}
 use Rattle.tv_shrink.proofs.row.Row.linear_form.Goals as goal
 

@@ -1,6 +1,6 @@
 use Rattle.std.proofs.Common.{◌∙◌, None, arith, get_or, refl}
 use Rattle.std.specs.Option.{option_map}
-use Rattle.tv_shrink.specs.Moving.{moved_in}
+use Rattle.tv_shrink.specs.Renumbering.{moved_in}
 use Rattle.tv_shrink.proofs.Read.{touched_more}
 use Rattle.tv_shrink.proofs.rows.Rows.renumber.Goals as goal
 

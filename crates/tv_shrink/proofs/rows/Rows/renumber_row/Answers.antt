@@ -1,7 +1,7 @@
 use Rattle.std.proofs.Common.{◌≡◌, ◌≤◌, ◌∙◌, ◌++◌, None, Some, inl, refl, sym, ap, arith, length, map, set, subst}
 use Rattle.std.specs.Option.{option_map}
 use Rattle.std.proofs.lemmas.List.{length-append, set-get_or}
-use Rattle.tv_shrink.specs.Moving.{moved_in}
+use Rattle.tv_shrink.specs.Renumbering.{moved_in}
 use Rattle.tv_shrink.specs.Spans.{end_of, row_at, row_terms, IsInside}
 use Rattle.tv_shrink.proofs.Laying.{held_at, rows_laid}
 use Rattle.tv_shrink.proofs.Read.{each_at}

@@ -1,6 +1,6 @@
 use Rattle.std.proofs.Common.{◌≡◌, None, Some, sym, ◌∙◌, ap, arith, get_or, length, set}
 use Rattle.std.specs.Option.{option_map}
-use Rattle.tv_shrink.specs.Replacing.{replaced_in}
+use Rattle.tv_shrink.specs.Substitution.{replaced_in}
 use Rattle.tv_shrink.specs.Spans.{row_at, row_terms}
 use Rattle.tv_shrink.specs.declared.arena.Span.{Span}
 use Rattle.tv_shrink.proofs.Laying.{held_at, laid_more, rows_laid}

@@ -1,6 +1,6 @@
 use Rattle.std.proofs.Common.{◌≤◌, ◌∙◌, Ok, ap, arith, None, set, sym}
 use Rattle.std.specs.List.{list_all}
-use Rattle.tv_shrink.specs.Passing.{row_fits}
+use Rattle.tv_shrink.specs.Pass.{row_fits}
 use Rattle.tv_shrink.specs.Tidy.{State}
 use Rattle.tv_shrink.proofs.Passes.{all-fit-there}
 use Rattle.tv_shrink.proofs.state.State.others_fit.Goals as goal

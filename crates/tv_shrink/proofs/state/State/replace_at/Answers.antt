@@ -1,5 +1,5 @@
 use Rattle.std.proofs.Common.{◌∙◌, None, ap, get_or, sym}
-use Rattle.tv_shrink.specs.Replacing.{Replacement}
+use Rattle.tv_shrink.specs.Substitution.{Replacement}
 use Rattle.tv_shrink.specs.Tidy.{row_has, State}
 use Rattle.tv_shrink.proofs.States.{kept_replaced, unchanged}
 use Rattle.tv_shrink.proofs.state.State.replace_at.Goals as goal

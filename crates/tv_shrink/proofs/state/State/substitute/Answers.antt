@@ -2,8 +2,8 @@ use Rattle.std.proofs.Common.{◌≡◌, ◌≤◌, ◌∙◌, ℕ, None, true, 
 use Rattle.std.specs.List.{list_any}
 use Rattle.std.specs.Option.{option_map}
 use Rattle.tv_core.specs.Constraints.{Combination}
-use Rattle.tv_shrink.specs.Occurring.{rows_of}
-use Rattle.tv_shrink.specs.Replacing.{has_wire, replaced_in, IsReplacement, Replacement}
+use Rattle.tv_shrink.specs.Occurrences.{rows_of}
+use Rattle.tv_shrink.specs.Substitution.{has_wire, replaced_in, IsReplacement, Replacement}
 use Rattle.tv_shrink.specs.declared.substitution.Substitution.TheInside.{Inside}
 use Rattle.tv_shrink.specs.Tidy.{marked, row_has, State}
 use Rattle.tv_shrink.proofs.Gone.{marked_more}

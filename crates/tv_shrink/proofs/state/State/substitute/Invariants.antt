@@ -1,7 +1,7 @@
 use Rattle.std.proofs.Common.{◌≡◌, ℕ, None, cond, eqb, get_or, length, take}
 use Rattle.std.specs.List.{list_any}
 use Rattle.std.specs.Option.{option_map}
-use Rattle.tv_shrink.specs.Replacing.{replaced_in}
+use Rattle.tv_shrink.specs.Substitution.{replaced_in}
 use Rattle.tv_shrink.proofs.state.State.substitute.Given as goal
 
 abbrev pub invariant-loop-at : goal.invariant-loop-at

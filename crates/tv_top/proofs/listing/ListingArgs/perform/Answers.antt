@@ -1,12 +1,12 @@
 use Rattle.std.proofs.Common.{refl, ap}
 use Rattle.tv_benes.specs.declared.shape.Net.TheVariants.{Benes}
 use Rattle.tv_extract.proofs.ExtractLaws.{extracted_is_run}
-use Rattle.tv_top.specs.Assigned.{assigned_in, assigned_run, kept_in, run_ends}
+use Rattle.tv_top.specs.Assignment.{assigned_in, assigned_run, kept_in, run_ends}
 use Rattle.tv_top.specs.Kinds.{is_listing}
 use Rattle.tv_top.specs.Listing.{listing_asks, lines_written}
 use Rattle.tv_top.specs.Programs.{bits}
 use Rattle.tv_top.proofs.Answering.{does_stopped, does_found, completes_as}
-use Rattle.tv_top.proofs.AssignedLaws.{completes_none, comes_kept, ends_in, kept_ran}
+use Rattle.tv_top.proofs.AssignmentLaws.{completes_none, comes_kept, ends_in, kept_ran}
 use Rattle.tv_top.proofs.listing.ListingArgs.perform.Goals as goal
 
 pub write_lines-requires-clause-within : goal.write_lines-requires-clause-within

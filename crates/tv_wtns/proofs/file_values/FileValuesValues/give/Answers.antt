@@ -1,6 +1,6 @@
 use Rattle.std.proofs.Common.{refl}
 use Rattle.tv_container.proofs.Buffers.{unrefused}
-use Rattle.tv_wtns.proofs.Giving.{given}
+use Rattle.tv_wtns.proofs.Takers.{given}
 use Rattle.tv_wtns.proofs.file_values.FileValuesValues.give.Goals as goal
 
 pub returns-clause-gives : goal.returns-clause-gives

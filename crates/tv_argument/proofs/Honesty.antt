@@ -1,0 +1,154 @@
+-- Lines are honest where each follows the line at its place in a permutation.
+use Rattle.std.proofs.Common.{◌≡◌, ◌≢◌, ◌⊎◌, ℕ, ◌^◌, ◌<◌, ◌≤◌, List, length, Contains, inl, inr, sym, ◌∙◌, ap, subst, arith}
+use Rattle.std.proofs.lemmas.Bool.{cases_order, cases_lt, cases_eq}
+use Rattle.tv_core.proofs.BelowLaws.{length-each_below}
+use Rattle.tv_core.specs.Below.{each_below}
+use Rattle.tv_core.specs.Lines.{Line, Honest}
+use Rattle.tv_argument.proofs.Counting.{PermutesPlaces, Falls, none_between, none_below, permuted_below}
+use Rattle.tv_lines.proofs.Neighbours.{each_below-at}
+use Rattle.tv_lines.proofs.OrderedLaws.{HonestByTimes}
+use Rattle.tv_lines.proofs.PredecessorReach.{follows_rises}
+use Rattle.tv_lines.proofs.TimeOrder.{Honest-from_times}
+use Rattle.tv_lines.specs.Ordered.{Follows, InTimeOrder, key}
+
+-- the lines from place l on have the greatest cell, of which every line leaves 0, and begin at 0
+pub record PaddedFrom (n l : ℕ) (line : ℕ → Line) : Type 0 where
+  pub cells : (i j : ℕ) → i < n → l ≤ j → j < n → (line i).cell ≤ (line j).cell
+  pub olds : (j : ℕ) → l ≤ j → j < n → (line j).old ≡ 0
+  pub news : (i j : ℕ) → i < n → l ≤ j → j < n → (line i).cell ≡ (line j).cell → (line i).new ≡ 0
+
+-- n lines at the times 0, 1, .., of which those from place l on are padding: the line at place a begins at 0, and each
+-- other line before l follows the line at its place in p
+pub record FollowBefore (n l a : ℕ) (p : ℕ → ℕ) (line : ℕ → Line) : Type 0 where
+  pub least : a < l
+  pub within : l ≤ n
+  pub times : (i : ℕ) → i < n → (line i).time ≡ i
+  pub begins : (line a).old ≡ 0
+  pub follows : (i : ℕ) → i < l → i ≢ a → Follows (line (p i)) (line i)
+  pub padded : PaddedFrom n l line
+
+module _ (n l a : ℕ) (p : ℕ → ℕ) (line : ℕ → Line) (few : n ≤ 2 ^ 20) (moved : PermutesPlaces n p) (h : FollowBefore n l a p line) where
+  abbrev k : ℕ → ℕ
+  k i = key (line i)
+
+  inside : (i : ℕ) → i < l → i < n
+  inside i x = let w = h.within in omega arith
+
+  small : (i : ℕ) → i < n → (line i).time < 2 ^ 20
+  small i x = omega (arith, h.times i x)
+
+  falls : Falls n l a p k
+  falls = record {
+    exempt = h.least;
+    within = h.within;
+    permutes = moved;
+    falls = λ i x other. follows_rises (line (p i)) (line i) (small (p i) (permuted_below n p moved i (inside i x))) (small i (inside i x))
+        (h.follows i x other);
+    greatest = λ i j x y z.
+        let w = inside i x in
+        let c = h.padded.cells i j w y z in
+        omega (arith, h.times i w, h.times j z);
+  }
+
+  -- the latest earlier line of the cell stands at the image
+  latest : (b i : ℕ) → b < n → i < n → (line b).cell ≡ (line i).cell → (line b).time < (line i).time
+      → ((m : ℕ) → m < n → (line m).cell ≡ (line i).cell → (line b).time < (line m).time → (line m).time < (line i).time → ⊥)
+      → (line i).old ≡ (line b).new
+  latest b i hb hi same early none = by (cases_lt i l) (cases_eq i a)
+    where
+      tb : (line b).time ≡ b
+      tb = h.times b hb
+
+      ti : (line i).time ≡ i
+      ti = h.times i hi
+
+      at_image : i < l → i ≢ a → ((k (p i) ≡ k b) ⊎ ((k (p i) < k b) ⊎ (k b < k (p i)))) → (line i).old ≡ (line b).new
+      at_image low other (inl e) =
+          let f = h.follows i low other in
+          let hp = permuted_below n p moved i hi in
+          let sp = small (p i) hp in
+          let sb = small b hb in
+          let t : (line (p i)).time ≡ (line b).time = omega arith in
+          let is : p i ≡ b = sym (h.times (p i) hp) ∙ t ∙ tb in
+          f.carried (ap (λ j. (line j).cell) is ∙ same) ∙ ap (λ j. (line j).new) is
+      at_image low other (inr (inl e)) =
+          absurd (none_between n l a p k falls i b low other (omega arith) e (omega arith))
+      at_image low other (inr (inr e)) =
+          let f = h.follows i low other in
+          let hp = permuted_below n p moved i hi in
+          let sp = small (p i) hp in
+          let sb = small b hb in
+          let si = small i hi in
+          let g = follows_rises (line (p i)) (line i) sp si f in
+          absurd (none (p i) hp (omega arith) (omega arith) (omega arith))
+
+      by : ((i < l) ⊎ (l ≤ i)) → ((i ≡ a) ⊎ (i ≢ a)) → (line i).old ≡ (line b).new
+      by (inr high) x = h.padded.olds i high hi ∙ sym (h.padded.news b i hb high hi same)
+      by (inl low) (inl e) =
+          let s : k i ≡ k a = ap k e in
+          absurd (none_below n l a p k falls b (omega arith) (omega arith))
+      by (inl low) (inr other) = at_image low other (cases_order (k (p i)) (k b))
+
+  first : (i : ℕ) → i < n → ((m : ℕ) → m < n → (line m).cell ≡ (line i).cell → (line m).time < (line i).time → ⊥) → (line i).old ≡ 0
+  first i hi none = by (cases_lt i l) (cases_eq i a)
+    where
+      by : ((i < l) ⊎ (l ≤ i)) → ((i ≡ a) ⊎ (i ≢ a)) → (line i).old ≡ 0
+      by (inr high) x = h.padded.olds i high hi
+      by (inl low) (inl e) = ap (λ j. (line j).old) e ∙ h.begins
+      by (inl low) (inr other) =
+          let f = h.follows i low other in
+          let hp = permuted_below n p moved i hi in
+          let sp = small (p i) hp in
+          let si = small i hi in
+          let g = follows_rises (line (p i)) (line i) sp si f in
+          f.fresh (λ same. none (p i) hp same (omega arith))
+
+  lines : List Line
+  lines = each_below n line
+
+  long : length lines ≡ n
+  unfolding lines
+  long = length-each_below n line
+
+  -- a member stands at a place
+  member : (m : Line) → Contains lines m → (i : ℕ) × (i < n) × (line i ≡ m)
+  unfolding lines
+  member m (i, x, e) = let w = long in (i, omega arith, sym (each_below-at n i line m (omega arith)) ∙ e)
+
+  contained : (i : ℕ) → i < n → Contains lines (line i)
+  unfolding lines
+  contained i x = (i, omega (arith, long), each_below-at n i line (line i) x)
+
+  by_places : HonestByTimes lines
+  by_places = record {
+    latest = λ q m hq hm same early none. latest_of q m (member q hq) (member m hm) same early none;
+    first = λ m hm none. first_of m (member m hm) none;
+  }
+    where
+      latest_of : (q m : Line) → (i : ℕ) × (i < n) × (line i ≡ q) → (i : ℕ) × (i < n) × (line i ≡ m) → q.cell ≡ m.cell → q.time < m.time
+          → ((o : Line) → Contains lines o → o.cell ≡ m.cell → q.time < o.time → o.time < m.time → ⊥) → m.old ≡ q.new
+      latest_of q m (b, hb, eb) (i, hi, ei) =
+          subst (λ q. q.cell ≡ m.cell → q.time < m.time → ((o : Line) → Contains lines o → o.cell ≡ m.cell → q.time < o.time → o.time < m.time → ⊥) → m.old
+          ≡ q.new) eb
+          (subst (λ m. (line b).cell ≡ m.cell → (line b).time < m.time
+          → ((o : Line) → Contains lines o → o.cell ≡ m.cell → (line b).time < o.time → o.time < m.time → ⊥) → m.old ≡ (line b).new) ei
+          (λ same early none. latest b i hb hi same early (λ j x. none (line j) (contained j x))))
+
+      first_of : (m : Line) → (i : ℕ) × (i < n) × (line i ≡ m) → ((o : Line) → Contains lines o → o.cell ≡ m.cell → o.time < m.time → ⊥) → m.old ≡ 0
+      first_of m (i, hi, ei) =
+          subst (λ m. ((o : Line) → Contains lines o → o.cell ≡ m.cell → o.time < m.time → ⊥) → m.old ≡ 0) ei
+          (λ none. first i hi (λ j x. none (line j) (contained j x)))
+
+  in_time : InTimeOrder lines
+  unfolding lines
+  in_time i j d x y =
+      let w = long in
+      rw (each_below-at n i line d (omega arith), each_below-at n j line d (omega arith)) (omega (arith, h.times i (omega arith), h.times j (omega arith)))
+
+  honest : Honest lines
+  honest = Honest-from_times lines in_time by_places
+
+  -- they are honest
+  pub honest_places : Honest (each_below n line)
+  unfolding lines
+  honest_places = honest

@@ -1,0 +1,16 @@
+use Rattle.std.proofs.Common.{◌≡◌, List, length, map, ◌∙◌, arith}
+use Rattle.std.proofs.lemmas.List.{length-map}
+use Rattle.tv_core.specs.Lines.{Line}
+use Rattle.tv_lines.specs.PackedLines.{unpacked}
+use Rattle.tv_argument.proofs.Previous.{order_permutes}
+use Rattle.tv_argument.specs.Order.{address_order}
+use Rattle.tv_route.specs.Permutations.{Permutes}
+use Rattle.tv_argument.proofs.address_order.predecessors.Goals as goal
+
+pub previous-requires : goal.previous-requires
+previous-requires c =
+    let lines : List Line = map unpacked c.args.pairs.now in
+    let many = length-map c.args.pairs.now unpacked in
+    let is : c.deref.result.now ≡ address_order lines = c.deref.ensures.value ∙ c.in_ok-order.ensures in
+    let right : Permutes (length lines) (address_order lines) = order_permutes lines (omega (arith, many, c.requires.few)) c.requires.times in
+    rw (is, right.as_long) right

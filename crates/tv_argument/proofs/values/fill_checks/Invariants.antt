@@ -1,0 +1,16 @@
+use Rattle.std.proofs.Common.{◌≡◌, false}
+use Rattle.tv_benes.specs.Items.{pair_at}
+use Rattle.tv_core.specs.Below.{joined_below}
+use Rattle.tv_core.specs.Values.{GivesAll}
+use Rattle.tv_lines.specs.PackedLines.{unpacked}
+use Rattle.tv_lines.specs.Placed.{number_in}
+use Rattle.tv_argument.specs.Checks.{check_values}
+use Rattle.tv_argument.proofs.values.fill_checks.Given as goal
+
+abbrev pub invariant-loop-i : goal.invariant-loop-i
+invariant-loop-i g l = record {
+  gives : GivesAll g.V.Values.giving l.initial.v l.v
+      (joined_below l.i (λ i. check_values ((g.L.LineNumbers.checks l.lines).kind i) (unpacked (pair_at l.items i))
+      (number_in (g.L.LineNumbers.lines l.lines) i)));
+  whole : g.V.Values.giving.broken l.v ≡ false;
+}

@@ -1,0 +1,31 @@
+-- What a system needs of an argument about memory, whatever it is: constraints over a list of lines that hold them to
+-- be honest. A system of constraints stands on these two records alone.
+use Rattle.std.specs.Prelude.{◌≡◌, ℕ, ◌+◌, ◌^◌, ◌≤◌, List, length, map}
+use Rattle.tv_core.specs.Circuits.{Circuit}
+use Rattle.tv_core.specs.Laws.{Assigns, Meets, HasFrom, InField}
+use Rattle.tv_core.specs.Lines.{Line, Honest}
+use Rattle.tv_core.specs.declared.lines.LineLc.{LineLc}
+use Rattle.tv_lines.specs.PackedLines.{line_value}
+use Rattle.tv_lines.specs.Placed.{LinesFrom}
+use Rattle.tv_argument.specs.Checks.{Checks, AreOfKinds, AreNear}
+
+-- the constraints for 2 ^ k lines, by how they are checked
+abbrev pub Argument : Type 0
+Argument = Checks → ℕ → List LineLc → Circuit (Unit {0})
+
+-- lines at the times 0, 1, 2, .. that are of their kinds are honest in every assignment that satisfies the constraints
+abbrev pub ArgumentIsSound : Argument → Type 0
+ArgumentIsSound argument = (z : List ℕ) (checks : Checks) (k : ℕ) (lines : List LineLc) (next : ℕ) → 1 ≤ k → k ≤ 20 → length lines ≡ 2 ^ k
+    → LinesFrom 0 (map (line_value z) lines) → AreOfKinds checks (map (line_value z) lines)
+    → Assigns z → Meets z (argument checks k lines next).list → Honest (map (line_value z) lines)
+
+-- the values of the wires that are made for honest lines: as many as wires, each below P, and an assignment that has
+-- them satisfies the constraints, where the lines are of their kinds and near their predecessors
+pub record ArgumentIsComplete (argument : Argument) (values : Checks → ℕ → List Line → List ℕ) (made : Checks → ℕ → ℕ) : Type 0 where
+  pub next : (checks : Checks) (k : ℕ) (lines : List LineLc) (at : ℕ) → (argument checks k lines at).next ≡ at + made checks k
+  pub many : (checks : Checks) (k : ℕ) (lines : List Line) → length (values checks k lines) ≡ made checks k
+  pub below : (checks : Checks) (k : ℕ) (lines : List Line) → length lines ≤ 2 ^ 20 → LinesFrom 0 lines → InField (values checks k lines)
+  pub met : (z : List ℕ) (checks : Checks) (k : ℕ) (lines : List LineLc) (at : ℕ) → 1 ≤ k → k ≤ 20 → length lines ≡ 2 ^ k
+      → LinesFrom 0 (map (line_value z) lines) → AreOfKinds checks (map (line_value z) lines) → AreNear checks (map (line_value z) lines)
+      → Honest (map (line_value z) lines) → Assigns z
+      → HasFrom z at (values checks k (map (line_value z) lines)) → Meets z (argument checks k lines at).list

@@ -1,0 +1,119 @@
+//! The argument's constraints, and its laws.
+ghost use Rattle.std.specs.Prelude.{◌≡◌, ◌^◌, ◌≤◌, ◌<◌, length, All, IfOk};
+ghost use Rattle.tv_benes.specs.Places.{output, AreBelow};
+ghost use Rattle.tv_benes.specs.declared.shape.Net.{Net};
+ghost use Rattle.tv_core.specs.Below.{sum_below};
+ghost use Rattle.tv_core.specs.Loops.{sequence};
+ghost use Rattle.tv_core.specs.Sinks.{PutsIn, Grows, Room};
+ghost use Rattle.tv_lines.specs.Placed.{line_in};
+ghost use Rattle.tv_lines.specs.Predecessor.{IsLineMade, IsItemMade};
+ghost use Rattle.tv_lines.specs.Compact.{line_lc};
+ghost use Rattle.tv_argument.specs.Argument.{ArgumentIsSound, ArgumentIsComplete};
+ghost use Rattle.tv_argument.specs.Checks.{AreShort, IsShort, check_of, check_made, check_added};
+ghost use Rattle.tv_argument.specs.Memory.{IsMade, argument_of, memory_made, memory_added};
+ghost use Rattle.tv_argument.specs.Memory.{ArgumentCosts, MemoryIsNormal};
+ghost use Rattle.tv_argument.specs.Order.{argument_values};
+
+use crate::kinds::Kind;
+use crate::lines::{LineItems, Lines, no_terms};
+use tv_benes::{Net, Outputs, routing_network};
+use tv_core::{Pair, Put, Scratch, Sink};
+use tv_lines::{CompactLine, boot_line, follows, least_line};
+
+/// Constrains 2^`k` lines in time order, `k` from 1 to 20, to be honest: each finds the word that
+/// the last earlier line of its cell leaves, or 0. A permutation network brings to each line the
+/// item of its predecessor in address order, and the line is checked against it at its own place,
+/// as its kind says. It asks for each line twice, and takes no memory. It makes the
+/// network's wires, with a constraint for each, and those of the checks: `m + 1` wires and `m + 3`
+/// constraints for a line within `m` bits, 1 constraint for a boot line or the least line.
+pub fn memory<S: Sink, L: Lines>(s: &mut S, net: Net, k: u32, lines: &L) -> Put<()>
+    requires some { 1 ≤ k }
+    requires few { k ≤ 20 }
+    requires many { length (L.lines lines.now) ≡ 2 ^ k }
+    requires checks { AreShort (L.checks lines.now) (2 ^ k) }
+    requires room { Room S.meaning s.old (memory_made net (L.checks lines.now) k)
+        (memory_added net (L.checks lines.now) k) }
+    requires made { All (IsMade (S.meaning.wires s.old)) (L.lines lines.now) }
+    ensures puts { PutsIn S.meaning s.old s.new
+        (argument_of net (L.checks lines.now) k (L.lines lines.now)) result }
+    ensures grows { IfOk result (λ _. Grows S.meaning s.old s.new
+        (memory_made net (L.checks lines.now) k) (memory_added net (L.checks lines.now) k)) }
+{
+    let last = routing_network(s, net, k, &LineItems { lines })?;
+    check_all(s, lines, &last)
+}
+
+// Checks each line against what the network brings to its place.
+fn check_all<S: Sink, L: Lines>(s: &mut S, lines: &L, last: &Outputs) -> Put<()>
+    requires checks { AreShort (L.checks lines.now) (length (L.lines lines.now)) }
+    requires room { Room S.meaning s.old
+        (sum_below (L.checks lines.now).count (λ i. check_made ((L.checks lines.now).kind i)))
+        (sum_below (L.checks lines.now).count (λ i. check_added ((L.checks lines.now).kind i))) }
+    requires made { All (IsMade (S.meaning.wires s.old)) (L.lines lines.now) }
+    requires below { AreBelow last.now (length (L.lines lines.now)) (S.meaning.wires s.old) }
+    ensures puts { PutsIn S.meaning s.old s.new (sequence (L.checks lines.now).count
+        (λ i. check_of ((L.checks lines.now).kind i) (output last.now i)
+        (line_in (L.lines lines.now) i))) result }
+    ensures grows { IfOk result (λ _. Grows S.meaning s.old s.new
+        (sum_below (L.checks lines.now).count (λ i. check_made ((L.checks lines.now).kind i)))
+        (sum_below (L.checks lines.now).count (λ i. check_added ((L.checks lines.now).kind i)))) }
+{
+    let mut scratch = Scratch::new();
+    let mut item = no_terms();
+    for i in 0..lines.checked() {
+        last.set_item(i, &mut item);
+        check(s, &mut scratch, lines.kind(i), &lines.line(i), &item)?;
+    }
+    Ok(())
+}
+
+// Checks a line of a kind against an item.
+fn check<S: Sink>(
+    s: &mut S,
+    scratch: &mut Scratch,
+    kind: Kind,
+    line: &CompactLine,
+    item: &Pair,
+) -> Put<()>
+    requires short { IsShort kind }
+    requires room { Room S.meaning s.old (check_made kind) (check_added kind) }
+    requires line { IsLineMade (S.meaning.wires s.old) line.now }
+    requires item { IsItemMade (S.meaning.wires s.old) item.now }
+    ensures puts { PutsIn S.meaning s.old s.new (check_of kind item.now (line_lc line.now)) result }
+    ensures grows { IfOk result
+        (λ _. Grows S.meaning s.old s.new (check_made kind) (check_added kind)) }
+{
+    match kind {
+        Kind::Fresh => Ok(()),
+        Kind::Least => least_line(s, scratch, line),
+        Kind::Boot(cell) => boot_line(s, scratch, cell, item),
+        Kind::Within(bits) => follows(s, scratch, bits, line, item),
+    }
+}
+
+/// Lines at the times 0, 1, 2, .. that are of their kinds are honest in every assignment that
+/// satisfies the constraints of `memory`, whatever it has at the wires of the network and of the
+/// checks.
+pub fn argument_is_sound()
+    ensures { (net : Net) → ArgumentIsSound (argument_of net) }
+{}
+
+/// For honest lines at the times 0, 1, 2, .. that are of their kinds and near their predecessors
+/// there are values, as many as wires and each below P, with which an assignment satisfies the
+/// constraints of `memory`.
+pub fn argument_is_complete()
+    ensures { (net : Net) → ArgumentIsComplete (argument_of net) (argument_values net)
+        (memory_made net) }
+{}
+
+/// The constraints of `memory`, by the kinds of the lines, and their terms, by the lines, at most
+/// 2^10 a line.
+pub fn argument_costs()
+    ensures { ArgumentCosts }
+{}
+
+/// The constraints of `memory` over lines of wires before its own are normal, whatever the lines'
+/// combinations are.
+pub fn argument_is_normal()
+    ensures { MemoryIsNormal }
+{}

@@ -1,0 +1,29 @@
+//! The memory argument: constraints that hold a list of lines, in time order, to be honest.
+//!
+//! A permutation network brings to each line, at its own place, the item of its predecessor in
+//! address order, and the line is checked against it there: its cell is above, or its time in the
+//! same cell, and its old word is what the predecessor leaves, or 0. Nothing is unpacked after the
+//! network. How a line is checked is known from its place: its `Kind`.
+//!
+//! `memory` keeps no list and takes no memory. Contracts above cite the two records of
+//! `specs/Argument.antt`, which say what a system needs of any argument about memory; that this one
+//! has it is proved for both networks.
+#![tactic(auto)]
+
+mod address_order;
+mod argument;
+mod check_costs;
+mod kinds;
+mod lines;
+mod terms;
+mod values;
+
+pub use address_order::{address_order_is_right, predecessors, predecessors_are_right};
+pub use argument::{
+    argument_costs, argument_is_complete, argument_is_normal, argument_is_sound, memory,
+};
+pub use check_costs::{check_added, check_made, checks_are_cheap, network_made};
+pub use kinds::Kind;
+pub use lines::{LineNumbers, Lines};
+pub use terms::memory_terms;
+pub use values::fill_argument;

@@ -1,0 +1,88 @@
+//! Lines by their places: in compact form for the constraints, in numbers for their values.
+ghost use Rattle.std.specs.Prelude.{◌≡◌, ◌<◌, List, length};
+ghost use Rattle.tv_core.specs.Lines.{Line};
+ghost use Rattle.tv_core.specs.declared.lines.LineLc.{LineLc};
+ghost use Rattle.tv_lines.specs.Placed.{line_in, number_in};
+ghost use Rattle.tv_lines.specs.Compact.{line_lc};
+ghost use Rattle.tv_argument.specs.Checks.{Checks};
+ghost use Rattle.tv_argument.specs.Memory.{items_of};
+
+use crate::kinds::Kind;
+use tv_benes::Inputs;
+use tv_core::{Lc, Line, Pair};
+use tv_lines::CompactLine;
+
+/// Lines by their places, and how each is checked. Contracts see them as a list and as `Checks`.
+pub trait Lines {
+    ghost lines: { Self → List LineLc };
+
+    ghost checks: { Self → Checks };
+
+    /// Returns the line at place `i`, in compact form.
+    fn line(&self, i: u32) -> CompactLine
+        requires { i < length (lines self.now) }
+        ensures is { line_lc result ≡ line_in (lines self.now) i };
+
+    /// Returns how many lines are checked: those at places below this. The others are padding.
+    fn checked(&self) -> u32
+        ensures { result ≡ (checks self.now).count };
+
+    /// Returns how the line at place `i` is checked.
+    fn kind(&self, i: u32) -> Kind
+        requires { i < (checks self.now).count }
+        ensures { result ≡ (checks self.now).kind i };
+}
+
+/// The numbers of lines by their places, and how each is checked, for the values of the checks.
+/// Contracts see them as a list and as `Checks`.
+pub trait LineNumbers {
+    ghost lines: { Self → List Line };
+
+    ghost checks: { Self → Checks };
+
+    /// Returns the line at place `i`, but for its new word, which may be any.
+    fn line(&self, i: u32) -> Line
+        requires { i < (checks self.now).count }
+        ensures cell { result.cell ≡ (number_in (lines self.now) i).cell }
+        ensures time { result.time ≡ (number_in (lines self.now) i).time }
+        ensures old { result.old ≡ (number_in (lines self.now) i).old };
+
+    /// Returns how many lines are checked: those at places below this.
+    fn checked(&self) -> u32
+        ensures { result ≡ (checks self.now).count };
+
+    /// Returns how the line at place `i` is checked.
+    fn kind(&self, i: u32) -> Kind
+        requires { i < (checks self.now).count }
+        ensures { result ≡ (checks self.now).kind i };
+}
+
+// The lines' items, for a network.
+#[derive(Clone, Copy)]
+pub(crate) struct LineItems<'a, L> {
+    pub(crate) lines: &'a L,
+}
+
+impl<'a, L: Lines> Inputs for LineItems<'a, L> {
+    ghost pair = { λ p i. items_of (L.lines p.lines.now) i };
+
+    ghost count = { λ p. length (L.lines p.lines.now) };
+
+    fn at(&self, i: u32) -> Pair {
+        let mut pair = no_terms();
+        self.set_item(i, &mut pair);
+        pair
+    }
+
+    fn set_item(&self, i: u32, item: &mut Pair) {
+        self.lines.line(i).item(item);
+    }
+}
+
+// Two combinations without terms, to be filled.
+pub(crate) fn no_terms() -> Pair {
+    Pair {
+        first: Lc::empty(),
+        second: Lc::empty(),
+    }
+}

@@ -1,0 +1,75 @@
+-- Calls one after another give their lists one after another. `search (giving, ..)` with what each call
+-- did proves what the whole did; at the exit of a `?` it stands after `gives_refused`.
+use Rattle.std.proofs.Common.{◌≡◌, ℕ, List, [], ◌∷◌, ◌++◌, Result, IsErrAnd, sym, ◌∙◌, ap, subst, append_assoc, arith}
+use Rattle.std.proofs.lemmas.List.{append-nil}
+use Rattle.std.proofs.lemmas.Result.{err_from_is_err_and}
+use Rattle.tv_core.proofs.Chain.{IsCause-after}
+use Rattle.tv_core.specs.Values.{ValuesMeaning, GivesAll, GivesSome, GivesIn}
+use Rattle.tv_core.specs.declared.sink.SinkFault.{SinkFault}
+
+module _ {V : Type 0} (m : ValuesMeaning V) where
+  pub gives_then : (xs ys : List ℕ) (old mid new : V) → GivesAll m old mid xs → GivesAll m mid new ys → GivesAll m old new (xs ++ ys)
+  gives_then xs ys old mid new p q = record {
+    stands = λ list s. subst (λ l. m.stands new l) (append_assoc list xs ys) (q.stands _ (p.stands list s));
+    keeps = m.keeps_then old mid new p.keeps q.keeps;
+    faults = omega (arith, p.faults, q.faults);
+    wants = omega (arith, p.wants, q.wants);
+  }
+
+  pub gives_then_refused : (xs ys : List ℕ) (old mid new : V) (fault : SinkFault) → GivesAll m old mid xs → GivesSome m mid new ys fault
+      → GivesSome m old new (xs ++ ys) fault
+  gives_then_refused xs ys old mid new fault p q = record {
+    front = xs ++ q.front;
+    refused = q.refused;
+    back = q.back;
+    at = ap (λ l. xs ++ l) q.at ∙ sym (append_assoc xs q.front _);
+    tried = λ list s. subst (λ l. m.tried new l) (append_assoc list xs _ ∙ ap (λ l. list ++ l) (sym (append_assoc xs q.front _)))
+        (q.tried (list ++ xs) (p.stands list s));
+    broken = q.broken;
+    keeps = m.keeps_then old mid new p.keeps q.keeps;
+    cause = IsCause-after fault m.faults m.wants old mid new p.faults p.wants q.cause;
+    faults = omega (arith, p.faults, q.faults);
+    wants = omega (arith, p.wants, q.wants);
+  }
+
+  pub gives_refused_then : (xs ys : List ℕ) (old new : V) (fault : SinkFault) → GivesSome m old new xs fault → GivesSome m old new (xs ++ ys) fault
+  gives_refused_then xs ys old new fault p = record {
+    front = p.front;
+    refused = p.refused;
+    back = p.back ++ ys;
+    at = ap (λ l. l ++ ys) p.at ∙ append_assoc p.front _ _;
+    tried = p.tried;
+    broken = p.broken;
+    keeps = p.keeps;
+    cause = p.cause;
+    faults = p.faults;
+    wants = p.wants;
+  }
+
+  pub gives_nothing : (v : V) → GivesAll m v v []
+  gives_nothing v = record {
+    stands = λ list h. rw append-nil h;
+    keeps = m.keeps_same v;
+    faults = omega arith;
+    wants = omega arith;
+  }
+
+  -- one value and then others
+  pub gives_one_then : (x : ℕ) (ys : List ℕ) (old mid new : V) → GivesAll m old mid (x ∷ []) → GivesAll m mid new ys → GivesAll m old new (x ∷ ys)
+  gives_one_then x ys = gives_then (x ∷ []) ys
+
+  pub gives_one_then_refused : (x : ℕ) (ys : List ℕ) (old mid new : V) (fault : SinkFault) → GivesAll m old mid (x ∷ []) → GivesSome m mid new ys fault
+      → GivesSome m old new (x ∷ ys) fault
+  gives_one_then_refused x ys = gives_then_refused (x ∷ []) ys
+
+  pub gives_one_refused_then : (x : ℕ) (ys : List ℕ) (old new : V) (fault : SinkFault) → GivesSome m old new (x ∷ []) fault → GivesSome m old new (x ∷ ys) fault
+  gives_one_refused_then x ys = gives_refused_then (x ∷ []) ys
+
+  -- the exit of a `?`
+  pub gives_refused : (old new : V) (values : List ℕ) (result : Result (Unit {0}) SinkFault) {fault : SinkFault}
+      → IsErrAnd result (λ e. e ≡ fault) → GivesSome m old new values fault → GivesIn m old new values result
+  gives_refused old new values result {fault} r p =
+      let e = err_from_is_err_and result r in
+      rw (e.1, e.2) p
+
+pub ruleset giving = (gives_then, gives_then_refused, gives_refused_then, gives_nothing, gives_one_then, gives_one_then_refused, gives_one_refused_then)

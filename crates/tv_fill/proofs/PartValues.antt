@@ -1,0 +1,67 @@
+-- The values of a filling, given part by part.
+use Rattle.std.proofs.Common.{◌≡◌, ℕ, Bool, List, length, Result, ap₂, ◌∙◌}
+use Rattle.tv_benes.specs.Items.{bit_at}
+use Rattle.tv_benes.specs.declared.shape.Net.{Net}
+use Rattle.tv_core.proofs.ValuesChain.{gives_then_refused, gives_refused_then}
+use Rattle.tv_core.proofs.ValuesTails.{gives_in_then}
+use Rattle.tv_core.specs.Below.{joined_below}
+use Rattle.tv_core.specs.Values.{ValuesMeaning, GivesAll, GivesSome, GivesIn}
+use Rattle.tv_core.specs.Lines.{Line}
+use Rattle.tv_core.specs.declared.lines.PairNum.{PairNum}
+use Rattle.tv_core.specs.declared.sink.SinkFault.{SinkFault}
+use Rattle.tv_argument.specs.Memory.{routed_values}
+use Rattle.tv_step.specs.declared.lines.TraceState.{TraceState}
+use Rattle.tv_fill.specs.Filled.{Parts, front_values, filled_values, filled_lines, filled_checks}
+use Rattle.tv_fill.specs.TraceValues.{traced_values}
+
+-- these parts
+abbrev pub parts_of : (v t k : ℕ) (net : Net) (image x aux : List ℕ) (states : List TraceState) (lines : List Line) (items : List PairNum) (bits : List Bool)
+    → Parts
+parts_of v t k net image x aux states lines items bits = record {
+  answer = v;
+  image = image;
+  tape = x;
+  aux = aux;
+  t = t;
+  states = states;
+  lines = lines;
+  items = items;
+  net = net;
+  k = k;
+  bits = bits;
+}
+
+-- the same parts have the same values
+pub same_filled : (w v t k : ℕ) (net : Net)
+    (image x aux : List ℕ) {states states2 : List TraceState} {lines lines2 : List Line} {items items2 : List PairNum} {bits bits2 : List Bool}
+    → states ≡ states2 → lines ≡ lines2 → items ≡ items2 → bits ≡ bits2
+    → filled_values w (parts_of v t k net image x aux states lines items bits) ≡ filled_values w (parts_of v t k net image x aux states2 lines2 items2 bits2)
+same_filled w v t k net image x aux {states} {states2} {lines} {lines2} {items} {items2} {bits} {bits2} s l p b =
+    ap₂ (λ (states : List TraceState) (lines : List Line). filled_values w (parts_of v t k net image x aux states lines items bits)) s l
+    ∙ ap₂ (λ (items : List PairNum) (bits : List Bool). filled_values w (parts_of v t k net image x aux states2 lines2 items bits)) p b
+
+module _ {V : Type 0} (m : ValuesMeaning V) (w v t k : ℕ) (net : Net) (image x aux : List ℕ) (states : List TraceState) (lines : List Line)
+    (items : List PairNum)
+    (bits : List Bool) where
+  abbrev all : List ℕ
+  all = filled_values w (parts_of v t k net image x aux states lines items bits)
+
+  abbrev steps : List ℕ
+  steps = joined_below t (traced_values w (length x) states aux lines)
+
+  pub front_refused : (old new : V) (fault : SinkFault) → GivesSome m old new (front_values w v x) fault → GivesSome m old new all fault
+  unfolding filled_values
+  front_refused old new fault p = gives_refused_then m (front_values w v x) _ old new fault p
+
+  pub steps_refused : (old mid new : V) (fault : SinkFault) → GivesAll m old mid (front_values w v x) → GivesSome m mid new steps fault
+      → GivesSome m old new all fault
+  unfolding filled_values
+  steps_refused old mid new fault p q =
+      gives_then_refused m (front_values w v x) _ old mid new fault p (gives_refused_then m steps _ mid new fault q)
+
+  pub all_given : (old mid last new : V) (result : Result (Unit {0}) SinkFault) → GivesAll m old mid (front_values w v x) → GivesAll m mid last steps
+      → GivesIn m last new (routed_values net (filled_checks (length image) (length x) (length lines) k) k (bit_at bits) items
+      (filled_lines image x lines k)) result → GivesIn m old new all result
+  unfolding filled_values
+  all_given old mid last new result p q r =
+      gives_in_then m (front_values w v x) _ old mid new result p (gives_in_then m steps _ mid last new result q r)

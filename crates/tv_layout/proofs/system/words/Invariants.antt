@@ -1,0 +1,11 @@
+use Rattle.std.proofs.Common.{◌+◌, ◌*◌}
+use Rattle.tv_core.specs.Loops.{sequence}
+use Rattle.tv_core.specs.Sinks.{PutsAll, Grows}
+use Rattle.tv_layout.specs.Layout.{word_of}
+use Rattle.tv_layout.proofs.system.words.Given as goal
+
+abbrev pub invariant-loop-i : goal.invariant-loop-i
+invariant-loop-i g l = record {
+  puts : PutsAll g.S.Sink.meaning l.initial.s l.s (sequence l.i (word_of g.row.W l.fn.first)) tt;
+  grows : Grows g.S.Sink.meaning l.initial.s l.s (l.i * g.row.W) (l.i * (g.row.W + 1));
+}

@@ -1,0 +1,95 @@
+//! The sizes of a system.
+ghost use Rattle.std.specs.Prelude.{◌≡◌, ◌+◌, ◌^◌, ◌≤◌, ◌<◌};
+ghost use Rattle.tv_core.specs.Meanings.{IsCounted, system_counts};
+ghost use Rattle.tv_layout.specs.Places.{WithinLimits, line_count, log_of};
+ghost use Rattle.tv_layout.specs.Sizes.{memory_constraints, memory_wires};
+ghost use Rattle.tv_layout.specs.Systems.{system_of};
+
+use crate::lines::LayoutLines;
+use crate::places::{STATE_WIRES, log_of, public_wires};
+use crate::system::emit_system;
+use crate::totals::{constraint_costs, total, wire_costs};
+use tv_argument::{memory_terms, network_made};
+use tv_benes::Net;
+use tv_block::{step_costs, step_terms};
+use tv_core::{CountSink, Counts};
+
+/// Returns how many wires the system has that `emit_system` puts. It takes constant time.
+pub fn wires<const W: u32>(image: &[u32], n: u32, t: u32, net: Net) -> u32
+    requires { WithinLimits W image.now n t }
+    ensures is { result ≡ (system_of W net image.now n t).wires }
+    ensures publics { 2 + n ≤ result }
+{
+    let memory = memory_wires::<W>(image, n, t, net) as u32;
+    public_wires(n) + (n * W + STATE_WIRES + t * step_costs::<W>().wires + memory)
+}
+
+/// Returns the sizes of the system that `emit_system` puts, by what its parts cost. Wires and
+/// constraints take constant time, and the terms of the memory argument are a sum over its lines:
+/// a small part of the time to put the system. It takes no memory.
+pub fn sizes<const W: u32>(image: &[u32], n: u32, t: u32, net: Net) -> Counts
+    requires { WithinLimits W image.now n t }
+    ensures counts { result ≡ system_counts (system_of W net image.now n t) }
+    ensures publics { 2 + n ≤ result.wires }
+    ensures terms { result.terms < 2 ^ 60 }
+{
+    let step = step_costs::<W>();
+    let constraints = memory_constraints::<W>(image, n, t, net) as u32;
+    let k = log_of_lines::<W>(image, n, t);
+    let terms = memory_terms(net, k, &LayoutLines::<W> { image, n, t, k });
+    Counts {
+        wires: wires::<W>(image, n, t, net),
+        outputs: 1,
+        inputs: n,
+        constraints: n * (W + 1) + STATE_WIRES + t * step.constraints + 2 + constraints,
+        terms: u64::from(n * (4 * W + 2) + 2 * STATE_WIRES)
+            + u64::from(t) * u64::from(step_terms::<W>(n))
+            + 6
+            + terms,
+    }
+}
+
+// The logarithm of how many lines there are.
+fn log_of_lines<const W: u32>(image: &[u32], n: u32, t: u32) -> u32
+    requires { WithinLimits W image.now n t }
+    ensures is { result ≡ log_of (line_count image.now n t) }
+    ensures some { 1 ≤ result }
+    ensures few { result ≤ 20 }
+    ensures above { line_count image.now n t ≤ 2 ^ result }
+{
+    log_of(image.len() as u32 + n + 3 * t)
+}
+
+// The wires of the memory argument.
+fn memory_wires<const W: u32>(image: &[u32], n: u32, t: u32, net: Net) -> u64
+    requires { WithinLimits W image.now n t }
+    ensures { result ≡ memory_wires net image.now n t }
+{
+    let words = image.len() as u32;
+    let k = log_of_lines::<W>(image, n, t);
+    network_made(net, k) + total(&wire_costs(k, words), words, n, t)
+}
+
+// Its constraints.
+fn memory_constraints<const W: u32>(image: &[u32], n: u32, t: u32, net: Net) -> u64
+    requires { WithinLimits W image.now n t }
+    ensures { result ≡ memory_constraints net image.now n t }
+{
+    let words = image.len() as u32;
+    let k = log_of_lines::<W>(image, n, t);
+    network_made(net, k) + total(&constraint_costs(k, words), words, n, t)
+}
+
+/// Puts a system into a sink that counts, which so shows of each combination that it has at most
+/// 128 terms, over wires below the system's number of them. It takes as long as to put the system.
+pub fn count_system<const W: u32>(image: &[u32], n: u32, t: u32, net: Net) -> CountSink
+    requires { WithinLimits W image.now n t }
+    ensures wires { result.wires ≡ (system_of W net image.now n t).wires }
+    ensures counted { IsCounted result (system_of W net image.now n t).constraints }
+{
+    let mut s = CountSink::new(public_wires(n));
+    match emit_system::<W, CountSink>(image, n, t, net, &mut s) {
+        Ok(()) => s,
+        Err(_) => unreachable!(),
+    }
+}

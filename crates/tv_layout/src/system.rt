@@ -1,0 +1,113 @@
+//! The system of a program, put into a sink.
+ghost use Rattle.std.specs.Prelude.{◌≡◌, ◌+◌, ◌*◌, ◌≤◌, ◌<◌, false, IfOk};
+ghost use Rattle.tv_block.specs.Block.{block_of};
+ghost use Rattle.tv_core.specs.Sinks.{PutsIn, Grows, Room};
+ghost use Rattle.tv_layout.specs.Layout.{word_of, words_of, zero_wire_of, zero_wires_of, tie_of};
+ghost use Rattle.tv_layout.specs.Layout.{layout_of};
+ghost use Rattle.tv_layout.specs.Places.{WithinLimits};
+ghost use Rattle.tv_layout.specs.Reached.{ReachedUnder};
+ghost use Rattle.tv_layout.specs.Sizes.{system_made, system_added};
+ghost use Rattle.tv_word.specs.Widths.{IsWidth};
+
+use crate::lines::LayoutLines;
+use crate::places::{ANSWER, STATE_WIRES, log_of, tape_wire};
+use crate::sequence::steps;
+use tv_argument::memory;
+use tv_benes::Net;
+use tv_bits::bits;
+use tv_block::Reached;
+use tv_core::{F, Lc, Put, Sink, Wire};
+
+/// Puts the system of a program's runs of `t` steps on primary tapes of `n` words, over a network.
+/// The sink has the constant wire and the public ones, which are the answer's and the tape's, and
+/// no constraint. Nothing is kept, and no memory is taken.
+///
+/// Words have `W` bits, 16 or 32. The image has at most 131,072 of them, and `n` is at most
+/// 131,072; `t` is from 1 to 262,144. It refuses only where the sink does, which was given a first
+/// part of the system by then.
+pub fn emit_system<const W: u32, S: Sink>(
+    image: &[u32],
+    n: u32,
+    t: u32,
+    net: Net,
+    s: &mut S,
+) -> Put<()>
+    requires fits { WithinLimits W image.now n t }
+    requires begins { S.meaning.wires s.old ≡ 2 + n }
+    requires empty { S.meaning.constraints s.old ≡ 0 }
+    requires whole { S.meaning.broken s.old ≡ false }
+    ensures puts { PutsIn S.meaning s.old s.new (layout_of (block_of W) W net image.now n t)
+        result }
+    ensures grows { IfOk result (λ _. Grows S.meaning s.old s.new (system_made W net image.now n t)
+        (system_added W net image.now n t)) }
+{
+    words::<W, S>(s, tape_wire(0), n)?;
+    let zero_wires = zero_wires(s)?;
+    let last = steps::<W, S>(s, n, t, zero_wires)?;
+    tie(s, &last)?;
+    let k = log_of(image.len() as u32 + n + 3 * t);
+    memory(s, net, k, &LayoutLines::<W> { image, n, t, k })
+}
+
+// `n` wires from a first one on are words.
+fn words<const W: u32, S: Sink>(s: &mut S, first: Wire, n: u32) -> Put<()>
+    requires width { IsWidth W }
+    requires room { Room S.meaning s.old (n * W) (n * (W + 1)) }
+    requires made { first + n ≤ S.meaning.wires s.old }
+    ensures puts { PutsIn S.meaning s.old s.new (words_of W first n) result }
+    ensures grows { IfOk result (λ _. Grows S.meaning s.old s.new (n * W) (n * (W + 1))) }
+{
+    for i in 0..n {
+        word::<W, S>(s, first, i)?;
+    }
+    Ok(())
+}
+
+// One wire is a word.
+fn word<const W: u32, S: Sink>(s: &mut S, first: Wire, i: u32) -> Put<()>
+    requires width { IsWidth W }
+    requires room { Room S.meaning s.old W (W + 1) }
+    requires made { first + i < S.meaning.wires s.old }
+    ensures puts { PutsIn S.meaning s.old s.new (word_of W first i) result }
+    ensures grows { IfOk result (λ _. Grows S.meaning s.old s.new W (W + 1)) }
+{
+    bits(s, &Lc::wire(first.offset(i)), W)?;
+    Ok(())
+}
+
+// The wires of the first state, each held to 0.
+fn zero_wires<S: Sink>(s: &mut S) -> Put<Wire>
+    requires room { Room S.meaning s.old STATE_WIRES STATE_WIRES }
+    ensures puts { PutsIn S.meaning s.old s.new zero_wires_of result }
+    ensures grows { IfOk result (λ _. Grows S.meaning s.old s.new STATE_WIRES STATE_WIRES) }
+    ensures below { IfOk result (λ zero_wires. zero_wires + STATE_WIRES ≤ S.meaning.wires s.new) }
+{
+    let zero_wires = Wire(s.wires());
+    for _turn in 0..STATE_WIRES {
+        zero_wire(s)?;
+    }
+    Ok(zero_wires)
+}
+
+// A wire that is held to 0.
+fn zero_wire<S: Sink>(s: &mut S) -> Put<()>
+    requires room { Room S.meaning s.old 1 1 }
+    ensures puts { PutsIn S.meaning s.old s.new zero_wire_of result }
+    ensures grows { IfOk result (λ _. Grows S.meaning s.old s.new 1 1) }
+{
+    let w = s.fresh();
+    s.put(&Lc::wire(w), &Lc::constant(F::ONE), &Lc::empty())
+}
+
+// The last step answers, and its value is the public answer.
+fn tie<S: Sink>(s: &mut S, last: &Reached) -> Put<()>
+    requires room { Room S.meaning s.old 0 2 }
+    requires last_made { ReachedUnder (S.meaning.wires s.old) last.now }
+    requires answer_made { 1 < S.meaning.wires s.old }
+    ensures puts { PutsIn S.meaning s.old s.new (tie_of last.now) result }
+    ensures grows { IfOk result (λ _. Grows S.meaning s.old s.new 0 2) }
+{
+    let one = Lc::constant(F::ONE);
+    s.put(&Lc::wire(last.answers), &one, &one)?;
+    s.put(&Lc::wire(last.value), &one, &Lc::wire(ANSWER))
+}

@@ -1,0 +1,44 @@
+use Rattle.std.proofs.Common.{ℕ, ap, arith}
+use Rattle.tv_bits.proofs.ProductChain.{no_product, one_product, product_refused, last_product}
+use Rattle.tv_core.proofs.Chain.{refused}
+use Rattle.tv_core.specs.Combinations.{less, top, wire}
+use Rattle.tv_core.specs.Constraints.{Combination}
+use Rattle.tv_lines.specs.SortedPair.{prefix_less, rises_of}
+use Rattle.tv_lines.proofs.keys.rises.Goals as goal
+
+pub loop-i-init : goal.loop-i-init
+loop-i-init g c =
+    let factor : ℕ → Combination = λ j. less (prefix_less c.args.apart c.args.before.now c.args.after.now j) (wire c.args.size) in
+    record {
+      puts = no_product g.S.Sink.meaning factor c.args.s.now c.set_key_factor.new.lc c.set_key_factor.ensures.terms;
+      grows = record { wires = omega arith; constraints = omega arith; whole = c.requires.room.whole };
+      made = omega (arith, c.set_key_factor.ensures.top, c.requires);
+    }
+
+pub loop-i-preserved : goal.loop-i-preserved
+loop-i-preserved g c =
+    let factor : ℕ → Combination = λ j. less (prefix_less c.args.apart c.args.before.now c.args.after.now j) (wire c.args.size) in
+    let grown = c.in_ok-w.ensures.grows in
+    let product = rw c.set_key_factor-in-loop-i.ensures.terms at c.in_ok-w.ensures.puts in
+    let made = c.set_wire.ensures.terms in
+    record {
+      puts = one_product g.S.Sink.meaning factor c.loop-i.i _ _ _ _ _ _ c.loop-i.invariant.puts product made;
+      grows = record { wires = omega (arith, grown.wires); constraints = omega (arith, grown.constraints); whole = grown.whole };
+      made = omega (arith, ap top made, c.in_ok-w.ensures.below);
+    }
+
+pub returns-in_err-w-clause-puts : goal.returns-in_err-w-clause-puts
+unfolding rises_of
+returns-in_err-w-clause-puts g c =
+    let m = g.S.Sink.meaning in
+    let factor : ℕ → Combination = λ j. less (prefix_less c.args.apart c.args.before.now c.args.after.now j) (wire c.args.size) in
+    let product = rw c.set_key_factor-in-loop-i.ensures.terms at c.in_err-w.ensures.puts in
+    refused m _ _ _ c.from_residual.result c.from_residual.ensures.1
+    (product_refused m factor 5 c.loop-i.i _ _ _ _ _ (omega arith) c.loop-i.invariant.puts product)
+
+pub returns-clause-puts : goal.returns-clause-puts
+unfolding rises_of
+returns-clause-puts g c =
+    let factor : ℕ → Combination = λ j. less (prefix_less c.args.apart c.args.before.now c.args.after.now j) (wire c.args.size) in
+    let last = rw (c.set_key_factor-2.ensures.terms, c.clear.ensures) at c.put.ensures.puts in
+    last_product g.S.Sink.meaning factor 5 c.loop-i.i _ _ _ _ _ (omega arith) c.loop-i.invariant.puts last

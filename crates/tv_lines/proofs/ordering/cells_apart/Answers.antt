@@ -1,6 +1,0 @@
-use Rattle.tv_lines.specs.SortedPair.{apart_of}
-use Rattle.tv_lines.proofs.ordering.cells_apart.Goals as goal
-
-pub returns-clause-puts : goal.returns-clause-puts
-unfolding apart_of
-returns-clause-puts g c = rw (c.plus_to.ensures.terms, c.fill.ensures.terms, c.neg.ensures) at c.kept_by.ensures.puts

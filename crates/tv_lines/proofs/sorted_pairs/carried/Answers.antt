@@ -1,0 +1,17 @@
+use Rattle.tv_core.proofs.Chain.{chain, refused}
+use Rattle.tv_core.proofs.TailCalls.{puts_in_then}
+use Rattle.tv_lines.specs.SortedPair.{carried_of}
+use Rattle.tv_lines.proofs.sorted_pairs.carried.Goals as goal
+
+pub returns-in_err-same-clause-puts : goal.returns-in_err-same-clause-puts
+unfolding carried_of
+returns-in_err-same-clause-puts g c =
+    let flag = rw c.set_wire.ensures.terms at c.in_err-same.ensures.puts in
+    refused g.S.Sink.meaning _ _ _ c.from_residual.result c.from_residual.ensures.1 (search (chain, flag))
+
+pub returns-clause-puts : goal.returns-clause-puts
+unfolding carried_of
+returns-clause-puts g c =
+    let flag = rw c.set_wire.ensures.terms at c.in_ok-same.ensures.puts in
+    let word = rw (c.set_wire-2.ensures.terms, c.set_number.ensures.terms, c.set_number-2.ensures.terms) at c.put.ensures.puts in
+    puts_in_then g.S.Sink.meaning _ _ _ _ _ _ _ flag word

@@ -1,0 +1,15 @@
+use Rattle.tv_core.proofs.Chain.{chain, refused}
+use Rattle.tv_core.proofs.TailCalls.{puts_in_then}
+use Rattle.tv_lines.specs.SortedPair.{size_of}
+use Rattle.tv_lines.proofs.sorted_pairs.new_size.Goals as goal
+
+pub returns-in_err-bits-clause-puts : goal.returns-in_err-bits-clause-puts
+unfolding size_of
+returns-in_err-bits-clause-puts g c =
+    refused g.S.Sink.meaning _ _ _ c.from_residual.result c.from_residual.ensures.1 (search (chain, c.in_err-bits.ensures.puts))
+
+pub returns-clause-puts : goal.returns-clause-puts
+unfolding size_of
+returns-clause-puts g c =
+    let sum = rw (c.plus.ensures.terms, c.set_number.ensures.terms) at c.kept_by.ensures.puts in
+    puts_in_then g.S.Sink.meaning _ _ _ _ _ _ _ c.in_ok-bits.ensures.puts sum

@@ -1,7 +1,0 @@
-use Rattle.std.proofs.Common.{◌≡◌, map, take}
-use Rattle.tv_lines.specs.Ordered.{key}
-use Rattle.tv_lines.specs.Packing.{unpacked}
-use Rattle.tv_memory.proofs.sorting.keys.Given as goal
-
-abbrev pub invariant-loop-pair : goal.invariant-loop-pair
-invariant-loop-pair l = l.keys.items ≡ map (λ pair. key (unpacked pair)) (take l.pair-index l.pairs)

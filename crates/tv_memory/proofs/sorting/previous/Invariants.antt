@@ -1,5 +1,0 @@
-use Rattle.tv_memory.proofs.Written.{IsPlaced}
-use Rattle.tv_memory.proofs.sorting.previous.Given as goal
-
-abbrev pub invariant-loop-j : goal.invariant-loop-j
-invariant-loop-j l = IsPlaced l.order l.j l.found.items

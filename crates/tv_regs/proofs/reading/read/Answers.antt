@@ -1,6 +1,0 @@
-use Rattle.tv_regs.specs.Reading.{read_of}
-use Rattle.tv_regs.proofs.reading.read.Goals as goal
-
-pub returns-clause-puts : goal.returns-clause-puts
-unfolding read_of
-returns-clause-puts g c = rw (c.set_wire.ensures.terms, c.set_difference.ensures.terms, c.clear.ensures) at c.put.ensures.puts

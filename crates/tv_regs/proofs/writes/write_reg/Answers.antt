@@ -1,0 +1,63 @@
+use Rattle.std.proofs.Common.{◌≡◌, ℕ, ◌<◌, length, arith}
+use Rattle.std.proofs.lemmas.Grind.{get_or_default_zero}
+use Rattle.tv_core.proofs.Chain.{chain, puts_no_turn, puts_turn, turn_refused, refused}
+use Rattle.tv_core.proofs.LoopLaws.{puts_here_as}
+use Rattle.tv_core.specs.Circuits.{Circuit}
+use Rattle.tv_regs.proofs.Gates.{wires_top-at}
+use Rattle.tv_regs.specs.Writes.{write_of, write_turn, write_reg_of}
+use Rattle.tv_regs.proofs.writes.write_reg.Goals as goal
+
+pub loop-i-init : goal.loop-i-init
+loop-i-init g c = record {
+  puts = puts_no_turn g.S.Sink.meaning _ (λ i _. write_turn c.fresh-v.result c.args.sel c.args.regs.now i) tt;
+  grows = record { wires = omega arith; constraints = omega arith; whole = c.fresh-v.ensures.grows.whole };
+}
+
+pub loop-i-preserved : goal.loop-i-preserved
+unfolding write_of
+loop-i-preserved g c =
+    let piece : ℕ → Unit {0} → Circuit (Unit {0}) = λ i _. write_turn c.fresh-v.result c.args.sel c.args.regs.now i in
+    let grown = c.in_ok-select_wires.ensures.grows in
+    let within : c.loop-i.i < length c.args.regs.now = omega arith in
+    let turn = rw (c.offset.ensures, get_or_default_zero c.args.regs.now c.loop-i.i c.index-regs-i.result within) at c.in_ok-select_wires.ensures.puts in
+    record {
+      puts = puts_turn g.S.Sink.meaning _ piece tt _ _ _ _ _ c.loop-i.invariant.puts (search (chain, turn));
+      grows = record { wires = omega (arith, grown.wires); constraints = omega (arith, grown.constraints); whole = grown.whole };
+    }
+
+pub select_wires-requires-clause-y_made : goal.select_wires-requires-clause-y_made
+select_wires-requires-clause-y_made g c =
+    let inside : c.loop-i.i < length c.args.regs.now = omega arith in
+    omega (arith, wires_top-at c.args.regs.now c.loop-i.i c.index-regs-i.result inside)
+
+pub returns-in_err-select_wires-clause-puts : goal.returns-in_err-select_wires-clause-puts
+unfolding write_reg_of write_of
+returns-in_err-select_wires-clause-puts g c =
+    let m = g.S.Sink.meaning in
+    let piece : ℕ → Unit {0} → Circuit (Unit {0}) = λ i _. write_turn c.fresh-v.result c.args.sel c.args.regs.now i in
+    let within : c.loop-i.i < 16 = omega arith in
+    let inside : c.loop-i.i < length c.args.regs.now = omega arith in
+    let write = rw (c.offset.ensures, get_or_default_zero c.args.regs.now c.loop-i.i c.index-regs-i.result inside) at c.in_err-select_wires.ensures.puts in
+    let first = puts_here_as m c.fresh-v.new.self c.wires.result c.wires.ensures in
+    let turn = turn_refused m 16 c.loop-i.i piece tt tt c.fresh-v.new.self c.loop-i.s c.select_wires.new.s c.in_err-select_wires.field-0.0 within
+    c.loop-i.invariant.puts (search (chain, write)) in
+    refused m _ _ _ c.from_residual.result c.from_residual.ensures.1 (search (chain, c.fresh-v.ensures.puts, first, turn))
+
+pub returns-in_err-tie-clause-puts : goal.returns-in_err-tie-clause-puts
+unfolding write_reg_of
+returns-in_err-tie-clause-puts g c =
+    let m = g.S.Sink.meaning in
+    let all : c.loop-i.i ≡ 16 = omega arith in
+    let first = puts_here_as m c.fresh-v.new.self c.wires.result c.wires.ensures in
+    let turns = rw all at c.loop-i.invariant.puts in
+    refused m _ _ _ c.from_residual-in_err-tie.result c.from_residual-in_err-tie.ensures.1
+    (search (chain, c.fresh-v.ensures.puts, first, turns, c.in_err-tie.ensures.puts))
+
+pub returns-clause-puts : goal.returns-clause-puts
+unfolding write_reg_of
+returns-clause-puts g c =
+    let m = g.S.Sink.meaning in
+    let all : c.loop-i.i ≡ 16 = omega arith in
+    let first = puts_here_as m c.fresh-v.new.self c.wires.result c.wires.ensures in
+    let turns = rw all at c.loop-i.invariant.puts in
+    rw c.wires_from.ensures.wires (search (chain, c.fresh-v.ensures.puts, first, turns, c.in_ok-tie.ensures.puts) depth 8)

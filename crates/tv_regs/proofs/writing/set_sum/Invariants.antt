@@ -1,6 +1,0 @@
-use Rattle.std.proofs.Common.{◌≡◌, get_or}
-use Rattle.tv_core.specs.Below.{each_below}
-use Rattle.tv_regs.proofs.writing.set_sum.Given as goal
-
-abbrev pub invariant-loop-i : goal.invariant-loop-i
-invariant-loop-i l = l.lc ≡ each_below l.i (λ i. (1, get_or l.regs i 0))

@@ -1,0 +1,36 @@
+use Rattle.std.proofs.Common.{◌≡◌, ◌+◌, ◌%◌, ◌^◌, ◌≤◌, ◌++◌, length, refl, sym, ◌∙◌, ap, ap₂, arith, add-one}
+use Rattle.std.proofs.Math.Nat.{pow-suc, add-mod, pow-le-pow_right}
+use Rattle.tv_core.specs.Combinations.{scaled, top}
+use Rattle.tv_core.specs.declared.field.TheConstants.{P}
+use Rattle.tv_shift.specs.Thermometer.{mark, power_of}
+use Rattle.tv_shift.proofs.thermometer.set_mark_power.Goals as goal
+
+pub loop-i-init : goal.loop-i-init
+unfolding power_of
+loop-i-init c = record {
+  terms = c.set_wire.ensures.terms;
+  coefficient = refl;
+  short = omega (arith, ap length c.set_wire.ensures.terms);
+  made = omega (arith, ap top c.set_wire.ensures.terms);
+}
+
+pub plus_scaled-requires : goal.plus_scaled-requires
+plus_scaled-requires c =
+    let most : 2 ^ c.args.k ≤ 2 ^ 4 = pow-le-pow_right (omega arith) c.requires.few in
+    omega (arith, ap length c.terms.ensures.terms, c.set_mark.ensures.len)
+
+pub loop-i-preserved : goal.loop-i-preserved
+unfolding power_of
+loop-i-preserved c =
+    let marks = mark c.args.marks.now.bits c.args.marks.now.products c.args.k in
+    let twice : 2 ^ i + 2 ^ i ≡ 2 ^ (i + 1) = rw add-one (omega (arith, pow-suc 2 i)) in
+    record {
+      terms = rw add-one (c.plus_scaled.ensures.terms
+          ∙ ap₂ (λ l m. l ++ scaled c.loop-i.coefficient m) invariant.terms (c.terms.ensures.terms ∙ c.set_mark.ensures.terms)
+          ∙ ap (λ n. power_of marks i ++ scaled n (marks i)) invariant.coefficient);
+      coefficient = c.add-coefficient.ensures ∙ ap (λ n. (n + n) % P) invariant.coefficient ∙ sym (add-mod (2 ^ i) (2 ^ i) P) ∙ ap (λ n. n % P) twice;
+      short = omega (arith, c.plus_scaled.ensures.len, ap length c.terms.ensures.terms, c.set_mark.ensures.len);
+      made = omega (arith, c.plus_scaled.ensures.top, ap top c.terms.ensures.terms, c.set_mark.ensures.top);
+    }
+  where
+    open c.loop-i use {i, invariant}

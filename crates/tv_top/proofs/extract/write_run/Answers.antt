@@ -1,0 +1,27 @@
+use Rattle.std.proofs.Common.{refl}
+use Rattle.tv_top.proofs.Answering.{completes_whole, completes_cut, completes_wanting}
+use Rattle.tv_top.proofs.Streaming.{writes_first, writes_next}
+use Rattle.tv_top.proofs.extract.write_run.Goals as goal
+
+pub returns-in_err-tape : goal.returns-in_err-tape
+returns-in_err-tape g c = completes_wanting _ _ _ _ c.from_residual.ensures.1
+
+pub returns-in_err-aux : goal.returns-in_err-aux
+returns-in_err-aux g c = completes_wanting _ _ _ _ c.from_residual-in_err-aux.ensures.1
+
+pub returns-in_err-write_bytes : goal.returns-in_err-write_bytes
+returns-in_err-write_bytes g c =
+    let tape = rw (c.deref.ensures.value, c.in_ok-tape.ensures, c.as_slice.ensures) at c.in_err-write_bytes.ensures in
+    completes_cut _ _ _ _ _ _ (writes_first _ _ _ _ _ tape) c.from_residual-in_err-write_bytes.ensures.1
+
+pub returns-in_err-write_bytes-2 : goal.returns-in_err-write_bytes-2
+returns-in_err-write_bytes-2 g c =
+    let tape = rw (c.deref.ensures.value, c.in_ok-tape.ensures, c.as_slice.ensures) at c.in_ok-write_bytes.ensures in
+    let aux = rw (c.deref-2.ensures.value, c.in_ok-aux.ensures, c.as_slice-2.ensures) at c.in_err-write_bytes-2.ensures in
+    completes_cut _ _ _ _ _ _ (writes_next _ _ _ _ _ _ _ tape aux) c.from_residual-in_err-write_bytes-2.ensures.1
+
+pub returns : goal.returns
+returns g c =
+    let tape = rw (c.deref.ensures.value, c.in_ok-tape.ensures, c.as_slice.ensures) at c.in_ok-write_bytes.ensures in
+    let aux = rw (c.deref-2.ensures.value, c.in_ok-aux.ensures, c.as_slice-2.ensures) at c.in_ok-write_bytes-2.ensures in
+    completes_whole _ _ _ _ _ _ refl (writes_next _ _ _ _ _ _ _ tape aux)

@@ -1,0 +1,112 @@
+//! A program and an assignment of its system, each read and judged before the next, and the run
+//! that the assignment has.
+ghost use Rattle.std.specs.Prelude.{◌≡◌, ◌≤◌, [], ◌∷◌, Ok, IfOk, IfErr};
+ghost use Rattle.tv_core.specs.declared.limits.TheConstants.{TAPE_WORDS, STEPS};
+ghost use Rattle.tv_extract.specs.Extraction.{IsFaultOf};
+ghost use Rattle.tv_top.specs.Assignment.{kept_in, kept_of, kept_run, not_run};
+ghost use Rattle.tv_top.specs.Build.{program_system};
+ghost use Rattle.tv_top.specs.Finds.{Finds};
+ghost use Rattle.tv_top.specs.Plan.{named};
+ghost use Rattle.tv_top.specs.Programs.{HasImage, program_sizes};
+
+use crate::containers::read_first_witness;
+use crate::place::Place;
+use crate::programs::{Program, Width, read_program};
+use crate::refusal::{Finish, Stop};
+use std::alloc::Global;
+use tv_benes::Net;
+use tv_extract::{ExtractFault, NotRun, Run, extract};
+use tv_files::Files;
+use tv_layout::wires;
+use tv_wtns::FirstValues;
+
+/// A program, and of an assignment as many values as the program's system has wires.
+#[derive(Drop)]
+pub(crate) struct Assignment {
+    pub(crate) program: Program,
+    pub(crate) first: FirstValues,
+}
+
+/// How many wires the system of a program has.
+#[tactic(auto, unfolding(crate::specs::Build::program_system))]
+fn wires_of(program: &Program, n: u32, t: u32, net: Net) -> u32
+    requires image { HasImage program.now }
+    requires tape { n ≤ TAPE_WORDS }
+    requires some { 1 ≤ t }
+    requires few { t ≤ STEPS }
+    ensures { result ≡ (program_system net n t program.now).wires }
+{
+    let image = program.words.as_slice();
+    match program.width {
+        Width::Bits16 => wires::<16>(image, n, t, net),
+        Width::Bits32 => wires::<32>(image, n, t, net),
+    }
+}
+
+/// A program, and then an assignment, of whose values as many are kept as the program's system has
+/// wires.
+pub(crate) fn read_assigned<D: Files>(
+    alloc: Global,
+    files: &mut D,
+    text: Place<'_>,
+    n: u32,
+    t: u32,
+    net: Net,
+    witness: Place<'_>,
+) -> Result<Assignment, Stop>
+    requires tape { n ≤ TAPE_WORDS }
+    requires some { 1 ≤ t }
+    requires few { t ≤ STEPS }
+    ensures found { Finds kept_in (text.entry.word ∷ witness.entry.word ∷ []) program_sizes
+        (kept_of net n t (named text.entry) (named witness.entry))
+        (D.seen files.old) (D.seen files.new) result }
+    ensures fits { IfOk result (λ assigned. HasImage assigned.program) }
+{
+    let program = read_program(alloc, files, text)?;
+    let wires = wires_of(&program, n, t, net);
+    let first = read_first_witness(alloc, files, witness, wires)?;
+    Ok(Assignment { program, first })
+}
+
+/// The run that an assignment has, or why it has none: first of all because it has more values than
+/// the program's system has wires, or fewer.
+#[tactic(auto, using(crate::proofs::AssignmentLaws::kept))]
+pub(crate) fn run_of(
+    alloc: Global,
+    assigned: &Assignment,
+    n: u32,
+    t: u32,
+    net: Net,
+) -> Result<Run, ExtractFault>
+    requires image { HasImage assigned.now.program }
+    requires tape { n ≤ TAPE_WORDS }
+    requires some { 1 ≤ t }
+    requires few { t ≤ STEPS }
+    ensures run { IfOk result (λ run. kept_run net n t (kept_in assigned.now) ≡ Ok run) }
+    ensures fault { IfErr result (IsFaultOf (kept_run net n t (kept_in assigned.now))) }
+{
+    let has = assigned.first.count;
+    let wants = wires_of(&assigned.program, n, t, net);
+    if has != wants {
+        return Err(ExtractFault::NoRun(NotRun::WireCount {
+            has: u64::from(has),
+            wants: u64::from(wants),
+        }));
+    }
+    let image = assigned.program.words.as_slice();
+    let values = assigned.first.values.as_slice();
+    match assigned.program.width {
+        Width::Bits16 => extract::<16>(alloc, image, n, t, net, values),
+        Width::Bits32 => extract::<32>(alloc, image, n, t, net, values),
+    }
+}
+
+/// The end where an assignment has no run, unless memory was wanting.
+pub(crate) fn not_run(fault: ExtractFault) -> Result<Finish, Stop>
+    ensures { result ≡ not_run fault }
+{
+    match fault {
+        ExtractFault::NoRun(why) => Ok(Finish::NotARun(why)),
+        ExtractFault::Memory => Err(Stop::Memory),
+    }
+}

@@ -1,0 +1,130 @@
+//! `trial SEED K`: the system of a program drawn from a number, tested on the values of its run.
+ghost use Rattle.std.specs.Prelude.{◌≡◌, ◌^◌, ◌<◌, ◌≤◌, length, map, string_bytes};
+ghost use Rattle.std.specs.Prelude.{Some, None, MatchOption, IfOk};
+ghost use Rattle.tv_benes.specs.declared.shape.Net.TheVariants.{Benes};
+ghost use Rattle.tv_core.specs.declared.limits.TheConstants.{DRAWS};
+ghost use Rattle.tv_layout.specs.Places.{WithinLimits};
+ghost use Rattle.tv_layout.specs.RunInputs.{run_on};
+ghost use Rattle.tv_layout.specs.Systems.{system_of, run_values};
+ghost use Rattle.tv_step.specs.Machine.{Accepts};
+ghost use Rattle.tv_step.specs.Range.{AreWords};
+ghost use Rattle.tv_top.specs.Answers.{Does};
+ghost use Rattle.tv_top.specs.Form.{trial_form};
+ghost use Rattle.tv_top.specs.Plan.{AreWithin, refusal_of};
+ghost use Rattle.tv_top.specs.Trial.{tested, trial_asks, trial_of};
+
+use crate::amount::Amount;
+use crate::refusal::{Finish, Quantity, Refusal, Stop, Trial, refusal_of};
+use std::alloc::{AllocError, Global};
+use tv_benes::Net;
+use tv_core::limits::DRAWS;
+use tv_core::{F, ListValues, TestSink};
+use tv_draw::draw;
+use tv_files::Files;
+use tv_fill::{FillFault, fill_system};
+use tv_layout::{emit_system, public_wires, sizes};
+use tv_word::decimal_of;
+
+/// The words of `trial`.
+#[derive(Clone, Copy)]
+pub(crate) struct TrialArgs {
+    pub(crate) seed: u64,
+    /// How many instructions are drawn.
+    pub(crate) k: u64,
+}
+
+impl TrialArgs {
+    /// What the words after the command's name mean.
+    pub(crate) fn read(words: &[String]) -> Option<TrialArgs>
+        ensures { MatchOption result (trial_form (map string_bytes words.now) ≡ None)
+            (λ args. trial_form (map string_bytes words.now) ≡ Some (trial_asks args)) }
+    {
+        let [seed, k] = words else {
+            return None;
+        };
+        Some(TrialArgs {
+            seed: decimal_of(seed.as_bytes())?,
+            k: decimal_of(k.as_bytes())?,
+        })
+    }
+
+    /// What the words are refused for.
+    pub(crate) fn refusal(self) -> Option<Refusal>
+        ensures { let plan = trial_asks self in
+            result ≡ refusal_of plan.reads plan.writes plan.amounts }
+    {
+        let draws = Amount {
+            what: Quantity::Draws,
+            has: self.k,
+            least: 1,
+            most: u64::from(DRAWS),
+        };
+        refusal_of(&[], &[], &[draws])
+    }
+
+    /// Reports the result of the trial; no file is read.
+    pub(crate) fn perform<D: Files>(self, alloc: Global, files: &mut D) -> Result<Finish, Stop>
+        requires { AreWithin (trial_asks self).amounts }
+        ensures { Does (trial_asks self) (D.seen files.old) (D.seen files.new) result }
+    {
+        let trial = trial_of(alloc, self.seed, self.k as u32)?;
+        Ok(Finish::Trial(trial))
+    }
+}
+
+/// The values of the system of a run that answers 0 at a step of at most `t`.
+fn values_of(
+    alloc: Global,
+    image: &[u32],
+    tape: &[u32],
+    aux: &[u32],
+    t: u32,
+) -> Result<ListValues, AllocError>
+    requires limits { WithinLimits 32 image.now (length tape.now) t }
+    requires tape { AreWords 32 tape.now }
+    requires aux { AreWords 32 aux.now }
+    requires aux_few { length aux.now < 2 ^ 32 }
+    requires accepts { Accepts 32 image.now tape.now aux.now t 0 }
+    ensures { IfOk result (λ values.
+        values.list ≡ run_values Benes (run_on 32 image.now tape.now aux.now t) 0) }
+{
+    let mut values = ListValues::new(alloc);
+    match fill_system::<32, ListValues>(alloc, image, tape, aux, t, Net::Benes, &mut values) {
+        Ok(()) => Ok(values),
+        Err(FillFault::NoRun { .. }) => unreachable!(),
+        Err(FillFault::Failed) => unreachable!(),
+        Err(FillFault::Memory) => Err(AllocError),
+    }
+}
+
+/// The system of an image's runs of `t` steps on tapes of `n` words, tested on these values.
+fn tested(image: &[u32], n: u32, t: u32, z: &[F]) -> Trial
+    requires { WithinLimits 32 image.now n t }
+    ensures { result ≡ tested t (system_of 32 Benes image.now n t) z.now }
+{
+    let counts = sizes::<32>(image, n, t, Net::Benes);
+    let mut tests = TestSink::over(z, public_wires(n));
+    match emit_system::<32, TestSink>(image, n, t, Net::Benes, &mut tests) {
+        Ok(()) => Trial {
+            steps: t,
+            wires: counts.wires,
+            constraints: counts.constraints,
+            sum: tests.sum().number(),
+            satisfied: tests.held(),
+        },
+        Err(_) => unreachable!(),
+    }
+}
+
+/// Draws a program of `k` instructions and tests its system on the values of its run.
+#[tactic(auto, unfolding(crate::specs::Trial::trial_of))]
+fn trial_of(alloc: Global, seed: u64, k: u32) -> Result<Trial, AllocError>
+    requires { k ≤ DRAWS }
+    ensures { IfOk result (λ trial. trial ≡ trial_of seed k) }
+{
+    let drawn = draw(alloc, seed, k)?;
+    let image = drawn.image.as_slice();
+    let tape = drawn.tape.as_slice();
+    let values = values_of(alloc, image, tape, drawn.aux.as_slice(), k + 1)?;
+    Ok(tested(image, tape.len() as u32, k + 1, values.as_slice()))
+}
