@@ -1,5 +1,5 @@
--- What a system needs of an argument about memory, whatever it is: constraints over a list of lines that hold them to
--- be honest. A system of constraints stands on these two records alone.
+-- What a system needs of a memory argument, whichever it is: constraints that make a list of lines honest. The laws of
+-- a system cite these two definitions alone.
 use Rattle.std.specs.Prelude.{◌≡◌, ℕ, ◌+◌, ◌^◌, ◌≤◌, List, length, map}
 use Rattle.tv_core.specs.Circuits.{Circuit}
 use Rattle.tv_core.specs.Laws.{Assigns, Meets, HasFrom, InField}
@@ -19,8 +19,8 @@ ArgumentIsSound argument = (z : List ℕ) (checks : Checks) (k : ℕ) (lines : L
     → LinesFrom 0 (map (line_value z) lines) → AreOfKinds checks (map (line_value z) lines)
     → Assigns z → Meets z (argument checks k lines next).list → Honest (map (line_value z) lines)
 
--- the values of the wires that are made for honest lines: as many as wires, each below P, and an assignment that has
--- them satisfies the constraints, where the lines are of their kinds and near their predecessors
+-- for honest lines that are of their kinds and near their predecessors, the argument's values: one for each wire that
+-- it makes, each below P; an assignment that has them satisfies the constraints
 pub record ArgumentIsComplete (argument : Argument) (values : Checks → ℕ → List Line → List ℕ) (made : Checks → ℕ → ℕ) : Type 0 where
   pub next : (checks : Checks) (k : ℕ) (lines : List LineLc) (at : ℕ) → (argument checks k lines at).next ≡ at + made checks k
   pub many : (checks : Checks) (k : ℕ) (lines : List Line) → length (values checks k lines) ≡ made checks k

@@ -63,8 +63,8 @@ memory_terms net checks k lines =
     column_terms (2 ^ (k - 1)) (items_of lines) + inner_terms net (k - 1)
     + sum_below checks.count (λ i. check_terms (checks.kind i) (line_in lines i))
 
--- how many constraints the argument puts, and how many terms they have over lines of wires before its own: at most 2 ^ 10
--- a line
+-- how many constraints the argument emits, and how many terms they have over lines of wires before its own: at most 2 ^ 10 a
+-- line
 pub record ArgumentCosts : Type 0 where
   pub constraints : (net : Net) (checks : Checks) (k : ℕ) (lines : List LineLc) (next : ℕ) → 1 ≤ k
       → length (argument_of net checks k lines next).list ≡ memory_added net checks k
@@ -73,18 +73,18 @@ pub record ArgumentCosts : Type 0 where
   pub few : (net : Net) (checks : Checks) (k : ℕ) (lines : List LineLc) (next : ℕ) → 1 ≤ k → k ≤ 20 → length lines ≡ 2 ^ k → AreShort checks (2 ^ k)
       → All (IsMade next) lines → memory_terms net checks k lines ≤ 2 ^ k * 2 ^ 10
 
--- ---- what is put is normal
+-- ---- its combinations are normal
 -- over lines of wires before the argument's own, whatever their combinations are
 abbrev pub MemoryIsNormal : Type 0
 MemoryIsNormal = (net : Net) (checks : Checks) (k : ℕ) (lines : List LineLc) (next : ℕ) → 1 ≤ next → 1 ≤ k → length lines ≡ 2 ^ k → AreShort checks (2 ^ k)
     → All (IsMade next) lines → AreNormal (argument_of net checks k lines next).list
 
 -- ---- the values
--- those of the checks of lines, against the lines that pairs at some places stand for
+-- the values of the checks of lines, against the lines that the pairs at some places stand for
 abbrev pub checks_values : Checks → (ℕ → PairNum) → List Line → List ℕ
 checks_values checks item lines = joined_below checks.count (λ i. check_values (checks.kind i) (unpacked (item i)) (number_in lines i))
 
--- those of a network with some bits, on items, and of the checks of lines against what comes out
+-- the values of a network with some bits, on items, and of the checks of lines against its outputs
 abbrev pub routed_values : Net → Checks → ℕ → (ℕ → Bool) → List PairNum → List Line → List ℕ
 routed_values net checks k bit items lines =
     network_values net (k - 1) bit (pair_at items) ++ checks_values checks (through net (k - 1) bit (pair_at items)) lines

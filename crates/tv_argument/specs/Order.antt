@@ -49,8 +49,8 @@ previous_in order i = place_at order (index_before (length order) (index_in i or
 abbrev pub previous_order : List ℕ → List ℕ
 previous_order order = places (length order) (previous_in order)
 
--- of lines whose times are their places: of each place that of its predecessor in address order; that of the first is
--- the last
+-- of lines whose times are their places: for each place that of its predecessor in address order; the predecessor of
+-- the first is the last
 abbrev pub predecessors : List Line → List ℕ
 predecessors lines = previous_order (address_order lines)
 

@@ -23,7 +23,7 @@ pub fn predecessors(alloc: Global, pairs: &[PairNum]) -> Result<Vec<u32>, AllocE
     previous(alloc, &order)
 }
 
-// For each place the one before it in an order of the places; before the first stands the last.
+// Returns for each place the one before it in `order`; the one before the first is the last.
 fn previous(alloc: Global, order: &[u32]) -> Result<Vec<u32>, AllocError>
     requires { Permutes (length order.now) order.now }
     ensures { IfOk result (λ found. found.items ≡ previous_order order.now) }
@@ -36,7 +36,7 @@ fn previous(alloc: Global, order: &[u32]) -> Result<Vec<u32>, AllocError>
     Ok(found)
 }
 
-// Where the lines stand that come first, second, .. in address order.
+// Returns the places of the lines, in address order.
 fn address_order(alloc: Global, pairs: &[PairNum]) -> Result<Vec<u32>, AllocError>
     ensures { IfOk result (λ order. order.items ≡ address_order (map unpacked pairs.now)) }
 {

@@ -20,11 +20,11 @@ use tv_benes::{Net, Outputs, routing_network};
 use tv_core::{Pair, Put, Scratch, Sink};
 use tv_lines::{CompactLine, boot_line, follows, least_line};
 
-/// Constrains 2^`k` lines in time order, `k` from 1 to 20, to be honest: each finds the word that
-/// the last earlier line of its cell leaves, or 0. A permutation network brings to each line the
-/// item of its predecessor in address order, and the line is checked against it at its own place,
-/// as its kind says. It asks for each line twice, and takes no memory. It makes the
-/// network's wires, with a constraint for each, and those of the checks: `m + 1` wires and `m + 3`
+/// Constrains 2^`k` lines in time order, `k` from 1 to 20, to be honest: the old word of each is
+/// the new word of the latest earlier line of its cell, or 0. A permutation network brings to each
+/// line the item of its predecessor in address order, and the line is checked against it at its own
+/// place, as its kind says. Asks for each line twice, and allocates nothing. Makes the network's
+/// wires, with a constraint for each, and those of the checks: `m + 1` wires and `m + 3`
 /// constraints for a line within `m` bits, 1 constraint for a boot line or the least line.
 pub fn memory<S: Sink, L: Lines>(s: &mut S, net: Net, k: u32, lines: &L) -> Put<()>
     requires some { 1 ≤ k }
@@ -99,7 +99,7 @@ pub fn argument_is_sound()
 {}
 
 /// For honest lines at the times 0, 1, 2, .. that are of their kinds and near their predecessors
-/// there are values, as many as wires and each below P, with which an assignment satisfies the
+/// there are values, one for each wire and each below P, with which an assignment satisfies the
 /// constraints of `memory`.
 pub fn argument_is_complete()
     ensures { (net : Net) → ArgumentIsComplete (argument_of net) (argument_values net)

@@ -7,10 +7,8 @@ pub enum Kind {
     Fresh,
     /// The least line: its old word is constrained to be 0. 1 constraint.
     Least,
-    /// A line with an old word of 0 whose cell is the one after this: the line before it in address
-    /// order is of this cell. 1 constraint.
+    /// A line of the next cell with the old word 0; its predecessor is of this cell. 1 constraint.
     Boot(u32),
-    /// A line that follows its predecessor at a distance of this many bits, at most 31: one
-    /// constraint a bit, and 3.
+    /// A line whose reach has at most this many bits, up to 31. One constraint a bit, and 3.
     Within(u32),
 }

@@ -5,9 +5,9 @@
 //! same cell, and its old word is what the predecessor leaves, or 0. Nothing is unpacked after the
 //! network. How a line is checked is known from its place: its `Kind`.
 //!
-//! `memory` keeps no list and takes no memory. Contracts above cite the two records of
-//! `specs/Argument.antt`, which say what a system needs of any argument about memory; that this one
-//! has it is proved for both networks.
+//! `memory` keeps no list and allocates nothing. Contracts above cite the two definitions of
+//! `specs/Argument.antt`, soundness and completeness of any memory argument; both are proved of
+//! this one, over either network.
 #![tactic(auto)]
 
 mod address_order;

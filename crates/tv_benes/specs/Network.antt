@@ -142,7 +142,7 @@ NetworkIsSound = (z : List ℕ) (net : Net) (next h : ℕ) (item : ℕ → Pair)
 abbrev pub AreValues : List ℕ → ℕ → (ℕ → Pair) → (ℕ → PairNum) → Type 0
 AreValues z h item v = (j : ℕ) → j < 2 ^ suc h → pair_value z (item j) ≡ v j
 
--- what a network is filled by: the bits of its switches, and the numbers of its items
+-- what a network's values are computed from: the bits of its switches, and the numbers of its items
 pub record Setting : Type 0 where
   pub bit : ℕ → Bool
   pub number : ℕ → PairNum
@@ -158,13 +158,12 @@ abbrev pub NetworkIsComplete : Type 0
 NetworkIsComplete = (z : List ℕ) (net : Net) (next h : ℕ) (item : ℕ → Pair) (bit : ℕ → Bool) (v : ℕ → PairNum) → Assigns z
     → AreValues z h item v → HasFrom z next (network_values net h bit v) → IsFilled z net h next item (record { bit = bit; number = v })
 
--- over normal items of wires before the first, every combination that is put is normal
+-- over normal items of wires before the first, every combination that is emitted is normal
 abbrev pub NetworkIsNormal : Type 0
 NetworkIsNormal = (net : Net) (h next : ℕ) (item : ℕ → Pair) → ((i : ℕ) → i < 2 ^ suc h → IsNormalPair (item i) next) → AreNormal (network_of net h item next).list
 
--- the sizes of a network: it makes three wires a switch and two more a bound
--- one, of which its values are one each; its outputs are among them;
--- and over items in the field all values are in the field
+-- the sizes of a network: it makes three wires a switch and two more a bound one, with one value each; its outputs are
+-- among them; and over items in the field all values are in the field
 pub record NetworkFills : Type 0 where
   pub fills : (net : Net) (h : ℕ) (item : ℕ → Pair) (bit : ℕ → Bool) (v : ℕ → PairNum) → Fills (network_of net h item) (network_values net h bit v)
   pub ends : (net : Net) (h next : ℕ) (item : ℕ → Pair) → (network_of net h item next).next ≡ next + network_wires net h

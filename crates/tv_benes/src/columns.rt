@@ -1,4 +1,4 @@
-//! The columns of a network's switches, put into a sink.
+//! The columns of a network's switches, emitted into a sink.
 ghost use Rattle.std.specs.Prelude.{◌≡◌, ℕ, ◌+◌, ◌*◌, ◌<◌, ◌≤◌, length, IfOk};
 ghost use Rattle.tv_core.specs.Combinations.{top};
 ghost use Rattle.tv_core.specs.Sinks.{PutsIn, Grows, Room};
@@ -129,7 +129,7 @@ pub(crate) fn bound_column<S: Sink, T: Pairs>(
     Ok(())
 }
 
-// What all columns of a network fill again: two items, and the combinations of a constraint.
+// Scratch space of all columns of a network: two items, and the combinations of a constraint.
 #[derive(Drop)]
 pub(crate) struct Buffers {
     pub(crate) scratch: Scratch,

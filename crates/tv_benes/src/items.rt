@@ -6,8 +6,8 @@ ghost use Rattle.tv_benes.specs.Through.{switches, from, last_bit, through};
 use crate::shape::{Net, level_switches, long_power};
 use tv_core::{F, PairNum};
 
-// The items of a network: its inputs, or those of the upper or lower network within another, given
-// by that one's items, the place where its bits begin, and whether it is the lower one.
+// The items of a network: its inputs; or, for the upper or lower network within another, that one's
+// items, the place where its bits begin, and whether it is the lower one.
 #[derive(Clone, Copy)]
 pub(crate) enum Items<'a> {
     Given(&'a [PairNum]),

@@ -32,14 +32,14 @@ pub fn network_is_complete()
 {}
 
 /// Over items that are normal combinations of wires before the network's own, each combination that
-/// it puts is normal.
+/// it emits is normal.
 #[tactic(auto, using(crate::proofs::NormalLaws::network_normal))]
 pub fn network_is_normal()
     ensures { NetworkIsNormal }
 {}
 
-/// A network makes three wires a switch and two more a bound one, as many as it has values; its
-/// outputs are among them; and its values are numbers of the field where its inputs are.
+/// A network makes three wires a switch and two more a bound one, with one value each; its outputs
+/// are among them; and its values are numbers of the field where its inputs are.
 #[tactic(auto, using(crate::proofs::Sizes::network_sizes))]
 pub fn network_fills()
     ensures { NetworkFills }

@@ -1,4 +1,4 @@
-//! Either network, put into a sink.
+//! Either network, emitted into a sink.
 ghost use Rattle.std.specs.Prelude.{◌≡◌, true, false, ◌+◌, ◌-◌, ◌*◌, ◌^◌, ◌<◌, ◌≤◌, IfOk};
 ghost use Rattle.tv_benes.specs.Levels.{level_wires, network_wires};
 ghost use Rattle.tv_benes.specs.Network.{last_column_of, inner_of, level_of, network_of};

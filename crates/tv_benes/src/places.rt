@@ -159,7 +159,7 @@ pub struct Outputs {
     pub first: Wire,
     /// The first wire of output 1.
     pub second: Wire,
-    /// The first wire of the switches that give the other outputs.
+    /// The first wire of the switches whose outputs are the others.
     pub others: Wire,
 }
 

@@ -100,7 +100,7 @@ fn passed(b: bool, x: &PairNum, y: &PairNum) -> PairNum
     if b { *y } else { *x }
 }
 
-// A first column, whose bits begin at `at`: what its switches give first and what they give second.
+// A first column, whose bits begin at `at`: what its switches pass first and what they pass second.
 fn first_column<V: Values>(
     v: &mut V,
     form: Form,
@@ -134,7 +134,7 @@ fn first_column<V: Values>(
     Ok(())
 }
 
-// A last column, whose bits begin at `at`, on what the two networks before it give.
+// A last column, whose bits begin at `at`, on the outputs of the two networks before it.
 fn last_column<V: Values>(
     v: &mut V,
     net: Net,

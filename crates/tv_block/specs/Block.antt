@@ -45,7 +45,7 @@ abbrev pub registers_of : ℕ → StateWires → InstructionWires → Circuit Tr
 registers_of w state i =
     triple_of (opcode_sum i.op store_ops) (number_of (dest_bits w i)) (number_of (source_bits w i)) (number_of (register_bits i)) state.regs
 
--- what a step works out: its instruction, the registers that it reads, its operand, and the row that holds what the
+-- what a step computes: its instruction, the registers that it reads, its operand, and the row that holds what the
 -- operation makes; the test of its flag has a wire before the row's
 unfoldable pub computed_of : ℕ → StateWires → Circuit Computed
 computed_of w state = do
@@ -138,7 +138,8 @@ pub record IsStep (w : ℕ) (z : List ℕ) (n time : ℕ) (state : StateWires) (
   pub taken : slice_index z made.spot.taken ≡ flag_of takes
   pub answers : slice_index z made.answers ≡ flag_of ((decode w head tail).op == ANSWER)
 
--- so they are where an assignment meets a step's constraints, the state before it being in range, whatever memory holds
+-- where an assignment satisfies a step's constraints, and the state before the step is in range, the numbers in its
+-- wires are such a step's, whatever memory holds
 abbrev pub BlockIsStep : Type 0
 BlockIsStep = (w : ℕ) → IsWidth w → (z : List ℕ) (n : ℕ) (state : StateWires) (time next : ℕ) → n < 2 ^ 29 → time + 2 < 2 ^ 32 → Assigns z
     → ViewInRange w n (state_in z state) → Meets z (block_of w n state time next).list
@@ -152,7 +153,8 @@ pub record IsMachineStep (w : ℕ) (z x : List ℕ) (time : ℕ) (state : StateW
   pub takes : slice_index z made.spot.taken ≡ flag_of (did z state made).takes
   pub answers : slice_index z made.answers ≡ flag_of (did z state made).answers
 
--- so they are where an assignment meets a step's constraints, the state before it being in range
+-- where an assignment satisfies a step's constraints, and the state before the step is in range, the numbers in its wires
+-- are those of a machine's step
 abbrev pub BlockIsSound : Type 0
 BlockIsSound = (w : ℕ) → IsWidth w → (z x : List ℕ) (state : StateWires) (time next : ℕ) → length x < 2 ^ 29 → time + 2 < 2 ^ 32 → Assigns z
     → ViewInRange w (length x) (state_in z state) → Meets z (block_of w (length x) state time next).list

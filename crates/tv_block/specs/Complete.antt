@@ -33,7 +33,8 @@ pub record MeetsStep (w : ℕ) (z : List ℕ) (n : ℕ) (at : BlockPlace) (by : 
       ≡ did_of w n at.time (state_in z at.state)
       (step_words by.head by.tail (row_low w (state_in z at.state) (decode w by.head by.tail) by.word) by.takes)
 
--- so it is of an assignment that has a step's values at the wires that are made, the step being in range
+-- an assignment that has the values of a step in range at the wires that are made satisfies the constraints, and its
+-- wires hold that step
 abbrev pub BlockIsComplete : Type 0
 BlockIsComplete = (w : ℕ) → IsWidth w → (z : List ℕ) (n : ℕ) (state : StateWires) (time next head tail o : ℕ) (takes : Bool) → time + 2 < 2 ^ 32 → Assigns z
     → AtNumbers w n (state_in z state) (step_words head tail o takes)
@@ -41,11 +42,11 @@ BlockIsComplete = (w : ℕ) → IsWidth w → (z : List ℕ) (n : ℕ) (state : 
     → MeetsStep w z n (record { state = state; time = time; next = next }) (step_words head tail o takes)
 
 -- ---- of the machine
--- the values by the olds of the step's three lines, and the word that it takes of the auxiliary tape
+-- the values by the old words of the step's three lines, and the word that it takes of the auxiliary tape
 abbrev pub step_values : ℕ → ℕ → View → List ℕ → Option ℕ → List ℕ
 step_values w n v olds word = block_values w n v (step_words (slice_index olds 0) (slice_index olds 1) (data_word_of (slice_index olds 2) word) (is_some word))
 
--- the olds of a machine's step
+-- the old words of the lines of a machine's step
 abbrev pub olds_of : ℕ → ℕ → State → ℕ → List ℕ
 olds_of w n st time = map (λ (line : Line). line.old) (step_lines w n st time)
 
@@ -76,7 +77,7 @@ MachineStepIsMet = (w : ℕ) → IsWidth w → (z x : List ℕ) (state : StateWi
     → MeetsMachineStep w z x (record { state = state; time = time; next = next }) st word
 
 -- ---- sizes
--- how many wires and constraints a step makes: for what it works out, for what it does, and in all
+-- how many wires and constraints a step makes: for what it computes, for what it does, and in all
 abbrev pub computed_made : ℕ → ℕ
 computed_made w = 6 * w + w / 16 + 71
 

@@ -30,7 +30,7 @@ step_costs w = record {
   lines = terms_are 1 1 1 ∷ terms_are 2 1 1 ∷ terms_are 1 1 1 ∷ [];
 }
 
--- at most so much, which is what a system takes a step to cost
+-- the bounds on a step's costs that the laws of a system use
 pub record HasFewTerms (terms : LineTerms) : Type 0 where
   pub cell : terms.cell ≤ 32
   pub old : terms.old ≤ 32

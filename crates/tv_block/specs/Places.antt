@@ -43,7 +43,7 @@ flag_at w = written_at w + 17
 abbrev pub pc_at : ℕ → ℕ
 pc_at w = flag_at w + 3
 
--- ---- what a step answers
+-- ---- what a step returns
 -- the wires of the state after a step whose first wire is `at`
 abbrev pub next_state : ℕ → ℕ → StateWires
 next_state w at = record {

@@ -1,5 +1,5 @@
--- What the values of a machine's step are worked out from: the numbers of its state, the olds of its lines, and the word
--- that it takes.
+-- What the values of a machine's step are computed from: the numbers of its state, the old words of its lines, and the
+-- word that it takes of the auxiliary tape.
 use Rattle.std.specs.Prelude.{◌≡◌, ℕ, ◌-◌, ◌^◌, ◌<◌, Bool, length, is_some, slice_index}
 use Rattle.tv_numbers.specs.Numbers.{step_words}
 use Rattle.tv_numbers.specs.Shown.{data_word_of}
@@ -33,6 +33,6 @@ pub record IsTracedStep (w n m time : ℕ) (st : State) (ended : Bool) : Type 0 
   pub values : block_values w n (traced_view (traced_state n m st ended)) (step_words (step_head w n st time) (step_tail w n st time) (step_data w n st time) (is_some (word_taken w st)))
       ≡ step_values w n (seen st (n - length st.primary) (flag_of ended)) (olds_of w n st time) (word_taken w st)
 
--- so it is of each step from a state in range
+-- each machine's step from a state in range is such a traced step
 abbrev pub StepsAreGiven : Type 0
 StepsAreGiven = (w : ℕ) → IsWidth w → (n m time : ℕ) (st : State) (ended : Bool) → n < 2 ^ 29 → InRange w st → IsTracedStep w n m time st ended

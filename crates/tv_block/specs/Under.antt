@@ -36,7 +36,7 @@ pub record InstructionUnder (w wires : ℕ) (i : InstructionWires) : Type 0 wher
   pub second_size : i.second.n ≡ w
   pub second : i.second.first + w ≤ wires
 
--- what a step works out
+-- what a step computes
 pub record ComputedUnder (w wires : ℕ) (c : Computed) : Type 0 where
   pub op : c.instruction.op + 29 ≤ wires
   pub regs : TripleUnder wires c.regs
@@ -44,7 +44,7 @@ pub record ComputedUnder (w wires : ℕ) (c : Computed) : Type 0 where
   pub test : c.test < wires
   pub made : ArithmeticUnder w wires c.made
 
--- the state before a step, and what the step works out
+-- the state before a step, and what the step computes
 pub record BeforeUnder (w wires : ℕ) (from : StateWires) (c : Computed) : Type 0 where
   pub state : StateUnder wires from
   pub computed : ComputedUnder w wires c

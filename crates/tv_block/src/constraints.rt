@@ -27,9 +27,9 @@ use tv_parts::{
 };
 use tv_regs::{Names, Triple, read_triple};
 
-/// One step of the machine from a state, the primary tape having `n` words; its lines of memory
-/// have `time` and the two times after it. It makes as many wires and constraints as `step_costs`
-/// says. A `Block` has some 24 KB: `step` returns what the next step needs of it.
+/// Constrains one step of the machine from a state, the primary tape having `n` words; its lines of
+/// memory have `time` and the two times after it. Makes as many wires and constraints as
+/// `step_costs` says. A `Block` has some 24 KB: `step` returns only what the next step needs of it.
 pub fn block<const W: u32, S: Sink>(s: &mut S, state: &StateWires, n: u32, time: u32) -> Put<Block>
     requires width { IsWidth W }
     requires room { Room S.meaning s.old (block_made W) (block_added W) }

@@ -20,10 +20,10 @@ pub fn block_is_sound()
 {}
 
 /// A step's circuit is complete. An assignment that has the values of a step in numbers at the
-/// wires that are made meets the constraints, and the numbers in its wires are that step; the data
-/// word that they show is the low half of the operation's row, which is the step's data word where
-/// it loads, stores or reads. So it is of each step of the machine from a state in range that goes
-/// on or answers, by the old words of its lines and a word of the auxiliary tape that it may take:
+/// wires that are made satisfies the constraints, and its wires hold that step; the data word in
+/// them is the low half of the operation's row, which is the step's data word where it loads,
+/// stores or reads. The same holds for each step of the machine from a state in range that goes on
+/// or answers, with the old words of its lines and a word of the auxiliary tape that it may take:
 /// the lines are then those of the machine's step, and the word is the one that was passed.
 pub fn block_is_complete()
     ensures numbers { BlockIsComplete }

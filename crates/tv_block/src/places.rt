@@ -182,8 +182,7 @@ fn word_inverse<const W: u32>() -> F
     F::of(P - (P - 1) / u64::from(W / 8))
 }
 
-// Where the wires of the tapes begin, counted from a step's first wire: after what a step works
-// out.
+// Where the wires of the tapes begin, counted from a step's first wire: after what a step computes.
 fn tapes_at<const W: u32>() -> u32
     requires width { IsWidth W }
     ensures { result ≡ tapes_at W }

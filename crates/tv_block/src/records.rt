@@ -19,7 +19,7 @@ pub struct StateNum {
     pub aux_ended: bool,
 }
 
-/// What a step works out before it changes anything.
+/// What a step computes before it changes anything.
 #[derive(Clone, Copy, PartialEq, Eq, Debug)]
 pub struct Computed {
     /// Its instruction.

@@ -139,7 +139,7 @@ fn sign(op: u8) -> F
     }
 }
 
-// Assigns the values of what a step works out, `test` being that of its flag.
+// Assigns the values of what a step computes, `test` being that of its flag.
 fn fill_computed<const W: u32, V: Values>(
     v: &mut V,
     state: &TraceState,

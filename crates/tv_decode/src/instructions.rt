@@ -60,7 +60,7 @@ pub fn instruction<const W: u32, S: Sink>(s: &mut S, scratch: &mut Scratch) -> P
     })
 }
 
-// Holds the sum of the row to 1.
+// Constrains the sum of the row to 1.
 fn one_opcode<S: Sink>(s: &mut S, scratch: &mut Scratch, op: Wire) -> Put<()>
     requires room { Room S.meaning s.old 0 1 }
     requires op_made { op + 29 ≤ S.meaning.wires s.old }

@@ -8,7 +8,7 @@ use thiserror::Error;
 use tv_core::SinkFault;
 use tv_step::{End, TraceFault};
 
-/// Why the values of a run were not given.
+/// Why the values of a run were not assigned, or not all of them.
 #[derive(Clone, Copy, PartialEq, Eq, Debug, Error)]
 pub enum FillFault {
     /// The run doesn't answer within its steps; this is how it ends.

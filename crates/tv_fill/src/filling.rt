@@ -45,7 +45,7 @@ pub struct Filling<'a, const W: u32> {
     spare: Vec<PairNum>,
     net: Net,
     k: u32,
-    // Those that send to each line the item of its predecessor in address order.
+    // The settings that bring to each line the item of its predecessor in address order.
     settings: Settings,
 }
 
@@ -94,15 +94,15 @@ impl<'a, const W: u32> Filling<'a, W> {
         self.answer
     }
 
-    /// Returns how many values there are: as many as the system has wires.
+    /// Returns how many values there are: one for each wire of the system.
     pub fn count(&self) -> u32
         ensures { result ≡ length self.now.values }
     {
         self.count
     }
 
-    /// Assigns the values, in the order of the wires, and frees what was held for them. It takes
-    /// time linear in their number, and no memory.
+    /// Assigns the values, in the order of the wires, and frees what was held for them. Takes time
+    /// linear in their number, and allocates nothing.
     pub fn give<V: Values>(self, v: &mut V) -> Put<()>
         requires whole { V.giving.broken v.old ≡ false }
         ensures gives { GivesIn V.giving v.old v.new self.entry.values result }

@@ -10,8 +10,8 @@ use Rattle.tv_step.specs.State.{State}
 abbrev pub BlockCircuit : Type 0
 BlockCircuit = ℕ → StateWires → ℕ → Circuit Block
 
--- the values of a block's wires, by the number of words of the primary tape, the state in numbers, the olds of the step's
--- three lines, and the word that it takes of the auxiliary tape
+-- the values of a block's wires, by the number of words of the primary tape, the state in numbers, the old words of the
+-- step's three lines, and the word that it takes of the auxiliary tape
 abbrev pub BlockValues : Type 0
 BlockValues = ℕ → View → List ℕ → Option ℕ → List ℕ
 

@@ -32,7 +32,7 @@ word_of w first i = do
 unfoldable pub words_of : ℕ → ℕ → ℕ → Circuit (Unit {0})
 words_of w first n = sequence n (word_of w first)
 
--- a new wire that is held to 0
+-- a new wire that is constrained to 0
 unfoldable pub zero_wire_of : Circuit (Unit {0})
 zero_wire_of = do
   w ← fresh

@@ -9,6 +9,6 @@ pub record RunInput : Type 0 where
   pub aux : List ℕ
   pub t : ℕ
 
--- that of these
+-- the input of a run with these parts
 abbrev pub run_on : ℕ → List ℕ → List ℕ → List ℕ → ℕ → RunInput
 run_on w image tape aux t = record { width = w; image = image; tape = tape; aux = aux; t = t }

@@ -62,7 +62,7 @@ memory_wires net image n t = network_made net (log_of (line_count image n t)) + 
 abbrev pub memory_constraints : Net → List ℕ → ℕ → ℕ → ℕ
 memory_constraints net image n t = network_made net (log_of (line_count image n t)) + of_system check_added image n t
 
--- ---- what is put
+-- ---- what is emitted
 -- the wires after the public ones: the bits of the tape's words, the first state's, the steps, and the memory argument
 abbrev pub system_made : ℕ → Net → List ℕ → ℕ → ℕ → ℕ
 system_made w net image n t = n * w + STATE_WIRES + t * block_made w + memory_wires net image n t

@@ -14,7 +14,7 @@ use tv_benes::Net;
 use tv_block::{step_costs, step_terms};
 use tv_core::{CountSink, Counts};
 
-/// Returns how many wires the system has that `emit_system` puts. It takes constant time.
+/// Returns how many wires the system has that `emit_system` emits. Takes constant time.
 pub fn wires<const W: u32>(image: &[u32], n: u32, t: u32, net: Net) -> u32
     requires { WithinLimits W image.now n t }
     ensures is { result ≡ (system_of W net image.now n t).wires }
@@ -24,9 +24,9 @@ pub fn wires<const W: u32>(image: &[u32], n: u32, t: u32, net: Net) -> u32
     public_wires(n) + (n * W + STATE_WIRES + t * step_costs::<W>().wires + memory)
 }
 
-/// Returns the sizes of the system that `emit_system` puts, by what its parts cost. Wires and
-/// constraints take constant time, and the terms of the memory argument are a sum over its lines:
-/// a small part of the time to put the system. It takes no memory.
+/// Returns the sizes of the system that `emit_system` emits, from the costs of its parts. Wires and
+/// constraints take constant time, and the terms of the memory argument are a sum over its lines: a
+/// small part of the time of emitting the system. Allocates nothing.
 pub fn sizes<const W: u32>(image: &[u32], n: u32, t: u32, net: Net) -> Counts
     requires { WithinLimits W image.now n t }
     ensures counts { result ≡ system_counts (system_of W net image.now n t) }
@@ -80,8 +80,8 @@ fn memory_constraints<const W: u32>(image: &[u32], n: u32, t: u32, net: Net) -> 
     network_made(net, k) + total(&constraint_costs(k, words), words, n, t)
 }
 
-/// Puts a system into a sink that counts, which so shows of each combination that it has at most
-/// 128 terms, over wires below the system's number of them. It takes as long as to put the system.
+/// Emits a system into a sink that counts, which proves that each combination has at most 128
+/// terms, over wires below the system's number of them. Takes as long as emitting the system.
 pub fn count_system<const W: u32>(image: &[u32], n: u32, t: u32, net: Net) -> CountSink
     requires { WithinLimits W image.now n t }
     ensures wires { result.wires ≡ (system_of W net image.now n t).wires }

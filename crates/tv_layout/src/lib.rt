@@ -2,9 +2,9 @@
 //! answer and the words of the primary tape; the steps stand in a row, and an argument about memory
 //! holds their lines to be honest.
 //!
-//! `emit_system` puts a system into any sink; `wires` and `sizes` return its counts, and
-//! `count_system` counts what is put; `line` and `spot` return parts by their places. None of them
-//! takes memory, since wires follow from places.
+//! `emit_system` emits a system into any sink; `wires` and `sizes` return its counts, and
+//! `count_system` counts what is emitted; `line` and `spot` return parts by their places. None of
+//! them allocates, since wires are computed from places.
 #![tactic(auto)]
 
 mod checks;

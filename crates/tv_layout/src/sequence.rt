@@ -26,7 +26,7 @@ pub(crate) fn first_state(zero_wires: Wire) -> StateWires
     }
 }
 
-// What stands before the steps.
+// Returns what the steps start from: the first state, and no answer.
 fn before_steps(zero_wires: Wire) -> Reached
     requires { zero_wires + STATE_WIRES < 2 ^ 32 }
     ensures { result ≡ before_steps zero_wires }
@@ -38,8 +38,8 @@ fn before_steps(zero_wires: Wire) -> Reached
     }
 }
 
-// `t` steps, each from the state that the one before leads to. Their constraints are the same at
-// any times.
+// Emits `t` steps, each from the state that the one before leads to. Their constraints don't depend
+// on the times of their lines.
 pub(crate) fn steps<const W: u32, S: Sink>(
     s: &mut S,
     n: u32,

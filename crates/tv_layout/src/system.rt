@@ -1,4 +1,4 @@
-//! The system of a program, put into a sink.
+//! The system of a program, emitted into a sink.
 ghost use Rattle.std.specs.Prelude.{◌≡◌, ◌+◌, ◌*◌, ◌≤◌, ◌<◌, false, IfOk};
 ghost use Rattle.tv_block.specs.Block.{block_of};
 ghost use Rattle.tv_core.specs.Sinks.{PutsIn, Grows, Room};
@@ -18,13 +18,13 @@ use tv_bits::bits;
 use tv_block::Reached;
 use tv_core::{F, Lc, Put, Sink, Wire};
 
-/// Puts the system of a program's runs of `t` steps on primary tapes of `n` words, over a network.
+/// Emits the system of a program's runs of `t` steps on primary tapes of `n` words, over a network.
 /// The sink has the constant wire and the public ones, which are the answer's and the tape's, and
-/// no constraint. Nothing is kept, and no memory is taken.
+/// no constraint. Keeps nothing, and allocates nothing.
 ///
 /// Words have `W` bits, 16 or 32. The image has at most 131,072 of them, and `n` is at most
-/// 131,072; `t` is from 1 to 262,144. It refuses only where the sink does, which was given a first
-/// part of the system by then.
+/// 131,072; `t` is from 1 to 262,144. Fails only where the sink refuses a constraint; the sink then
+/// has a first part of the system.
 pub fn emit_system<const W: u32, S: Sink>(
     image: &[u32],
     n: u32,
@@ -75,7 +75,7 @@ fn word<const W: u32, S: Sink>(s: &mut S, first: Wire, i: u32) -> Put<()>
     Ok(())
 }
 
-// The wires of the first state, each held to 0.
+// Makes the wires of the first state, each constrained to 0.
 fn zero_wires<S: Sink>(s: &mut S) -> Put<Wire>
     requires room { Room S.meaning s.old STATE_WIRES STATE_WIRES }
     ensures puts { PutsIn S.meaning s.old s.new zero_wires_of result }
@@ -89,7 +89,7 @@ fn zero_wires<S: Sink>(s: &mut S) -> Put<Wire>
     Ok(zero_wires)
 }
 
-// A wire that is held to 0.
+// Makes a wire that is constrained to 0.
 fn zero_wire<S: Sink>(s: &mut S) -> Put<()>
     requires room { Room S.meaning s.old 1 1 }
     ensures puts { PutsIn S.meaning s.old s.new zero_wire_of result }

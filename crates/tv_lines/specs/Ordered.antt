@@ -4,7 +4,7 @@ use Rattle.std.specs.List.Sorted.{IsNonDecreasingBy}
 use Rattle.tv_core.specs.Lines.{Line, Honest}
 use Rattle.tv_lines.specs.PackedLines.{time_bits}
 
--- m stands right after l: its cell is above, or its time in the same cell, and it carries on what l left in its cell, or begins at 0
+-- m follows l: its cell is above, or its time in the same cell; its old word is l's new one in the same cell, else 0
 pub record Follows (l m : Line) : Type 0 where
   pub rises : (l.cell < m.cell) ⊎ ((l.cell ≡ m.cell) × (l.time < m.time))
   pub carried : l.cell ≡ m.cell → m.old ≡ l.new

@@ -74,6 +74,6 @@ ItemIsRight = (z : List ℕ) (line : LineLc) → InRange (line_value z line) →
 abbrev pub PackIsOneToOne : Type 0
 PackIsOneToOne = (l m : Line) → InRange l → InRange m → packed l ≡ packed m → l ≡ m
 
--- a line in range is there again
+-- a line in range that is packed is unpacked to the same line
 abbrev pub UnpackUndoesPack : Type 0
 UnpackUndoesPack = (line : Line) → InRange line → unpacked (packed line) ≡ line

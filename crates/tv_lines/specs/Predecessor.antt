@@ -19,7 +19,7 @@ use Rattle.tv_lines.specs.PackedLines.{InRange, line_value, packed_item, time_bi
 use Rattle.tv_lines.specs.Compact.{cell_lc, word_lc}
 use Rattle.tv_lines.specs.declared.compact.CompactLine.{CompactLine}
 
--- ---- what goes in
+-- ---- the inputs
 -- the parts of a compact line that are checked are made of wires below a number
 pub record IsLineMade (wires : ℕ) (line : CompactLine) : Type 0 where
   pub cell : top (cell_lc line.cell) ≤ wires
@@ -103,7 +103,7 @@ pub record FollowsSizes : Type 0 where
 abbrev pub follows_terms : ℕ → LineLc → ℕ
 follows_terms m line = 4 * m + 8 + length (cell_excess line []) + length (less_above [] line.cell) + length (less_above [] line.time)
 
--- how many constraints it puts, and how many terms they have
+-- how many constraints it emits, and how many terms they have
 pub record FollowsCosts : Type 0 where
   pub constraints : (m : ℕ) (line : LineLc) (item : Pair) (next : ℕ) → length (follows_of m line item next).list ≡ m + 3
   pub terms : (m : ℕ) (line : LineLc) (u v next : ℕ) → 1 ≤ u → top line.cell ≤ u → top line.old ≤ u → top line.time ≤ v

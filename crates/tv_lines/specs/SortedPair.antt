@@ -144,7 +144,7 @@ pub record FirstLineSizes : Type 0 where
   pub end : (bits : LineBits) (next : ℕ) → (first_line_of bits next).next ≡ next
   pub fills : (bits : LineBits) → Fills (first_line_of bits) []
 
--- the bits of n lines, the first line held to begin at 0 and each two neighbours to follow each other
+-- the bits of n lines, of which the first is constrained to begin at 0 and each two neighbours to follow each other
 pub record AreSorted (z : List ℕ) (n : ℕ) (bits : ℕ → LineBits) (line : ℕ → Line) : Type 0 where
   pub widths : (i : ℕ) → i < n → HasWidths (bits i)
   pub spells : (i : ℕ) → i < n → HasLineBits z (bits i) (line i)

@@ -26,8 +26,8 @@ const TIME_CHUNKS: u32 = 2;
 
 const PREFIXES: u32 = CELL_CHUNKS + TIME_CHUNKS;
 
-// Holds `size` to the difference of two prefixes, of the cells or of the keys. It makes 3 wires and
-// 4 constraints.
+// Constrains `size` to the difference of two prefixes, of the cells or of the keys. Makes 3 wires
+// and 4 constraints.
 pub(crate) fn rises<S: Sink>(
     s: &mut S,
     scratch: &mut Scratch,

@@ -64,7 +64,7 @@ fn set_cell_excess(lc: &mut Lc, line: &CompactLine, first: &[(F, Wire)])
     line.cell.subtract_above(lc);
 }
 
-// Writes what the wire `e` is.
+// Sets `lc` to what the wire `e` equals.
 fn set_excess(lc: &mut Lc, reach: &Bits, line: &CompactLine, item: &Pair)
     requires short { reach.now.n ≤ 31 }
     requires within { reach.now.first + reach.now.n < 2 ^ 32 }

@@ -15,9 +15,9 @@ use crate::rows::LineBits;
 use tv_bits::{fill_bits, fill_zero, kept_by, new_bits_by, zero_by};
 use tv_core::{F, Lc, LineNum, Put, Scratch, Sink, Values, Wire};
 
-/// Holds two lines to follow each other in address order: the cell of the second is above that of
-/// the first, or in the same cell its time; its old word is the first's new one where the cells are
-/// the same, and else 0. It makes 18 wires and 20 constraints, of 312 terms.
+/// Constrains two lines to follow each other in address order: the cell of the second is above that
+/// of the first, or in the same cell its time; its old word is the first's new one where the cells
+/// are the same, and else 0. Makes 18 wires and 20 constraints, of 312 terms.
 pub fn sorted_pair<S: Sink>(s: &mut S, before: &LineBits, after: &LineBits) -> Put<()>
     requires room { Room S.meaning s.old 18 20 }
     requires before_line { IsLineBelow (S.meaning.wires s.old) before.now }
@@ -87,8 +87,8 @@ fn new_size<S: Sink>(s: &mut S, scratch: &mut Scratch) -> Put<Wire>
     kept_by(s, &mut scratch.b, &mut scratch.c, &scratch.a)
 }
 
-/// Holds the first line in address order to an old word of 0. It makes no wire and 1 constraint, of
-/// 33 terms.
+/// Constrains the old word of the first line in address order to 0. Makes no wire and 1 constraint,
+/// of 33 terms.
 pub fn first_line<S: Sink>(s: &mut S, line: &LineBits) -> Put<()>
     requires room { Room S.meaning s.old 0 1 }
     requires line { IsLineBelow (S.meaning.wires s.old) line.now }

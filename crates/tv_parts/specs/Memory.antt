@@ -125,7 +125,7 @@ pub record AreStored (w : ℕ) (z : List ℕ) (s : StoreWires) (step : StepInput
   pub new : slice_index z s.new ≡ (data_line w step.words step.view step.instr step.low takes 0).new
   pub byte : slice_index z s.byte ≡ byte_of step.low (operand_word step.view step.instr % word_size w)
 
--- an assignment that meets the constraints has them at the wires that are answered
+-- an assignment that satisfies the constraints has them at the returned wires
 abbrev pub MemoryIsSound : Type 0
 MemoryIsSound = (w : ℕ) → IsWidth w → (z : List ℕ) (next n : ℕ) (state : StateWires) (op : ℕ) (a : OperandWires) (d : DataWires) (t : TapeWires) (v : View) (i : Instr) (x o : ℕ)
     → HasMemory w z (record { state = state; op = op; operand = a; tapes = t }) d (input_of n v i o) x → Meets z (memory_of w state op a d t next).list
@@ -137,7 +137,7 @@ MemoryIsComplete = (w : ℕ) → IsWidth w → (z : List ℕ) (next n : ℕ) (st
     → HasMemory w z (record { state = state; op = op; operand = a; tapes = t }) d (input_of n v i o) x
     → HasFrom z next (memory_values w (input_of n v i o) x (took z t)) → Meets z (memory_of w state op a d t next).list
 
--- which wires are answered, and that the values are one number of the field for each wire that is made
+-- which wires are returned, and that the values are one number of the field for each wire that is made
 pub record MemorySizes : Type 0 where
   pub answer : (w : ℕ) → IsWidth w → (state : StateWires) (op : ℕ) (a : OperandWires) (d : DataWires) (t : TapeWires) (next : ℕ) → (memory_of w state op a d t next).answer
       ≡ record { line = record { cell = next + 1; old = next + 2 }; byte = next + (w / 8 + 1); new = next + (w / 8 + 4) }

@@ -70,7 +70,7 @@ pub record HasPc (w : ℕ) (z : List ℕ) (wires : StepWires) (v : View) (i : In
   pub opcode : IsOpcode z wires.op i.op
   pub operand : IsOperand w z wires.operand (operand_word v i)
 
--- an assignment that meets the constraints has the counter after the step at the wire that is answered
+-- an assignment that satisfies the constraints has the counter after the step at the returned wire
 abbrev pub PcIsSound : Type 0
 PcIsSound = (w : ℕ) → IsWidth w → (z : List ℕ) (next : ℕ) (state : StateWires) (op : ℕ) (a : OperandWires) (v : View) (i : Instr)
     → HasPc w z (record { state = state; op = op; operand = a }) v i → Meets z (pc_of w state op a next).list
@@ -81,7 +81,7 @@ abbrev pub PcIsComplete : Type 0
 PcIsComplete = (w : ℕ) → IsWidth w → (z : List ℕ) (next : ℕ) (state : StateWires) (op : ℕ) (a : OperandWires) (v : View) (i : Instr)
     → HasPc w z (record { state = state; op = op; operand = a }) v i → HasFrom z next (pc_values w v i) → Meets z (pc_of w state op a next).list
 
--- which wire is answered, and that the values are one number of the field for each wire that is made
+-- which wire is returned, and that the values are one number of the field for each wire that is made
 pub record PcSizes : Type 0 where
   pub answer : (w : ℕ) (state : StateWires) (op : ℕ) (a : OperandWires) (next : ℕ) → (pc_of w state op a next).answer ≡ next + 3
   pub end : (w : ℕ) (state : StateWires) (op : ℕ) (a : OperandWires) (next : ℕ) → (pc_of w state op a next).next ≡ next + 4

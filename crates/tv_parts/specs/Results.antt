@@ -132,7 +132,7 @@ pub record AreResults (w : ℕ) (z : List ℕ) (r : ResultWires) (step : StepInp
   pub tested : covers (tested_numbers w (operand_word step.view step.instr) step.low high (slice_index z r.word)) step.instr.op ≡ true
       → slice_index z r.tested ≡ chosen (tested_numbers w (operand_word step.view step.instr) step.low high (slice_index z r.word)) step.instr.op
 
--- an assignment that meets the constraints has them at the wires that are answered
+-- an assignment that satisfies the constraints has them at the returned wires
 abbrev pub ResultsAreSound : Type 0
 ResultsAreSound = (w : ℕ) → IsWidth w → (z : List ℕ) (next n : ℕ) (state : StateWires) (op : ℕ) (a : OperandWires) (from : Sources) (t : TapeWires) (v : View) (i : Instr) (low high : ℕ)
     → HasSources w z (record { state = state; op = op; operand = a; tapes = t }) from (input_of n v i low) high → Meets z (results_of w state op a from t next).list
@@ -168,7 +168,7 @@ ResultsAreComplete = (w : ℕ) → IsWidth w → (z : List ℕ) (next n : ℕ) (
     → HasFrom z next (results_values w i.op (operand_word v i) low high (found w n v i low (took z t)))
     → Meets z (results_of w state op a from t next).list
 
--- which wires are answered, and that the values are one number of the field for each wire that is made
+-- which wires are returned, and that the values are one number of the field for each wire that is made
 pub record ResultsSizes : Type 0 where
   pub answer : (w : ℕ) (state : StateWires) (op : ℕ) (a : OperandWires) (from : Sources) (t : TapeWires) (next : ℕ) → (results_of w state op a from t next).answer ≡ record { word = next + 3; tested = next + 4 }
   pub end : (w : ℕ) (state : StateWires) (op : ℕ) (a : OperandWires) (from : Sources) (t : TapeWires) (next : ℕ) → (results_of w state op a from t next).next ≡ next + 5

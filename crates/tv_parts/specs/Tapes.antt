@@ -99,7 +99,7 @@ pub record HasTapes (w : ℕ) (z : List ℕ) (wires : StepWires) (n : ℕ) (v : 
   pub opcode : IsOpcode z wires.op i.op
   pub operand : IsOperand w z wires.operand (operand_word v i)
 
--- an assignment that meets the constraints has them at the wires that are answered
+-- an assignment that satisfies the constraints has them at the returned wires
 abbrev pub TapesAreSound : Type 0
 TapesAreSound = (w : ℕ) → IsWidth w → (z : List ℕ) (next n : ℕ) (state : StateWires) (op : ℕ) (a : OperandWires) (v : View) (i : Instr)
     → HasTapes w z (record { state = state; op = op; operand = a }) n v i → Meets z (tapes_of w n state op a next).list → AreTapes z (tapes_of w n state op a next).answer n v i
@@ -111,7 +111,7 @@ TapesAreComplete = (w : ℕ) → IsWidth w → (z : List ℕ) (next n : ℕ) (st
     → HasTapes w z (record { state = state; op = op; operand = a }) n v i → (takes ≡ true → asks v i ≡ true) → HasFrom z next (tapes_values w n v i o takes)
     → Meets z (tapes_of w n state op a next).list × (took z (tapes_of w n state op a next).answer ≡ takes)
 
--- which wires are answered, and that the values are one number of the field for each wire that is made
+-- which wires are returned, and that the values are one number of the field for each wire that is made
 pub record TapesSizes : Type 0 where
   pub answer : (w n : ℕ) (state : StateWires) (op : ℕ) (a : OperandWires) (next : ℕ)
       → (tapes_of w n state op a next).answer ≡ record { taken = next + 3; takes = next + 5; ended = next + 6 }

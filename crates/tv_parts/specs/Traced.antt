@@ -1,4 +1,4 @@
--- A state as a trace has it, and what the values of a step are worked out from.
+-- A state as a trace has it, and what the values of a step are computed from.
 use Rattle.std.specs.Prelude.{◌≡◌, ℕ, ◌^◌, ◌<◌}
 use Rattle.tv_isa.specs.Instruction.{IsInstruction}
 use Rattle.tv_numbers.specs.Numbers.{operand_word, other_word, takes_primary, found, old_in}

@@ -31,8 +31,8 @@ use tv_isa::opcode::{LOAD_B, LOAD_W, STORE_B, STORE_W};
 use tv_step::TraceState;
 
 /// Constrains the data line of a step and the byte at its operand's address: `op` is the row of its
-/// opcode, and `a` its operand. For words of 32 bits it makes 9 wires and 9
-/// constraints, and 7 of each for words of 16 bits.
+/// opcode, and `a` its operand. Makes 9 wires and 9 constraints for words of 32 bits, and 7 of each
+/// for words of 16 bits.
 pub fn put_memory<const W: u32, S: Sink>(
     s: &mut S,
     scratch: &mut Scratch,
@@ -385,7 +385,7 @@ pub fn memory_is_complete()
     ensures { MemoryIsComplete }
 {}
 
-/// Says which wires `put_memory` answers, and that `fill_memory` assigns one number to each wire
+/// Says which wires `put_memory` returns, and that `fill_memory` assigns one number to each wire
 /// that it makes.
 #[tactic(auto, using(crate::proofs::MemoryFills::memory_sizes))]
 pub fn memory_fills()

@@ -208,7 +208,7 @@ pub fn pc_is_complete()
     ensures { PcIsComplete }
 {}
 
-/// Says which wire `put_pc` answers, and that `fill_pc` assigns one number to each wire that it
+/// Says which wire `put_pc` returns, and that `fill_pc` assigns one number to each wire that it
 /// makes.
 #[tactic(auto, using(crate::proofs::PcFills::pc_sizes))]
 pub fn pc_fills()

@@ -303,7 +303,7 @@ pub fn results_are_complete()
     ensures { ResultsAreComplete }
 {}
 
-/// Says which wires `put_results` answers, and that `results_values` returns one number for each
+/// Says which wires `put_results` returns, and that `results_values` returns one number for each
 /// wire that it makes.
 #[tactic(auto, using(crate::proofs::ResultFills::results_sizes))]
 pub fn results_fill()

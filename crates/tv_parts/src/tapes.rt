@@ -259,8 +259,8 @@ pub fn tapes_are_complete()
     ensures { TapesAreComplete }
 {}
 
-/// Says which wires `put_tapes` answers, and that `fill_tapes` assigns one number to each wire
-/// that it makes.
+/// Says which wires `put_tapes` returns, and that `fill_tapes` assigns one number to each wire that
+/// it makes.
 #[tactic(auto, using(crate::proofs::TapeFills::tapes_sizes))]
 pub fn tapes_fill()
     ensures { TapesSizes }

@@ -1,6 +1,6 @@
 //! Reading a constraint system from an r1cs file, of any size and with its sections in any order:
-//! one row at a time, each the next constraint of `system_of` the whole file, or the file's first
-//! fault.
+//! one row at a time, each the next constraint of `r1cs_system` of the whole file, or the file's
+//! first fault.
 //!
 //! Two functions read a combination, and two sum one: `read_held` and `sum_held` take one that the
 //! window holds whole, with no call and no refusal for a term; `read_far` and `sum_far` take any.

@@ -72,7 +72,7 @@ impl Progress {
         })
     }
 
-    /// Returns what the system counts, and the terms of the rows given so far.
+    /// Returns what the system counts, and the terms of the rows returned so far.
     pub(crate) fn counts(&self) -> Counts
         ensures { result ≡ counts_of self.now }
     {
@@ -271,7 +271,7 @@ impl Progress {
         }
     }
 
-    // The terms of the constraints given so far: twelve bytes are of each, and of each its counts.
+    // The terms of the constraints returned so far: 12 bytes a term, and 12 for each row's counts.
     fn terms(&self) -> u64
         ensures { result ≡ self.now.terms }
     {

@@ -70,8 +70,8 @@ impl<'a, D: Files> SystemReader<'a, D> {
         }
     }
 
-    /// Returns what the system counts, and the terms of the rows given so far: a refused row adds
-    /// none.
+    /// Returns what the system counts, and the terms of the rows returned so far: a refused row
+    /// adds none.
     pub fn counts(&self) -> Counts
         ensures { result ≡ counts_of self.now.progress }
     {

@@ -1,4 +1,4 @@
--- A sink that writes its constraints to a file as they come.
+-- A sink that writes its constraints to a file, one at a time.
 use Rattle.std.specs.Prelude.{◌≡◌, refl, ℕ, ◌+◌, false, is_err, List, [], ◌++◌, length, Result, Ok, OnOk, OnErr}
 use Rattle.std.proofs.Common.{◌∙◌}
 use Rattle.std.specs.Borrow.{GName}

@@ -21,8 +21,8 @@ pub fn files_are_whole()
     ensures { FilesAreWhole }
 {}
 
-/// What is written is read: `system_of` the bytes of a system that the format can hold is that
-/// system.
+/// What is written is read back: `r1cs_system` of the bytes of a system that the format can hold is
+/// that system.
 #[tactic(auto, using(crate::proofs::Systems::systems_come_back))]
 pub fn systems_come_back()
     ensures { SystemsComeBack }

@@ -1,6 +1,6 @@
-//! Writing a constraint system to an r1cs file as its constraints come: `StreamSink` is a sink that
-//! keeps nothing but 8,192 bytes at most. Contracts above cite `file_bytes`, which is the whole
-//! file of a list, and what was written is read: `system_of` those bytes is the list's system.
+//! Writing a constraint system to an r1cs file, streaming: `StreamSink` is a sink that keeps at
+//! most 8,192 bytes. Contracts above cite `file_bytes`, which is the whole file of a list, and what
+//! was written is read back: `r1cs_system` of those bytes is the list's system.
 #![tactic(auto)]
 
 mod head;

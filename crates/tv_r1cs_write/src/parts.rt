@@ -1,4 +1,4 @@
-//! Constraints and labels, written behind what a file begins with.
+//! Constraints and labels, written after the head of a file.
 ghost use Rattle.std.specs.Prelude.{◌≡◌, ◌*◌, ◌++◌, []};
 ghost use Rattle.std.specs.List.Sorted.{IsStrictlyIncreasing};
 ghost use Rattle.tv_container.specs.Bytes.{section_head};

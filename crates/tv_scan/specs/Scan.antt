@@ -1,4 +1,4 @@
--- Memory without a network: a line's old word is looked up among the earlier lines.
+-- A memory argument without a network: a line's old word is looked up among the earlier lines.
 use Rattle.std.specs.Prelude.{◌≡◌, ℕ, ◌+◌, ◌-◌, ◌*◌, ◌%◌, ◌<◌, ◌≤◌, List, [], ◌∷◌, ◌++◌, length, map, take}
 use Rattle.tv_bits.specs.Select.{select_of}
 use Rattle.tv_bits.specs.Zero.{zero_of, zero_values}

@@ -12,8 +12,8 @@ ghost use Rattle.tv_scan.specs.Scan.{ScanIsComplete, ScanSizes};
 use tv_bits::{fill_zero, select, zero};
 use tv_core::{F, Lc, LineLc, LineNum, Put, Sink, Values, Wire};
 
-/// Holds a line's old word to the new one of the latest earlier line of its cell, or to 0 where
-/// there is none. The combinations of cells and of new words have at most 64 terms. It makes 3
+/// Constrains a line's old word to the new one of the latest earlier line of its cell, or to 0
+/// where there is none. The combinations of cells and of new words have at most 64 terms. Makes 3
 /// wires and 3 constraints for each earlier line, and 1 constraint.
 pub fn scan<S: Sink>(s: &mut S, earlier: &[LineLc], line: &LineLc) -> Put<()>
     requires room { Room S.meaning s.old (3 * length earlier.now) (3 * length earlier.now + 1) }

@@ -38,7 +38,7 @@ abbrev pub row_has : ℕ → Option Constraint → Bool
 row_has w None = false
 row_has w (Some c) = has_wire w c.a || (has_wire w c.b || has_wire w c.c)
 
--- for each of so many wires whether it is one of these, which are gone
+-- for each of this many wires whether it is one of these, which are gone
 abbrev pub marked : ℕ → List ℕ → List Bool
 marked wires gone = fold (λ flags w. slice_set flags w true) (replicate wires false) gone
 

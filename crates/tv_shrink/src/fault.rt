@@ -22,7 +22,7 @@ pub enum ShrinkFault {
     /// A read failed.
     #[error("reading failed")]
     Fault,
-    /// Memory was wanting.
+    /// Memory ran out.
     #[error("out of memory")]
     Memory,
 }

@@ -1,7 +1,7 @@
 //! Constraint systems with fewer private wires: `shrink` reads a system and drops each linear
-//! constraint that it solves for a private wire. Contracts above cite `shrink` of specs/Shrinking,
-//! the pass as a function of systems; `keeps_solutions` says that what satisfies the shrunk system
-//! is what satisfies the system, at the wires that are kept.
+//! constraint that it solves for a private wire. Contracts above cite `shrink` of
+//! `specs/Shrunk.antt`, the pass as a function of systems; `keeps_solutions` says that what
+//! satisfies the shrunk system is what satisfies the system, at the wires that are kept.
 #![tactic(auto)]
 
 mod arena;

@@ -21,8 +21,7 @@ pub record Call : Type 0 where
   pub after : Outside
   pub status : Status
 
--- a file couldn't be read, or one of those that are written not be written, or the line not be said; or
--- memory was wanting
+-- a file couldn't be read, or one of those that are written not be written, or the line not be printed; or memory ran out
 abbrev pub IsStopped : List Named → Call → Type 0
 IsStopped places call =
     ((word : ℕ) × (call.status ≡ FileFault word) × (Rose call.before.read_faults call.after.read_faults

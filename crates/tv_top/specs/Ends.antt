@@ -85,7 +85,7 @@ Ends answer words files old new result =
     ⊎ ((result ≡ FileFault words) × IsCutInSaying answer files old new)
     ⊎ ((result ≡ Memory) × IsCutShort answer files old new)
 
--- the line of this end was said, and its status answered; or saying it failed, or wanted memory
+-- the line of this end was printed, and its status returned; or printing it failed, or ran out of memory
 abbrev pub IsConcluded : Ending → ℕ → Outside → Outside → Status → Type 0
 IsConcluded ending words old new result =
     ((result ≡ ending_status ending) × Said old new (says ending))

@@ -25,7 +25,7 @@ abbrev pub IsOneOf : {A : Type 0} → A → List A → Type 0
 IsOneOf x [] = ⊥
 IsOneOf x (y ∷ ys) = (x ≡ y) ⊎ IsOneOf x ys
 
--- what was found is what is due; or reading failed at a word that was looked at; or memory was wanting
+-- what was found is what is due; or reading failed at a word that was looked at; or memory ran out
 abbrev pub IsFound : {X A : Type 0} → (X → A) → Look A → Result X Stop → Type 0
 IsFound view due (Ok x) = due.gives ≡ Ok (view x)
 IsFound view due (Err (Contents bad)) = due.gives ≡ Err (Contents bad)

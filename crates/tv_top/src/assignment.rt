@@ -101,7 +101,7 @@ pub(crate) fn run_of(
     }
 }
 
-/// The end where an assignment has no run, unless memory was wanting.
+/// The end where an assignment has no run, unless memory ran out.
 pub(crate) fn not_run(fault: ExtractFault) -> Result<Finish, Stop>
     ensures { result ≡ not_run fault }
 {

@@ -76,7 +76,7 @@ impl<'a> BuildArgs<'a> {
     }
 }
 
-/// Puts the system of the runs of an image into its file, constraint by constraint.
+/// Writes the system of the runs of an image to its file, constraint by constraint.
 fn put_layout<const W: u32, D: Files>(
     files: &mut D,
     place: Place<'_>,

@@ -1,5 +1,5 @@
-//! The command line as one function: `command` takes the words and the files, answers a status, and
-//! has said its line. Its contract is the program's promise; the binary only calls it.
+//! The command line as one function: `command` takes the words and the files, prints its line, and
+//! returns a status. Its contract is the program's promise; the binary only calls it.
 #![tactic(auto)]
 
 mod amount;

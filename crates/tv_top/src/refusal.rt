@@ -76,7 +76,7 @@ pub(crate) enum Bad {
 pub(crate) enum Stop {
     /// The file at this word couldn't be read, or not be written.
     Fault { word: u32 },
-    /// Memory was wanting.
+    /// Memory ran out.
     Memory,
     /// The contents of a file are refused.
     Contents(Bad),

@@ -69,7 +69,7 @@ pub enum Status {
     /// A file call failed, on the name at this word, or, at the number of words, in saying the
     /// line.
     FileFault { word: u64 },
-    /// Memory was wanting.
+    /// Memory ran out.
     Memory,
     /// `witness`: the run doesn't answer, but ends so.
     NoRun { end: End },

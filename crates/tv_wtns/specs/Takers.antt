@@ -1,4 +1,4 @@
--- A taker of values that writes them to a file as they come.
+-- A taker of values that writes them to a file, one at a time.
 use Rattle.std.specs.Prelude.{◌≡◌, refl, ℕ, ◌<◌, false, is_err, List, Result, Ok, OnOk, OnErr}
 use Rattle.std.proofs.Common.{◌∙◌}
 use Rattle.std.specs.Borrow.{GName}

@@ -75,7 +75,7 @@ pub fn read_first_values<D: Files>(
     read_assignment(alloc, files, name, &mut window, &found, end, most)
 }
 
-/// What a file's bytes give as its assignment are numbers below the prime.
+/// The values of the assignment that a file holds are below the prime.
 #[tactic(auto, using(crate::proofs::ValueLaws::assignments_below))]
 pub fn assignments_are_below_the_prime()
     ensures { AssignmentsAreBelow }

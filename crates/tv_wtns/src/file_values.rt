@@ -57,7 +57,7 @@ impl<'a, D: Files> FileValues<'a, D> {
         }
     }
 
-    /// Appends what is still held: the file is that of the values given. None of them was refused.
+    /// Appends what is still held: the file is that of the values passed. None of them was refused.
     ///
     /// After a refusal the file has a first part of these bytes.
     pub fn finish(self) -> Put<()>

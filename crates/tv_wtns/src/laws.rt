@@ -16,7 +16,7 @@ pub fn files_are_of_assignments()
 {}
 
 /// Before it is finished, and where it is refused, a file is a first part of the file of each list
-/// that begins with the values given so far.
+/// that begins with the values passed so far.
 #[tactic(auto, using(crate::proofs::Files::files_are_fronts))]
 pub fn files_are_fronts()
     ensures { FilesAreFronts }
