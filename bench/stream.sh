@@ -9,32 +9,26 @@ bench=$(cd "$(dirname "$0")" && pwd)
 scratch=$(mktemp -d)
 trap 'rm -rf "$scratch"' EXIT
 mkdir "$scratch/crates"
-cp -r "$bench"/../crates/tv_{word,core,files,container,r1cs_read,r1cs_write} "$scratch/crates"
-grep -E '^tv_(word|core|files|container|r1cs_read|r1cs_write):' "$bench/../crates.txt" > "$scratch/crates.txt"
-# The program's own files of the disk stand in a crate of its name. The gate reads every .rt file of the repository,
-# so the source has another ending here.
-crate=$scratch/crates/tinyr1cs
-mkdir -p "$crate/src" "$crate/specs" "$crate/proofs/put_all"
-cp "$bench"/../crates/tinyr1cs/src/{counts,disk,open,progress,reader}.rt "$crate/src"
-cp "$bench/../crates/tinyr1cs/specs/Counts.antt" "$crate/specs"
-cp "$bench/../crates/tinyr1cs/proofs/Told.antt" "$crate/proofs"
-echo 'pub mod Counts' > "$crate/specs/Lib.antt"
-echo "mod Told" > "$crate/proofs/Lib.antt"
+cp -r "$bench"/../crates/tv_{word,core,files,disk,container,r1cs_read,r1cs_write} "$scratch/crates"
+grep -E '^tv_(word|core|files|disk|container|r1cs_read|r1cs_write):' "$bench/../crates.txt" > "$scratch/crates.txt"
+# The gate reads every .rt file of the repository, so the source has another ending here.
+crate=$scratch/crates/stream
+mkdir -p "$crate/src" "$crate/proofs/put_all"
 cp "$bench/stream.rattle" "$crate/src/main.rt"
 cat > "$crate/proofs/put_all/Invariants.antt" <<'END'
 use Rattle.tv_core.specs.Sinks.{Grows}
-use Rattle.tinyr1cs.proofs.put_all.Given as goal
+use Rattle.stream.proofs.put_all.Given as goal
 
 abbrev pub invariant-loop-turn : goal.invariant-loop-turn
 invariant-loop-turn g l = Grows g.S.Sink.meaning l.initial.sink l.sink 0 l._turn
 END
-echo 'tinyr1cs: tv_core tv_files tv_r1cs_write tv_word' >> "$scratch/crates.txt"
+echo 'stream: tv_core tv_disk tv_files tv_r1cs_write tv_word' >> "$scratch/crates.txt"
 (cd "$crate" && rt run > "$scratch/log" 2>&1) || { tail -20 "$scratch/log"; exit 1; }
 plain=(rustc --edition 2024 -O -C target-cpu=x86-64-v2 --check-cfg 'cfg(large, together)' "$bench/stream.rs")
 "${plain[@]}" -o "$scratch/small"
 "${plain[@]}" --cfg large -o "$scratch/large"
 "${plain[@]}" --cfg together -o "$scratch/together"
-mv "$crate/out/tinyr1cs" "$scratch/proved"
+mv "$crate/out/stream" "$scratch/proved"
 for row in narrow wide; do
     "$scratch/proved" "$row" "$scratch/one"
     "$scratch/small" "$row" "$scratch/two"

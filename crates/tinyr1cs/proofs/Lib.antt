@@ -1,2 +1,1 @@
-mod Known
 mod Shown

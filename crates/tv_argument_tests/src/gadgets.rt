@@ -1,46 +1,55 @@
 //! Lines that are packed, unpacked and constrained to follow each other.
-ghost use Rattle.std.specs.Prelude.{◌≤◌};
+ghost use Rattle.std.specs.Prelude.{◌≤◌, ◌<◌, ◌^◌};
 ghost use Rattle.tv_core.specs.Combinations.{top};
 
 use crate::rows::{line, numbers};
+use std::alloc::Global;
 use std::test::Fail;
-use tv_core::{F, Lc, LineLc, ListValues, Pair, PairNum, TestSink, Values, Wire};
+use tv_core::{F, Lc, Line, LineLc, ListValues, Pair, PairNum, Put, TestSink, Wire, give_values};
 use tv_lines::{
     Cell, CompactLine, Word, fill_first_line, fill_sorted_pair, fill_unpack, first_line, pack,
     pack_item, pack_line, sorted_pair, unpack, unpack_item, unpack_line,
 };
 
 #[test]
-fn a_line_is_packed_by_powers_of_two(rt: HostRuntime) -> Result<(), Fail> {
+fn a_line_is_packed_by_powers_of_two(rt: HostRuntime) {
     let wires = LineLc {
         cell: Lc::wire(Wire(1)),
         time: Lc::wire(Wire(2)),
         old: Lc::wire(Wire(3)),
         new: Lc::wire(Wire(4)),
     };
-    let z = [1, 3, 5, 7, 9].map(F::of);
-    let made = pack(&wires);
     let packed = PairNum {
         first: F::of(12_884_901_895),
         second: F::of(21_474_836_489),
     };
-    assert_eq!(rt; made.first.value_in(&z), packed.first);
-    assert_eq!(rt; made.second.value_in(&z), packed.second);
     let line = line(3, 5, 7, 9);
-    assert_eq!(rt; pack_line(&line), packed);
-    assert_eq!(rt; unpack_line(&packed), numbers(&line));
+    let is_packed = pack_line(&line) == packed && unpack_line(&packed) == numbers(&line);
+    let z = [1, 3, 5, 7, 9].map(F::of);
+    assert!(rt; is_packed && values_in(&pack(&wires), &z) == packed);
+}
+
+#[test]
+fn an_item_is_packed_by_powers_of_two(rt: HostRuntime) {
     let item = PairNum {
         first: F::of(12_884_901_888),
         second: F::of(21_474_836_489),
     };
-    assert_eq!(rt; pack_item(&line), item);
-    assert_eq!(rt; unpack_item(&item), crate::rows::line(3, 5, 0, 9));
-    Ok(())
+    let is_packed = pack_item(&line(3, 5, 7, 9)) == item;
+    assert!(rt; is_packed && unpack_item(&item) == line(3, 5, 0, 9));
+}
+
+// The numbers of a pair over values of its wires.
+fn values_in(pair: &Pair, z: &[F]) -> PairNum {
+    PairNum {
+        first: pair.first.value_in(z),
+        second: pair.second.value_in(z),
+    }
 }
 
 // An item is written over a pair that has terms already.
 #[test]
-fn an_item_is_written_in_place(rt: HostRuntime) -> Result<(), Fail> {
+fn an_item_is_written_in_place(rt: HostRuntime) {
     let first = CompactLine {
         cell: Cell::Multiple(F::of(2), Wire(1)),
         time: 4,
@@ -55,12 +64,22 @@ fn an_item_is_written_in_place(rt: HostRuntime) -> Result<(), Fail> {
     };
     let z = [1, 3, 5, 7].map(F::of);
     let mut pair = pack(&first.lc());
-    assert_eq!(rt; pair.first.value_in(&z), F::of(25_769_803_785));
-    assert_eq!(rt; pair.second.value_in(&z), F::of(17_179_869_189));
+    let PairNum {
+        first: a,
+        second: b,
+    } = values_in(&pair, &z);
     second.item(&mut pair);
-    assert_eq!(rt; pair.first.value_in(&z), F::of(30_064_771_072));
-    assert_eq!(rt; pair.second.value_in(&z), F::of(21_474_836_487));
-    Ok(())
+    let PairNum {
+        first: c,
+        second: d,
+    } = values_in(&pair, &z);
+    let wanted = [
+        25_769_803_785,
+        17_179_869_189,
+        30_064_771_072,
+        21_474_836_487,
+    ];
+    assert!(rt; [a, b, c, d] == wanted.map(F::of));
 }
 
 // A pair at a wire and the one after it.
@@ -75,28 +94,44 @@ fn pair(first: u32) -> Pair
     }
 }
 
-// The first line of a cell, and one that follows it.
-#[test]
-fn lines_that_follow_are_sorted(rt: HostRuntime) -> Result<(), Fail> {
-    let (before, after) = (line(3, 2047, 0, 7), line(3, 2048, 7, 1));
-    let (first, second) = (pack_line(&before), pack_line(&after));
-    let mut values = ListValues::new(rt.alloc());
-    values.give(F::ONE)?;
-    values.give(first.first)?;
-    values.give(first.second)?;
-    values.give(second.first)?;
-    values.give(second.second)?;
+// 1, the packed numbers of two lines, and the values for the first line of a cell and one after it.
+fn sorted_values(alloc: Global, before: &Line, after: &Line) -> Put<ListValues>
+    requires before_cell { before.now.cell < 2 ^ 31 }
+    requires before_time { before.now.time < 2 ^ 20 }
+    requires after_cell { after.now.cell < 2 ^ 31 }
+    requires after_time { after.now.time < 2 ^ 20 }
+{
+    let (first, second) = (pack_line(before), pack_line(after));
+    let inputs = [
+        F::ONE,
+        first.first,
+        first.second,
+        second.first,
+        second.second,
+    ];
+    let mut values = ListValues::new(alloc);
+    give_values(&mut values, &inputs)?;
     fill_unpack(&mut values, &first)?;
     fill_unpack(&mut values, &second)?;
-    fill_first_line(&mut values, &numbers(&before))?;
-    fill_sorted_pair(&mut values, &numbers(&before), &numbers(&after))?;
-    assert_eq!(rt; values.as_slice().len(), 253);
+    fill_first_line(&mut values, &numbers(before))?;
+    fill_sorted_pair(&mut values, &numbers(before), &numbers(after))?;
+    Ok(values)
+}
 
-    let mut tests = TestSink::over(values.as_slice(), 5);
+// How many of the constraints there are, and how many hold.
+fn sorted_constraints(z: &[F]) -> Put<(u32, u32)> {
+    let mut tests = TestSink::over(z, 5);
     let first = unpack(&mut tests, &pair(1))?;
     let second = unpack(&mut tests, &pair(3))?;
     first_line(&mut tests, &first)?;
     sorted_pair(&mut tests, &first, &second)?;
-    assert_eq!(rt; (tests.tested(), tests.held()), (255, 255));
+    Ok((tests.tested(), tests.held()))
+}
+
+#[test]
+fn lines_that_follow_are_sorted(rt: HostRuntime) -> Result<(), Fail> {
+    let values = sorted_values(rt.alloc(), &line(3, 2047, 0, 7), &line(3, 2048, 7, 1))?;
+    let constraints = sorted_constraints(values.as_slice())?;
+    assert!(rt; values.as_slice().len() == 253 && constraints == (255, 255));
     Ok(())
 }

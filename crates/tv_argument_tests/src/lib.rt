@@ -1,6 +1,7 @@
-//! Tests of lines, of the scan and of the memory argument through their public calls, over honest
-//! lines and altered ones. They stand in a crate of their own, since a crate with tests is proved
-//! twice; nothing here is for callers.
+//! Tests of permutation networks and of their settings, and of lines, of the scan and of the memory
+//! argument, through their public calls: worked rows, every permutation of four places, a long one,
+//! sizes, and honest and altered lines. They stand in a crate of their own, since a crate with tests
+//! is proved twice; nothing here is for callers.
 #![tactic(auto)]
 
 #[cfg(test)]
@@ -8,6 +9,14 @@ mod argument;
 pub mod examples;
 #[cfg(test)]
 mod gadgets;
+#[cfg(test)]
+mod network_items;
+#[cfg(test)]
+mod networks;
+#[cfg(test)]
+mod outputs;
+#[cfg(test)]
+mod permutations;
 #[cfg(test)]
 mod predecessors;
 #[cfg(test)]

@@ -50,42 +50,60 @@ fn failing(alloc: Global, bits: u32, before: &Line, after: &Line) -> Result<u32,
     Ok(tests.tested().saturating_sub(tests.held()))
 }
 
+// The wires, constraints and terms of a check within so many bits.
+fn sizes(bits: u32) -> Put<(u32, u32, u64)>
+    requires { bits ≤ 31 }
+{
+    let mut count = CountSink::new(5);
+    put(&mut count, bits, 7)?;
+    Ok((count.wires(), count.constraints(), count.terms()))
+}
+
 #[test]
 fn a_check_has_its_size(rt: HostRuntime) -> Result<(), Fail> {
-    let mut far = CountSink::new(5);
-    put(&mut far, 31, 7)?;
-    assert_eq!(rt;
-        (far.wires(), far.constraints(), far.terms()),
-        (37, 34, 137)
-    );
-    let mut near = CountSink::new(5);
-    put(&mut near, 20, 7)?;
-    assert_eq!(rt;
-        (near.wires(), near.constraints(), near.terms()),
-        (26, 23, 93)
-    );
+    assert_eq!(rt; [sizes(31)?, sizes(20)?], [(37, 34, 137), (26, 23, 93)]);
     Ok(())
+}
+
+// A line's cell, time, old word and new word.
+type Numbers = (u32, u32, u32, u32);
+
+const LOW: Numbers = (0, 1, 0, 0xffff_ffff);
+
+const HIGH: Numbers = (0x7fff_ffff, 0, 0, 5);
+
+const LAST: Numbers = (0x7fff_ffff, 1, 5, 5);
+
+// How many bits a reach has, a line and one after it, and whether that may be.
+static PAIRS: [(u32, Numbers, Numbers, bool); 9] = [
+    // the same cell, as far as times reach; cells as far apart as they are; neighbours in time
+    (31, LOW, (0, 0xf_ffff, 0xffff_ffff, 0), true),
+    (31, LOW, HIGH, true),
+    (31, HIGH, LAST, true),
+    (1, HIGH, LAST, true),
+    // another old word; the same time; an old word in a new cell; a cell below; too short a reach
+    (31, LOW, (0, 0xf_ffff, 0, 0), false),
+    (31, LOW, (0, 1, 0xffff_ffff, 0), false),
+    (31, LOW, (1, 0xf_ffff, 0xffff_ffff, 0), false),
+    (31, HIGH, LOW, false),
+    (30, LOW, HIGH, false),
+];
+
+fn line_of(numbers: &Numbers) -> Line {
+    let (cell, time, old, new) = *numbers;
+    line(cell, time, old, new)
 }
 
 #[test]
 fn lines_at_the_ends_of_the_ranges(rt: HostRuntime) -> Result<(), Fail> {
-    let alloc = rt.alloc();
-    let low = line(0, 1, 0, 0xffff_ffff);
-    let high = line(0x7fff_ffff, 0, 0, 5);
-    let last = line(0x7fff_ffff, 1, 5, 5);
-    // The same cell, as far as times reach; cells as far apart as they are; neighbours in time.
-    assert_eq!(rt;
-        failing(alloc, 31, &low, &line(0, 0xf_ffff, 0xffff_ffff, 0))?,
-        0
-    );
-    assert_eq!(rt; failing(alloc, 31, &low, &high)?, 0);
-    assert_eq!(rt; failing(alloc, 31, &high, &last)?, 0);
-    assert_eq!(rt; failing(alloc, 1, &high, &last)?, 0);
-    // Another old word; the same time; an old word in a new cell; a cell below; too short a reach.
-    assert!(rt; failing(alloc, 31, &low, &line(0, 0xf_ffff, 0, 0))? > 0);
-    assert!(rt; failing(alloc, 31, &low, &line(0, 1, 0xffff_ffff, 0))? > 0);
-    assert!(rt; failing(alloc, 31, &low, &line(1, 0xf_ffff, 0xffff_ffff, 0))? > 0);
-    assert!(rt; failing(alloc, 31, &high, &low)? > 0);
-    assert!(rt; failing(alloc, 30, &low, &high)? > 0);
+    for (bits, before, after, holds) in &PAIRS {
+        let failing = failing(
+            rt.alloc(),
+            (*bits).min(31),
+            &line_of(before),
+            &line_of(after),
+        )?;
+        assert!(rt; (failing == 0) == *holds, "{before:?} {after:?}");
+    }
     Ok(())
 }

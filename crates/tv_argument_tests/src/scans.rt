@@ -57,7 +57,7 @@ fn the_latest_word_of_a_cell_is_found(rt: HostRuntime) -> Result<(), Fail> {
         [a, b, c, f],
         [a, c, e, g],
     ] {
-        assert!(rt; holds(rt.alloc(), &lines)?, "{lines:?}");
+        assert!(rt; holds(rt.alloc(), &lines)?);
     }
     Ok(())
 }

@@ -3,7 +3,7 @@ ghost use Rattle.std.specs.Prelude.{◌≡◌, ◌<◌, false, IfOk};
 ghost use Rattle.tv_argument_tests.specs.Wired.{eight_lines, eight_checks, kind_at};
 
 use std::alloc::Global;
-use tv_argument::{Kind, LineNumbers, Lines};
+use tv_argument::{CompactLines, Kind, LineNumbers};
 use tv_core::{F, Line, ListValues, Put, Values, Wire};
 use tv_lines::{Cell, CompactLine, Word};
 
@@ -33,7 +33,7 @@ fn kind(i: u32) -> Kind
     }
 }
 
-impl Lines for Wired {
+impl CompactLines for Wired {
     ghost lines = { λ _. eight_lines };
 
     ghost checks = { λ _. eight_checks };

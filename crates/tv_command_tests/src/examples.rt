@@ -1,10 +1,14 @@
-//! What the definitions of the further words of `build` and `disasm` say of a network and a width.
-//! They are no tests, so they are proved where the crate is proved without its tests too.
+//! What the definitions of the further words of `build` and `disasm` say of a network and a width,
+//! and that of `shrink` of its two names. They are no tests, so they are proved where the crate is
+//! proved without its tests too.
 ghost use Rattle.std.specs.Prelude.{◌≡◌, [], ◌∷◌, codes, Some, None};
 ghost use Rattle.tv_benes.specs.declared.shape.Net.TheVariants.{Benes, Waksman};
 ghost use Rattle.tv_top.specs.Build.{net_word};
 ghost use Rattle.tv_top.specs.Disasm.{width_word};
+ghost use Rattle.tv_top.specs.Plan.{name_at, refusal_of};
+ghost use Rattle.tv_top.specs.Shrink.{shrink_plan};
 ghost use Rattle.tv_top.specs.declared.programs.Width.TheVariants.{Bits16, Bits32};
+ghost use Rattle.tv_top.specs.declared.refusal.Refusal.TheVariants.{SameName};
 
 /// No further word means Benes' network, `waksman` Waksman's, and another word none.
 pub fn a_word_tells_the_network()
@@ -18,4 +22,12 @@ pub fn a_word_tells_the_width()
     ensures none { width_word [] ≡ Some Bits32 }
     ensures sixteen { width_word (codes "16" ∷ []) ≡ Some Bits16 }
     ensures other { width_word (codes "32" ∷ []) ≡ None }
+{}
+
+/// Of `shrink`, one name for both files is refused, and two names aren't.
+pub fn one_name_is_refused()
+    ensures one { let plan = shrink_plan (name_at 1 (codes "a")) (name_at 2 (codes "a")) in
+        refusal_of plan.reads plan.writes plan.amounts ≡ Some (SameName 1 2) }
+    ensures two { let plan = shrink_plan (name_at 1 (codes "a")) (name_at 2 (codes "b")) in
+        refusal_of plan.reads plan.writes plan.amounts ≡ None }
 {}

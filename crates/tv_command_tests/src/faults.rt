@@ -1,13 +1,15 @@
 //! A fault of each file call in turn: what the commands return, and what the names hold then.
 
 use crate::calls::{BEFORE, WRITTEN, call, files_of, filled};
-use crate::checks;
-use crate::rounds::TWO_READS;
+use crate::sample::{SYSTEM, VALUES};
 use std::alloc::Global;
 use std::process::Abort;
 use std::test::*;
 use tv_files::MemFiles;
 use tv_top::Status;
+
+// Answers by its two reads of the auxiliary tape.
+const TWO_READS: &str = "read r1, 1\nread r2, 1\nsub r3, r1, r2\nanswer r3";
 
 const ASM: &str = "asm answer out";
 
@@ -40,12 +42,12 @@ const CALLS: [(&str, &[u64]); 10] = [
 
 // Files that each command can read: those of a run, and the values that it fills.
 fn files(alloc: Global, values: &[u8]) -> Result<MemFiles, Fail> {
-    let mut files = files_of(alloc, TWO_READS, "", "9 9 7")?;
+    let mut files = files_of(alloc, TWO_READS, "9 9 7")?;
     files.set("filled", values)?;
     files.set("answer", b"answer 0")?;
     files.set("image", &IMAGE)?;
-    files.set("s", &checks::SYSTEM)?;
-    files.set("w", &checks::WITNESS)?;
+    files.set("s", &SYSTEM)?;
+    files.set("w", &VALUES)?;
     files.set("public", b"3")?;
     Ok(files)
 }
@@ -127,10 +129,10 @@ fn each_call_fails(rt: HostRuntime) -> Result<(), Fail> {
 fn a_system_is_written_in_pieces(rt: HostRuntime) -> Result<(), Fail> {
     let alloc = rt.alloc();
     let words = "build text 0 1 system";
-    let whole = filled(&rt, alloc, "answer 0", "", 1)?;
+    let whole = filled(&rt, alloc)?;
     let whole = whole.bytes_of("system").unwrap_or(&[]);
     for number in [3, 5] {
-        let mut files = files_of(alloc, "answer 0", "", "")?;
+        let mut files = files_of(alloc, "answer 0", "")?;
         files.fail_at(number)?;
         let status = call(alloc, &mut files, words)?;
         assert_eq!(rt; status, Status::FileFault { word: 4 }, "{number}");
@@ -146,22 +148,36 @@ fn a_system_is_written_in_pieces(rt: HostRuntime) -> Result<(), Fail> {
     Ok(())
 }
 
-// How many calls a command makes: a file is read until a read returns nothing. The 1,025
-// instructions of 9 bytes each in `long` are read in three pieces of 4,096 bytes at most and one of
-// none, and their image of 8,200 bytes is created and written in three.
-const COUNTS: [(&str, u64); 4] = [
-    (ASM, 4),
-    ("asm long out", 4 + 1 + 3),
-    ("disasm image out", 4),
-    ("run answer tape aux 1", 6),
+// A command, its exit code, and how many calls it makes: a file is read until a read returns
+// nothing, and a line is said by one call. The 1,025 instructions of 9 bytes each in `long` are
+// read in three pieces of 4,096 bytes at most and one of none, and their image of 8,200 bytes is
+// created and written in three. Words are refused before any file is read, a text and a tape before
+// what comes after them, and a run that doesn't answer before anything is written.
+const COUNTS: [(&str, u8, u64); 12] = [
+    (ASM, 0, 4),
+    ("asm long out", 0, 4 + 1 + 3),
+    ("disasm image out", 0, 4),
+    ("run answer tape aux 1", 0, 6),
+    ("", 2, 1),
+    ("build text 0 1 text", 12, 1),
+    ("build text 131073 0 system", 7, 1),
+    ("trial 0 0", 7, 1),
+    ("witness aux text tape 1 witness", 3, 2 + 1),
+    ("witness text text tape 1 witness", 4, 2 + 2 + 1),
+    ("run text tape aux 3", 1, 2 + 1 + 2 + 1),
+    ("witness text tape aux 3 witness", 10, 2 + 1 + 2 + 1),
 ];
 
 #[test]
 fn each_command_makes_this_many_calls(rt: HostRuntime) -> Result<(), Fail> {
-    for (words, calls) in COUNTS {
+    for (words, code, calls) in COUNTS {
         let mut files = files(rt.alloc(), &[])?;
         files.set("long", "answer 0\n".repeat(rt.alloc(), 1_025)?.as_bytes())?;
-        assert_eq!(rt; call(rt.alloc(), &mut files, words)?, Status::Done);
+        assert_eq!(rt;
+            call(rt.alloc(), &mut files, words)?.code(),
+            code,
+            "{words}"
+        );
         assert_eq!(rt; files.calls(), calls, "{words}");
     }
     Ok(())
@@ -184,7 +200,7 @@ const ROWS: [Row<'static>; 7] = [
 #[test]
 fn the_last_calls_leave_a_part(rt: HostRuntime) -> Result<(), Fail> {
     let alloc = rt.alloc();
-    let run = filled(&rt, alloc, "answer 0", "", 1)?;
+    let run = filled(&rt, alloc)?;
     let values = run.bytes_of("witness").unwrap_or(&[]);
     for (words, behind, word, name, held, said) in ROWS {
         let mut whole = files(alloc, values)?;

@@ -16,7 +16,7 @@ pub fn bytes_spell_numbers()
 /// reading, `create` and `append` that of faults of writing, `say` its own. None runs out of
 /// memory.
 pub fn listed_faults_are_counted(files: &mut MemFiles)
-    requires told { outside_of files.old ≡ nothing }
+    requires known { outside_of files.old ≡ nothing }
     requires calls { calls_of files.old ≡ 0 }
     requires failing { failing_of files.old ≡ 1 ∷ 2 ∷ 3 ∷ 4 ∷ [] }
     ensures read_faults { (outside_of files.new).read_faults ≡ 1 }

@@ -1,6 +1,6 @@
-//! Tests of file calls, of the two file formats and of verdicts, through the public calls of their
-//! crates. They stand in a crate of their own, since a crate with tests is proved twice; nothing
-//! here is for callers.
+//! Tests of file calls and of the two file formats, through the public calls of their crates. They
+//! stand in a crate of their own, since a crate with tests is proved twice; nothing here is for
+//! callers.
 #![tactic(auto)]
 
 #[cfg(test)]

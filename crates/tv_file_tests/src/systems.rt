@@ -1,15 +1,13 @@
-//! The worked system as a file: read and judged where memory is ample, refused with a fault in it,
-//! and written.
+//! The worked system as a file: read where memory is ample, and written. What `check` says of it, and
+//! of it with faults, is `tests/commands.sh`.
 
 use crate::calls::files_of;
 use std::alloc::Global;
 use std::process::Abort;
 use std::test::Fail;
-use tv_check::{Verdict, check};
-use tv_container::{ReadRefusal, ReadWhy};
 use tv_core::{Counts, F, Lc, Put, Sink, Wire};
 use tv_files::MemFiles;
-use tv_r1cs_read::{Row, SystemReader, survey};
+use tv_r1cs_read::{Row, SystemReader};
 use tv_r1cs_write::StreamSink;
 
 // Four wires, wire 1 public, and the constraint that wire 1 times wire 2 is wire 3.
@@ -36,16 +34,6 @@ const COUNTS: Counts = Counts {
     constraints: 1,
     terms: 3,
 };
-
-#[test]
-fn a_system_is_surveyed_and_judged(rt: HostRuntime) -> Result<(), Fail> {
-    let mut files = files_of(rt.alloc(), &SYSTEM)?;
-    assert_eq!(rt; survey(rt.alloc(), &mut files, "file")?, COUNTS);
-    let values = [1, 3, 5, 15].map(F::of);
-    let verdict = check(rt.alloc(), &mut files, "file", &values, &[F::of(3)])?;
-    assert_eq!(rt; verdict, Verdict::Yes);
-    Ok(())
-}
 
 // A reader of the system, before its first row.
 fn reader_of<'a>(
@@ -74,30 +62,6 @@ fn a_system_is_read_row_by_row(rt: HostRuntime) -> Result<(), Fail> {
     is_the_constraint(&rt, &row);
     assert!(rt; reader.next()?.is_none());
     assert_eq!(rt; reader.counts(), COUNTS);
-    Ok(())
-}
-
-#[test]
-fn a_row_is_read_into_one_that_was_made(rt: HostRuntime) -> Result<(), Fail> {
-    let mut files = files_of(rt.alloc(), &SYSTEM)?;
-    let mut reader = reader_of(rt.alloc(), &mut files)?;
-    let mut row = Row::new(rt.alloc());
-    assert!(rt; reader.next_into(&mut row)?);
-    is_the_constraint(&rt, &row);
-    assert!(rt; !reader.next_into(&mut row)?);
-    Ok(())
-}
-
-#[test]
-fn a_fault_is_told_again(rt: HostRuntime) -> Result<(), Fail> {
-    let mut system = SYSTEM;
-    system[80] = 4;
-    let mut files = files_of(rt.alloc(), &system)?;
-    let mut reader = reader_of(rt.alloc(), &mut files)?;
-    let why = ReadWhy::WireRange { wire: 4, wires: 4 };
-    let fault = Some(ReadRefusal::Bad { at: 80, why });
-    assert_eq!(rt; reader.next().err(), fault);
-    assert_eq!(rt; reader.next().err(), fault);
     Ok(())
 }
 

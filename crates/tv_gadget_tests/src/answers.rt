@@ -1,19 +1,19 @@
 //! What each gadget of 32 bits returns over its generator's values, in vectors from outside, and
 //! that other results fail.
 
+use crate::assignments::{add_one, at, failing, set};
 use crate::gadgets::{Gadget, filled, put};
+use std::alloc::Global;
 use std::test::Fail;
 use tv_bits::Bits;
 use tv_core::{F, ListSink, Put, TestSink};
 
-// The number that wires represent; a wire past the end counts as 0.
+// The number that wires represent.
 fn spelt(z: &[F], bits: &Bits) -> F {
     let mut sum = F::ZERO;
     let mut power = F::ONE;
     for i in 0..bits.n {
-        if let Some(bit) = z.get(bits.first.0 as usize + i as usize) {
-            sum = sum + power * *bit;
-        }
+        sum = sum + power * at(z, bits.first.0.saturating_add(i));
         power = power + power;
     }
     sum
@@ -32,14 +32,23 @@ fn failing_of(list: &ListSink, z: &[F]) -> u32 {
 }
 
 // How many of a gadget's constraints fail as they are put.
-fn failing(z: &[F], gadget: Gadget) -> Put<u32> {
+fn failing_put(z: &[F], gadget: Gadget) -> Put<u32> {
     let mut tests = TestSink::over(z, 65);
     put::<32, TestSink<'_>>(&mut tests, gadget)?;
-    Ok(tests.tested().saturating_sub(tests.held()))
+    Ok(failing(&tests))
+}
+
+// A gadget's answers, and how many of its constraints fail in a list and as they are put.
+fn answers(alloc: Global, z: &[F], gadget: Gadget) -> Put<([Bits; 3], u32, u32)> {
+    let mut list = ListSink::new(alloc, 65);
+    let made = put::<32, ListSink>(&mut list, gadget)?;
+    Ok((made, failing_of(&list, z), failing_put(z, gadget)?))
 }
 
 // A gadget, its two words, and what its answers represent.
-const ANSWERS: [(Gadget, u32, u32, [u64; 3]); 16] = [
+type Row = (Gadget, u32, u32, [u64; 3]);
+
+static ANSWERS: [Row; 16] = [
     // the sum and the carry
     (Gadget::Add, 0xffff_ffff, 1, [0, 1, 0]),
     // the difference and the borrow
@@ -82,39 +91,40 @@ const ANSWERS: [(Gadget, u32, u32, [u64; 3]); 16] = [
     ),
 ];
 
+// Whether the answers are known and an altered one fails.
+fn is_known(alloc: Global, row: &Row) -> Result<bool, Fail> {
+    let (gadget, x, y, numbers) = *row;
+    let mut z = filled(alloc, gadget, x, y)?;
+    let (made, in_list, as_put) = answers(alloc, &z, gadget)?;
+    let [first, second, third] = made;
+    let represented = [spelt(&z, &first), spelt(&z, &second), spelt(&z, &third)];
+    add_one(&mut z, first.first.0);
+    let (_, altered_in_list, altered_as_put) = answers(alloc, &z, gadget)?;
+    let holds = in_list == 0 && as_put == 0 && represented == numbers.map(F::of);
+    Ok(holds && altered_in_list > 0 && altered_as_put > 0)
+}
+
 #[test]
 fn known_answers_hold_and_an_altered_one_fails(rt: HostRuntime) -> Result<(), Fail> {
-    for (gadget, x, y, numbers) in ANSWERS {
-        let mut z = filled(rt.alloc(), gadget, x, y)?;
-        let mut list = ListSink::new(rt.alloc(), 65);
-        let [first, second, third] = put::<32, ListSink>(&mut list, gadget)?;
-        let spelt = [spelt(&z, &first), spelt(&z, &second), spelt(&z, &third)];
-        assert_eq!(rt; spelt, numbers.map(F::of), "{gadget:?} {x:x} {y:x}");
-        assert_eq!(rt; failing_of(&list, &z), 0, "{gadget:?} {x:x} {y:x}");
-        assert_eq!(rt; failing(&z, gadget)?, 0, "{gadget:?} {x:x} {y:x}");
-
-        let altered = first.first.0 as usize;
-        assert!(rt; altered < z.len());
-        z[altered] = z[altered] + F::ONE;
-        assert!(rt; failing_of(&list, &z) > 0, "{gadget:?} {x:x} {y:x}");
-        assert!(rt; failing(&z, gadget)? > 0, "{gadget:?} {x:x} {y:x}");
+    for row in &ANSWERS {
+        assert!(rt; is_known(rt.alloc(), row)?, "{row:?}");
     }
     Ok(())
 }
 
 // The words of a product stand at the wires from 65 and from 97 on, its flag at 129, and the flag's
-// hint, the inverse of the high word, after it.
+// hint, the inverse of the high word, after it. With the flag that such a high word has, one
+// constraint alone fails: the parity's.
 #[test]
 fn the_product_0_is_not_spelt_by_the_prime(rt: HostRuntime) -> Result<(), Fail> {
     let mut z = filled(rt.alloc(), Gadget::Product, 0, 0)?;
-    assert!(rt; z.len() == 131);
-    z[65] = F::ONE;
-    z[97..129].copy_from_slice(&[F::ONE; 32]);
-    assert!(rt; failing(&z, Gadget::Product)? > 0);
-
-    // with the flag that such a high word has, one constraint alone fails: the parity's
-    z[129] = F::ONE;
-    z[130] = F::of(18_446_744_065_119_617_025);
-    assert_eq!(rt; failing(&z, Gadget::Product)?, 1);
+    set(&mut z, 65, F::ONE);
+    for wire in 97..129 {
+        set(&mut z, wire, F::ONE);
+    }
+    let without = failing_put(&z, Gadget::Product)?;
+    set(&mut z, 129, F::ONE);
+    set(&mut z, 130, F::of(18_446_744_065_119_617_025));
+    assert!(rt; without > 0 && failing_put(&z, Gadget::Product)? == 1);
     Ok(())
 }

@@ -3,6 +3,7 @@
 ghost use Rattle.std.specs.Prelude.{◌≤◌};
 ghost use Rattle.tv_core.specs.Sinks.{Room};
 
+use crate::assignments::failing;
 use std::alloc::Global;
 use std::test::Fail;
 use tv_bits::{Bits, SignedWord, double_row, fill_bits, fill_double_row, sign_of};
@@ -139,15 +140,24 @@ fn filled(
     Ok(values.as_slice().to_vec(alloc)?)
 }
 
-// How many constraints fail.
-fn failing(z: &[F], operation: Operation) -> Put<u32> {
-    let mut tests = TestSink::over(z, INPUTS);
+// How many constraints fail over that assignment.
+fn fails(
+    alloc: Global,
+    operation: Operation,
+    gate: bool,
+    words: (u32, u32),
+    halves: (u32, u32),
+) -> Result<u32, Fail> {
+    let z = filled(alloc, operation, gate, words, halves)?;
+    let mut tests = TestSink::over(&z, INPUTS);
     put_row(&mut tests, operation)?;
-    Ok(tests.tested().saturating_sub(tests.held()))
+    Ok(failing(&tests))
 }
 
 // An operation, two words, and the low and the high half of their row.
-const ROWS: [(Operation, (u32, u32), (u32, u32)); 19] = [
+type Row = (Operation, (u32, u32), (u32, u32));
+
+static ROWS: [Row; 19] = [
     (Operation::Sum, (0, 0), (0, 0)),
     (Operation::Sum, (0xffff_ffff, 1), (0, 1)),
     (Operation::Sum, (0xffff_ffff, 0xffff_ffff), (0xffff_fffe, 1)),
@@ -186,25 +196,27 @@ const ROWS: [(Operation, (u32, u32), (u32, u32)); 19] = [
     (Operation::Division, (0xffff_ffff, 0xffff_ffff), (0, 1)),
 ];
 
+// Whether a row holds and one with another low half fails. Without the gate it is any other.
+fn is_known(alloc: Global, row: &Row) -> Result<bool, Fail> {
+    let (operation, words, halves) = *row;
+    let altered = (halves.0 ^ 1, halves.1);
+    Ok(
+        fails(alloc, operation, true, words, halves)? == 0
+            && fails(alloc, operation, true, words, altered)? > 0
+            && fails(alloc, operation, false, words, (5, 3))? == 0,
+    )
+}
+
 #[test]
 fn known_rows_hold_and_altered_ones_fail(rt: HostRuntime) -> Result<(), Fail> {
-    for (operation, words, halves) in ROWS {
-        let z = filled(rt.alloc(), operation, true, words, halves)?;
-        assert_eq!(rt; failing(&z, operation)?, 0, "{operation:?} {words:?}");
-
-        let altered = (halves.0 ^ 1, halves.1);
-        let z = filled(rt.alloc(), operation, true, words, altered)?;
-        assert!(rt; failing(&z, operation)? > 0, "{operation:?} {words:?}");
-
-        // without the gate the row is any other
-        let z = filled(rt.alloc(), operation, false, words, (5, 3))?;
-        assert_eq!(rt; failing(&z, operation)?, 0, "{operation:?} {words:?}");
+    for row in &ROWS {
+        assert!(rt; is_known(rt.alloc(), row)?, "{row:?}");
     }
     Ok(())
 }
 
 // Rows that hold modulo P, or in unsigned words, or without the tie of a division's bits.
-const FALSE_ROWS: [(Operation, (u32, u32), (u32, u32)); 7] = [
+static FALSE_ROWS: [Row; 7] = [
     (Operation::Sum, (0, 0), (1, 0xffff_ffff)),
     (Operation::Product, (0, 0), (1, 0xffff_ffff)),
     (Operation::Difference, (0, 1), (0xffff_ffff, 1)),
@@ -216,23 +228,26 @@ const FALSE_ROWS: [(Operation, (u32, u32), (u32, u32)); 7] = [
 
 #[test]
 fn false_rows_fail(rt: HostRuntime) -> Result<(), Fail> {
-    for (operation, words, halves) in FALSE_ROWS {
-        let z = filled(rt.alloc(), operation, true, words, halves)?;
-        assert!(rt; failing(&z, operation)? > 0, "{operation:?} {words:?}");
+    for (operation, words, halves) in &FALSE_ROWS {
+        let fails = fails(rt.alloc(), *operation, true, *words, *halves)?;
+        assert!(rt; fails > 0, "{operation:?}");
     }
     Ok(())
 }
 
-#[test]
-fn halves_are_those_of_known_rows(rt: HostRuntime) -> Result<(), Fail> {
-    for (operation, (x, y), halves) in ROWS {
-        let (by_sign, strict) = (operation.by_sign(), operation.strict());
-        let computed = match operation {
-            Operation::Sum | Operation::Product | Operation::Division => halves,
-            Operation::SignedProduct => signed_product_halves::<32>(x, y),
-            _ => difference_halves::<32>(by_sign, strict, x, y),
-        };
-        assert_eq!(rt; computed, halves, "{operation:?} {x:x} {y:x}");
+// The halves of a row, where they are computed, and else those of the row itself.
+fn halves_of(row: &Row) -> (u32, u32) {
+    let (operation, (x, y), halves) = *row;
+    match operation {
+        Operation::Sum | Operation::Product | Operation::Division => halves,
+        Operation::SignedProduct => signed_product_halves::<32>(x, y),
+        _ => difference_halves::<32>(operation.by_sign(), operation.strict(), x, y),
     }
-    Ok(())
+}
+
+#[test]
+fn halves_are_those_of_known_rows(rt: HostRuntime) {
+    for row in &ROWS {
+        assert!(rt; halves_of(row) == row.2, "{row:?}");
+    }
 }

@@ -1,24 +1,36 @@
 //! How many wires, constraints and terms each gadget over words makes, at both widths, and those
-//! that read and write a register.
+//! that decode an instruction and that read and write registers, and a whole step.
 ghost use Rattle.tv_word.specs.Widths.{IsWidth};
 
 use crate::gadgets::{Gadget, put};
+use crate::step_parts::{NAMES, STORES, WRITE};
+use crate::step_trials::{FIRST, state_wires};
 use std::test::Fail;
-use tv_core::{CountSink, Lc, Put, Sink, Wire};
-use tv_regs::{read_reg, wires_from, write_reg};
+use tv_block::block;
+use tv_core::{CountSink, Lc, Put, Scratch, Sink, Wire};
+use tv_decode::instruction;
+use tv_regs::{read_reg, read_triple, update_register, wires_from, write_reg};
 
-// The wires, constraints and terms that a gadget makes.
-fn counts<const W: u32>(gadget: Gadget) -> Put<(u32, u32, u64)>
+// Wires, constraints and terms.
+type Sizes = (u32, u32, u64);
+
+// Those that a sink has counted after its first wires.
+fn counted(count: &CountSink, first: u32) -> Sizes {
+    let wires = count.wires().saturating_sub(first);
+    (wires, count.constraints(), count.terms())
+}
+
+// Those of a gadget.
+fn sizes<const W: u32>(gadget: Gadget) -> Put<Sizes>
     requires width { IsWidth W }
 {
-    let mut counts = CountSink::new(2 * W + 1);
-    put::<W, CountSink>(&mut counts, gadget)?;
-    let wires = counts.wires().saturating_sub(2 * W + 1);
-    Ok((wires, counts.constraints(), counts.terms()))
+    let mut count = CountSink::new(2 * W + 1);
+    put::<W, CountSink>(&mut count, gadget)?;
+    Ok(counted(&count, 2 * W + 1))
 }
 
 // A gadget, and its wires, constraints and terms at 32 bits and at 16.
-const SIZES: [(Gadget, (u32, u32, u64), (u32, u32, u64)); 9] = [
+static SIZES: [(Gadget, Sizes, Sizes); 9] = [
     (Gadget::Add, (33, 34, 197), (17, 18, 101)),
     (Gadget::Sub, (33, 34, 197), (17, 18, 101)),
     (Gadget::Compare, (14, 16, 280), (10, 12, 152)),
@@ -32,30 +44,89 @@ const SIZES: [(Gadget, (u32, u32, u64), (u32, u32, u64)); 9] = [
 
 #[test]
 fn gadgets_have_the_sizes_that_their_texts_say(rt: HostRuntime) -> Result<(), Fail> {
-    for (gadget, sizes, sizes_16) in SIZES {
-        assert_eq!(rt; counts::<32>(gadget)?, sizes, "{gadget:?}");
-        assert_eq!(rt; counts::<16>(gadget)?, sizes_16, "{gadget:?}");
+    for (gadget, wide, narrow) in &SIZES {
+        let made = (sizes::<32>(*gadget)?, sizes::<16>(*gadget)?);
+        assert!(rt; made == (*wide, *narrow), "{gadget:?}");
     }
     Ok(())
 }
 
 // Over 17 wires, of which 16 are the registers.
+fn reads() -> Put<Sizes> {
+    let mut count = CountSink::new(17);
+    read_reg(&mut count, Wire(1), &wires_from(Wire(1)))?;
+    Ok(counted(&count, 17))
+}
+
+fn writes() -> Put<Sizes> {
+    let (mut count, word) = (CountSink::new(17), Lc::wire(Wire(1)));
+    write_reg(&mut count, Wire(1), Wire(1), &word, &wires_from(Wire(1)))?;
+    Ok(counted(&count, 17))
+}
+
+fn instructions<const W: u32>() -> Put<Sizes>
+    requires width { IsWidth W }
+{
+    let mut count = CountSink::new(1);
+    instruction::<W, CountSink>(&mut count, &mut Scratch::new())?;
+    Ok(counted(&count, 1))
+}
+
+fn triples() -> Put<Sizes> {
+    let (mut count, stores) = (CountSink::new(30), Lc::wire(Wire(STORES)));
+    read_triple(
+        &mut count,
+        &mut Scratch::new(),
+        &stores,
+        &NAMES,
+        &wires_from(Wire(1)),
+    )?;
+    Ok(counted(&count, 30))
+}
+
+fn updates() -> Put<Sizes> {
+    let mut count = CountSink::new(21);
+    update_register(
+        &mut count,
+        &mut Scratch::new(),
+        &WRITE,
+        &wires_from(Wire(1)),
+    )?;
+    Ok(counted(&count, 21))
+}
+
 #[test]
 fn a_register_is_read_and_written_in_the_terms_that_their_texts_say(
     rt: HostRuntime,
 ) -> Result<(), Fail> {
-    let registers = wires_from(Wire(1));
-    let mut reads = CountSink::new(17);
-    read_reg(&mut reads, Wire(1), &registers)?;
-    let mut writes = CountSink::new(17);
-    write_reg(
-        &mut writes,
-        Wire(1),
-        Wire(1),
-        &Lc::wire(Wire(1)),
-        &registers,
-    )?;
-    assert_eq!(rt; (reads.constraints(), reads.terms()), (16, 48));
-    assert_eq!(rt; (writes.constraints(), writes.terms()), (17, 147));
+    let (read, written) = (reads()?, writes()?);
+    assert!(rt; (read.1, read.2, written.1, written.2) == (16, 48, 17, 147));
+    Ok(())
+}
+
+#[test]
+fn parts_of_a_step_have_the_sizes_that_their_texts_say(rt: HostRuntime) -> Result<(), Fail> {
+    let instruction = (instructions::<32>()?, instructions::<16>()?);
+    let is_so = instruction == ((90, 91, 386), (58, 59, 258));
+    let registers = (triples()?, updates()?);
+    assert!(rt; is_so && registers == ((31, 28, 211), (16, 17, 98)));
+    Ok(())
+}
+
+// Those of a step, the primary tape having `n` words.
+fn steps<const W: u32>(n: u32) -> Put<Sizes>
+    requires width { IsWidth W }
+{
+    let mut count = CountSink::new(FIRST.0);
+    block::<W, CountSink>(&mut count, &state_wires(), n, 0)?;
+    Ok(counted(&count, FIRST.0))
+}
+
+#[test]
+fn a_step_is_as_large_as_said(rt: HostRuntime) -> Result<(), Fail> {
+    let wide = (steps::<32>(3)?, steps::<32>(0)?);
+    let narrow = (steps::<16>(3)?, steps::<16>(0)?);
+    let is_wide = wide == ((311, 324, 1760), (311, 324, 1758));
+    assert!(rt; is_wide && narrow == ((212, 225, 1272), (212, 225, 1270)));
     Ok(())
 }

@@ -38,7 +38,7 @@ fn first_failed(image: &[u32], z: &[F]) -> Put<Option<u32>>
 /// and have one constraint each, from 379 on. A switch of its first or last column has five: its
 /// bit, which is still one if it is altered, and the numbers that it passes. The last column begins
 /// at 430, after 20 wires of the first one and 22 of each network within.
-const ALTERED: [(&str, usize, u32); 11] = [
+static ALTERED: [(&str, usize, u32); 11] = [
     ("answer", 1, 378),
     ("word of the tape", 2, 32),
     ("first wire of the first state", 35, 33),
@@ -52,17 +52,28 @@ const ALTERED: [(&str, usize, u32); 11] = [
     ("next time and word behind the network", 444, 457),
 ];
 
+// The first constraint of its system that fails where a wire has 1 less its value.
+fn failed_with(z: &mut [F], wire: usize) -> Put<Option<u32>> {
+    let Some(kept) = z.get(wire).copied() else {
+        return Ok(None);
+    };
+    set(z, wire, F::ONE - kept);
+    let failed = first_failed(&IMAGE, z)?;
+    set(z, wire, kept);
+    Ok(failed)
+}
+
+fn set(z: &mut [F], wire: usize, number: F) {
+    if let Some(place) = z.get_mut(wire) {
+        *place = number;
+    }
+}
+
 #[test]
 fn an_altered_wire_fails_its_constraint(rt: HostRuntime) -> Result<(), Fail> {
     let mut z = values_of_run(rt.alloc())?;
-    assert_eq!(rt; first_failed(&IMAGE, &z)?, None);
-    for (name, wire, failed) in ALTERED {
-        if wire < z.len() {
-            let kept = z[wire];
-            z[wire] = F::ONE - kept;
-            assert_eq!(rt; first_failed(&IMAGE, &z)?, Some(failed), "{name}");
-            z[wire] = kept;
-        }
+    for (name, wire, failed) in &ALTERED {
+        assert!(rt; failed_with(&mut z, *wire)? == Some(*failed), "{name}");
     }
     Ok(())
 }
@@ -72,7 +83,8 @@ fn an_altered_wire_fails_its_constraint(rt: HostRuntime) -> Result<(), Fail> {
 #[test]
 fn a_dishonest_line_fails(rt: HostRuntime) -> Result<(), Fail> {
     let z = values_of_run(rt.alloc())?;
+    let own = first_failed(&IMAGE, &z)?;
     let failed = first_failed(&OTHER, &z)?.unwrap_or(0);
-    assert!(rt; 379 <= failed && failed < 384, "{failed}");
+    assert!(rt; own.is_none() && 379 <= failed && failed < 384, "{failed}");
     Ok(())
 }

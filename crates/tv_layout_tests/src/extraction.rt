@@ -22,8 +22,7 @@ fn values(alloc: Global) -> Result<Vec<F>, Fail> {
 fn a_run_is_extracted(rt: HostRuntime) -> Result<(), Fail> {
     let alloc = rt.alloc();
     let run = extract::<32>(alloc, &IMAGE, 1, 1, Net::Benes, &values(alloc)?)?;
-    assert_eq!(rt; (run.answer, run.step), (0, 1));
-    assert_eq!(rt; run.tape.as_slice(), [5].as_slice());
-    assert!(rt; run.aux.as_slice().is_empty());
+    let tapes = run.tape.as_slice() == [5].as_slice() && run.aux.as_slice().is_empty();
+    assert!(rt; tapes && (run.answer, run.step) == (0, 1));
     Ok(())
 }

@@ -38,21 +38,10 @@ fn is_constant(lc: &Lc, number: u32) -> bool {
 #[test]
 #[tactic(auto, unfolding(tv_layout::specs::Places::log_of))]
 fn lines_are_filled_up(rt: HostRuntime) {
-    assert_eq!(rt; padding(&IMAGE, 0, 2, 8), 0);
-    assert_eq!(rt; padding(&IMAGE, 1, 2, 16), 7);
-    assert_eq!(rt; padding(&IMAGE, 0, 65, 256), 59);
-}
-
-// The terms of a line's combinations: of its cell, its time, and its old and its new word.
-fn has(made: &LineLc, cell: &[(F, Wire)], time: u32, old: &[(F, Wire)], new: &[(F, Wire)]) -> bool {
-    made.cell.terms() == cell
-        && is_constant(&made.time, time)
-        && made.old.terms() == old
-        && made.new.terms() == new
-}
-
-fn term(coefficient: u64, wire: u32) -> (F, Wire) {
-    (F::of(coefficient), Wire(wire))
+    let two_steps = padding(&IMAGE, 0, 2, 8);
+    let tape_word = padding(&IMAGE, 1, 2, 16);
+    let steps = padding(&IMAGE, 0, 65, 256);
+    assert_eq!(rt; [two_steps, tape_word, steps], [0, 7, 59]);
 }
 
 // Line i of the 16 of two steps on a tape of one word. The tape's word is wire 2, its bits are 3 to
@@ -69,33 +58,45 @@ fn line_at(i: u32) -> LineLc
 // The inverse of 4 modulo P, (3 P + 1) / 4.
 const QUARTER: u64 = 13_835_058_052_060_938_241;
 
-#[test]
-fn boot_lines_stand_first(rt: HostRuntime) {
-    let word = [term(0xfc00_0000, 0)];
-    assert!(rt; has(&line_at(0), &[term(0, 0)], 0, &[], &word));
-    assert!(rt; has(&line_at(1), &[term(1, 0)], 1, &[], &[term(0, 0)]));
-    let cell = [term(u64::from(TAPE_CELLS), 0)];
-    assert!(rt; has(&line_at(2), &cell, 2, &[], &[term(1, 2)]));
+// The terms of a combination, numbers and wires.
+type Terms = &'static [(u64, u32)];
+
+// A line's place, which is its time, and the terms of its cell, its old and its new word. Those of
+// the image and of the tape stand first. A step has three.
+static LINES: [(u32, Terms, Terms, Terms); 8] = [
+    (0, &[(0, 0)], &[], &[(0xfc00_0000, 0)]),
+    (1, &[(1, 0)], &[], &[(0, 0)]),
+    (2, &[(TAPE_CELLS as u64, 0)], &[], &[(1, 2)]),
+    (3, &[(QUARTER, 35)], &[(1, 143)], &[(1, 143)]),
+    (4, &[(QUARTER, 35), (1, 0)], &[(1, 144)], &[(1, 144)]),
+    (5, &[(1, 328)], &[(1, 329)], &[(1, 335)]),
+    (6, &[(QUARTER, 365)], &[(1, 454)], &[(1, 454)]),
+    (8, &[(1, 639)], &[(1, 640)], &[(1, 646)]),
+];
+
+fn has_terms(lc: &Lc, terms: &[(u64, u32)]) -> bool {
+    for (found, (number, wire)) in lc.terms().iter().zip(terms) {
+        if *found != (F::of(*number), Wire(*wire)) {
+            return false;
+        }
+    }
+    lc.terms().len() == terms.len()
 }
 
 #[test]
-fn steps_have_three_lines_each(rt: HostRuntime) {
-    let head = [term(1, 143)];
-    assert!(rt; has(&line_at(3), &[term(QUARTER, 35)], 3, &head, &head));
-    let tail = [term(1, 144)];
-    let cell = [term(QUARTER, 35), term(1, 0)];
-    assert!(rt; has(&line_at(4), &cell, 4, &tail, &tail));
-    let data = [term(1, 328)];
-    assert!(rt; has(&line_at(5), &data, 5, &[term(1, 329)], &[term(1, 335)]));
-    let head = [term(1, 454)];
-    assert!(rt; has(&line_at(6), &[term(QUARTER, 365)], 6, &head, &head));
-    let data = [term(1, 639)];
-    assert!(rt; has(&line_at(8), &data, 8, &[term(1, 640)], &[term(1, 646)]));
+fn lines_stand_at_their_places(rt: HostRuntime) {
+    for (i, cell, old, new) in &LINES {
+        let made = line_at(*i % 16);
+        let words = has_terms(&made.old, old) && has_terms(&made.new, new);
+        assert!(rt;
+            words && has_terms(&made.cell, cell) && is_constant(&made.time, *i),
+            "{i}"
+        );
+    }
 }
 
 #[test]
 fn padding_stands_last(rt: HostRuntime) {
-    assert!(rt; !is_padding(&line_at(8), 8));
-    assert!(rt; is_padding(&line_at(9), 9));
-    assert!(rt; is_padding(&line_at(15), 15));
+    let first = is_padding(&line_at(9), 9) && !is_padding(&line_at(8), 8);
+    assert!(rt; first && is_padding(&line_at(15), 15));
 }

@@ -2,7 +2,7 @@ use Rattle.std.proofs.Common.{◌≡◌, ◌++◌, ◌∷◌, [], List, map, sym
 use Rattle.std.proofs.lemmas.List.{length-map, map-append}
 use Rattle.tv_core.specs.Lines.{Line}
 use Rattle.tv_lines.proofs.PackingLaws.{unpack_packed}
-use Rattle.tv_lines.specs.PackedLines.{unpacked, without_old, InRange}
+use Rattle.tv_lines.specs.PackedLines.{unpacked, without_old, LineInRange}
 use Rattle.tv_lines.specs.Placed.{LinesFrom}
 use Rattle.tv_argument_tests.proofs.Made.{more_placed}
 use Rattle.tv_argument_tests.proofs.rows.items.Goals as goal
@@ -12,7 +12,7 @@ loop-time-preserved c =
     let one : Line = without_old c.line.result in
     let before : List Line = map unpacked c.loop-time.items.items in
     let many = length-map c.loop-time.items.items unpacked in
-    let range : InRange one = record {
+    let range : LineInRange one = record {
       cell = omega (arith, c.line.ensures.cell, c.if-cell.false);
       time = omega (arith, c.line.ensures.time, c.loop-time-test.true, c.loop-time.auto.time-end);
       old = omega arith;

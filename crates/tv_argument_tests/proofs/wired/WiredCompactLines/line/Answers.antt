@@ -1,6 +1,6 @@
 use Rattle.std.proofs.Common.{◌<◌, sym, ◌∙◌, arith}
 use Rattle.tv_argument_tests.proofs.Made.{eight, line_made, line_is}
-use Rattle.tv_argument_tests.proofs.wired.WiredLines.line.Goals as goal
+use Rattle.tv_argument_tests.proofs.wired.WiredCompactLines.line.Goals as goal
 
 pub overflow_mul-first : goal.overflow_mul-first
 overflow_mul-first c = omega (arith, eight)

@@ -3,9 +3,9 @@ use Rattle.std.specs.Prelude.{ℕ, ◌+◌, ◌-◌, ◌^◌, min, None, Result,
 use Rattle.tv_files.specs.Outside.{Outside}
 use Rattle.tv_files.specs.declared.calls.FileRefusal.{FileRefusal}
 use Rattle.tv_files.specs.declared.calls.FileRefusal.TheVariants.{Failed, Memory}
-use Rattle.tinyr1cs.specs.declared.counts.Call.{Call}
-use Rattle.tinyr1cs.specs.declared.counts.Call.TheVariants.{Reading, Writing, Saying}
-use Rattle.tinyr1cs.specs.declared.counts.RefusalCounts.{RefusalCounts}
+use Rattle.tv_disk.specs.declared.counts.Call.{Call}
+use Rattle.tv_disk.specs.declared.counts.Call.TheVariants.{Reading, Writing, Saying}
+use Rattle.tv_disk.specs.declared.counts.RefusalCounts.{RefusalCounts}
 
 -- the counts as what is known of the outside
 abbrev pub outside_of : RefusalCounts → Outside

@@ -1,0 +1,54 @@
+//! One product, wire 1 times wire 2 is wire 3, over numbers and into a list.
+
+use std::alloc::Global;
+use std::test::Fail;
+use tv_core::{F, Lc, ListSink, ListValues, Put, Sink, TestSink, Values, Wire};
+
+// How many products a sink has tested, how many of them hold, the first that fails, and the sum of
+// the products, where wire 3 has this number.
+fn tested(product: u64) -> Put<(u32, u32, Option<u32>, F)> {
+    let z = [F::ONE, F::of(3), F::of(5), F::of(product)];
+    let mut sink = TestSink::over(&z, 4);
+    sink.put(&Lc::wire(Wire(1)), &Lc::wire(Wire(2)), &Lc::wire(Wire(3)))?;
+    Ok((sink.tested(), sink.held(), sink.first_failed(), sink.sum()))
+}
+
+#[test]
+fn a_test_sink_tells_products_that_fail(rt: HostRuntime) -> Result<(), Fail> {
+    for (product, held, first_failed) in [(15, 1, None), (16, 0, Some(0))] {
+        let wanted = (1, held, first_failed, F::of(15));
+        assert!(rt; tested(product)? == wanted, "{product}");
+    }
+    Ok(())
+}
+
+// Whether a combination is a wire.
+fn is_wire(lc: &Lc, wire: u32) -> bool {
+    lc.terms() == [(F::ONE, Wire(wire))].as_slice()
+}
+
+// Whether the one row of a list is the product.
+fn has_its_row(alloc: Global) -> Put<bool> {
+    let mut sink = ListSink::new(alloc, 4);
+    sink.put(&Lc::wire(Wire(1)), &Lc::wire(Wire(2)), &Lc::wire(Wire(3)))?;
+    if sink.len() != 1 {
+        return Ok(false);
+    }
+    let (a, b, c) = sink.row(0);
+    Ok(is_wire(&a, 1) && is_wire(&b, 2) && is_wire(&c, 3))
+}
+
+#[test]
+fn a_list_sink_keeps_its_rows(rt: HostRuntime) -> Result<(), Fail> {
+    assert!(rt; has_its_row(rt.alloc())?);
+    Ok(())
+}
+
+#[test]
+fn a_list_of_values_keeps_them(rt: HostRuntime) -> Result<(), Fail> {
+    let mut values = ListValues::new(rt.alloc());
+    values.give(F::of(3))?;
+    values.give(F::of(5))?;
+    assert!(rt; values.as_slice() == [F::of(3), F::of(5)].as_slice());
+    Ok(())
+}
