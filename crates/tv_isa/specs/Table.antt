@@ -7,17 +7,17 @@ use Rattle.tv_isa.specs.declared.operation.Shape.{Shape}
 use Rattle.tv_isa.specs.declared.operation.Shape.TheVariants.{DestSourceA, DestA, SourceA, OnlyA, ADest, Unused}
 
 -- an instruction's opcode, its name in program text, and the operands that it names
-pub record Row : Type 0 where
+pub record TableRow : Type 0 where
   pub op : ℕ
   pub name : List ℕ
   pub shape : Shape
 
 -- an entry, as it is written below
-abbrev row : ℕ → List ℕ → Shape → Row
+abbrev row : ℕ → List ℕ → Shape → TableRow
 row op name shape = record { op = op; name = name; shape = shape }
 
 -- the table
-unfoldable pub instructions : List Row
+unfoldable pub instructions : List TableRow
 instructions =
     row 0 (codes "and") DestSourceA
     ∷ row 1 (codes "or") DestSourceA
@@ -51,10 +51,10 @@ instructions =
     ∷ []
 
 -- the instruction with an opcode, and with a name
-unfoldable pub with_opcode : ℕ → Option Row
+unfoldable pub with_opcode : ℕ → Option TableRow
 with_opcode op = find (λ r. r.op == op) instructions
 
-unfoldable pub with_name : List ℕ → Option Row
+unfoldable pub with_name : List ℕ → Option TableRow
 with_name name = find (λ r. bytes_eq r.name name) instructions
 
 -- the operands of the instruction with an opcode
@@ -62,5 +62,5 @@ abbrev pub shape_of : ℕ → Shape
 shape_of op = option_map_or (λ r. r.shape) (with_opcode op) Unused
 
 -- a row of the program's own table
-abbrev pub row_of : Operation → Row
+abbrev pub row_of : Operation → TableRow
 row_of o = row o.op o.name.now o.shape

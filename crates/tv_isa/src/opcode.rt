@@ -1,4 +1,6 @@
-//! The opcodes of the 29 instructions.
+//! The opcodes of the 29 instructions, and their order.
+ghost use Rattle.std.specs.Prelude.{◌≡◌, ◌<◌};
+ghost use Rattle.tv_isa.specs.Opcodes.{opcodes, opcode_at, place_of};
 
 /// Bitwise and.
 pub const AND: u8 = 0;
@@ -95,3 +97,28 @@ pub const USED: [u8; 29] = [
     AND, OR, XOR, NOT, ADD, SUB, MULL, UMULH, SMULH, UDIV, UMOD, SHL, SHR, CMPE, CMPA, CMPAE, CMPG,
     CMPGE, MOV, CMOV, JMP, CJMP, CNJMP, STORE_B, LOAD_B, STORE_W, LOAD_W, READ, ANSWER,
 ];
+
+// How many opcodes aren't used; they stand right before the first of the stores.
+const GAP: u8 = UNUSED.len() as u8;
+
+/// Returns the place of a used opcode among the used ones, in rising order.
+pub fn place(op: u8) -> u32
+    requires { op < 32 }
+    ensures place { result ≡ place_of op }
+    ensures below { result < opcodes }
+{
+    u32::from(if op < STORE_B { op } else { op - GAP })
+}
+
+/// Returns the used opcode at a place.
+pub fn at_place(place: u32) -> u32
+    requires { place < opcodes }
+    ensures opcode { result ≡ opcode_at place }
+    ensures below { result < 32 }
+{
+    if place < u32::from(STORE_B - GAP) {
+        place
+    } else {
+        place + u32::from(GAP)
+    }
+}

@@ -19,7 +19,7 @@ use Rattle.tv_core.specs.Constraints.{Combination, value}
 use Rattle.tv_core.specs.Laws.{Assigns, Meets, HasFrom}
 use Rattle.tv_core.specs.Meanings.{terms_in}
 use Rattle.tv_core.specs.declared.field.TheConstants.{P}
-use Rattle.tv_limb.proofs.RowDifferenceNumbers.{difference_sound, difference_met, difference_row}
+use Rattle.tv_limb.proofs.RowDifferenceNumbers.{difference_sound, difference_met, difference_row, bit_small}
 use Rattle.tv_limb.specs.RowDifference.{comparing, sign_difference, minuend, subtrahend, row_difference_of, row_difference_values, RowDifferenceIsSound}
 use Rattle.tv_limb.specs.RowDifference.{RowDifferenceIsComplete, RowDifferenceSizes, RowDifferenceCosts}
 
@@ -61,9 +61,6 @@ module _ (z : List ℕ) (assigns : Assigns z) where
 
       flat : (y n c : ℕ) → (y + (n % P + c % P) % P) % P ≡ (y + n + c) % P
       flat y n c = omega arith
-
-bit_small : (v i : ℕ) → bit_at v i < 2
-bit_small v i = omega arith
 
 pub row_difference_sound : RowDifferenceIsSound
 unfolding row_difference_of times_of fresh put pure ◌>>=◌

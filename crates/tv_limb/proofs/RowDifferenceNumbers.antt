@@ -10,17 +10,12 @@ use Rattle.tv_bits.proofs.RowNumbers.{row_below}
 use Rattle.tv_bits.specs.DoubleRow.{IsRow, whole}
 use Rattle.tv_core.specs.declared.field.TheConstants.{P}
 use Rattle.tv_limb.specs.RowDifference.{is_above, difference_low, difference_high, RowDifferenceEqual}
+use Rattle.tv_word.proofs.FlagLaws.{flag_small}
+use Rattle.tv_word.proofs.SignedLaws.{int_lt_cases}
 use Rattle.tv_word.specs.Widths.{IsWidth}
 use Rattle.tv_word.specs.Word.{signed}
 
 -- ---- the order of signed words is that of words with their top bits crossed over
-int_lt_cases : (a b : ℤ) → ((int_lt a b ≡ true) × (a <ℤ b)) ⊎ ((int_lt a b ≡ false) × (b ≤ℤ a))
-int_lt_cases a b = by (int_lt a b) refl
-  where
-    by : (t : Bool) → int_lt a b ≡ t → ((int_lt a b ≡ true) × (a <ℤ b)) ⊎ ((int_lt a b ≡ false) × (b ≤ℤ a))
-    by true e = inl (e, omega (arith, ints))
-    by false e = inr (e, omega (arith, ints))
-
 less_is : (w : ℕ) → IsWidth w → (x y : ℕ) → x < 2 ^ w → y < 2 ^ w
     → int_lt (signed w x) (signed w y) ≡ nat_lt (x + 2 ^ w * bit_at y (w - 1)) (y + 2 ^ w * bit_at x (w - 1))
 less_is w width x y h k = grind (arith, ints, nat_tests, int_lt_cases)
@@ -111,7 +106,7 @@ signs_in by_sign d small h = elim (cases_eq by_sign 0) [
   | inr some ↦ let one : by_sign ≡ 1 = omega arith in inr (one, ap (λ n. n * d % P) one ∙ ap (λ n. n % P) (one-mul d) ∙ omega arith)
 ]
 
-bit_small : (v i : ℕ) → bit_at v i < 2
+pub bit_small : (v i : ℕ) → bit_at v i < 2
 bit_small v i = omega arith
 
 module _ (w : ℕ) (width : IsWidth w) (low high a b strict by_sign c : ℕ) (h : a < 2 ^ w) (k : b < 2 ^ w) (l : strict < 2) (bit : by_sign < 2)
@@ -157,10 +152,6 @@ module _ (w : ℕ) (width : IsWidth w) (low high a b strict by_sign c : ℕ) (h 
   ]
 
 -- the honest halves are a row
-flag_small : (t : Bool) → (if t then 1 else 0) < 2
-flag_small true = omega arith
-flag_small false = omega arith
-
 row_of_flag : (w : ℕ) → IsWidth w → (low high : ℕ) → low < 2 ^ w → high < 2 → IsRow w low high
 row_of_flag w width low high h k = record { low_word = h; high_word = grind arith; edge = λ full. grind arith }
 

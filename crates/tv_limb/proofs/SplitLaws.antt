@@ -4,7 +4,7 @@ use Rattle.tv_bits.proofs.SizeLaws.{length-bits, bits_in_field}
 use Rattle.tv_bits.proofs.BitNumbers.{HasBits-low, HasBits-high}
 use Rattle.tv_bits.proofs.BitsLaws.{bits_sound, bits_complete, bits_answer, bits_next}
 use Rattle.tv_bits.specs.Bits.{HasBits, bits_of}
-use Rattle.tv_core.proofs.Meeting.{Meets-split, Meets-join}
+use Rattle.tv_core.proofs.MeetsLaws.{Meets-split, Meets-join}
 use Rattle.tv_core.specs.Circuits.{pure, ◌>>=◌}
 use Rattle.tv_core.specs.Constraints.{Combination, value}
 use Rattle.tv_limb.specs.Split.{HasPartBits, split_at, split_of, SplitIsSound, SplitIsComplete, SplitSizes}

@@ -8,16 +8,17 @@ use Rattle.tv_bits.proofs.BitsLaws.{new_bits_sound, new_bits_complete, new_bits_
 use Rattle.tv_bits.specs.Bits.{HasBits, binary_value, bits_combination, new_bits_of}
 use Rattle.tv_bits.specs.declared.bit_wires.Bits.{Bits}
 use Rattle.tv_core.proofs.CombinationLaws.{value-append, value-less, value-constant}
-use Rattle.tv_core.proofs.Meeting.{Meets-split, Meets-join}
+use Rattle.tv_core.proofs.MeetsLaws.{Meets-split, Meets-join}
 use Rattle.tv_core.specs.Circuits.{put, pure, ◌>>=◌}
 use Rattle.tv_core.specs.Combinations.{constant}
 use Rattle.tv_core.specs.Constraints.{value}
 use Rattle.tv_core.specs.Laws.{Assigns}
 use Rattle.tv_core.specs.declared.field.TheConstants.{P}
 use Rattle.tv_limb.proofs.SplitLaws.{HasPartBits-from_HasBits}
-use Rattle.tv_limb.specs.Difference.{difference, borrow, less_borrow, difference_of_words, sub_of, SubIsSound, SubIsComplete, SubSizes}
+use Rattle.tv_limb.specs.Difference.{borrow, less_borrow, difference_of_words, sub_of, SubIsSound, SubIsComplete, SubSizes}
 use Rattle.tv_limb.specs.Split.{split_at}
 use Rattle.tv_word.proofs.WidthLaws.{width_short}
+use Rattle.tv_word.specs.Operations.{sub_result}
 use Rattle.tv_word.specs.Widths.{IsWidth}
 
 -- what the circuit answers, and where it ends
@@ -31,10 +32,10 @@ sub_next w x y next = new_bits_next (w + 1) next
 
 -- the constraint, as numbers: the low part, the borrow's wire, and the two words
 sound_by : (w : ℕ) → IsWidth w → (x y low b : ℕ) → x < 2 ^ w → y < 2 ^ w → low < 2 ^ w → b < 2 → (low + (P - 2 ^ w % P) % P * b % P) % P ≡ (x + (P - y)) % P
-    → (low ≡ difference w x y) × (b ≡ borrow x y)
+    → (low ≡ sub_result w x y) × (b ≡ borrow x y)
 sound_by w width x y low b hx hy hl hb e = (grind (arith, nat_tests), grind (arith, nat_tests))
 
-complete_by : (w : ℕ) → IsWidth w → (x y : ℕ) → x < 2 ^ w → y < 2 ^ w → (difference w x y + (P - 2 ^ w % P) % P * borrow x y % P) % P ≡ (x + (P - y)) % P
+complete_by : (w : ℕ) → IsWidth w → (x y : ℕ) → x < 2 ^ w → y < 2 ^ w → (sub_result w x y + (P - 2 ^ w % P) % P * borrow x y % P) % P ≡ (x + (P - y)) % P
 complete_by w width x y hx hy = grind (arith, nat_tests)
 
 -- the two sides, as numbers
@@ -75,9 +76,9 @@ sub_sound w width z next x y a b assigns p q meets =
 pub sub_complete : SubIsComplete
 unfolding sub_of put pure ◌>>=◌
 sub_complete w width z next x y a b assigns p q has =
-    let v = difference w a b + 2 ^ w * borrow a b in
+    let v = sub_result w a b + 2 ^ w * borrow a b in
     let small : v < 2 ^ (w + 1) = grind (arith, nat_tests) in
-    let low : v % 2 ^ w ≡ difference w a b = grind (arith, nat_tests) in
+    let low : v % 2 ^ w ≡ sub_result w a b = grind (arith, nat_tests) in
     let above : v / 2 ^ w ≡ borrow a b = grind (arith, nat_tests) in
     let s = HasBits-from_values z next (w + 1) v small has in
     let sum = left w width z assigns x y a b p q next (w + 1) v s
@@ -90,6 +91,6 @@ pub sub_sizes : SubSizes
 sub_sizes = record {
   answer = sub_answer;
   end = sub_next;
-  fills = λ w x y a b next. omega (arith, sub_next w x y next, length-bits (difference w a b + 2 ^ w * borrow a b) (w + 1));
-  in_field = λ w a b. bits_in_field (difference w a b + 2 ^ w * borrow a b) (w + 1);
+  fills = λ w x y a b next. omega (arith, sub_next w x y next, length-bits (sub_result w a b + 2 ^ w * borrow a b) (w + 1));
+  in_field = λ w a b. bits_in_field (sub_result w a b + 2 ^ w * borrow a b) (w + 1);
 }

@@ -1,5 +1,5 @@
 -- The difference of two words, with its borrow.
-use Rattle.std.specs.Prelude.{◌≡◌, ℕ, ◌+◌, ◌-◌, ◌*◌, ◌%◌, ◌^◌, nat_lt, if◌then◌else◌, List, [], ◌∷◌, ◌++◌}
+use Rattle.std.specs.Prelude.{◌≡◌, ℕ, ◌+◌, ◌-◌, ◌*◌, ◌%◌, ◌^◌, List, [], ◌∷◌, ◌++◌}
 use Rattle.tv_bits.specs.Bits.{HasBits, bits_combination, bits_values, new_bits_of}
 use Rattle.tv_bits.specs.declared.bit_wires.Bits.{Bits}
 use Rattle.tv_core.specs.Circuits.{Circuit, put, pure, ◌>>=◌}
@@ -7,17 +7,15 @@ use Rattle.tv_core.specs.Combinations.{constant, less}
 use Rattle.tv_core.specs.Constraints.{Combination}
 use Rattle.tv_core.specs.Laws.{Assigns, Meets, HasFrom, Fills, InField}
 use Rattle.tv_core.specs.declared.field.TheConstants.{P}
+use Rattle.tv_word.specs.Operations.{sub_result, sub_flag}
 use Rattle.tv_word.specs.Widths.{IsWidth}
+use Rattle.tv_word.specs.Word.{flag_of}
 use Rattle.tv_limb.specs.Split.{HasPartBits, split_at}
 use Rattle.tv_limb.specs.declared.parts.Split.{Split}
 
--- x less y modulo 2 ^ w
-abbrev pub difference : ℕ → ℕ → ℕ → ℕ
-difference w x y = (x + (2 ^ w - y)) % 2 ^ w
-
--- 1 where x is below y, else 0
+-- the borrow of a difference, as a number
 abbrev pub borrow : ℕ → ℕ → ℕ
-borrow x y = if nat_lt x y then 1 else 0
+borrow x y = flag_of (sub_flag x y)
 
 -- the low part less 2 ^ w times the wire of the borrow
 abbrev pub less_borrow : ℕ → Split → Combination
@@ -36,12 +34,12 @@ sub_of w x y = do
 
 -- the values of the wires that are made: the bits of the difference, and then the borrow
 abbrev pub sub_values : ℕ → ℕ → ℕ → List ℕ
-sub_values w x y = bits_values (difference w x y + 2 ^ w * borrow x y) (w + 1)
+sub_values w x y = bits_values (sub_result w x y + 2 ^ w * borrow x y) (w + 1)
 
 -- in an assignment that satisfies the constraints the result represents the difference modulo 2 ^ w, and the borrow
 abbrev pub SubIsSound : Type 0
 SubIsSound = (w : ℕ) → IsWidth w → (z : List ℕ) (next : ℕ) (x y : Bits) (a b : ℕ) → Assigns z → HasBits z x.first w a → HasBits z y.first w b
-    → Meets z (sub_of w x y next).list → HasPartBits w 1 z (sub_of w x y next).answer (difference w a b) (borrow a b)
+    → Meets z (sub_of w x y next).list → HasPartBits w 1 z (sub_of w x y next).answer (sub_result w a b) (borrow a b)
 
 -- an assignment that has these values at the wires that were made satisfies the constraints
 abbrev pub SubIsComplete : Type 0

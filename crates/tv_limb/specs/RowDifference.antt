@@ -1,5 +1,5 @@
 -- The difference of two words in a row of twice their width, whose high half is their order.
-use Rattle.std.specs.Prelude.{◌≡◌, ℕ, ◌+◌, ◌-◌, ◌%◌, ◌^◌, ◌<◌, ◌==◌, Bool, nat_lt, nat_le, int_lt, int_le}
+use Rattle.std.specs.Prelude.{◌≡◌, ℕ, ◌+◌, ◌-◌, ◌%◌, ◌^◌, ◌<◌, ◌==◌, Bool}
 use Rattle.std.specs.Prelude.{if◌then◌else◌, List, [], ◌∷◌, ◌++◌, length, slice_index}
 use Rattle.std.specs.Int.{bit_at}
 use Rattle.tv_bits.specs.Bit.{IsBit}
@@ -15,21 +15,22 @@ use Rattle.tv_core.specs.Constraints.{Combination, value}
 use Rattle.tv_core.specs.Laws.{Assigns, Meets, HasFrom, Fills, InField}
 use Rattle.tv_core.specs.Meanings.{terms_in}
 use Rattle.tv_core.specs.declared.field.TheConstants.{P}
+use Rattle.tv_word.specs.Operations.{cmpe_flag, cmpa_flag, cmpae_flag, cmpg_flag, cmpge_flag}
 use Rattle.tv_word.specs.Widths.{IsWidth}
-use Rattle.tv_word.specs.Word.{signed}
+use Rattle.tv_word.specs.Word.{flag_of}
 
 -- whether a is above b, as signed words where by_sign is 1; where strict is not 1, whether it is at least b
 abbrev pub is_above : ℕ → ℕ → ℕ → ℕ → ℕ → Bool
 is_above w by_sign strict a b =
-    if by_sign == 1 then (if strict == 1 then int_lt (signed w b) (signed w a) else int_le (signed w b) (signed w a))
-    else (if strict == 1 then nat_lt b a else nat_le b a)
+    if by_sign == 1 then (if strict == 1 then cmpg_flag w a b else cmpge_flag w a b)
+    else (if strict == 1 then cmpa_flag a b else cmpae_flag a b)
 
 -- the halves of the row for words a and b: a - b, less 1 where strict is 1, modulo 2 ^ w; and 1 where a is above b, else 0
 abbrev pub difference_low : ℕ → ℕ → ℕ → ℕ → ℕ
 difference_low w strict a b = (a + (2 ^ w - b) - strict) % 2 ^ w
 
 abbrev pub difference_high : ℕ → ℕ → ℕ → ℕ → ℕ → ℕ
-difference_high w by_sign strict a b = if is_above w by_sign strict a b then 1 else 0
+difference_high w by_sign strict a b = flag_of (is_above w by_sign strict a b)
 
 -- how two words are compared: as signed words where by_sign is 1, and strictly where strict is 1; these two as numbers, or
 -- as the combinations that have them
@@ -79,7 +80,7 @@ RowDifferenceIsSound = (w : ℕ) → IsWidth w → (z : List ℕ) (next : ℕ) (
 
 -- the low half is 0 exactly where the words are the same, strict being 0
 abbrev pub RowDifferenceEqual : Type 0
-RowDifferenceEqual = (w : ℕ) → IsWidth w → (a b : ℕ) → a < 2 ^ w → b < 2 ^ w → (difference_low w 0 a b == 0) ≡ (a == b)
+RowDifferenceEqual = (w : ℕ) → IsWidth w → (a b : ℕ) → a < 2 ^ w → b < 2 ^ w → (difference_low w 0 a b == 0) ≡ cmpe_flag a b
 
 -- the difference of two words is a row; with the value of the wire that was made, a row that holds it satisfies the constraints,
 -- and where the gate is 0 any row does

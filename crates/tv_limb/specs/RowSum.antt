@@ -1,5 +1,5 @@
 -- The sum of two words in a row of twice their width.
-use Rattle.std.specs.Prelude.{◌≡◌, ℕ, ◌+◌, ◌%◌, ◌^◌, ◌<◌, List, [], ◌++◌, length, slice_index}
+use Rattle.std.specs.Prelude.{◌≡◌, ℕ, ◌+◌, ◌^◌, ◌<◌, List, [], ◌++◌, length, slice_index}
 use Rattle.tv_bits.specs.DoubleRow.{IsRow, row_number}
 use Rattle.tv_bits.specs.Gate.{gated_of}
 use Rattle.tv_bits.specs.declared.double_rows.DoubleRow.{DoubleRow}
@@ -8,12 +8,13 @@ use Rattle.tv_core.specs.Combinations.{wire}
 use Rattle.tv_core.specs.Constraints.{Combination, value}
 use Rattle.tv_core.specs.Laws.{Assigns, Meets, Fills, InField}
 use Rattle.tv_core.specs.Meanings.{terms_in}
+use Rattle.tv_word.specs.Operations.{add_result}
 use Rattle.tv_word.specs.Widths.{IsWidth}
 use Rattle.tv_limb.specs.Sum.{carry}
 
 -- the row's halves are the sum of two words modulo 2 ^ w, and its carry
 pub record IsRowSum (w : ℕ) (z : List ℕ) (row : DoubleRow) (a b : ℕ) : Type 0 where
-  pub low : slice_index z row.low ≡ (a + b) % 2 ^ w
+  pub low : slice_index z row.low ≡ add_result w a b
   pub high : slice_index z row.high ≡ carry w a b
 
 -- under the gate, the sum of two wires is the number of a row
@@ -28,7 +29,7 @@ RowSumIsSound = (w : ℕ) → IsWidth w → (z : List ℕ) (next : ℕ) (gate : 
 
 -- the sum of two words is a row, a row that holds it satisfies the constraints, and where the gate is 0 any row does
 pub record RowSumIsComplete : Type 0 where
-  pub row : (w : ℕ) → IsWidth w → (a b : ℕ) → a < 2 ^ w → b < 2 ^ w → IsRow w ((a + b) % 2 ^ w) (carry w a b)
+  pub row : (w : ℕ) → IsWidth w → (a b : ℕ) → a < 2 ^ w → b < 2 ^ w → IsRow w (add_result w a b) (carry w a b)
   pub on : (w : ℕ) → IsWidth w → (z : List ℕ) (next : ℕ) (gate : Combination) (x y : ℕ) (row : DoubleRow) → Assigns z
       → slice_index z x < 2 ^ w → slice_index z y < 2 ^ w → IsRowSum w z row (slice_index z x) (slice_index z y) → Meets z (row_sum_of w gate x y row next).list
   pub off : (w : ℕ) (z : List ℕ) (next : ℕ) (gate : Combination) (x y : ℕ) (row : DoubleRow) → value gate z ≡ 0 → Meets z (row_sum_of w gate x y row next).list

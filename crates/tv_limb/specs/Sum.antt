@@ -1,18 +1,20 @@
 -- The sum of two words, with its carry.
-use Rattle.std.specs.Prelude.{◌≡◌, ℕ, ◌+◌, ◌%◌, ◌^◌, nat_le, if◌then◌else◌, List, ◌++◌}
+use Rattle.std.specs.Prelude.{◌≡◌, ℕ, ◌+◌, List, ◌++◌}
 use Rattle.tv_bits.specs.Bits.{HasBits, bits_combination, bits_values}
 use Rattle.tv_bits.specs.declared.bit_wires.Bits.{Bits}
 use Rattle.tv_core.specs.Circuits.{Circuit}
 use Rattle.tv_core.specs.Combinations.{scaled}
 use Rattle.tv_core.specs.Constraints.{Combination}
 use Rattle.tv_core.specs.Laws.{Assigns, Meets, HasFrom, Fills, InField}
+use Rattle.tv_word.specs.Operations.{add_result, add_flag}
 use Rattle.tv_word.specs.Widths.{IsWidth}
+use Rattle.tv_word.specs.Word.{flag_of}
 use Rattle.tv_limb.specs.Split.{HasPartBits, split_at, split_of}
 use Rattle.tv_limb.specs.declared.parts.Split.{Split}
 
--- 1 where the sum is past a word, else 0
+-- the carry of a sum, as a number
 abbrev pub carry : ℕ → ℕ → ℕ → ℕ
-carry w x y = if nat_le (2 ^ w) (x + y) then 1 else 0
+carry w x y = flag_of (add_flag w x y)
 
 -- the sum of two words, as a combination
 abbrev pub sum_of_words : ℕ → Bits → Bits → Combination
@@ -29,7 +31,7 @@ add_values w x y = bits_values (x + y) (w + 1)
 -- in an assignment that satisfies the constraints the result represents the sum modulo 2 ^ w, and the carry
 abbrev pub AddIsSound : Type 0
 AddIsSound = (w : ℕ) → IsWidth w → (z : List ℕ) (next : ℕ) (x y : Bits) (a b : ℕ) → Assigns z → HasBits z x.first w a → HasBits z y.first w b
-    → Meets z (add_of w x y next).list → HasPartBits w 1 z (add_of w x y next).answer ((a + b) % 2 ^ w) (carry w a b)
+    → Meets z (add_of w x y next).list → HasPartBits w 1 z (add_of w x y next).answer (add_result w a b) (carry w a b)
 
 -- an assignment that has these values at the wires that were made satisfies the constraints
 abbrev pub AddIsComplete : Type 0

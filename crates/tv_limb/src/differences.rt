@@ -4,8 +4,9 @@ ghost use Rattle.tv_bits.specs.Bits.{AreBitsBelow};
 ghost use Rattle.tv_core.specs.Combinations.{top};
 ghost use Rattle.tv_core.specs.Values.{GivesIn};
 ghost use Rattle.tv_core.specs.Sinks.{PutsIn, Grows, Room};
+ghost use Rattle.tv_word.specs.Operations.{sub_result};
 ghost use Rattle.tv_word.specs.Widths.{IsWidth};
-ghost use Rattle.tv_limb.specs.Difference.{difference, borrow, less_borrow, difference_of_words};
+ghost use Rattle.tv_limb.specs.Difference.{borrow, less_borrow, difference_of_words};
 ghost use Rattle.tv_limb.specs.Difference.{sub_of, sub_values, SubIsSound, SubIsComplete, SubSizes};
 
 use crate::parts::{Split, split_at_word};
@@ -80,7 +81,7 @@ fn difference_and_borrow<const W: u32>(x: u32, y: u32) -> F
     requires width { IsWidth W }
     requires x_word { x < 2 ^ W }
     requires y_word { y < 2 ^ W }
-    ensures { result ≡ difference W x y + 2 ^ W * borrow x y }
+    ensures { result ≡ sub_result W x y + 2 ^ W * borrow x y }
 {
     let (x, y) = (u64::from(x), u64::from(y));
     let power = 1 << W;

@@ -7,19 +7,18 @@ use Rattle.std.proofs.lemmas.List.{drop_all, get_or-drop, length-drop}
 use Rattle.std.proofs.lemmas.Option.{slice_get-get_or}
 use Rattle.tv_core.specs.Lines.{Line}
 use Rattle.tv_core.specs.declared.limits.TheConstants.{TAPE_CELLS, NULL_CELL}
-use Rattle.tv_isa.specs.Opcodes.{among}
+use Rattle.tv_isa.specs.Opcodes.{among, unused_ops}
 use Rattle.tv_isa.specs.declared.instr.Instr.{Instr}
 use Rattle.tv_mem.proofs.WordLaws.{byte_of_word, word_after_byte, word_after_word}
 use Rattle.tv_mem.specs.Bytes.{byte_of, with_byte, word_in}
 use Rattle.tv_step.specs.Machine.{fetched, executed, operand, reg, left_in, state_after}
 use Rattle.tv_step.specs.Ops.{op_of}
 use Rattle.tv_step.specs.State.{State}
-use Rattle.tv_step.specs.Trace.{line_of, tape_line}
-use Rattle.tv_numbers.proofs.Cases.{EachBelow, below}
+use Rattle.tv_step.specs.Trace.{touched_line, tape_line}
+use Rattle.tv_isa.proofs.Cases.{EachBelow, below}
 use Rattle.tv_numbers.proofs.NextRows.{instr, Fits, looked}
 use Rattle.tv_numbers.proofs.ReadRow.{held}
 use Rattle.tv_numbers.specs.Numbers.{with_byte_in, data_line}
-use Rattle.tv_numbers.specs.Tables.{unused_ops}
 use Rattle.tv_numbers.specs.Views.{seen}
 
 pub same_line : (c d s t o p m n : ℕ) → c ≡ d → s ≡ t → o ≡ p → m ≡ n
@@ -32,13 +31,13 @@ changed : (j time o old m new : ℕ) → o ≡ old → m ≡ new
 changed j time o old m new e f = cc
 
 module _ (w : ℕ) (x : List ℕ) (gone ended o : ℕ) (takes : Bool) (st : State) where
-  abbrev Row : ℕ → Type 0
-  Row k = (imm : Bool) (dest source a time : ℕ) → among unused_ops k ≡ false → Fits w x gone ended o takes st (instr k imm dest source a)
+  abbrev RowHolds : ℕ → Type 0
+  RowHolds k = (imm : Bool) (dest source a time : ℕ) → among unused_ops k ≡ false → Fits w x gone ended o takes st (instr k imm dest source a)
       → fetched w st ≡ instr k imm dest source a
       → data_line w (length x) (seen st gone ended) (instr k imm dest source a) o takes time
-      ≡ line_of w (length x) (op_of k) st (operand st (instr k imm dest source a)) time
+      ≡ touched_line w (length x) (op_of k) st (operand st (instr k imm dest source a)) time
 
-  unused : (k : ℕ) → among unused_ops k ≡ true → Row k
+  unused : (k : ℕ) → among unused_ops k ≡ true → RowHolds k
   unused k is imm dest source a time used = absurd (true≢false (sym is ∙ used))
 
   -- the word of memory with a number after the step
@@ -48,7 +47,7 @@ module _ (w : ℕ) (x : List ℕ) (gone ended o : ℕ) (takes : Bool) (st : Stat
   next_word : (i : Instr) (j : ℕ) → fetched w st ≡ i → word_after i j ≡ word_in w (state_after w 1 st).memory j
   next_word i j is = ap (λ f. word_after f j) (sym is)
 
-  row26 : Row 26
+  row26 : RowHolds 26
   row26 imm dest source a time used fits is =
       let i = instr 26 imm dest source a in
       let at = operand st i in
@@ -65,20 +64,20 @@ module _ (w : ℕ) (x : List ℕ) (gone ended o : ℕ) (takes : Bool) (st : Stat
       less_by : (p q k m n : ℕ) → p ≡ q → n + q * k ≡ m → m - p * k ≡ n
       less_by p q k m n e f = rw e (let sum = f in omega arith)
 
-  row27 : Row 27
+  row27 : RowHolds 27
   row27 imm dest source a time used fits is =
       let i = instr 27 imm dest source a in
       let word = looked w x gone ended o takes st i fits fits.old in
       changed (operand st i / (w / 8)) time o _ o _ word (word ∙ next_word i (operand st i / (w / 8)) is)
 
-  row28 : Row 28
+  row28 : RowHolds 28
   row28 imm dest source a time used fits is =
       let i = instr 28 imm dest source a in
       let j : ℕ = operand st i / (w / 8) in
       let word = looked w x gone ended o takes st i fits fits.old in
       changed j time o _ (reg st dest) _ word (sym (word_after_word w fits.width st.memory j (reg st dest) fits.dest_fits) ∙ next_word i j is)
 
-  row29 : Row 29
+  row29 : RowHolds 29
   row29 imm dest source a time used fits is =
       let i = instr 29 imm dest source a in
       let word = looked w x gone ended o takes st i fits fits.old in
@@ -112,7 +111,7 @@ module _ (w : ℕ) (x : List ℕ) (gone ended o : ℕ) (takes : Bool) (st : Stat
   by_read true false time some past = ap (λ f. tape_line (length x) st f time) (sym (past refl))
   by_read false within time some past = refl
 
-  row30 : Row 30
+  row30 : RowHolds 30
   row30 imm dest source a time used fits is =
       let here = operand st (instr 30 imm dest source a) in
       by_read (here == 0) (nat_lt gone (length x)) time
@@ -126,79 +125,79 @@ module _ (w : ℕ) (x : List ℕ) (gone ended o : ℕ) (takes : Bool) (st : Stat
       below_false f = elim (cases_lt gone (length x)) [ inl h ↦ absurd (true≢false (sym (lt-ltb gone (length x) h) ∙ f)) | inr h ↦ h ]
 
   -- all others look at no cell
-  row0 : Row 0
+  row0 : RowHolds 0
   row0 imm dest source a time used fits is = refl
 
-  row1 : Row 1
+  row1 : RowHolds 1
   row1 imm dest source a time used fits is = refl
 
-  row2 : Row 2
+  row2 : RowHolds 2
   row2 imm dest source a time used fits is = refl
 
-  row3 : Row 3
+  row3 : RowHolds 3
   row3 imm dest source a time used fits is = refl
 
-  row4 : Row 4
+  row4 : RowHolds 4
   row4 imm dest source a time used fits is = refl
 
-  row5 : Row 5
+  row5 : RowHolds 5
   row5 imm dest source a time used fits is = refl
 
-  row6 : Row 6
+  row6 : RowHolds 6
   row6 imm dest source a time used fits is = refl
 
-  row7 : Row 7
+  row7 : RowHolds 7
   row7 imm dest source a time used fits is = refl
 
-  row8 : Row 8
+  row8 : RowHolds 8
   row8 imm dest source a time used fits is = refl
 
-  row9 : Row 9
+  row9 : RowHolds 9
   row9 imm dest source a time used fits is = refl
 
-  row10 : Row 10
+  row10 : RowHolds 10
   row10 imm dest source a time used fits is = refl
 
-  row11 : Row 11
+  row11 : RowHolds 11
   row11 imm dest source a time used fits is = refl
 
-  row12 : Row 12
+  row12 : RowHolds 12
   row12 imm dest source a time used fits is = refl
 
-  row13 : Row 13
+  row13 : RowHolds 13
   row13 imm dest source a time used fits is = refl
 
-  row14 : Row 14
+  row14 : RowHolds 14
   row14 imm dest source a time used fits is = refl
 
-  row15 : Row 15
+  row15 : RowHolds 15
   row15 imm dest source a time used fits is = refl
 
-  row16 : Row 16
+  row16 : RowHolds 16
   row16 imm dest source a time used fits is = refl
 
-  row17 : Row 17
+  row17 : RowHolds 17
   row17 imm dest source a time used fits is = refl
 
-  row18 : Row 18
+  row18 : RowHolds 18
   row18 imm dest source a time used fits is = refl
 
-  row19 : Row 19
+  row19 : RowHolds 19
   row19 imm dest source a time used fits is = refl
 
-  row20 : Row 20
+  row20 : RowHolds 20
   row20 imm dest source a time used fits is = refl
 
-  row21 : Row 21
+  row21 : RowHolds 21
   row21 imm dest source a time used fits is = refl
 
-  row22 : Row 22
+  row22 : RowHolds 22
   row22 imm dest source a time used fits is = refl
 
-  row31 : Row 31
+  row31 : RowHolds 31
   row31 imm dest source a time used fits is = refl
 
-  each : EachBelow 32 Row
+  each : EachBelow 32 RowHolds
   each = (
     row31,
     (
@@ -256,5 +255,5 @@ module _ (w : ℕ) (x : List ℕ) (gone ended o : ℕ) (takes : Bool) (st : Stat
   )
 
   pub line_row : (i : Instr) (time : ℕ) → i.op < 32 → among unused_ops i.op ≡ false → Fits w x gone ended o takes st i → fetched w st ≡ i
-      → data_line w (length x) (seen st gone ended) i o takes time ≡ line_of w (length x) (op_of i.op) st (operand st i) time
-  line_row i time small = below 32 Row each i.op small i.imm i.dest i.source i.a time
+      → data_line w (length x) (seen st gone ended) i o takes time ≡ touched_line w (length x) (op_of i.op) st (operand st i) time
+  line_row i time small = below 32 RowHolds each i.op small i.imm i.dest i.source i.a time

@@ -1,7 +1,7 @@
 -- Each row of the table of instructions: the numbers of the step are those of the machine's next state.
 use Rattle.std.proofs.Common.{◌≡◌, ℕ, ◌/◌, ◌%◌, ◌^◌, ◌<◌, ◌≤◌, ◌==◌, Bool, true, false, List, [], ◌∷◌, length, drop, refl, sym, ◌∙◌, ap, subst, true≢false}
 use Rattle.std.proofs.lemmas.Bool.{false_from_ne_true}
-use Rattle.tv_isa.specs.Opcodes.{among}
+use Rattle.tv_isa.specs.Opcodes.{among, unused_ops}
 use Rattle.tv_isa.specs.declared.instr.Instr.{Instr}
 use Rattle.tv_mem.proofs.WordLaws.{byte_of_word}
 use Rattle.tv_mem.specs.Bytes.{byte_of, word_in}
@@ -13,9 +13,8 @@ use Rattle.tv_step.specs.Machine.{executed, operand, reg}
 use Rattle.tv_step.specs.Rows.{moves}
 use Rattle.tv_step.specs.State.{State, Next}
 use Rattle.tv_word.specs.Widths.{IsWidth}
-use Rattle.tv_numbers.proofs.Cases.{EachBelow, below}
+use Rattle.tv_isa.proofs.Cases.{EachBelow, below}
 use Rattle.tv_numbers.specs.Numbers.{asks, operand_word, stepped, data_line}
-use Rattle.tv_numbers.specs.Tables.{unused_ops}
 use Rattle.tv_numbers.specs.Views.{seen}
 
 abbrev pub instr : ℕ → Bool → ℕ → ℕ → ℕ → Instr
@@ -79,12 +78,12 @@ module _ (w : ℕ) (x : List ℕ) (gone ended o : ℕ) (takes : Bool) where
       pub primary : state.primary ≡ drop (stepped w (length x) (seen st gone ended) i o takes).taken x
       pub aux : state.aux ≡ rest
 
-    abbrev pub Row : ℕ → State → Type 0
-    Row k st = (imm : Bool) (dest source a : ℕ) → among unused_ops k ≡ false → (k == 31) ≡ false → Fits st (instr k imm dest source a)
+    abbrev pub RowHolds : ℕ → State → Type 0
+    RowHolds k st = (imm : Bool) (dest source a : ℕ) → among unused_ops k ≡ false → (k == 31) ≡ false → Fits st (instr k imm dest source a)
         → AuxTape st (instr k imm dest source a) → Came st (instr k imm dest source a)
 
     abbrev pub NextRow : ℕ → Type 0
-    NextRow k = (st : State) → Row k st
+    NextRow k = (st : State) → RowHolds k st
 
     -- an opcode that isn't used
     unused : (k : ℕ) → among unused_ops k ≡ true → NextRow k
@@ -292,7 +291,7 @@ module _ (w : ℕ) (x : List ℕ) (gone ended o : ℕ) (takes : Bool) where
     }
 
     row19 : NextRow 19
-    row19 = by_flag (Row 19)
+    row19 = by_flag (RowHolds 19)
         (λ st imm dest source a used other fits aux. record {
           state = _;
           is = refl;
@@ -309,7 +308,7 @@ module _ (w : ℕ) (x : List ℕ) (gone ended o : ℕ) (takes : Bool) where
         })
 
     row21 : NextRow 21
-    row21 = by_flag (Row 21)
+    row21 = by_flag (RowHolds 21)
         (λ st imm dest source a used other fits aux. record {
           state = _;
           is = refl;
@@ -326,7 +325,7 @@ module _ (w : ℕ) (x : List ℕ) (gone ended o : ℕ) (takes : Bool) where
         })
 
     row22 : NextRow 22
-    row22 = by_flag (Row 22)
+    row22 = by_flag (RowHolds 22)
         (λ st imm dest source a used other fits aux. record {
           state = _;
           is = refl;

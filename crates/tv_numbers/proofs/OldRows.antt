@@ -7,16 +7,15 @@ use Rattle.std.proofs.lemmas.List.{drop_all, length-drop}
 use Rattle.std.proofs.lemmas.Option.{slice_get-get_or}
 use Rattle.tv_core.specs.Lines.{Line}
 use Rattle.tv_core.specs.declared.limits.TheConstants.{TAPE_CELLS, NULL_CELL}
-use Rattle.tv_isa.specs.Opcodes.{among}
+use Rattle.tv_isa.specs.Opcodes.{among, unused_ops}
 use Rattle.tv_isa.specs.declared.instr.Instr.{Instr}
 use Rattle.tv_step.specs.Machine.{operand}
 use Rattle.tv_step.specs.Ops.{op_of}
 use Rattle.tv_step.specs.State.{State}
-use Rattle.tv_step.specs.Trace.{line_of, tape_line}
-use Rattle.tv_numbers.proofs.Cases.{EachBelow, below}
+use Rattle.tv_step.specs.Trace.{touched_line, tape_line}
+use Rattle.tv_isa.proofs.Cases.{EachBelow, below}
 use Rattle.tv_numbers.proofs.NextRows.{instr}
 use Rattle.tv_numbers.specs.Numbers.{data_line}
-use Rattle.tv_numbers.specs.Tables.{unused_ops}
 use Rattle.tv_numbers.specs.Views.{seen}
 
 -- two lines have the same cell and the same old
@@ -25,13 +24,13 @@ pub record SameOld (l m : Line) : Type 0 where
   pub old : l.old ≡ m.old
 
 module _ (w : ℕ) (x : List ℕ) (gone ended time : ℕ) (takes : Bool) (st : State) (within : gone ≤ length x) (primary : st.primary ≡ drop gone x) where
-  abbrev Row : ℕ → Type 0
-  Row k = (imm : Bool) (dest source a : ℕ) → among unused_ops k ≡ false
+  abbrev RowHolds : ℕ → Type 0
+  RowHolds k = (imm : Bool) (dest source a : ℕ) → among unused_ops k ≡ false
       → SameOld (data_line w (length x) (seen st gone ended) (instr k imm dest source a)
-      (line_of w (length x) (op_of k) st (operand st (instr k imm dest source a)) time).old takes time)
-      (line_of w (length x) (op_of k) st (operand st (instr k imm dest source a)) time)
+      (touched_line w (length x) (op_of k) st (operand st (instr k imm dest source a)) time).old takes time)
+      (touched_line w (length x) (op_of k) st (operand st (instr k imm dest source a)) time)
 
-  unused : (k : ℕ) → among unused_ops k ≡ true → Row k
+  unused : (k : ℕ) → among unused_ops k ≡ true → RowHolds k
   unused k is imm dest source a used = absurd (true≢false (sym is ∙ used))
 
   -- a read, by whether it reads the primary tape and whether a word of that is left
@@ -58,7 +57,7 @@ module _ (w : ℕ) (x : List ℕ) (gone ended time : ℕ) (takes : Bool) (st : S
   by_read true false some past = none_left (past refl)
   by_read false left some past = record { cell = refl; old = refl }
 
-  row30 : Row 30
+  row30 : RowHolds 30
   row30 imm dest source a used =
       by_read (operand st (instr 30 imm dest source a) == 0) (nat_lt gone (length x))
       (λ f. elim (cases_lt gone (length x)) [ inl h ↦ h | inr h ↦ absurd (true≢false (sym f ∙ le-ltb gone (length x) h)) ])
@@ -69,91 +68,91 @@ module _ (w : ℕ) (x : List ℕ) (gone ended time : ℕ) (takes : Bool) (st : S
       ])
 
   -- all others have what the line has
-  row0 : Row 0
+  row0 : RowHolds 0
   row0 imm dest source a used = record { cell = refl; old = refl }
 
-  row1 : Row 1
+  row1 : RowHolds 1
   row1 imm dest source a used = record { cell = refl; old = refl }
 
-  row2 : Row 2
+  row2 : RowHolds 2
   row2 imm dest source a used = record { cell = refl; old = refl }
 
-  row3 : Row 3
+  row3 : RowHolds 3
   row3 imm dest source a used = record { cell = refl; old = refl }
 
-  row4 : Row 4
+  row4 : RowHolds 4
   row4 imm dest source a used = record { cell = refl; old = refl }
 
-  row5 : Row 5
+  row5 : RowHolds 5
   row5 imm dest source a used = record { cell = refl; old = refl }
 
-  row6 : Row 6
+  row6 : RowHolds 6
   row6 imm dest source a used = record { cell = refl; old = refl }
 
-  row7 : Row 7
+  row7 : RowHolds 7
   row7 imm dest source a used = record { cell = refl; old = refl }
 
-  row8 : Row 8
+  row8 : RowHolds 8
   row8 imm dest source a used = record { cell = refl; old = refl }
 
-  row9 : Row 9
+  row9 : RowHolds 9
   row9 imm dest source a used = record { cell = refl; old = refl }
 
-  row10 : Row 10
+  row10 : RowHolds 10
   row10 imm dest source a used = record { cell = refl; old = refl }
 
-  row11 : Row 11
+  row11 : RowHolds 11
   row11 imm dest source a used = record { cell = refl; old = refl }
 
-  row12 : Row 12
+  row12 : RowHolds 12
   row12 imm dest source a used = record { cell = refl; old = refl }
 
-  row13 : Row 13
+  row13 : RowHolds 13
   row13 imm dest source a used = record { cell = refl; old = refl }
 
-  row14 : Row 14
+  row14 : RowHolds 14
   row14 imm dest source a used = record { cell = refl; old = refl }
 
-  row15 : Row 15
+  row15 : RowHolds 15
   row15 imm dest source a used = record { cell = refl; old = refl }
 
-  row16 : Row 16
+  row16 : RowHolds 16
   row16 imm dest source a used = record { cell = refl; old = refl }
 
-  row17 : Row 17
+  row17 : RowHolds 17
   row17 imm dest source a used = record { cell = refl; old = refl }
 
-  row18 : Row 18
+  row18 : RowHolds 18
   row18 imm dest source a used = record { cell = refl; old = refl }
 
-  row19 : Row 19
+  row19 : RowHolds 19
   row19 imm dest source a used = record { cell = refl; old = refl }
 
-  row20 : Row 20
+  row20 : RowHolds 20
   row20 imm dest source a used = record { cell = refl; old = refl }
 
-  row21 : Row 21
+  row21 : RowHolds 21
   row21 imm dest source a used = record { cell = refl; old = refl }
 
-  row22 : Row 22
+  row22 : RowHolds 22
   row22 imm dest source a used = record { cell = refl; old = refl }
 
-  row26 : Row 26
+  row26 : RowHolds 26
   row26 imm dest source a used = record { cell = refl; old = refl }
 
-  row27 : Row 27
+  row27 : RowHolds 27
   row27 imm dest source a used = record { cell = refl; old = refl }
 
-  row28 : Row 28
+  row28 : RowHolds 28
   row28 imm dest source a used = record { cell = refl; old = refl }
 
-  row29 : Row 29
+  row29 : RowHolds 29
   row29 imm dest source a used = record { cell = refl; old = refl }
 
-  row31 : Row 31
+  row31 : RowHolds 31
   row31 imm dest source a used = record { cell = refl; old = refl }
 
-  each : EachBelow 32 Row
+  each : EachBelow 32 RowHolds
   each = (
     row31,
     (
@@ -211,6 +210,6 @@ module _ (w : ℕ) (x : List ℕ) (gone ended time : ℕ) (takes : Bool) (st : S
   )
 
   pub old_row : (i : Instr) → i.op < 32 → among unused_ops i.op ≡ false
-      → SameOld (data_line w (length x) (seen st gone ended) i (line_of w (length x) (op_of i.op) st (operand st i) time).old takes time)
-      (line_of w (length x) (op_of i.op) st (operand st i) time)
-  old_row i small used = below 32 Row each i.op small i.imm i.dest i.source i.a used
+      → SameOld (data_line w (length x) (seen st gone ended) i (touched_line w (length x) (op_of i.op) st (operand st i) time).old takes time)
+      (touched_line w (length x) (op_of i.op) st (operand st i) time)
+  old_row i small used = below 32 RowHolds each i.op small i.imm i.dest i.source i.a used

@@ -16,6 +16,7 @@ use Rattle.tv_word.proofs.ArithmeticLaws.{high_small}
 use Rattle.tv_step.proofs.RangeLaws.{signed_small, word_at}
 use Rattle.tv_step.specs.Cells.{IsLine}
 use Rattle.tv_step.specs.Range.{AreWords}
+use Rattle.tv_word.proofs.FlagLaws.{flag_small}
 use Rattle.tv_word.proofs.WidthLaws.{for_widths}
 use Rattle.tv_word.specs.Widths.{IsWidth}
 use Rattle.tv_numbers.proofs.Cases.{EachGives, chosen_in}
@@ -23,11 +24,8 @@ use Rattle.tv_numbers.specs.Laws.{AtNumbers, NumbersStayInRange}
 use Rattle.tv_numbers.specs.Numbers.{operand_word, other_word, touches, asks, takes_primary, with_byte_in, found, writes, result_in, stepped, old_in, data_line}
 use Rattle.tv_numbers.specs.Numbers.{step_words}
 use Rattle.tv_numbers.specs.Tables.{results, flags, pcs, next_pc, target}
-use Rattle.tv_numbers.specs.Views.{View, flag_of, ViewInRange}
-
-pub flag_small : (f : Bool) → flag_of f < 2
-flag_small true = omega arith
-flag_small false = omega arith
+use Rattle.tv_numbers.specs.Views.{View, ViewInRange}
+use Rattle.tv_word.specs.Word.{flag_of}
 
 module _ (w : ℕ) (width : IsWidth w) where
   abbrev Word : ℕ → Type 0
@@ -118,8 +116,8 @@ module _ (w : ℕ) (width : IsWidth w) where
   abbrev Place : ℕ → Type 0
   Place pc = (pc < 2 ^ w) × (pc % (w / 4) ≡ 0)
 
-  behind_place : (pc : ℕ) → Place pc → Place (next_pc w pc)
-  behind_place pc h = (
+  next_place : (pc : ℕ) → Place pc → Place (next_pc w pc)
+  next_place pc h = (
     mod-lt (pc + w / 4) some_words,
     for_widths (λ w. pc % (w / 4) ≡ 0 → (pc + w / 4) % 2 ^ w % (w / 4) ≡ 0) (λ e. omega arith) (λ e. omega arith) w width h.1,
   )
@@ -130,7 +128,7 @@ module _ (w : ℕ) (width : IsWidth w) where
   pub pcs_small : (pc a flag : ℕ) → Place pc → Word a → EachGives Place (pcs w pc a flag)
   pcs_small pc a flag h ha =
       let jump = target_place a ha in
-      let next = behind_place pc h in (
+      let next = next_place pc h in (
         jump,
         (
           cond_both (flag == 1) (target w a) (next_pc w pc) Place (λ _. jump) (λ _. next),

@@ -13,7 +13,8 @@ use Rattle.tv_step.specs.Rows.{reads, takes as takes_of}
 use Rattle.tv_step.specs.State.{State, Next}
 use Rattle.tv_numbers.proofs.NextRows.{instr, Fits, AuxTape, Came, NextRow}
 use Rattle.tv_numbers.specs.Tables.{next_pc}
-use Rattle.tv_numbers.specs.Views.{View, flag_of, seen}
+use Rattle.tv_numbers.specs.Views.{View, seen}
+use Rattle.tv_word.specs.Word.{flag_of}
 
 -- the word that a read of the primary tape takes is the data word
 pub held : (w : ℕ) (x : List ℕ) (gone ended o : ℕ) (takes : Bool) (st : State) (imm : Bool) (dest source a : ℕ)

@@ -7,14 +7,14 @@ use Rattle.std.proofs.lemmas.Bool.{eq-eqb, eqb-true, and_parts, agree_below_at, 
 use Rattle.tv_core.specs.Lines.{Line}
 use Rattle.tv_core.specs.declared.limits.TheConstants.{TAPE_CELLS, NULL_CELL}
 use Rattle.tv_isa.specs.Instruction.{decode}
-use Rattle.tv_isa.specs.Opcodes.{among}
+use Rattle.tv_isa.specs.Opcodes.{among, unused_ops, memory_ops}
 use Rattle.tv_isa.specs.declared.instr.Instr.{Instr}
 use Rattle.tv_mem.proofs.WordLaws.{words_are_small}
 use Rattle.tv_step.proofs.CellLaws.{lines_in_range, olds_are_in_cells}
 use Rattle.tv_step.specs.Cells.{cells_of, IsOn, IsLine}
 use Rattle.tv_step.specs.Machine.{fetched, operand, reg}
 use Rattle.tv_step.specs.Ops.{op_of}
-use Rattle.tv_step.specs.Range.{InRange}
+use Rattle.tv_step.specs.Range.{StateInRange}
 use Rattle.tv_step.specs.Reads.{reads_aux}
 use Rattle.tv_step.specs.Rows.{row}
 use Rattle.tv_step.specs.Runs.{IsDefined}
@@ -22,14 +22,13 @@ use Rattle.tv_step.specs.State.{State, Next}
 use Rattle.tv_step.specs.Trace.{data_line as traced_line}
 use Rattle.tv_step.specs.declared.op.Op.{Op}
 use Rattle.tv_step.specs.declared.op.Op.TheVariants.{Unused}
+use Rattle.tv_word.proofs.FlagLaws.{flag_small}
 use Rattle.tv_word.specs.Widths.{IsWidth}
 use Rattle.tv_numbers.proofs.OldRows.{old_row}
-use Rattle.tv_numbers.proofs.RangeLaws.{flag_small}
 use Rattle.tv_numbers.proofs.StepLaws.{op_small, read_test, seen_of, numbers_do}
 use Rattle.tv_numbers.specs.Laws.{AtNumbers, HoldsOlds}
 use Rattle.tv_numbers.specs.Numbers.{asks, operand_word, touches, takes_primary, step_words}
-use Rattle.tv_numbers.specs.Shown.{data_word_of, MayTake, OldsAreShown, head_at, tail_at, data_at, did_at, ShowsStep, MachineShows, SeenInRange}
-use Rattle.tv_numbers.specs.Tables.{unused_ops, memory_ops}
+use Rattle.tv_numbers.specs.Shown.{data_word_of, MayTake, OldsAreShown, head_at, tail_at, data_at, transition_at, ShowsStep, MachineShows, SeenInRange}
 use Rattle.tv_numbers.specs.Views.{View, seen, ViewInRange}
 
 -- ---- opcodes that aren't used
@@ -94,7 +93,7 @@ same_by touched primary old (Some word) h = let none = h refl in ap₂ (λ a b. 
     ∙ sym (ap₂ (λ a b. if a || b then old else 0) none.0 none.1)
 
 module _ (w : ℕ) (width : IsWidth w) (x : List ℕ) (time : ℕ) (st : State) (gone ended : ℕ) (word : Option ℕ)
-    (short : length x < 2 ^ 29) (view : ViewInRange w (length x) (seen st gone ended)) (primary : st.primary ≡ drop gone x) (range : InRange w st)
+    (short : length x < 2 ^ 29) (view : ViewInRange w (length x) (seen st gone ended)) (primary : st.primary ≡ drop gone x) (range : StateInRange w st)
     (defined : IsDefined w st) (may : MayTake w (seen st gone ended) st word) where
   abbrev i : Instr
   i = fetched w st
@@ -146,7 +145,7 @@ module _ (w : ℕ) (width : IsWidth w) (x : List ℕ) (time : ℕ) (st : State) 
       let count : gone ≡ length x - length st.primary = omega arith in
       record { short = short; range = range; rest = record { short = omega arith; is = primary ∙ ap (λ k. drop k x) count } }
 
-  holds : HoldsOlds w x (did_at w x time now st word) st
+  holds : HoldsOlds w x (transition_at w x time now st word) st
   holds =
       let olds = olds_are_in_cells w width x st time on in
       let same = old_row w x gone ended (time + 2) (is_some word) st view.taken primary i small (defined_used w st defined) in

@@ -14,7 +14,7 @@ use Rattle.tv_step.specs.Machine.{next, fetched, executed, operand}
 use Rattle.tv_step.specs.Ops.{op_of}
 use Rattle.tv_step.specs.Reads.{is_read, reads_aux}
 use Rattle.tv_step.specs.State.{State}
-use Rattle.tv_step.specs.Trace.{looked_at, line_of, step_lines}
+use Rattle.tv_step.specs.Trace.{looked_at, touched_line, step_lines}
 use Rattle.tv_word.proofs.WidthLaws.{for_widths}
 use Rattle.tv_word.specs.Widths.{IsWidth}
 use Rattle.tv_numbers.proofs.LineRows.{line_row}
@@ -22,8 +22,9 @@ use Rattle.tv_numbers.proofs.NextRows.{Fits, AuxTape, next_row, answered}
 use Rattle.tv_numbers.proofs.RangeLaws.{operand_small, fetched_is_line, data_is_line}
 use Rattle.tv_numbers.proofs.ReadRow.{row30}
 use Rattle.tv_numbers.specs.Laws.{AtNumbers, HoldsOlds, AuxFits, Leads, Halts, DoesStep, NumbersDo}
-use Rattle.tv_numbers.specs.Numbers.{asks, operand_word, stepped, data_line, Did, lines_in, did_of, step_words}
-use Rattle.tv_numbers.specs.Views.{View, flag_of, seen, Matches}
+use Rattle.tv_numbers.specs.Numbers.{asks, operand_word, stepped, data_line, Transition, lines_in, transition_of, step_words}
+use Rattle.tv_numbers.specs.Views.{View, seen, Matches}
+use Rattle.tv_word.specs.Word.{flag_of}
 
 -- an opcode of a decoded instruction has five bits
 pub op_small : (w head tail : ℕ) → (decode w head tail).op < 32
@@ -47,7 +48,7 @@ stays_set false ended e = e
 
 -- ---- at a state that the numbers are of
 -- what a step does there
-record AtState (w : ℕ) (x : List ℕ) (time : ℕ) (b : Did) (st : State) : Type 0 where
+record AtState (w : ℕ) (x : List ℕ) (time : ℕ) (b : Transition) (st : State) : Type 0 where
   pub traced : lines_in b ≡ step_lines w (length x) st time
   pub reads : b.takes ≡ true → reads_aux w st ≡ true
   pub sets : reads_aux w st ≡ true → b.takes ≡ false → b.after.ended ≡ 1
@@ -58,7 +59,7 @@ record AtState (w : ℕ) (x : List ℕ) (time : ℕ) (b : Did) (st : State) : Ty
 module _ (w : ℕ) (width : IsWidth w) (x : List ℕ) (time : ℕ) (st : State) (gone ended head tail o : ℕ) (takes : Bool)
     (is : AtNumbers w (length x) (seen st gone ended) (step_words head tail o takes))
     (bytes : AreBytes st.memory) (primary : st.primary ≡ drop gone x)
-    (holds : HoldsOlds w x (did_of w (length x) time (seen st gone ended) (step_words head tail o takes)) st) where
+    (holds : HoldsOlds w x (transition_of w (length x) time (seen st gone ended) (step_words head tail o takes)) st) where
   abbrev i : Instr
   i = decode w head tail
 
@@ -68,8 +69,8 @@ module _ (w : ℕ) (width : IsWidth w) (x : List ℕ) (time : ℕ) (st : State) 
   abbrev after : View
   after = stepped w (length x) now i o takes
 
-  abbrev did : Did
-  did = did_of w (length x) time now (step_words head tail o takes)
+  abbrev transition_in : Transition
+  transition_in = transition_of w (length x) time now (step_words head tail o takes)
 
   -- the instruction's two words are in memory
   low_cells : (st.pc / (w / 8) < TAPE_CELLS) × (st.pc / (w / 8) + 1 < TAPE_CELLS)
@@ -122,7 +123,7 @@ module _ (w : ℕ) (width : IsWidth w) (x : List ℕ) (time : ℕ) (st : State) 
     ends = λ none op one. aux.ends none (reads_by ∙ ap₂ (λ a b. (a == 30) && (b == 1)) op one);
   }
 
-  goes : (rest : List ℕ) → AuxFits w st takes o rest → did.answers ≡ false → Leads w x did st rest
+  goes : (rest : List ℕ) → AuxFits w st takes o rest → transition_in.answers ≡ false → Leads w x transition_in st rest
   goes rest aux other =
       let came = next_row w x gone ended o takes rest (row30 w x gone ended o takes rest) st i (op_small w head tail) is.used other fits (tape rest aux) in
       record {
@@ -137,16 +138,16 @@ module _ (w : ℕ) (width : IsWidth w) (x : List ℕ) (time : ℕ) (st : State) 
         aux = came.aux;
       }
 
-  stands : did.answers ≡ true → Halts w did st
+  stands : transition_in.answers ≡ true → Halts w transition_in st
   stands e =
       let done = answered w x gone ended o takes st i (eqb-true i.op 31 e) fits in
       record { is = came_by ∙ done.is; same = done.view; takes = done.none }
 
-  traced : lines_in did ≡ step_lines w (length x) st time
+  traced : lines_in transition_in ≡ step_lines w (length x) st time
   traced =
-      let third : data_line w (length x) now i o takes (time + 2) ≡ line_of w (length x) (op_of (fetched w st).op) st (operand st (fetched w st)) (time + 2) =
+      let third : data_line w (length x) now i o takes (time + 2) ≡ touched_line w (length x) (op_of (fetched w st).op) st (operand st (fetched w st)) (time + 2) =
       line_row w x gone ended o takes st i (time + 2) (op_small w head tail) is.used fits instruction
-      ∙ ap (λ (j : Instr). line_of w (length x) (op_of j.op) st (operand st j) (time + 2)) (sym instruction) in
+      ∙ ap (λ (j : Instr). touched_line w (length x) (op_of j.op) st (operand st j) (time + 2)) (sym instruction) in
       let j : ℕ = st.pc / (w / 8) in
       ap₂ (λ h t. looked_at j time h ∷ looked_at (j + 1) (time + 1) t ∷ data_line w (length x) now i o takes (time + 2) ∷ []) head_is tail_is
       ∙ ap (λ l. looked_at j time (word_in w st.memory j) ∷ looked_at (j + 1) (time + 1) (word_in w st.memory (j + 1)) ∷ l ∷ []) third
@@ -160,7 +161,7 @@ module _ (w : ℕ) (width : IsWidth w) (x : List ℕ) (time : ℕ) (st : State) 
   keeps : (reads_aux w st ≡ true → takes ≡ true) → after.ended ≡ ended
   keeps h = kept_where (asks now i) takes ended (λ e. h (asks_reads e))
 
-  at_seen : AtState w x time did st
+  at_seen : AtState w x time transition_in st
   at_seen = record { traced = traced; reads = reads; sets = sets; keeps = keeps; goes = goes; stands = stands }
 
 -- ---- at any view
@@ -173,8 +174,8 @@ seen_of x v st m = same_view v.pc st.pc v.regs st.regs v.flag (flag_of st.flag) 
 
 module _ (w : ℕ) (width : IsWidth w) (x : List ℕ) (time : ℕ) (v : View) (head tail o : ℕ) (takes : Bool)
     (is : AtNumbers w (length x) v (step_words head tail o takes)) where
-  abbrev step : View → Did
-  step u = did_of w (length x) time u (step_words head tail o takes)
+  abbrev step : View → Transition
+  step u = transition_of w (length x) time u (step_words head tail o takes)
 
   at_state : (st : State) → AreBytes st.memory → Matches x v st → HoldsOlds w x (step v) st → AtState w x time (step v) st
   at_state st bytes m holds =

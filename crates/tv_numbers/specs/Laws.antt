@@ -1,7 +1,7 @@
 -- That a step in numbers is the machine's step.
 use Rattle.std.specs.Prelude.{◌≡◌, ℕ, ◌+◌, ◌^◌, ◌<◌, Bool, true, false, List, [], ◌∷◌, length}
 use Rattle.tv_isa.specs.Instruction.{decode}
-use Rattle.tv_isa.specs.Opcodes.{among}
+use Rattle.tv_isa.specs.Opcodes.{among, unused_ops}
 use Rattle.tv_mem.specs.Words.{AreBytes}
 use Rattle.tv_step.specs.Cells.{cells_of, IsLine}
 use Rattle.tv_step.specs.Machine.{next}
@@ -9,8 +9,7 @@ use Rattle.tv_step.specs.Reads.{reads_aux}
 use Rattle.tv_step.specs.State.{State, Next}
 use Rattle.tv_step.specs.Trace.{step_lines}
 use Rattle.tv_word.specs.Widths.{IsWidth}
-use Rattle.tv_numbers.specs.Numbers.{asks, Did, lines_in, StepWords, step_words, did_of}
-use Rattle.tv_numbers.specs.Tables.{unused_ops}
+use Rattle.tv_numbers.specs.Numbers.{asks, Transition, lines_in, StepWords, step_words, transition_of}
 use Rattle.tv_numbers.specs.Views.{View, ViewInRange, Matches}
 
 -- the range of a step in numbers: the view is in range, the instruction's words and the data word are words, the
@@ -26,7 +25,7 @@ pub record AtNumbers (w n : ℕ) (v : View) (by : StepWords) : Type 0 where
 
 -- ---- a machine's state that the numbers are of
 -- the lines' cells hold their olds
-pub record HoldsOlds (w : ℕ) (x : List ℕ) (b : Did) (st : State) : Type 0 where
+pub record HoldsOlds (w : ℕ) (x : List ℕ) (b : Transition) (st : State) : Type 0 where
   pub first : b.first.old ≡ cells_of w x st b.first.cell
   pub second : b.second.old ≡ cells_of w x st b.second.cell
   pub data_line : b.data_line.old ≡ cells_of w x st b.data_line.cell
@@ -39,14 +38,14 @@ pub record AuxFits (w : ℕ) (st : State) (takes : Bool) (word : ℕ) (rest : Li
   pub ends : takes ≡ false → reads_aux w st ≡ true → st.aux ≡ []
 
 -- the machine goes on, to a state that the view after the step is of
-pub record Leads (w : ℕ) (x : List ℕ) (b : Did) (st : State) (rest : List ℕ) : Type 0 where
+pub record Leads (w : ℕ) (x : List ℕ) (b : Transition) (st : State) (rest : List ℕ) : Type 0 where
   pub state : State
   pub is : next w st ≡ Next.Gone state
   pub matches : Matches x b.after state
   pub aux : state.aux ≡ rest
 
 -- the machine answers the value, and the numbers stay
-pub record Halts (w : ℕ) (b : Did) (st : State) : Type 0 where
+pub record Halts (w : ℕ) (b : Transition) (st : State) : Type 0 where
   pub is : next w st ≡ Next.Answered b.value
   pub same : b.after ≡ b.now
   pub takes : b.takes ≡ false
@@ -58,7 +57,7 @@ pub record Halts (w : ℕ) (b : Did) (st : State) : Type 0 where
 -- machine's step, so that a store's new is its cell's word after it; a word is taken only where the step reads the
 -- auxiliary tape, and a read of it that takes nothing sets the ended bit, which else stays; the machine goes on to the
 -- view after, or answers.
-pub record DoesStep (w : ℕ) (x : List ℕ) (time : ℕ) (b : Did) : Type 0 where
+pub record DoesStep (w : ℕ) (x : List ℕ) (time : ℕ) (b : Transition) : Type 0 where
   pub lines : IsLine w b.first × IsLine w b.second × IsLine w b.data_line
   pub times : (b.first.time ≡ time) × (b.second.time ≡ time + 1) × (b.data_line.time ≡ time + 2)
   pub fetches : (b.first.new ≡ b.first.old) × (b.second.new ≡ b.second.old)
@@ -77,9 +76,9 @@ pub record DoesStep (w : ℕ) (x : List ℕ) (time : ℕ) (b : Did) : Type 0 whe
 -- the step in numbers is the machine's
 abbrev pub NumbersDo : Type 0
 NumbersDo = (w : ℕ) → IsWidth w → (x : List ℕ) (time : ℕ) (v : View) (head tail o : ℕ) (takes : Bool)
-    → AtNumbers w (length x) v (step_words head tail o takes) → DoesStep w x time (did_of w (length x) time v (step_words head tail o takes))
+    → AtNumbers w (length x) v (step_words head tail o takes) → DoesStep w x time (transition_of w (length x) time v (step_words head tail o takes))
 
 -- and keeps a view in range
 abbrev pub NumbersStayInRange : Type 0
 NumbersStayInRange = (w : ℕ) → IsWidth w → (n time : ℕ) (v : View) (head tail o : ℕ) (takes : Bool)
-    → AtNumbers w n v (step_words head tail o takes) → ViewInRange w n (did_of w n time v (step_words head tail o takes)).after
+    → AtNumbers w n v (step_words head tail o takes) → ViewInRange w n (transition_of w n time v (step_words head tail o takes)).after

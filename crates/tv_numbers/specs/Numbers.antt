@@ -3,13 +3,13 @@ use Rattle.std.specs.Prelude.{ℕ, ◌+◌, ◌-◌, ◌*◌, ◌/◌, ◌%◌, 
 use Rattle.tv_core.specs.Lines.{Line}
 use Rattle.tv_core.specs.declared.limits.TheConstants.{NULL_CELL}
 use Rattle.tv_isa.specs.Instruction.{decode}
-use Rattle.tv_isa.specs.Opcodes.{among, chosen}
+use Rattle.tv_isa.specs.Opcodes.{among, chosen, store_ops, memory_ops, writer_ops}
 use Rattle.tv_isa.specs.declared.instr.Instr.{Instr}
 use Rattle.tv_isa.specs.declared.opcode.TheConstants.{CMOV, STORE_B, STORE_W, READ, ANSWER}
 use Rattle.tv_mem.specs.Bytes.{byte_of}
 use Rattle.tv_step.specs.Rows.{word_size}
 use Rattle.tv_step.specs.Trace.{looked_at, tape_cell}
-use Rattle.tv_numbers.specs.Tables.{store_ops, memory_ops, writer_ops, results, flags, pcs}
+use Rattle.tv_numbers.specs.Tables.{results, flags, pcs}
 use Rattle.tv_numbers.specs.Views.{View}
 
 -- ---- operands, and what a step asks for
@@ -88,7 +88,7 @@ module _ (w n : ℕ) (v : View) (i : Instr) (o : ℕ) (takes : Bool) where
 -- ---- all that a step does
 -- the views before and after it, its three lines, whether it takes an auxiliary word, and the data word, and whether
 -- it answers, and its operand, which is then the answer
-pub record Did : Type 0 where
+pub record Transition : Type 0 where
   pub now : View
   pub after : View
   pub first : Line
@@ -100,7 +100,7 @@ pub record Did : Type 0 where
   pub value : ℕ
 
 -- the three lines of a step, in order
-abbrev pub lines_in : Did → List Line
+abbrev pub lines_in : Transition → List Line
 lines_in b = b.first ∷ b.second ∷ b.data_line ∷ []
 
 -- the words by which a step goes: the two of its instruction, its data word, and whether it takes that of the auxiliary
@@ -116,8 +116,8 @@ abbrev pub step_words : ℕ → ℕ → ℕ → Bool → StepWords
 step_words head tail o takes = record { head = head; tail = tail; word = o; takes = takes }
 
 -- the step from a view by these words, whose first line has this time
-abbrev pub did_of : ℕ → ℕ → ℕ → View → StepWords → Did
-did_of w n time v by = record {
+abbrev pub transition_of : ℕ → ℕ → ℕ → View → StepWords → Transition
+transition_of w n time v by = record {
   now = v;
   after = stepped w n v (decode w by.head by.tail) by.word by.takes;
   first = looked_at (v.pc / word_size w) time by.head;

@@ -2,57 +2,31 @@
 -- the flag, and the next program counter. In the tables x is the word that is stored or else the one in the source
 -- register, a is the operand, o the data word, which stands in the cell that the step looks at or is taken of the
 -- auxiliary tape, and `found` says whether a read found a word.
-use Rattle.std.specs.Prelude.{ℕ, ◌+◌, ◌-◌, ◌*◌, ◌/◌, ◌%◌, ◌^◌, Bool, not, ◌==◌, nat_lt, nat_le, int_lt, int_le, ◌*ℤ◌, if◌then◌else◌, List, [], ◌∷◌, bit_and, bit_or, bit_xor}
-use Rattle.tv_isa.specs.Opcodes.{Entry}
-use Rattle.tv_isa.specs.declared.opcode.TheConstants.{AND, OR, XOR, NOT, ADD, SUB, MULL, UMULH, SMULH, UDIV, UMOD, SHL, SHR, CMPE, CMPA, CMPAE, CMPG, CMPGE, MOV, CMOV, JMP, CJMP, CNJMP, STORE_B, LOAD_B, STORE_W, LOAD_W, READ, ANSWER, UNUSED}
+use Rattle.std.specs.Prelude.{ℕ, ◌+◌, ◌-◌, ◌%◌, ◌^◌, Bool, not, ◌==◌, if◌then◌else◌, List, [], ◌∷◌}
+use Rattle.tv_isa.specs.Opcodes.{Entry, keeper_ops, straight_ops}
+use Rattle.tv_isa.specs.declared.opcode.TheConstants.{AND, OR, XOR, NOT, ADD, SUB, MULL, UMULH, SMULH, UDIV, UMOD, SHL, SHR, CMPE, CMPA, CMPAE, CMPG, CMPGE, MOV, CMOV, JMP, CJMP, CNJMP, LOAD_B, LOAD_W, READ, ANSWER}
 use Rattle.tv_mem.specs.Bytes.{byte_of}
 use Rattle.tv_step.specs.Rows.{word_size, instruction_size}
-use Rattle.tv_word.specs.Word.{has_bit, signed}
-use Rattle.tv_word.specs.Twos.{twos, fits}
-use Rattle.tv_numbers.specs.Views.{flag_of}
+use Rattle.tv_word.specs.Operations.{and_result, or_result, xor_result, not_result, bitwise_flag, add_result, add_flag, sub_result, sub_flag, mull_result, umulh_result, product_flag, smulh_result, smulh_flag}
+use Rattle.tv_word.specs.Operations.{udiv_result, umod_result, division_flag, shl_result, shl_flag, shr_result, shr_flag, cmpe_flag, cmpa_flag, cmpae_flag, cmpg_flag, cmpge_flag}
+use Rattle.tv_word.specs.Word.{flag_of}
 
--- ---- some opcodes
--- those that aren't used
-abbrev pub unused_ops : List ℕ
-unused_ops = UNUSED
-
--- store.b and store.w
-abbrev pub store_ops : List ℕ
-store_ops = STORE_B ∷ STORE_W ∷ []
-
--- all loads and stores
-abbrev pub memory_ops : List ℕ
-memory_ops = STORE_B ∷ LOAD_B ∷ STORE_W ∷ LOAD_W ∷ []
-
--- those that write their destination register whatever the flag is; cmov does where it is set
-abbrev pub writer_ops : List ℕ
-writer_ops = AND ∷ OR ∷ XOR ∷ NOT ∷ ADD ∷ SUB ∷ MULL ∷ UMULH ∷ SMULH ∷ UDIV ∷ UMOD ∷ SHL ∷ SHR ∷ MOV ∷ LOAD_B ∷ LOAD_W ∷ READ ∷ []
-
--- those that leave the flag as it is
-abbrev pub keeper_ops : List ℕ
-keeper_ops = MOV ∷ CMOV ∷ JMP ∷ CJMP ∷ CNJMP ∷ STORE_B ∷ LOAD_B ∷ STORE_W ∷ LOAD_W ∷ ANSWER ∷ []
-
--- those that go on to the next instruction in memory: all but the jumps and answer
-abbrev pub straight_ops : List ℕ
-straight_ops = AND ∷ OR ∷ XOR ∷ NOT ∷ ADD ∷ SUB ∷ MULL ∷ UMULH ∷ SMULH ∷ UDIV ∷ UMOD ∷ SHL ∷ SHR ∷ CMPE ∷ CMPA ∷ CMPAE ∷ CMPG ∷ CMPGE ∷ MOV ∷ CMOV ∷ STORE_B ∷ LOAD_B ∷ STORE_W ∷ LOAD_W ∷ READ ∷ []
-
--- ---- the tables
 -- what goes into the destination register, by the instructions that may write it
 abbrev pub results : ℕ → ℕ → ℕ → ℕ → Bool → List (Entry ℕ)
 results w x a o found =
-    (record { ops = AND ∷ []; gives = bit_and x a })
-    ∷ (record { ops = OR ∷ []; gives = bit_or x a })
-    ∷ (record { ops = XOR ∷ []; gives = bit_xor x a })
-    ∷ (record { ops = NOT ∷ []; gives = 2 ^ w - 1 - a })
-    ∷ (record { ops = ADD ∷ []; gives = (x + a) % 2 ^ w })
-    ∷ (record { ops = SUB ∷ []; gives = (x + (2 ^ w - a)) % 2 ^ w })
-    ∷ (record { ops = MULL ∷ []; gives = x * a % 2 ^ w })
-    ∷ (record { ops = UMULH ∷ []; gives = x * a / 2 ^ w })
-    ∷ (record { ops = SMULH ∷ []; gives = twos (2 * w) (signed w x *ℤ signed w a) / 2 ^ w })
-    ∷ (record { ops = UDIV ∷ []; gives = if a == 0 then 0 else x / a })
-    ∷ (record { ops = UMOD ∷ []; gives = if a == 0 then 0 else x % a })
-    ∷ (record { ops = SHL ∷ []; gives = if nat_lt a w then x * 2 ^ a % 2 ^ w else 0 })
-    ∷ (record { ops = SHR ∷ []; gives = if nat_lt a w then x / 2 ^ a else 0 })
+    (record { ops = AND ∷ []; gives = and_result x a })
+    ∷ (record { ops = OR ∷ []; gives = or_result x a })
+    ∷ (record { ops = XOR ∷ []; gives = xor_result x a })
+    ∷ (record { ops = NOT ∷ []; gives = not_result w a })
+    ∷ (record { ops = ADD ∷ []; gives = add_result w x a })
+    ∷ (record { ops = SUB ∷ []; gives = sub_result w x a })
+    ∷ (record { ops = MULL ∷ []; gives = mull_result w x a })
+    ∷ (record { ops = UMULH ∷ []; gives = umulh_result w x a })
+    ∷ (record { ops = SMULH ∷ []; gives = smulh_result w x a })
+    ∷ (record { ops = UDIV ∷ []; gives = udiv_result x a })
+    ∷ (record { ops = UMOD ∷ []; gives = umod_result x a })
+    ∷ (record { ops = SHL ∷ []; gives = shl_result w x a })
+    ∷ (record { ops = SHR ∷ []; gives = shr_result w x a })
     ∷ (record { ops = MOV ∷ CMOV ∷ []; gives = a })
     ∷ (record { ops = LOAD_B ∷ []; gives = byte_of o (a % word_size w) })
     ∷ (record { ops = LOAD_W ∷ []; gives = o })
@@ -62,22 +36,22 @@ results w x a o found =
 -- the flag
 abbrev pub flags : ℕ → ℕ → ℕ → Bool → ℕ → List (Entry ℕ)
 flags w x a found flag =
-    (record { ops = AND ∷ []; gives = flag_of (bit_and x a == 0) })
-    ∷ (record { ops = OR ∷ []; gives = flag_of (bit_or x a == 0) })
-    ∷ (record { ops = XOR ∷ []; gives = flag_of (bit_xor x a == 0) })
-    ∷ (record { ops = NOT ∷ []; gives = flag_of (2 ^ w - 1 - a == 0) })
-    ∷ (record { ops = ADD ∷ []; gives = flag_of (nat_le (2 ^ w) (x + a)) })
-    ∷ (record { ops = SUB ∷ []; gives = flag_of (nat_lt x a) })
-    ∷ (record { ops = MULL ∷ UMULH ∷ []; gives = flag_of (nat_le (2 ^ w) (x * a)) })
-    ∷ (record { ops = SMULH ∷ []; gives = flag_of (not (fits w (signed w x *ℤ signed w a))) })
-    ∷ (record { ops = UDIV ∷ UMOD ∷ []; gives = flag_of (a == 0) })
-    ∷ (record { ops = SHL ∷ []; gives = flag_of (has_bit (w - 1) x) })
-    ∷ (record { ops = SHR ∷ []; gives = flag_of (has_bit 0 x) })
-    ∷ (record { ops = CMPE ∷ []; gives = flag_of (x == a) })
-    ∷ (record { ops = CMPA ∷ []; gives = flag_of (nat_lt a x) })
-    ∷ (record { ops = CMPAE ∷ []; gives = flag_of (nat_le a x) })
-    ∷ (record { ops = CMPG ∷ []; gives = flag_of (int_lt (signed w a) (signed w x)) })
-    ∷ (record { ops = CMPGE ∷ []; gives = flag_of (int_le (signed w a) (signed w x)) })
+    (record { ops = AND ∷ []; gives = flag_of (bitwise_flag (and_result x a)) })
+    ∷ (record { ops = OR ∷ []; gives = flag_of (bitwise_flag (or_result x a)) })
+    ∷ (record { ops = XOR ∷ []; gives = flag_of (bitwise_flag (xor_result x a)) })
+    ∷ (record { ops = NOT ∷ []; gives = flag_of (bitwise_flag (not_result w a)) })
+    ∷ (record { ops = ADD ∷ []; gives = flag_of (add_flag w x a) })
+    ∷ (record { ops = SUB ∷ []; gives = flag_of (sub_flag x a) })
+    ∷ (record { ops = MULL ∷ UMULH ∷ []; gives = flag_of (product_flag w x a) })
+    ∷ (record { ops = SMULH ∷ []; gives = flag_of (smulh_flag w x a) })
+    ∷ (record { ops = UDIV ∷ UMOD ∷ []; gives = flag_of (division_flag a) })
+    ∷ (record { ops = SHL ∷ []; gives = flag_of (shl_flag w x) })
+    ∷ (record { ops = SHR ∷ []; gives = flag_of (shr_flag x) })
+    ∷ (record { ops = CMPE ∷ []; gives = flag_of (cmpe_flag x a) })
+    ∷ (record { ops = CMPA ∷ []; gives = flag_of (cmpa_flag x a) })
+    ∷ (record { ops = CMPAE ∷ []; gives = flag_of (cmpae_flag x a) })
+    ∷ (record { ops = CMPG ∷ []; gives = flag_of (cmpg_flag w x a) })
+    ∷ (record { ops = CMPGE ∷ []; gives = flag_of (cmpge_flag w x a) })
     ∷ (record { ops = READ ∷ []; gives = flag_of (not found) })
     ∷ (record { ops = keeper_ops; gives = flag })
     ∷ []

@@ -1,8 +1,9 @@
 -- A state of the machine in numbers: all of it but its memory and its auxiliary tape.
-use Rattle.std.specs.Prelude.{◌≡◌, ℕ, ◌%◌, ◌^◌, ◌<◌, ◌≤◌, Bool, if◌then◌else◌, List, length, drop}
+use Rattle.std.specs.Prelude.{◌≡◌, ℕ, ◌%◌, ◌^◌, ◌<◌, ◌≤◌, List, length, drop}
 use Rattle.tv_step.specs.Range.{AreWords}
 use Rattle.tv_step.specs.Rows.{instruction_size}
 use Rattle.tv_step.specs.State.{State}
+use Rattle.tv_word.specs.Word.{flag_of}
 
 -- the program counter, the registers' words, the flag, how many words of the primary tape are taken, and the ended bit,
 -- which says whether a read of the auxiliary tape has found nothing; flag and ended bit are 0 or 1
@@ -12,10 +13,6 @@ pub record View : Type 0 where
   pub flag : ℕ
   pub taken : ℕ
   pub ended : ℕ
-
--- a flag as a number
-abbrev pub flag_of : Bool → ℕ
-flag_of f = if f then 1 else 0
 
 -- the view of a state, `taken` words of the primary tape being gone
 abbrev pub seen : State → ℕ → ℕ → View

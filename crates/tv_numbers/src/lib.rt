@@ -1,13 +1,13 @@
-//! One step of the machine in numbers, with words of 16 or 32 bits: what the wires of a step's
-//! circuit are to hold, by tables over the opcode, and that this is the machine's step. There is
-//! no circuit here.
+//! One step of the machine in numbers, with words of 16 or 32 bits: the values that the wires of a
+//! step's circuit are to have, by tables over the opcode, and that this is the machine's step.
+//! There is no circuit here.
 #![tactic(auto)]
 
 ghost use Rattle.tv_numbers.specs.Laws.{NumbersDo, NumbersStayInRange};
 ghost use Rattle.tv_numbers.specs.Shown.{MachineShows, OldsAreShown, SeenInRange};
 
-/// A step in numbers is the machine's step, for each instruction: of every state that the numbers
-/// are of, its lines, its reads of the auxiliary tape, and its next state or its answer.
+/// A step in numbers is the machine's step, for each instruction and each state with these numbers:
+/// it has the same lines, reads of the auxiliary tape, and next state or answer.
 pub fn numbers_do()
     ensures { NumbersDo }
 {}

@@ -16,10 +16,10 @@ use Rattle.tv_step.proofs.RangeLaws.{operand_in, keeps_on}
 use Rattle.tv_step.specs.Cells.{cell_word, cells_of, IsOn, IsLine, LinesInRange, OldsAreInCells, StepWritesItsLine}
 use Rattle.tv_step.specs.Machine.{fetched, operand, reg, state_after}
 use Rattle.tv_step.specs.Ops.{op_of}
-use Rattle.tv_step.specs.Range.{AreWords, InRange}
+use Rattle.tv_step.specs.Range.{AreWords, StateInRange}
 use Rattle.tv_step.specs.Rows.{row}
 use Rattle.tv_step.specs.State.{State}
-use Rattle.tv_step.specs.Trace.{looked_at, line_of, tape_line, data_line}
+use Rattle.tv_step.specs.Trace.{looked_at, touched_line, tape_line, data_line}
 use Rattle.tv_step.specs.declared.op.Op.{Op}
 use Rattle.tv_step.specs.declared.op.Op.TheVariants.{StoreB, LoadB, StoreW, LoadW, Read}
 
@@ -55,11 +55,11 @@ three : (P : Line → Type 0) (a b c : Line) → P a → P b → P c → All P (
 three P a b c h k l = All-cons P a (b ∷ c ∷ []) h (All-cons P b (c ∷ []) k (All-cons P c [] l (All-nil P)))
 
 -- ---- lines in range
-module _ (w : ℕ) (width : IsWidth w) (n : ℕ) (short : n < 2 ^ 29) (st : State) (range : InRange w st) (time : ℕ) where
+module _ (w : ℕ) (width : IsWidth w) (n : ℕ) (short : n < 2 ^ 29) (st : State) (range : StateInRange w st) (time : ℕ) where
   none_fits : 0 < 2 ^ w
   none_fits = for_widths (λ w. 0 < 2 ^ w) (omega arith) (omega arith) w width
 
-  memory_fits : (a : ℕ) → a < 2 ^ w → IsLine w (line_of w n LoadW st a time)
+  memory_fits : (a : ℕ) → a < 2 ^ w → IsLine w (touched_line w n LoadW st a time)
   memory_fits a h =
       let low = cell_is_low w width a h in
       record {
@@ -75,7 +75,7 @@ module _ (w : ℕ) (width : IsWidth w) (n : ℕ) (short : n < 2 ^ 29) (st : Stat
   tape_fits None first = null_fits
   tape_fits (Some v) first = let small = first_word w st.primary v range.primary (first v refl) in record { cell = omega arith; old = small; new = small }
 
-  line_fits : (op : Op) (a : ℕ) → a < 2 ^ w → IsLine w (line_of w n op st a time)
+  line_fits : (op : Op) (a : ℕ) → a < 2 ^ w → IsLine w (touched_line w n op st a time)
   line_fits StoreB a h = memory_fits a h
   line_fits LoadB a h = memory_fits a h
   line_fits StoreW a h = memory_fits a h
@@ -113,7 +113,7 @@ module _ (w : ℕ) (width : IsWidth w) (x : List ℕ) (st : State) (on : IsOn w 
         sym (cell_of_tape w x m gone ∙ ap (λ k. slice_index x k) (sym (add-zero gone)) ∙ sym (get_or-drop gone x 0 0)
         ∙ ap (λ l. slice_index l 0) (sym on.rest.is) ∙ first_of st.primary v (first v refl))
 
-  old_holds : (op : Op) (a : ℕ) → a < 2 ^ w → (line_of w (length x) op st a time).old ≡ cells_of w x st (line_of w (length x) op st a time).cell
+  old_holds : (op : Op) (a : ℕ) → a < 2 ^ w → (touched_line w (length x) op st a time).old ≡ cells_of w x st (touched_line w (length x) op st a time).cell
   old_holds StoreB a h = sym (cell_of_memory w x st.memory (a / (w / 8)) (cell_is_low w width a h))
   old_holds LoadB a h = sym (cell_of_memory w x st.memory (a / (w / 8)) (cell_is_low w width a h))
   old_holds StoreW a h = sym (cell_of_memory w x st.memory (a / (w / 8)) (cell_is_low w width a h))
@@ -127,7 +127,7 @@ module _ (w : ℕ) (width : IsWidth w) (x : List ℕ) (st : State) (on : IsOn w 
 
   -- the new word of the line is what its cell then holds
   new_holds : (op : Op) (a : ℕ) → a < 2 ^ w
-      → (line_of w (length x) op st a time).new ≡ cells_of w x (state_after w 1 st) (line_of w (length x) op st a time).cell
+      → (touched_line w (length x) op st a time).new ≡ cells_of w x (state_after w 1 st) (touched_line w (length x) op st a time).cell
   new_holds StoreB a h = sym (cell_of_memory w x (state_after w 1 st).memory (a / (w / 8)) (cell_is_low w width a h))
   new_holds LoadB a h = sym (cell_of_memory w x (state_after w 1 st).memory (a / (w / 8)) (cell_is_low w width a h))
   new_holds StoreW a h = sym (cell_of_memory w x (state_after w 1 st).memory (a / (w / 8)) (cell_is_low w width a h))
@@ -138,7 +138,7 @@ module _ (w : ℕ) (width : IsWidth w) (x : List ℕ) (st : State) (on : IsOn w 
   new_holds _ a h = null_holds (state_after w 1 st).memory
 
   -- no other word of memory changes
-  others_stay : (op : Op) (i d s a c : ℕ) → c ≢ (line_of w (length x) op st a time).cell
+  others_stay : (op : Op) (i d s a c : ℕ) → c ≢ (touched_line w (length x) op st a time).cell
       → word_in w (came w st (row w op st (record { dest = i; held = d; source = s; operand = a }))).memory c ≡ word_in w st.memory c
   others_stay StoreB i d s a c other = others_after_byte w width st.memory a (d % 256) c other
   others_stay StoreW i d s a c other = others_after_word w width st.memory (a / (w / 8)) d c other

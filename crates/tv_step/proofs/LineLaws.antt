@@ -13,7 +13,7 @@ use Rattle.tv_step.specs.Machine.{fetched, operand, reg, left_in, state_after}
 use Rattle.tv_step.specs.Ops.{op_of}
 use Rattle.tv_step.specs.Rows.{row, moves, goes_on, jumps, takes}
 use Rattle.tv_step.specs.State.{State, Next}
-use Rattle.tv_step.specs.Trace.{line_of, memory_line, tape_line}
+use Rattle.tv_step.specs.Trace.{touched_line, memory_line, tape_line}
 use Rattle.tv_step.specs.declared.op.Op.{Op}
 use Rattle.tv_step.specs.declared.op.Op.TheVariants.{Cmov, Cjmp, Cnjmp, StoreB, LoadB, StoreW, LoadW, Read}
 
@@ -22,28 +22,28 @@ pub cell_is_low : (w : ℕ) → IsWidth w → (a : ℕ) → a < 2 ^ w → a / (w
 cell_is_low w width a h = for_widths (λ w. a < 2 ^ w → a / (w / 8) < TAPE_CELLS) (λ h. omega (arith, h)) (λ h. omega (arith, h)) w width h
 
 -- a line, whose new word is that of its cell once the step is taken
-abbrev told : ℕ → State → ℕ → Line → Line
-told w st time line = record {
+abbrev recorded : ℕ → State → ℕ → Line → Line
+recorded w st time line = record {
   cell = line.cell;
   time = time;
   old = line.old;
   new = if nat_lt line.cell TAPE_CELLS then word_in w (state_after w 1 st).memory line.cell else line.old;
 }
 
-memory_told : (w : ℕ) → IsWidth w → (st : State) (a time : ℕ) → a < 2 ^ w
-    → memory_line w st (a / (w / 8)) time ≡ told w st time (memory_line w st (a / (w / 8)) time)
-memory_told w width st a time small = rw (lt-ltb (a / (w / 8)) TAPE_CELLS (cell_is_low w width a small)) refl
+memory_recorded : (w : ℕ) → IsWidth w → (st : State) (a time : ℕ) → a < 2 ^ w
+    → memory_line w st (a / (w / 8)) time ≡ recorded w st time (memory_line w st (a / (w / 8)) time)
+memory_recorded w width st a time small = rw (lt-ltb (a / (w / 8)) TAPE_CELLS (cell_is_low w width a small)) refl
 
-tape_told : (w n : ℕ) (st : State) (found : Option ℕ) (time : ℕ) → tape_line n st found time ≡ told w st time (tape_line n st found time)
-tape_told w n st None time = refl
-tape_told w n st (Some v) time = rw (le-ltb (TAPE_CELLS + (n - length st.primary)) TAPE_CELLS (omega arith)) refl
+tape_recorded : (w n : ℕ) (st : State) (found : Option ℕ) (time : ℕ) → tape_line n st found time ≡ recorded w st time (tape_line n st found time)
+tape_recorded w n st None time = refl
+tape_recorded w n st (Some v) time = rw (le-ltb (TAPE_CELLS + (n - length st.primary)) TAPE_CELLS (omega arith)) refl
 
-pub line_lc : (w n : ℕ) → IsWidth w → (op : Op) (st : State) (a time : ℕ) → a < 2 ^ w → line_of w n op st a time ≡ told w st time (line_of w n op st a time)
-line_lc w n width StoreB st a time small = memory_told w width st a time small
-line_lc w n width LoadB st a time small = memory_told w width st a time small
-line_lc w n width StoreW st a time small = memory_told w width st a time small
-line_lc w n width LoadW st a time small = memory_told w width st a time small
-line_lc w n width Read st a time small = tape_told w n st (if a == 0 then slice_get st.primary 0 else None) time
+pub line_lc : (w n : ℕ) → IsWidth w → (op : Op) (st : State) (a time : ℕ) → a < 2 ^ w → touched_line w n op st a time ≡ recorded w st time (touched_line w n op st a time)
+line_lc w n width StoreB st a time small = memory_recorded w width st a time small
+line_lc w n width LoadB st a time small = memory_recorded w width st a time small
+line_lc w n width StoreW st a time small = memory_recorded w width st a time small
+line_lc w n width LoadW st a time small = memory_recorded w width st a time small
+line_lc w n width Read st a time small = tape_recorded w n st (if a == 0 then slice_get st.primary 0 else None) time
 line_lc w n width _ st a time small = refl
 
 -- ---- memory where nothing is stored
@@ -85,7 +85,7 @@ tape_same n st None time = refl
 tape_same n st (Some v) time = refl
 
 line_same : (w n : ℕ) (op : Op) (st : State) (a time : ℕ) → (state_after w 1 st).memory ≡ st.memory → is_store op ≡ false
-    → (line_of w n op st a time).new ≡ (line_of w n op st a time).old
+    → (touched_line w n op st a time).new ≡ (touched_line w n op st a time).old
 line_same w n StoreB st a time same e = absurd (true≢false e)
 line_same w n StoreW st a time same e = absurd (true≢false e)
 line_same w n LoadB st a time same e = ap (λ m. word_in w m (a / (w / 8))) same

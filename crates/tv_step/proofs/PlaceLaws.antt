@@ -8,7 +8,7 @@ use Rattle.tv_step.specs.Cells.{LinesAreThreeAStep, StatesAreOneMore, LinesByPla
 use Rattle.tv_step.specs.Machine.{fetched, operand, state_after}
 use Rattle.tv_step.specs.Ops.{op_of}
 use Rattle.tv_step.specs.State.{State}
-use Rattle.tv_step.specs.Trace.{line_of, tape_line, step_lines, lines_of, states_of, traced_state_after}
+use Rattle.tv_step.specs.Trace.{touched_line, tape_line, step_lines, lines_of, states_of, traced_state_after}
 use Rattle.tv_step.specs.declared.op.Op.{Op}
 use Rattle.tv_step.specs.declared.op.Op.TheVariants.{StoreB, LoadB, StoreW, LoadW, Read}
 
@@ -48,7 +48,7 @@ tape_time : (n : ℕ) (st : State) (found : Option ℕ) (time : ℕ) → (tape_l
 tape_time n st None time = refl
 tape_time n st (Some v) time = refl
 
-pub line_time : (w n : ℕ) (op : Op) (st : State) (a time : ℕ) → (line_of w n op st a time).time ≡ time
+pub line_time : (w n : ℕ) (op : Op) (st : State) (a time : ℕ) → (touched_line w n op st a time).time ≡ time
 line_time w n StoreB st a time = refl
 line_time w n LoadB st a time = refl
 line_time w n StoreW st a time = refl

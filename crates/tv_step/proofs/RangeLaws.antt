@@ -19,7 +19,7 @@ use Rattle.tv_word.proofs.ArithmeticLaws.{high_small}
 use Rattle.tv_step.proofs.RunLaws.{state_next}
 use Rattle.tv_step.specs.Machine.{next, fetched, operand, reg, left_in, state_after}
 use Rattle.tv_step.specs.Ops.{op_of}
-use Rattle.tv_step.specs.Range.{AreWords, InRange, StartInRange, StepKeepsRange, RunKeepsRange, AnswerIsWord, OperandIsWord}
+use Rattle.tv_step.specs.Range.{AreWords, StateInRange, StartInRange, StepKeepsRange, RunKeepsRange, AnswerIsWord, OperandIsWord}
 use Rattle.tv_step.specs.Rows.{row, gives, tests, moves, goes_on, jumps, stores, takes}
 use Rattle.tv_step.specs.State.{State, Next}
 use Rattle.tv_step.specs.declared.op.Op.{Op}
@@ -35,7 +35,7 @@ module _ (w : ℕ) (width : IsWidth w) where
   Word v = v < 2 ^ w
 
   abbrev NextIn : Next → Type 0
-  NextIn (Next.Gone after) = InRange w after
+  NextIn (Next.Gone after) = StateInRange w after
   NextIn (Next.Answered v) = Word v
   NextIn (Next.Undefined op) = Unit {0}
 
@@ -61,7 +61,7 @@ module _ (w : ℕ) (width : IsWidth w) where
       half : {v : ℕ} → v < 2 ^ (2 * w) → v / 2 ^ w < 2 ^ w
       half {v} h = for_widths (λ w. v < 2 ^ (2 * w) → v / 2 ^ w < 2 ^ w) (λ h. omega arith) (λ h. omega arith) w width h
 
-  module _ (st : State) (h : InRange w st) where
+  module _ (st : State) (h : StateInRange w st) where
     gives_in : (i v : ℕ) (f : Bool) → Word v → NextIn (gives w st i v f)
     gives_in i v f small = record {
       pc_fits = mod-lt (st.pc + w / 4) some_words;
@@ -106,12 +106,12 @@ module _ (w : ℕ) (width : IsWidth w) where
       aux = h.aux;
     }
 
-  takes_in : (st : State) (i : ℕ) (tape : List ℕ) (rest : List ℕ → State) → InRange w st → AreWords w tape
-      → ((left : List ℕ) → AreWords w left → InRange w (rest left)) → NextIn (takes w st i tape rest)
+  takes_in : (st : State) (i : ℕ) (tape : List ℕ) (rest : List ℕ → State) → StateInRange w st → AreWords w tape
+      → ((left : List ℕ) → AreWords w left → StateInRange w (rest left)) → NextIn (takes w st i tape rest)
   takes_in st i [] rest h words later = gives_in st h i 0 true some_words
   takes_in st i (v ∷ left) rest h words later = gives_in (rest left) (later left (All-tail Word v left words)) i v false (All-head Word v left words)
 
-  row_in : (op : Op) (st : State) (i d s a : ℕ) → InRange w st → Word d → Word s → Word a
+  row_in : (op : Op) (st : State) (i d s a : ℕ) → StateInRange w st → Word d → Word s → Word a
       → NextIn (row w op st (record { dest = i; held = d; source = s; operand = a }))
   row_in And st i d s a h hd hs ha = gives_in st h i _ _ (and_lt w s a hs ha)
   row_in Or st i d s a h hd hs ha = gives_in st h i _ _ (or_lt w s a hs ha)
@@ -182,36 +182,36 @@ module _ (w : ℕ) (width : IsWidth w) where
       by_place (inl within) = all i 0 within
       by_place (inr past) = rw (get_or_past words i 0 past) some_words
 
-  pub operand_in : (st : State) → InRange w st → Word (operand st (fetched w st))
+  pub operand_in : (st : State) → StateInRange w st → Word (operand st (fetched w st))
   operand_in st h =
       let i = fetched w st in
       cond_both i.imm i.a (reg st (i.a % 16)) Word (λ e. words_are_small w width st.memory h.bytes (st.pc / (w / 8) + 1))
       (λ e. word_at st.regs (i.a % 16) h.words)
 
-  next_in : (st : State) → InRange w st → NextIn (next w st)
+  next_in : (st : State) → StateInRange w st → NextIn (next w st)
   next_in st h =
       let i = fetched w st in
       row_in (op_of i.op) st i.dest (reg st i.dest) (reg st i.source) (operand st i) h (word_at st.regs i.dest h.words) (word_at st.regs i.source h.words)
       (operand_in st h)
 
-  left_in_range : (st : State) (came : Next) → InRange w st → NextIn came → InRange w (left_in (λ after. after) st came)
+  left_in_range : (st : State) (came : Next) → StateInRange w st → NextIn came → StateInRange w (left_in (λ after. after) st came)
   left_in_range st (Next.Gone after) h k = k
   left_in_range st (Next.Answered v) h k = h
   left_in_range st (Next.Undefined op) h k = h
 
-  pub keeps : (st after : State) → InRange w st → next w st ≡ Next.Gone after → InRange w after
+  pub keeps : (st after : State) → StateInRange w st → next w st ≡ Next.Gone after → StateInRange w after
   keeps st after h e = subst NextIn e (next_in st h)
 
-  pub answers : (st : State) (v : ℕ) → InRange w st → next w st ≡ Next.Answered v → Word v
+  pub answers : (st : State) (v : ℕ) → StateInRange w st → next w st ≡ Next.Answered v → Word v
   answers st v h e = subst NextIn e (next_in st h)
 
-  pub keeps_on : (st : State) (t : ℕ) → InRange w st → InRange w (state_after w t st)
+  pub keeps_on : (st : State) (t : ℕ) → StateInRange w st → StateInRange w (state_after w t st)
   keeps_on st zero h = h
   keeps_on st (suc t) h =
       let before = keeps_on st t h in
       let more : t + 1 ≡ suc t = omega arith in
       let last : state_after w 1 (state_after w t st) ≡ state_after w (suc t) st = state_next w t st ∙ ap (λ k. state_after w k st) more in
-      subst (InRange w) last (left_in_range (state_after w t st) (next w (state_after w t st)) before (next_in (state_after w t st) before))
+      subst (StateInRange w) last (left_in_range (state_after w t st) (next w (state_after w t st)) before (next_in (state_after w t st) before))
 
 pub start_in_range : StartInRange
 start_in_range w width image x aux x_words aux_words = record {

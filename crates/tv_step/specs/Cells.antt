@@ -6,7 +6,7 @@ use Rattle.tv_mem.specs.Bytes.{word_in}
 use Rattle.tv_word.specs.Widths.{IsWidth}
 use Rattle.tv_step.specs.Machine.{fetched, start, state_after}
 use Rattle.tv_step.specs.Ops.{op_of}
-use Rattle.tv_step.specs.Range.{AreWords, InRange}
+use Rattle.tv_step.specs.Range.{AreWords, StateInRange}
 use Rattle.tv_step.specs.Reads.{IsRest}
 use Rattle.tv_step.specs.State.{State}
 use Rattle.tv_step.specs.Trace.{data_line, step_lines, lines_of, states_of, traced_state_after}
@@ -49,7 +49,7 @@ cells_of w x st c = cell_word w x st.memory c
 -- a state of a run on this primary tape, which is short enough that its cells lie below the null cell
 pub record IsOn (w : ℕ) (x : List ℕ) (st : State) : Type 0 where
   pub short : length x < 2 ^ 29
-  pub range : InRange w st
+  pub range : StateInRange w st
   pub rest : IsRest x st.primary
 
 -- a line whose words are words, and whose cell is a word of memory or of the primary tape, or none
@@ -60,7 +60,7 @@ pub record IsLine (w : ℕ) (line : Line) : Type 0 where
 
 -- a step's lines are such lines
 abbrev pub LinesInRange : Type 0
-LinesInRange = (w : ℕ) → IsWidth w → (n : ℕ) (st : State) (time : ℕ) → n < 2 ^ 29 → InRange w st → All (IsLine w) (step_lines w n st time)
+LinesInRange = (w : ℕ) → IsWidth w → (n : ℕ) (st : State) (time : ℕ) → n < 2 ^ 29 → StateInRange w st → All (IsLine w) (step_lines w n st time)
 
 -- the old of each is what its cell holds before the step
 abbrev pub OldsAreInCells : Type 0

@@ -1,14 +1,17 @@
 -- The instructions by their opcodes.
 use Rattle.std.specs.Prelude.{ℕ, ◌==◌, if◌then◌else◌, List, [], ◌∷◌}
+use Rattle.tv_isa.specs.declared.opcode.TheConstants.{AND, OR, XOR, NOT, ADD, SUB, MULL, UMULH, SMULH, UDIV, UMOD, SHL, SHR, CMPE, CMPA, CMPAE, CMPG, CMPGE, MOV, CMOV, JMP, CJMP, CNJMP, STORE_B, LOAD_B, STORE_W, LOAD_W, READ, ANSWER}
 use Rattle.tv_step.specs.declared.op.Op.{Op}
 use Rattle.tv_step.specs.declared.op.Op.TheVariants.{And, Or, Xor, Not, Add, Sub, Mull, Umulh, Smulh, Udiv, Umod, Shl, Shr, Cmpe, Cmpa, Cmpae, Cmpg, Cmpge, Mov, Cmov, Jmp, Cjmp, Cnjmp, StoreB, LoadB, StoreW, LoadW, Read, Answer, Unused}
 
--- each instruction's opcode; 23, 24 and 25 are not used
+-- each instruction's opcode
 abbrev pub ops : List (ℕ × Op)
 ops =
-    (0, And) ∷ (1, Or) ∷ (2, Xor) ∷ (3, Not) ∷ (4, Add) ∷ (5, Sub) ∷ (6, Mull) ∷ (7, Umulh) ∷ (8, Smulh) ∷ (9, Udiv)
-    ∷ (10, Umod) ∷ (11, Shl) ∷ (12, Shr) ∷ (13, Cmpe) ∷ (14, Cmpa) ∷ (15, Cmpae) ∷ (16, Cmpg) ∷ (17, Cmpge) ∷ (18, Mov) ∷ (19, Cmov)
-    ∷ (20, Jmp) ∷ (21, Cjmp) ∷ (22, Cnjmp) ∷ (26, StoreB) ∷ (27, LoadB) ∷ (28, StoreW) ∷ (29, LoadW) ∷ (30, Read) ∷ (31, Answer) ∷ []
+    (AND, And) ∷ (OR, Or) ∷ (XOR, Xor) ∷ (NOT, Not) ∷ (ADD, Add) ∷ (SUB, Sub) ∷ (MULL, Mull) ∷ (UMULH, Umulh)
+    ∷ (SMULH, Smulh) ∷ (UDIV, Udiv) ∷ (UMOD, Umod) ∷ (SHL, Shl) ∷ (SHR, Shr) ∷ (CMPE, Cmpe) ∷ (CMPA, Cmpa)
+    ∷ (CMPAE, Cmpae) ∷ (CMPG, Cmpg) ∷ (CMPGE, Cmpge) ∷ (MOV, Mov) ∷ (CMOV, Cmov) ∷ (JMP, Jmp) ∷ (CJMP, Cjmp)
+    ∷ (CNJMP, Cnjmp) ∷ (STORE_B, StoreB) ∷ (LOAD_B, LoadB) ∷ (STORE_W, StoreW) ∷ (LOAD_W, LoadW) ∷ (READ, Read)
+    ∷ (ANSWER, Answer) ∷ []
 
 -- the one with an opcode among these
 abbrev pub op_among : List (ℕ × Op) → ℕ → Op

@@ -12,7 +12,7 @@ AreWords w numbers = All (λ v. v < 2 ^ w) numbers
 
 -- a state in range: its program counter is a word and the place of an instruction, it has 16 registers, which
 -- hold words, memory is of bytes, and what is left of the tapes is of words
-pub record InRange (w : ℕ) (st : State) : Type 0 where
+pub record StateInRange (w : ℕ) (st : State) : Type 0 where
   pub pc_fits : st.pc < 2 ^ w
   pub pc_aligned : st.pc % instruction_size w ≡ 0
   pub registers : length st.regs ≡ 16
@@ -23,18 +23,18 @@ pub record InRange (w : ℕ) (st : State) : Type 0 where
 
 -- the start on tapes of words is in range, whatever the image
 abbrev pub StartInRange : Type 0
-StartInRange = (w : ℕ) → IsWidth w → (image x aux : List ℕ) → AreWords w x → AreWords w aux → InRange w (start w image x aux)
+StartInRange = (w : ℕ) → IsWidth w → (image x aux : List ℕ) → AreWords w x → AreWords w aux → StateInRange w (start w image x aux)
 
 -- a step keeps a state in range, and so does a run
 abbrev pub StepKeepsRange : Type 0
-StepKeepsRange = (w : ℕ) → IsWidth w → (st after : State) → InRange w st → next w st ≡ Next.Gone after → InRange w after
+StepKeepsRange = (w : ℕ) → IsWidth w → (st after : State) → StateInRange w st → next w st ≡ Next.Gone after → StateInRange w after
 
 abbrev pub RunKeepsRange : Type 0
-RunKeepsRange = (w : ℕ) → IsWidth w → (st : State) (t : ℕ) → InRange w st → InRange w (state_after w t st)
+RunKeepsRange = (w : ℕ) → IsWidth w → (st : State) (t : ℕ) → StateInRange w st → StateInRange w (state_after w t st)
 
 -- an answered value is a word, and so is the operand of each instruction
 abbrev pub AnswerIsWord : Type 0
-AnswerIsWord = (w : ℕ) → IsWidth w → (st : State) (v : ℕ) → InRange w st → next w st ≡ Next.Answered v → v < 2 ^ w
+AnswerIsWord = (w : ℕ) → IsWidth w → (st : State) (v : ℕ) → StateInRange w st → next w st ≡ Next.Answered v → v < 2 ^ w
 
 abbrev pub OperandIsWord : Type 0
-OperandIsWord = (w : ℕ) → IsWidth w → (st : State) → InRange w st → operand st (fetched w st) < 2 ^ w
+OperandIsWord = (w : ℕ) → IsWidth w → (st : State) → StateInRange w st → operand st (fetched w st) < 2 ^ w

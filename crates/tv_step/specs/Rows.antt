@@ -1,8 +1,8 @@
 -- The 29 instructions, a row each: what comes of a step of word size w in a state st, on the instruction's operands.
-use Rattle.std.specs.Prelude.{ℕ, ◌+◌, ◌-◌, ◌*◌, ◌/◌, ◌%◌, ◌^◌, Bool, true, false, not, ◌==◌, nat_lt, nat_le, if◌then◌else◌, List, [], ◌∷◌, ◌*ℤ◌, int_lt, int_le, bit_and, bit_or, bit_xor, slice_set}
+use Rattle.std.specs.Prelude.{ℕ, ◌+◌, ◌-◌, ◌/◌, ◌%◌, ◌^◌, Bool, true, false, ◌==◌, if◌then◌else◌, List, [], ◌∷◌, slice_set}
 use Rattle.tv_mem.specs.Bytes.{Bytes, with_byte, with_word, word_in}
-use Rattle.tv_word.specs.Twos.{twos, fits}
-use Rattle.tv_word.specs.Word.{has_bit, signed}
+use Rattle.tv_word.specs.Operations.{and_result, or_result, xor_result, not_result, bitwise_flag, add_result, add_flag, sub_result, sub_flag, mull_result, umulh_result, product_flag, smulh_result, smulh_flag}
+use Rattle.tv_word.specs.Operations.{udiv_result, umod_result, division_flag, shl_result, shl_flag, shr_result, shr_flag, cmpe_flag, cmpa_flag, cmpae_flag, cmpg_flag, cmpge_flag}
 use Rattle.tv_step.specs.State.{State, Next}
 use Rattle.tv_step.specs.declared.op.Op.{Op}
 use Rattle.tv_step.specs.declared.op.Op.TheVariants.{And, Or, Xor, Not, Add, Sub, Mull, Umulh, Smulh, Udiv, Umod, Shl, Shr, Cmpe, Cmpa, Cmpae, Cmpg, Cmpge, Mov, Cmov, Jmp, Cjmp, Cnjmp, StoreB, LoadB, StoreW, LoadW, Read, Answer, Unused}
@@ -24,7 +24,7 @@ gives w st i v f = Next.Gone (record st { pc = following w st; regs = slice_set 
 
 -- register i gets v, and the flag is set exactly where that is 0
 abbrev pub logic : ℕ → State → ℕ → ℕ → Next
-logic w st i v = gives w st i v (v == 0)
+logic w st i v = gives w st i v (bitwise_flag v)
 
 -- register i gets v, and the flag stays
 abbrev pub moves : ℕ → State → ℕ → ℕ → Next
@@ -69,25 +69,24 @@ pub record Operands : Type 0 where
 
 -- what comes of an instruction
 abbrev pub row : ℕ → Op → State → Operands → Next
-row w And st on = logic w st on.dest (bit_and on.source on.operand)
-row w Or st on = logic w st on.dest (bit_or on.source on.operand)
-row w Xor st on = logic w st on.dest (bit_xor on.source on.operand)
-row w Not st on = logic w st on.dest (2 ^ w - 1 - on.operand)
-row w Add st on = gives w st on.dest ((on.source + on.operand) % 2 ^ w) (nat_le (2 ^ w) (on.source + on.operand))
-row w Sub st on = gives w st on.dest ((on.source + (2 ^ w - on.operand)) % 2 ^ w) (nat_lt on.source on.operand)
-row w Mull st on = gives w st on.dest (on.source * on.operand % 2 ^ w) (nat_le (2 ^ w) (on.source * on.operand))
-row w Umulh st on = gives w st on.dest (on.source * on.operand / 2 ^ w) (nat_le (2 ^ w) (on.source * on.operand))
-row w Smulh st on =
-    gives w st on.dest (twos (2 * w) (signed w on.source *ℤ signed w on.operand) / 2 ^ w) (not (fits w (signed w on.source *ℤ signed w on.operand)))
-row w Udiv st on = gives w st on.dest (if on.operand == 0 then 0 else on.source / on.operand) (on.operand == 0)
-row w Umod st on = gives w st on.dest (if on.operand == 0 then 0 else on.source % on.operand) (on.operand == 0)
-row w Shl st on = gives w st on.dest (if nat_lt on.operand w then on.source * 2 ^ on.operand % 2 ^ w else 0) (has_bit (w - 1) on.source)
-row w Shr st on = gives w st on.dest (if nat_lt on.operand w then on.source / 2 ^ on.operand else 0) (has_bit 0 on.source)
-row w Cmpe st on = tests w st (on.source == on.operand)
-row w Cmpa st on = tests w st (nat_lt on.operand on.source)
-row w Cmpae st on = tests w st (nat_le on.operand on.source)
-row w Cmpg st on = tests w st (int_lt (signed w on.operand) (signed w on.source))
-row w Cmpge st on = tests w st (int_le (signed w on.operand) (signed w on.source))
+row w And st on = logic w st on.dest (and_result on.source on.operand)
+row w Or st on = logic w st on.dest (or_result on.source on.operand)
+row w Xor st on = logic w st on.dest (xor_result on.source on.operand)
+row w Not st on = logic w st on.dest (not_result w on.operand)
+row w Add st on = gives w st on.dest (add_result w on.source on.operand) (add_flag w on.source on.operand)
+row w Sub st on = gives w st on.dest (sub_result w on.source on.operand) (sub_flag on.source on.operand)
+row w Mull st on = gives w st on.dest (mull_result w on.source on.operand) (product_flag w on.source on.operand)
+row w Umulh st on = gives w st on.dest (umulh_result w on.source on.operand) (product_flag w on.source on.operand)
+row w Smulh st on = gives w st on.dest (smulh_result w on.source on.operand) (smulh_flag w on.source on.operand)
+row w Udiv st on = gives w st on.dest (udiv_result on.source on.operand) (division_flag on.operand)
+row w Umod st on = gives w st on.dest (umod_result on.source on.operand) (division_flag on.operand)
+row w Shl st on = gives w st on.dest (shl_result w on.source on.operand) (shl_flag w on.source)
+row w Shr st on = gives w st on.dest (shr_result w on.source on.operand) (shr_flag on.source)
+row w Cmpe st on = tests w st (cmpe_flag on.source on.operand)
+row w Cmpa st on = tests w st (cmpa_flag on.source on.operand)
+row w Cmpae st on = tests w st (cmpae_flag on.source on.operand)
+row w Cmpg st on = tests w st (cmpg_flag w on.source on.operand)
+row w Cmpge st on = tests w st (cmpge_flag w on.source on.operand)
 row w Mov st on = moves w st on.dest on.operand
 row w Cmov st on = if st.flag then moves w st on.dest on.operand else goes_on w st
 row w Jmp st on = jumps w st on.operand

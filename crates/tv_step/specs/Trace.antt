@@ -36,17 +36,17 @@ tape_line n st (Some v) time = looked_at (tape_cell (n - length st.primary)) tim
 
 -- the line of an instruction with the operand a: its word of memory, where it loads or stores; the next word of
 -- the primary tape, of n words, where it reads that and finds one; else none
-abbrev pub line_of : ℕ → ℕ → Op → State → ℕ → ℕ → Line
-line_of w n StoreB st a time = memory_line w st (a / word_size w) time
-line_of w n LoadB st a time = memory_line w st (a / word_size w) time
-line_of w n StoreW st a time = memory_line w st (a / word_size w) time
-line_of w n LoadW st a time = memory_line w st (a / word_size w) time
-line_of w n Read st a time = tape_line n st (if a == 0 then slice_get st.primary 0 else None) time
-line_of w n _ st a time = null_line time
+abbrev pub touched_line : ℕ → ℕ → Op → State → ℕ → ℕ → Line
+touched_line w n StoreB st a time = memory_line w st (a / word_size w) time
+touched_line w n LoadB st a time = memory_line w st (a / word_size w) time
+touched_line w n StoreW st a time = memory_line w st (a / word_size w) time
+touched_line w n LoadW st a time = memory_line w st (a / word_size w) time
+touched_line w n Read st a time = tape_line n st (if a == 0 then slice_get st.primary 0 else None) time
+touched_line w n _ st a time = null_line time
 
 -- what a step does at a time besides fetching its instruction: its data line
 abbrev pub data_line : ℕ → ℕ → State → ℕ → Line
-data_line w n st time = line_of w n (op_of (fetched w st).op) st (operand st (fetched w st)) time
+data_line w n st time = touched_line w n (op_of (fetched w st).op) st (operand st (fetched w st)) time
 
 -- the three lines of a step: its instruction's two words, and its data line
 abbrev pub step_lines : ℕ → ℕ → State → ℕ → List Line

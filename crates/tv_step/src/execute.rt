@@ -9,9 +9,9 @@ ghost use Rattle.tv_step.specs.Rows.{row, gives, logic, tests, goes_on, jumps, s
 ghost use Rattle.tv_step.specs.State.{Next};
 ghost use Rattle.tv_step.specs.Views.{state_of, CameTo};
 
-use crate::counter::Counter;
 use crate::end::Outcome;
 use crate::op::{Op, op_of};
+use crate::pc::Counter;
 use crate::state::Machine;
 use std::alloc::AllocError;
 use tv_isa::Instr;

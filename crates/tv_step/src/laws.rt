@@ -40,9 +40,9 @@ pub fn steps_follow()
     ensures answer { AnswerStays }
 {}
 
-/// What a run takes of its tapes: what is left is their end, the auxiliary words that are taken are
-/// the front, both given by the counts of words that are gone; the ended bit never falls, and where
-/// it is set nothing is taken; and a run that answers takes fewer words than it may have steps.
+/// What a run takes of its tapes: what is left is their end, and the auxiliary words taken are the
+/// front of theirs, both by how many words were taken; the ended bit never falls, and where it is
+/// set nothing is taken; and a run that answers takes fewer words than it may have steps.
 #[tactic(auto, using(crate::proofs::ReadLaws::taken_in_order))]
 pub fn tapes_are_taken_in_order()
     ensures left { TapesAreLeft }
@@ -53,8 +53,8 @@ pub fn tapes_are_taken_in_order()
     ensures few { AnsweringTakesFew }
 {}
 
-/// A trace's lines and states, by place: three lines a step, whose times follow, and a state more
-/// than steps.
+/// A trace's lines and states, by index: three lines a step, at successive times, and one state
+/// more than steps.
 #[tactic(auto, using(crate::proofs::PlaceLaws::by_place))]
 pub fn traces_are_by_place()
     ensures lines { LinesAreThreeAStep }
@@ -64,18 +64,18 @@ pub fn traces_are_by_place()
     ensures times { TimesFollow }
 {}
 
-/// A step's lines are in range, the old of each is what its cell holds before the step, and what
-/// the step changes of memory is its data line. Only a store's line changes its word.
+/// A step's lines are in range, the old word of each is that of its cell before the step, and the
+/// step changes memory by its data line alone. Only a store's line changes its word.
 #[tactic(auto, using(crate::proofs::CellLaws::cells, crate::proofs::LineLaws::only_stores_write))]
-pub fn lines_tell_the_cells()
+pub fn lines_determine_cells()
     ensures range { LinesInRange }
     ensures olds { OldsAreInCells }
     ensures writes { StepWritesItsLine }
     ensures stores { OnlyStoresWrite }
 {}
 
-/// The lines of a run, after those of the image's and the primary tape's words, are honest, and
-/// leave in each cell what the state holds.
+/// The lines of a run, after those of the image's and the primary tape's words, are honest, and the
+/// words that they leave in the cells are those of the state.
 #[tactic(auto, using(crate::proofs::HonestLaws::honest))]
 pub fn runs_are_honest()
     ensures boot { BootLeavesTheStart }

@@ -3,7 +3,6 @@
 //! every state; the commands above call `run`, and the values of a system are filled from `trace`.
 #![tactic(auto)]
 
-mod counter;
 mod end;
 mod execute;
 mod image;
@@ -11,6 +10,7 @@ mod laws;
 mod lines;
 mod machine;
 mod op;
+mod pc;
 mod recorder;
 mod registers;
 mod run_trace;
@@ -18,7 +18,7 @@ mod state;
 
 pub use end::{End, Outcome};
 pub use laws::{
-    lines_tell_the_cells, runs_answer_at_their_end, runs_are_honest, states_are_in_range,
+    lines_determine_cells, runs_answer_at_their_end, runs_are_honest, states_are_in_range,
     steps_follow, tapes_are_taken_in_order, traces_are_by_place,
 };
 pub use lines::{Lines, States, Trace, TraceState};

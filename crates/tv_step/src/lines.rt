@@ -4,7 +4,7 @@ ghost use Rattle.std.specs.Prelude.{◌≡◌};
 use std::marker::Model;
 use tv_core::Line;
 
-/// A state as the trace has it, with the number of words that are gone of each tape.
+/// A state as the trace has it, with the number of words taken of each tape.
 #[derive(Clone, Copy, PartialEq, Eq, Debug)]
 pub struct TraceState {
     /// The program counter.

@@ -7,9 +7,9 @@ ghost use Rattle.tv_mem.specs.Bytes.{word_in};
 ghost use Rattle.tv_step.specs.Machine.{fetched, next, start, end_of, state_after};
 ghost use Rattle.tv_step.specs.Views.{state_of, CameTo};
 
-use crate::counter::Counter;
 use crate::end::{End, Outcome};
 use crate::image::memory_with;
+use crate::pc::Counter;
 use crate::registers::Registers;
 use crate::state::Machine;
 use std::alloc::{AllocError, Global};
@@ -28,7 +28,7 @@ impl<const W: u32> Machine<W> {
     /// Returns the start: all 0, the image in memory from address 0 on, and two whole tapes. Memory
     /// has 2^W bytes, so an image of words of 16 bits has at most 32,768 of them, and one of 32
     /// bits at most 2^30. Of an image's word that is no word of `W` bits, the lowest bits count. It
-    /// is refused only where memory runs out.
+    /// fails only where memory runs out.
     pub fn start(
         alloc: Global,
         image: &[u32],

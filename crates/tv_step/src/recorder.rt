@@ -8,7 +8,7 @@ ghost use Rattle.tv_word.specs.Widths.{IsWidth};
 ghost use Rattle.tv_step.specs.Machine.{fetched, operand, state_after};
 ghost use Rattle.tv_step.specs.Ops.{op_of};
 ghost use Rattle.tv_step.specs.Reads.{is_read, finds_end};
-ghost use Rattle.tv_step.specs.Trace.{looked_at, line_of, data_line, step_lines, traced_state};
+ghost use Rattle.tv_step.specs.Trace.{looked_at, touched_line, data_line, step_lines, traced_state};
 ghost use Rattle.tv_step.specs.Views.{state_of};
 
 use crate::lines::TraceState;
@@ -20,7 +20,7 @@ use tv_core::limits::{NULL_CELL, TAPE_CELLS};
 use tv_isa::{Instr, decode};
 use tv_tape::Tape;
 
-/// What a trace has of a step: its three lines, and the ended bit after it.
+/// What a trace records of a step: its three lines, and the ended bit after it.
 #[derive(Clone, Copy)]
 pub(crate) struct Recorded {
     pub(crate) lines: [Line; 3],
@@ -53,7 +53,7 @@ impl<const W: u32> Machine<W> {
         requires width { IsWidth W }
         requires word { a < 2 ^ W }
         requires short { n < 2 ^ 29 }
-        ensures { let line = line_of W n op (state_of self.now) a time in result
+        ensures { let line = touched_line W n op (state_of self.now) a time in result
             ≡ looked_at line.cell time line.old }
     {
         match op {
@@ -127,8 +127,8 @@ impl<const W: u32> Machine<W> {
         requires width { IsWidth W }
         requires short { n < 2 ^ 29 }
         requires times { time + 2 < 2 ^ 32 }
-        ensures lines { IfOk result (λ told. told.lines ≡ step_lines W n (state_of self.old) time) }
-        ensures ended { IfOk result (λ told. told.ended
+        ensures lines { IfOk result (λ recorded. recorded.lines ≡ step_lines W n (state_of self.old) time) }
+        ensures ended { IfOk result (λ recorded. recorded.ended
             ≡ (ended || finds_end W (state_of self.old))) }
         ensures state { OnOk result (state_of self.new ≡ state_after W 1 (state_of self.old)) }
     {
@@ -149,7 +149,7 @@ impl<const W: u32> Machine<W> {
 
     /// Returns what the trace has of the state, the tapes having had `n` and `m` words, and a read
     /// of the auxiliary one having found nothing before or not.
-    pub(crate) fn told(&self, n: u32, m: u32, ended: bool) -> TraceState
+    pub(crate) fn recorded(&self, n: u32, m: u32, ended: bool) -> TraceState
         ensures { result ≡ traced_state n m (state_of self.now) ended }
     {
         TraceState {

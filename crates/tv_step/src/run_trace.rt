@@ -49,19 +49,19 @@ fn record<const W: u32>(
     requires width { IsWidth W }
     requires short { n < 2 ^ 29 }
     requires times { time + 3 * t < 2 ^ 32 }
-    ensures lines { IfOk result (λ told. told.0 ≡ lines_of W n time (state_of machine.old) t) }
-    ensures states { IfOk result (λ told. told.1 ≡ states_of W n m (state_of machine.old) t) }
+    ensures lines { IfOk result (λ recorded. recorded.0 ≡ lines_of W n time (state_of machine.old) t) }
+    ensures states { IfOk result (λ recorded. recorded.1 ≡ states_of W n m (state_of machine.old) t) }
 {
     let steps = t as usize;
     let mut lines = Vec::with_capacity(alloc, 3 * steps)?;
     let mut states = Vec::with_capacity(alloc, steps + 1)?;
     let mut ended = false;
-    states.push(machine.told(n, m, ended))?;
+    states.push(machine.recorded(n, m, ended))?;
     for taken in 0..t {
         let step = machine.record_step(n, time + 3 * taken, ended)?;
         ended = step.ended;
         lines.extend_from_slice(&step.lines)?;
-        states.push(machine.told(n, m, ended))?;
+        states.push(machine.recorded(n, m, ended))?;
     }
     Ok((lines.into(), states.into()))
 }

@@ -1,7 +1,7 @@
 //! The state of the machine.
 ghost use Rattle.std.specs.Prelude.{◌<◌, ◌^◌, All};
 
-use crate::counter::Counter;
+use crate::pc::Counter;
 use crate::registers::Registers;
 use tv_mem::Memory;
 use tv_tape::Tape;

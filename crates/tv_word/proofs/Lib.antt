@@ -1,5 +1,7 @@
 pub mod ArithmeticLaws
 pub mod ByteLaws
 pub mod DecimalLemmas
+pub mod FlagLaws
 pub mod NumeralLemmas
+pub mod SignedLaws
 pub mod WidthLaws

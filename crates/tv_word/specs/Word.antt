@@ -5,6 +5,10 @@ use Rattle.std.specs.Prelude.{ℕ, zero, suc, ◌+◌, ◌-◌, ◌*◌, ◌/◌
 abbrev pub signed : ℕ → ℕ → ℤ
 signed w v = if nat_lt v (2 ^ (w - 1)) then pos v else pos v -ℤ pos (2 ^ w)
 
+-- a truth value as a number: 1 where it holds, else 0
+abbrev pub flag_of : Bool → ℕ
+flag_of holds = if holds then 1 else 0
+
 -- whether bit number n of a word is 1
 abbrev pub has_bit : ℕ → ℕ → Bool
 has_bit n v = v / 2 ^ n % 2 == 1

@@ -1,10 +1,13 @@
 //! Words that the machine's instructions make of words of `W` bits, 16 or 32, the flags of sums,
 //! products and left shifts, signed words, and powers of 2.
-ghost use Rattle.std.specs.Prelude.{◌≡◌, ◌+◌, ◌-◌, ◌*◌, ◌/◌, ◌%◌, ◌^◌, ◌<◌, ◌==◌, ◌*ℤ◌, nat_lt};
-ghost use Rattle.std.specs.Prelude.{nat_le, not, if◌then◌else◌, bit_and, bit_or, bit_xor};
+ghost use Rattle.std.specs.Prelude.{◌≡◌, ◌*◌, ◌/◌, ◌%◌, ◌^◌, ◌<◌};
+ghost use Rattle.tv_word.specs.Operations.{and_result, or_result, xor_result, not_result};
+ghost use Rattle.tv_word.specs.Operations.{add_result, add_flag, sub_result, mull_result};
+ghost use Rattle.tv_word.specs.Operations.{umulh_result, product_flag, smulh_result, smulh_flag};
+ghost use Rattle.tv_word.specs.Operations.{udiv_result, umod_result, shl_result, shl_flag};
+ghost use Rattle.tv_word.specs.Operations.{shr_result};
 ghost use Rattle.tv_word.specs.Widths.{IsWidth};
-ghost use Rattle.tv_word.specs.Word.{has_bit, signed};
-ghost use Rattle.tv_word.specs.Twos.{twos, fits};
+ghost use Rattle.tv_word.specs.Word.{signed};
 
 use crate::word::{signed, signed16};
 
@@ -29,7 +32,7 @@ fn low<const W: u32>(number: u64) -> u32
 pub fn both<const W: u32>(s: u32, a: u32) -> u32
     requires width { IsWidth W }
     requires s_word { s < 2 ^ W }
-    ensures word { result ≡ bit_and s a }
+    ensures word { result ≡ and_result s a }
     ensures small { result < 2 ^ W }
 {
     s & a
@@ -39,7 +42,7 @@ pub fn both<const W: u32>(s: u32, a: u32) -> u32
 pub fn either<const W: u32>(s: u32, a: u32) -> u32
     requires s_word { s < 2 ^ W }
     requires a_word { a < 2 ^ W }
-    ensures word { result ≡ bit_or s a }
+    ensures word { result ≡ or_result s a }
     ensures small { result < 2 ^ W }
 {
     s | a
@@ -49,7 +52,7 @@ pub fn either<const W: u32>(s: u32, a: u32) -> u32
 pub fn differing<const W: u32>(s: u32, a: u32) -> u32
     requires s_word { s < 2 ^ W }
     requires a_word { a < 2 ^ W }
-    ensures word { result ≡ bit_xor s a }
+    ensures word { result ≡ xor_result s a }
     ensures small { result < 2 ^ W }
 {
     s ^ a
@@ -59,7 +62,7 @@ pub fn differing<const W: u32>(s: u32, a: u32) -> u32
 pub fn inverted<const W: u32>(a: u32) -> u32
     requires width { IsWidth W }
     requires a_word { a < 2 ^ W }
-    ensures word { result ≡ 2 ^ W - 1 - a }
+    ensures word { result ≡ not_result W a }
     ensures small { result < 2 ^ W }
 {
     low::<W>((1 << W) - 1 - u64::from(a))
@@ -68,7 +71,7 @@ pub fn inverted<const W: u32>(a: u32) -> u32
 /// Returns a sum modulo 2^W.
 pub fn sum<const W: u32>(s: u32, a: u32) -> u32
     requires width { IsWidth W }
-    ensures word { result ≡ (s + a) % 2 ^ W }
+    ensures word { result ≡ add_result W s a }
     ensures small { result < 2 ^ W }
 {
     low::<W>(u64::from(s) + u64::from(a))
@@ -77,7 +80,7 @@ pub fn sum<const W: u32>(s: u32, a: u32) -> u32
 /// Returns whether a sum needs more than a word.
 pub fn carries<const W: u32>(s: u32, a: u32) -> bool
     requires width { IsWidth W }
-    ensures { result ≡ nat_le (2 ^ W) (s + a) }
+    ensures { result ≡ add_flag W s a }
 {
     u64::from(s) + u64::from(a) >= 1 << W
 }
@@ -86,7 +89,7 @@ pub fn carries<const W: u32>(s: u32, a: u32) -> bool
 pub fn difference<const W: u32>(s: u32, a: u32) -> u32
     requires width { IsWidth W }
     requires a_word { a < 2 ^ W }
-    ensures word { result ≡ (s + (2 ^ W - a)) % 2 ^ W }
+    ensures word { result ≡ sub_result W s a }
     ensures small { result < 2 ^ W }
 {
     low::<W>(u64::from(s) + ((1 << W) - u64::from(a)))
@@ -95,7 +98,7 @@ pub fn difference<const W: u32>(s: u32, a: u32) -> u32
 /// Returns the low word of a product.
 pub fn low_product<const W: u32>(s: u32, a: u32) -> u32
     requires width { IsWidth W }
-    ensures word { result ≡ s * a % 2 ^ W }
+    ensures word { result ≡ mull_result W s a }
     ensures small { result < 2 ^ W }
 {
     low::<W>(u64::from(s) * u64::from(a))
@@ -107,7 +110,7 @@ pub fn high_product<const W: u32>(s: u32, a: u32) -> u32
     requires width { IsWidth W }
     requires s_word { s < 2 ^ W }
     requires a_word { a < 2 ^ W }
-    ensures word { result ≡ s * a / 2 ^ W }
+    ensures word { result ≡ umulh_result W s a }
     ensures small { result < 2 ^ W }
 {
     ((u64::from(s) * u64::from(a)) >> W) as u32
@@ -116,7 +119,7 @@ pub fn high_product<const W: u32>(s: u32, a: u32) -> u32
 /// Returns whether a product needs more than a word.
 pub fn is_wide<const W: u32>(s: u32, a: u32) -> bool
     requires width { IsWidth W }
-    ensures { result ≡ nat_le (2 ^ W) (s * a) }
+    ensures { result ≡ product_flag W s a }
 {
     u64::from(s) * u64::from(a) >= 1 << W
 }
@@ -127,9 +130,9 @@ pub fn high_signed<const W: u32>(s: u32, a: u32) -> (u32, bool)
     requires width { IsWidth W }
     requires s_word { s < 2 ^ W }
     requires a_word { a < 2 ^ W }
-    ensures high { result.0 ≡ twos (2 * W) (signed W s *ℤ signed W a) / 2 ^ W }
+    ensures high { result.0 ≡ smulh_result W s a }
     ensures small { result.0 < 2 ^ W }
-    ensures wide { result.1 ≡ not (fits W (signed W s *ℤ signed W a)) }
+    ensures wide { result.1 ≡ smulh_flag W s a }
 {
     if W == 16 {
         high_signed_16(s, a)
@@ -142,9 +145,9 @@ pub fn high_signed<const W: u32>(s: u32, a: u32) -> (u32, bool)
 fn high_signed_16(s: u32, a: u32) -> (u32, bool)
     requires s_word { s < 2 ^ 16 }
     requires a_word { a < 2 ^ 16 }
-    ensures high { result.0 ≡ twos 32 (signed 16 s *ℤ signed 16 a) / 2 ^ 16 }
+    ensures high { result.0 ≡ smulh_result 16 s a }
     ensures small { result.0 < 2 ^ 16 }
-    ensures wide { result.1 ≡ not (fits 16 (signed 16 s *ℤ signed 16 a)) }
+    ensures wide { result.1 ≡ smulh_flag 16 s a }
 {
     let product = signed16(s) * signed16(a);
     let high = ((product.cast_unsigned() >> 16) % (1 << 16)) as u32;
@@ -153,9 +156,9 @@ fn high_signed_16(s: u32, a: u32) -> (u32, bool)
 
 // Like `high_signed`, for words of 32 bits.
 fn high_signed_32(s: u32, a: u32) -> (u32, bool)
-    ensures high { result.0 ≡ twos 64 (signed 32 s *ℤ signed 32 a) / 2 ^ 32 }
+    ensures high { result.0 ≡ smulh_result 32 s a }
     ensures small { result.0 < 2 ^ 32 }
-    ensures wide { result.1 ≡ not (fits 32 (signed 32 s *ℤ signed 32 a)) }
+    ensures wide { result.1 ≡ smulh_flag 32 s a }
 {
     let product = signed(s) * signed(a);
     let high = (product.cast_unsigned() >> 32) as u32;
@@ -166,7 +169,7 @@ fn high_signed_32(s: u32, a: u32) -> (u32, bool)
 pub fn quotient<const W: u32>(s: u32, a: u32) -> u32
     requires width { IsWidth W }
     requires s_word { s < 2 ^ W }
-    ensures word { result ≡ (if a == 0 then 0 else s / a) }
+    ensures word { result ≡ udiv_result s a }
     ensures small { result < 2 ^ W }
 {
     if a == 0 { 0 } else { s / a }
@@ -176,7 +179,7 @@ pub fn quotient<const W: u32>(s: u32, a: u32) -> u32
 pub fn remainder<const W: u32>(s: u32, a: u32) -> u32
     requires width { IsWidth W }
     requires a_word { a < 2 ^ W }
-    ensures word { result ≡ (if a == 0 then 0 else s % a) }
+    ensures word { result ≡ umod_result s a }
     ensures small { result < 2 ^ W }
 {
     if a == 0 { 0 } else { s % a }
@@ -186,7 +189,7 @@ pub fn remainder<const W: u32>(s: u32, a: u32) -> u32
 #[tactic(auto, using(crate::proofs::ArithmeticLaws::far_left))]
 pub fn shifted_left<const W: u32>(s: u32, a: u32) -> u32
     requires width { IsWidth W }
-    ensures word { result ≡ (if nat_lt a W then s * 2 ^ a % 2 ^ W else 0) }
+    ensures word { result ≡ shl_result W s a }
     ensures plain { result ≡ s * 2 ^ a % 2 ^ W }
     ensures small { result < 2 ^ W }
 {
@@ -202,7 +205,7 @@ pub fn shifted_left<const W: u32>(s: u32, a: u32) -> u32
 pub fn shifted_right<const W: u32>(s: u32, a: u32) -> u32
     requires width { IsWidth W }
     requires s_word { s < 2 ^ W }
-    ensures word { result ≡ (if nat_lt a W then s / 2 ^ a else 0) }
+    ensures word { result ≡ shr_result W s a }
     ensures plain { result ≡ s / 2 ^ a }
     ensures small { result < 2 ^ W }
 {
@@ -212,7 +215,7 @@ pub fn shifted_right<const W: u32>(s: u32, a: u32) -> u32
 /// Returns the sign bit of a word.
 pub fn sign_bit<const W: u32>(s: u32) -> bool
     requires width { IsWidth W }
-    ensures { result ≡ has_bit (W - 1) s }
+    ensures { result ≡ shl_flag W s }
 {
     (s >> (W - 1)) % 2 == 1
 }

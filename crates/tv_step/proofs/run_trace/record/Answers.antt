@@ -20,7 +20,7 @@ loop-taken-preserved g c =
     let lines = c.in_ok-step.ensures.lines ∙ ap (λ st. step_lines w c.args.n st (c.args.time + 3 * k)) before.state in
     let ended : c.in_ok-step.step.ended ≡ ended_after w (k + 1) first =
     c.in_ok-step.ensures.ended ∙ ap₂ (λ b st. b || finds_end w st) before.ended before.state ∙ ap (λ n. ended_after w n first) more in
-    let told = c.told-in-loop-taken.ensures ∙ ap₂ (traced_state c.args.n c.args.m) (state ∙ ap (λ n. state_after w n first) (sym more))
+    let recorded = c.recorded-in-loop-taken.ensures ∙ ap₂ (traced_state c.args.n c.args.m) (state ∙ ap (λ n. state_after w n first) (sym more))
     (ended ∙ ap (λ n. ended_after w n first) (sym more)) in
     record {
       state = state;
@@ -30,7 +30,7 @@ loop-taken-preserved g c =
           ∙ ap (λ xs. lines_of w c.args.n c.args.time first k ++ xs) lines
           ∙ ap (lines_of w c.args.n c.args.time first) more;
       states = c.in_ok-push-2.ensures.items
-          ∙ ap (λ xs. xs ++ c.told-in-loop-taken.result ∷ []) before.states
-          ∙ ap (λ s. states_of w c.args.n c.args.m first k ++ s ∷ []) told
+          ∙ ap (λ xs. xs ++ c.recorded-in-loop-taken.result ∷ []) before.states
+          ∙ ap (λ s. states_of w c.args.n c.args.m first k ++ s ∷ []) recorded
           ∙ ap (states_of w c.args.n c.args.m first) more;
     }

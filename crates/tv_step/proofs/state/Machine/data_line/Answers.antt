@@ -9,7 +9,7 @@ use Rattle.tv_step.proofs.ViewLaws.{came_after}
 use Rattle.tv_step.specs.Machine.{executed, operand, state_after}
 use Rattle.tv_step.specs.Ops.{op_of}
 use Rattle.tv_step.specs.State.{State}
-use Rattle.tv_step.specs.Trace.{looked_at, line_of}
+use Rattle.tv_step.specs.Trace.{looked_at, touched_line}
 use Rattle.tv_step.specs.Views.{state_of}
 use Rattle.tv_step.proofs.state.Machine.data_line.Goals as goal
 
@@ -21,7 +21,7 @@ returns-clause-line g c =
     let due = executed w st instr in
     let left : state_of c.executes.new.self ≡ state_after w 1 st = came_after w due c.in_ok-executes.field-0 st (state_of c.executes.new.self)
     (ap (executed w st) (sym c.requires.fetched)) c.in_ok-executes.ensures.ok in
-    let line : Instr → Line = λ i. line_of w c.args.n (op_of i.op) st (operand st i) c.args.time in
+    let line : Instr → Line = λ i. touched_line w c.args.n (op_of i.op) st (operand st i) c.args.time in
     let after : Line → State → Line = λ b s. record {
       cell = b.cell;
       time = b.time;
@@ -30,8 +30,8 @@ returns-clause-line g c =
     } in
     let before : c.line_before-before.result ≡ looked_at (line instr).cell c.args.time (line instr).old =
     c.line_before-before.ensures
-    ∙ ap₂ (λ op a. looked_at (line_of w c.args.n op st a c.args.time).cell c.args.time
-    (line_of w c.args.n op st a c.args.time).old) c.op_of.ensures c.operand-a.ensures.word in
+    ∙ ap₂ (λ op a. looked_at (touched_line w c.args.n op st a c.args.time).cell c.args.time
+    (touched_line w c.args.n op st a c.args.time).old) c.op_of.ensures c.operand-a.ensures.word in
     let small : operand st instr < 2 ^ w = subst (λ a. a < 2 ^ w) c.operand-a.ensures.word c.operand-a.ensures.small in
     c.line_after.ensures
     ∙ ap (λ b. after b (state_of c.executes.new.self)) before
