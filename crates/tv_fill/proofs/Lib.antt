@@ -2,5 +2,5 @@ pub mod PartValues
 pub mod Packed
 pub mod Prepared
 pub mod RunPlaces
-pub mod Satisfying
+pub mod Satisfaction
 pub mod TraceLaws

@@ -24,7 +24,7 @@ use Rattle.tv_layout.specs.Systems.{run_values, system_of}
 use Rattle.tv_layout.specs.Values.{fill, run_step_values as run_step}
 use Rattle.tv_layout.specs.declared.places.TheConstants.{STATE_WIRES}
 use Rattle.tv_lines.proofs.PackingLaws.{unpack_packed}
-use Rattle.tv_lines.specs.PackedLines.{InRange, unpacked, packed_item, without_old}
+use Rattle.tv_lines.specs.PackedLines.{LineInRange, unpacked, packed_item, without_old}
 use Rattle.tv_lines.specs.Placed.{LinesFrom}
 use Rattle.tv_argument.proofs.Reached.{predecessors_right}
 use Rattle.tv_argument.specs.Checks.{Checks}
@@ -39,7 +39,7 @@ use Rattle.tv_step.specs.Range.{AreWords}
 use Rattle.tv_step.specs.Trace.{lines_of, states_of}
 use Rattle.tv_step.specs.declared.lines.TraceState.{TraceState}
 use Rattle.tv_fill.proofs.PartValues.{parts_of}
-use Rattle.tv_fill.proofs.TraceLaws.{told_in_range, told_steps}
+use Rattle.tv_fill.proofs.TraceLaws.{steps_in_range, traced_steps}
 use Rattle.tv_fill.specs.Filled.{front_values, filled_values, filled_lines, filled_checks, PartsFit}
 use Rattle.tv_fill.specs.TraceValues.{traced_values}
 
@@ -52,20 +52,20 @@ LinesFrom-right : (t u : ℕ) (xs ys : List Line) → t + length xs ≡ u → Li
 LinesFrom-right t u [] ys e h = let same : t ≡ u = omega arith in subst (λ n. LinesFrom n ys) same h
 LinesFrom-right t u (x ∷ xs) ys e h = LinesFrom-right (t + 1) u xs ys (omega arith) h.2
 
-all_in_range : (t : ℕ) (xs : List Line) → t + length xs ≤ 2 ^ 20 → LinesFrom t xs → All InRange xs
-all_in_range t [] few h = All-nil InRange
+all_in_range : (t : ℕ) (xs : List Line) → t + length xs ≤ 2 ^ 20 → LinesFrom t xs → All LineInRange xs
+all_in_range t [] few h = All-nil LineInRange
 all_in_range t (x ∷ xs) few h =
     let time = h.0 in
-    All-cons InRange x xs (record { cell = h.1.cell; time = omega arith; old = h.1.old; new = h.1.new }) (all_in_range (t + 1) xs (omega arith) h.2)
+    All-cons LineInRange x xs (record { cell = h.1.cell; time = omega arith; old = h.1.old; new = h.1.new }) (all_in_range (t + 1) xs (omega arith) h.2)
 
 -- ---- items
-unpacked_items : (ls : List Line) → All InRange ls → map unpacked (map packed_item ls) ≡ map without_old ls
+unpacked_items : (ls : List Line) → All LineInRange ls → map unpacked (map packed_item ls) ≡ map without_old ls
 unpacked_items [] h = refl
 unpacked_items (l ∷ ls) h =
-    let range = All-head InRange l ls h in
+    let range = All-head LineInRange l ls h in
     ap₂ (λ (a : Line) (b : List Line). a ∷ b)
     (unpack_packed (without_old l) (record { cell = range.cell; time = range.time; old = omega arith; new = range.new }))
-    (unpacked_items ls (All-tail InRange l ls h))
+    (unpacked_items ls (All-tail LineInRange l ls h))
 
 old_left_out : (t : ℕ) (ls : List Line) → LinesFrom t ls → LinesFrom t (map without_old ls)
 old_left_out t [] h = tt
@@ -95,7 +95,7 @@ module _ (w : ℕ) (net : Net) (image x aux : List ℕ) (t : ℕ) (fits : Within
   pub lines_fit : (lines : List Line) → lines ≡ step_lines → length image + length x + length lines ≤ 2 ^ k
   lines_fit lines are = let many = ap length are ∙ steps_many in let above = log_above (line_count image (length x) t) few_lines in omega arith
 
-  pub lines_in_range : (lines : List Line) → lines ≡ step_lines → All InRange lines
+  pub lines_in_range : (lines : List Line) → lines ≡ step_lines → All LineInRange lines
   lines_in_range lines are =
       let boot = length-boot_lines image x in
       let placed = LinesFrom-right 0 (length image + length x) (boot_lines image x) step_lines (omega (arith, boot))
@@ -119,20 +119,20 @@ module _ (w : ℕ) (net : Net) (image x aux : List ℕ) (t : ℕ) (fits : Within
   placed : LinesFrom 0 whole
   placed = run_placed w image x aux t fits x_words aux_words
 
-  whole_in_range : All InRange whole
+  whole_in_range : All LineInRange whole
   whole_in_range = all_in_range 0 whole (omega (arith, whole_few)) placed
 
   module _ (lines : List Line) (lines_are : lines ≡ step_lines) (states : List TraceState)
       (states_are : states ≡ states_of w (length x) (length aux) (start w image x aux) t)
       (items : List PairNum) (items_are : items ≡ map packed_item (filled_lines image x lines k)) where
-    told_whole : filled_lines image x lines k ≡ whole
-    told_whole =
+    filled_whole : filled_lines image x lines k ≡ whole
+    filled_whole =
         ap (λ (ls : List Line). filled_lines image x ls k) lines_are
         ∙ ap (λ (c : ℕ). (boot_lines image x ++ step_lines) ++ padding (length image + length x + c) (2 ^ k - (length image + length x + c))) steps_many
 
     -- the items are those of all lines of the run
     all_packed : items ≡ map packed_item whole
-    all_packed = items_are ∙ ap (map packed_item) told_whole
+    all_packed = items_are ∙ ap (map packed_item) filled_whole
 
     unpacked_are : map unpacked items ≡ map without_old whole
     unpacked_are = ap (map unpacked) all_packed ∙ unpacked_items whole whole_in_range
@@ -170,7 +170,7 @@ module _ (w : ℕ) (net : Net) (image x aux : List ℕ) (t : ℕ) (fits : Within
     brought bits bits_are =
         let bits_is : bits ≡ route_of net (predecessors whole) = bits_are ∙ ap (route_of net) order_is in
         ap (λ (c : Checks). routed_values net c k (bit_at bits) items (filled_lines image x lines k)) checks_are
-        ∙ ap₂ (λ (ps : List PairNum) (ls : List Line). routed_values net (checks_of image (length x) t) k (bit_at bits) ps ls) all_packed told_whole
+        ∙ ap₂ (λ (ps : List PairNum) (ls : List Line). routed_values net (checks_of image (length x) t) k (bit_at bits) ps ls) all_packed filled_whole
         ∙ ap (λ (b : List Bool). routed_values net (checks_of image (length x) t) k (bit_at b) (map packed_item whole) whole) bits_is
         ∙ predecessors_right.reached net (checks_of image (length x) t) k whole (log_some (line_count image (length x) t)) log_few whole_many placed
         (log_above (line_count image (length x) t) few_lines)
@@ -183,10 +183,10 @@ module _ (w : ℕ) (net : Net) (image x aux : List ℕ) (t : ℕ) (fits : Within
         let tape_bits : List ℕ = joined_below (length x) (λ i. bits_values (slice_index x i) w) in
         let steps : List ℕ = joined_below t (run_step (step_values w) w image x aux) in
         let memory : List ℕ = argument_values net (checks_of image (length x) t) k whole in
-        let told : joined_below t (traced_values w (length x) states aux lines) ≡ steps =
+        let known : joined_below t (traced_values w (length x) states aux lines) ≡ steps =
         ap₂ (λ (s : List TraceState) (ls : List Line). joined_below t (traced_values w (length x) s aux ls)) states_are lines_are
-        ∙ told_steps w image x aux t fits.width (short image (length x) t w fits) x_words aux_words in
-        ap₂ (λ (a b : List ℕ). front_values w v x ++ (a ++ b)) told (brought bits bits_are)
+        ∙ traced_steps w image x aux t fits.width (short image (length x) t w fits) x_words aux_words in
+        ap₂ (λ (a b : List ℕ). front_values w v x ++ (a ++ b)) known (brought bits bits_are)
         ∙ append_assoc (1 ∷ v ∷ x) (tape_bits ++ replicate STATE_WIRES 0) (steps ++ memory)
         ∙ ap (λ (l : List ℕ). (1 ∷ v ∷ x) ++ l) (append_assoc tape_bits (replicate STATE_WIRES 0) (steps ++ memory))
 
@@ -204,7 +204,7 @@ module _ (w : ℕ) (net : Net) (image x aux : List ℕ) (t : ℕ) (fits : Within
       items_many = items_many;
       spare_many = spare_is ∙ items_many;
       lines_fit = lines_fit lines lines_are;
-      steps = λ i h. rw (states_are, lines_are) (told_in_range w image x aux t fits.width (short image (length x) t w fits) x_words aux_words i h);
+      steps = λ i h. rw (states_are, lines_are) (steps_in_range w image x aux t fits.width (short image (length x) t w fits) x_words aux_words i h);
       counted = count_is ∙ sym (system_complete w net image x aux t v fits x_words aux_words accepts).sat.each_wire
           ∙ sym (ap length (values_are bits bits_are v));
     }

@@ -17,7 +17,7 @@ use Rattle.tv_step.proofs.PlaceLaws.{lines_by_place, lines_are_three_a_step, sta
 use Rattle.tv_step.proofs.RangeLaws.{start_in_range, run_keeps_range}
 use Rattle.tv_step.proofs.ReadLaws.{taken_by_counts}
 use Rattle.tv_step.specs.Machine.{start, state_after}
-use Rattle.tv_step.specs.Range.{AreWords, InRange}
+use Rattle.tv_step.specs.Range.{AreWords, StateInRange}
 use Rattle.tv_step.specs.Reads.{word_taken, ended_after}
 use Rattle.tv_step.specs.State.{State}
 use Rattle.tv_step.specs.Trace.{step_lines, lines_of, states_of, traced_state_after}
@@ -27,9 +27,9 @@ use Rattle.tv_parts.specs.Traced.{traced_view}
 use Rattle.tv_fill.specs.TraceValues.{no_state, traced_state_at, old_at, takes_at, taken_at, data_at, traced_values, StepInRange}
 
 -- the word that is passed
-handed_is : (old : ℕ) (word : Option ℕ) → unwrap_or word old ≡ data_word_of old word
-handed_is old None = refl
-handed_is old (Some word) = refl
+data_word_is : (old : ℕ) (word : Option ℕ) → unwrap_or word old ≡ data_word_of old word
+data_word_is old None = refl
+data_word_is old (Some word) = refl
 
 -- ---- one run
 module _ (w : ℕ) (image x aux : List ℕ) (t : ℕ) (width : IsWidth w) (short : length x < 2 ^ 29) (x_words : AreWords w x) (aux_words : AreWords w aux) where
@@ -42,7 +42,7 @@ module _ (w : ℕ) (image x aux : List ℕ) (t : ℕ) (width : IsWidth w) (short
   abbrev first : ℕ
   first = length image + length x
 
-  range : (i : ℕ) → InRange w (now i)
+  range : (i : ℕ) → StateInRange w (now i)
   range i = run_keeps_range w width (start w image x aux) i (start_in_range w width image x aux x_words aux_words)
 
   -- states
@@ -90,10 +90,10 @@ module _ (w : ℕ) (image x aux : List ℕ) (t : ℕ) (width : IsWidth w) (short
   data_is i h =
       let third : ℕ = slice_index (olds_of w (length x) (now i) (first + 3 * i)) 2 in
       ap₂ (λ (word : Option ℕ) (old : ℕ). unwrap_or word old) (taken_is i h) (old_is i 2 h (omega arith))
-      ∙ handed_is third (word_taken w (now i))
+      ∙ data_word_is third (word_taken w (now i))
 
-  pub told_in_range : (i : ℕ) → i < t → StepInRange w (length x) run_states aux run_steps i
-  told_in_range i h = record {
+  pub steps_in_range : (i : ℕ) → i < t → StepInRange w (length x) run_states aux run_steps i
+  steps_in_range i h = record {
     after = omega (arith, states_are_one_more w (length x) (length aux) (start w image x aux) t);
     third = omega (arith, lines_are_three_a_step w (length x) (length image + length x) (start w image x aux) t);
     view = rw (state_is i (omega arith)) (given i).range;
@@ -103,10 +103,10 @@ module _ (w : ℕ) (image x aux : List ℕ) (t : ℕ) (width : IsWidth w) (short
     there = there i h;
   }
 
-  told_step : (i : ℕ) → i < t → traced_values w (length x) run_states aux run_steps i ≡ run_step (step_values w) w image x aux i
+  traced_step : (i : ℕ) → i < t → traced_values w (length x) run_states aux run_steps i ≡ run_step (step_values w) w image x aux i
   unfolding traced_values
-  told_step i h = same_values (λ v head tail o takes. block_values w (length x) v (step_words head tail o takes))
+  traced_step i h = same_values (λ v head tail o takes. block_values w (length x) v (step_words head tail o takes))
       (ap traced_view (state_is i (omega arith))) (head_is i h) (tail_is i h) (data_is i h) (ap is_some (taken_is i h)) ∙ (given i).values
 
-  pub told_steps : joined_below t (traced_values w (length x) run_states aux run_steps) ≡ joined_below t (run_step (step_values w) w image x aux)
-  told_steps = joined_below-same t _ _ (λ i h. told_step i h)
+  pub traced_steps : joined_below t (traced_values w (length x) run_states aux run_steps) ≡ joined_below t (run_step (step_values w) w image x aux)
+  traced_steps = joined_below-same t _ _ (λ i h. traced_step i h)

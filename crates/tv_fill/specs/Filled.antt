@@ -88,19 +88,13 @@ pub record IsFilling (net : Net) (run : RunInput) (filling : Filled) : Type 0 wh
   pub answer : Accepts run.width run.image run.tape run.aux run.t filling.answer
   pub values : filling.values ≡ run_values net run filling.answer
 
--- there are none: the run has no trace, since it ends so and answers nothing; or memory ran out
-abbrev pub IsUnfilled : RunInput → FillFault → Type 0
-IsUnfilled run (NoRun end) = IsRefused run.width run.image run.tape run.aux run.t (traces.NoRun end)
-IsUnfilled run Failed = ⊥
-IsUnfilled run Memory = Unit {0}
-
 -- ---- to a taker
--- what a call that passes on the values of a run did: it passed all; or the run answers nothing, and none was passed;
+-- what a call that passes on the values of a run transition_in: it passed all; or the run answers nothing, and none was passed;
 -- or the taker refused one of them, and the count of the cause rose; or memory ran out before the first
 module _ {V : Type 0} (m : ValuesMeaning V) (net : Net) (run : RunInput) where
   abbrev pub FillsIn : V → V → Result (Unit {0}) FillFault → Type 0
   FillsIn old new (Ok done) = (v : ℕ) × Accepts run.width run.image run.tape run.aux run.t v × GivesAll m old new (run_values net run v)
-  FillsIn old new (Err (NoRun end)) = IsUnfilled run (NoRun end) × (new ≡ old)
+  FillsIn old new (Err (NoRun end)) = IsRefused run.width run.image run.tape run.aux run.t (traces.NoRun end) × (new ≡ old)
   FillsIn old new (Err Failed) = (v : ℕ) × Accepts run.width run.image run.tape run.aux run.t v × GivesSome m old new (run_values net run v) sinks.Failed
   FillsIn old new (Err Memory) = (new ≡ old)
       ⊎ ((v : ℕ) × Accepts run.width run.image run.tape run.aux run.t v × GivesSome m old new (run_values net run v) sinks.Memory)

@@ -1,9 +1,7 @@
 //! Why a run has no values, or not all were passed.
 ghost use Rattle.std.specs.Prelude.{◌≡◌};
 ghost use Rattle.tv_fill.specs.Faults.{trace_fault, taker_fault};
-ghost use Rattle.tv_fill.specs.declared.fault.FillFault.TheVariants.{Memory};
 
-use std::alloc::AllocError;
 use thiserror::Error;
 use tv_core::SinkFault;
 use tv_step::{End, TraceFault};
@@ -20,14 +18,6 @@ pub enum FillFault {
     /// Memory ran out.
     #[error("out of memory")]
     Memory,
-}
-
-impl From<AllocError> for FillFault {
-    ghost from_gives = { λ _ fault. fault ≡ Memory };
-
-    fn from(_: AllocError) -> FillFault {
-        FillFault::Memory
-    }
 }
 
 impl From<TraceFault> for FillFault {

@@ -2,7 +2,7 @@
 ghost use Rattle.std.specs.Prelude.{◌≡◌, ◌*◌, ◌/◌, ◌^◌, ◌<◌, ◌≤◌, false, length, map, IfOk};
 ghost use Rattle.std.specs.Prelude.{IfErr, OnOk};
 ghost use Rattle.tv_core.specs.Values.{GivesIn};
-ghost use Rattle.tv_fill.specs.Filled.{IsFilling, IsUnfilled, FillsIn};
+ghost use Rattle.tv_fill.specs.Filled.{IsFilling, FillsIn};
 ghost use Rattle.tv_layout.specs.Places.{WithinLimits};
 ghost use Rattle.tv_layout.specs.RunInputs.{run_on};
 ghost use Rattle.tv_lines.specs.PackedLines.{unpacked};
@@ -11,6 +11,7 @@ ghost use Rattle.tv_argument.specs.Order.{predecessors};
 ghost use Rattle.tv_route.specs.Permutations.{IsRoutable};
 ghost use Rattle.tv_route.specs.Route.{route_of};
 ghost use Rattle.tv_step.specs.Range.{AreWords};
+ghost use Rattle.tv_step.specs.RunTrace.{IsRefused};
 
 use crate::fault::FillFault;
 use crate::front::fill_front;
@@ -24,7 +25,7 @@ use tv_benes::Net;
 use tv_core::{F, PairNum, Put, Values};
 use tv_layout::{log_of, wires};
 use tv_route::{Settings, routing_settings};
-use tv_step::{Lines, States, Trace, trace};
+use tv_step::{Lines, States, Trace, TraceFault, trace};
 
 /// A run that answers, ready to assign the values of its system's wires. Contracts see its answer
 /// and the list of the values.
@@ -40,7 +41,7 @@ pub struct Filling<'a, const W: u32> {
     t: u32,
     states: States,
     lines: Lines,
-    // The items of 2^`k` lines, in time order, and room for as many.
+    // The items of 2^`k` lines, in time order, and scratch space of the same length.
     items: Vec<PairNum>,
     spare: Vec<PairNum>,
     net: Net,
@@ -101,8 +102,8 @@ impl<'a, const W: u32> Filling<'a, W> {
         self.count
     }
 
-    /// Assigns the values, in the order of the wires, and frees what was held for them. Takes time
-    /// linear in their number, and allocates nothing.
+    /// Assigns the values, in the order of the wires, and frees the memory that they took. Takes
+    /// time linear in their number, and allocates nothing.
     pub fn give<V: Values>(self, v: &mut V) -> Put<()>
         requires whole { V.giving.broken v.old ≡ false }
         ensures gives { GivesIn V.giving v.old v.new self.entry.values result }
@@ -163,14 +164,14 @@ pub fn prepare<'a, const W: u32>(
     aux: &'a [u32],
     t: u32,
     net: Net,
-) -> Result<Filling<'a, W>, FillFault>
+) -> Result<Filling<'a, W>, TraceFault>
     requires limits { WithinLimits W image.now (length tape.now) t }
     requires image { length image.now * (W / 8) ≤ 2 ^ W }
     requires tape_words { AreWords W tape.now }
     requires aux_words { AreWords W aux.now }
     requires aux { length aux.now < 2 ^ 32 }
     ensures filling { IfOk result (IsFilling net (run_on W image.now tape.now aux.now t)) }
-    ensures fault { IfErr result (IsUnfilled (run_on W image.now tape.now aux.now t)) }
+    ensures fault { IfErr result (IsRefused W image.now tape.now aux.now t) }
 {
     let Trace {
         answer,

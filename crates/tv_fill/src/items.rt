@@ -2,7 +2,7 @@
 ghost use Rattle.std.specs.Prelude.{◌≡◌, ◌+◌, ◌^◌, ◌≤◌, [], ◌∷◌, ◌++◌, length, map, All};
 ghost use Rattle.std.specs.Prelude.{IfOk, OnOk};
 ghost use Rattle.tv_layout.specs.Sound.{padding};
-ghost use Rattle.tv_lines.specs.PackedLines.{InRange, packed_item};
+ghost use Rattle.tv_lines.specs.PackedLines.{LineInRange, packed_item};
 ghost use Rattle.tv_step.specs.Cells.{boot_from};
 ghost use Rattle.tv_fill.specs.Filled.{filled_lines};
 
@@ -24,7 +24,7 @@ pub(crate) fn pack_items(
 ) -> Result<Vec<PairNum>, AllocError>
     requires few { k ≤ 20 }
     requires fits { length image.now + length tape.now + length steps.now ≤ 2 ^ k }
-    requires steps { All InRange steps.now }
+    requires steps { All LineInRange steps.now }
     ensures { IfOk result (λ items. items.items
         ≡ map packed_item (filled_lines image.now tape.now steps.now k)) }
 {
@@ -41,7 +41,7 @@ pub(crate) fn pack_items(
 
 // The item of a line.
 fn push_line(items: &mut Vec<PairNum>, line: &Line) -> Result<(), AllocError>
-    requires { InRange line.now }
+    requires { LineInRange line.now }
     ensures { OnOk result (items.new.items ≡ items.old.items ++ packed_item line.now ∷ []) }
 {
     items.push(pack_item(line))?;
@@ -69,7 +69,7 @@ fn push_words(
 
 // The items of lines as they are.
 fn push_lines(items: &mut Vec<PairNum>, lines: &[Line]) -> Result<(), AllocError>
-    requires { All InRange lines.now }
+    requires { All LineInRange lines.now }
     ensures { OnOk result (items.new.items ≡ items.old.items ++ map packed_item lines.now) }
 {
     for line in lines {

@@ -46,7 +46,7 @@ impl<'a> Steps<'a> {
     }
 
     // Assigns the values of step `i`, on a primary tape of `n` words. Its data word is the one that
-    // it takes, or else the old of its third line.
+    // it takes, or else the old word of its third line.
     fn fill_step<const W: u32, V: Values>(&self, v: &mut V, n: u32, i: u32) -> Put<()>
         requires width { IsWidth W }
         requires short { n < 2 ^ 29 }

@@ -19,9 +19,9 @@ use Rattle.tv_top.specs.declared.refusal.Finish.TheVariants.{NotARun}
 use Rattle.tv_top.specs.Build.{program_system}
 use Rattle.tv_top.specs.Containers.{firsts_in_witness, witness_bad, witness_in}
 use Rattle.tv_top.specs.Assignment.{Assigned, Kept, assigned_by, assigned_of, assigned_run, kept_of, kept_run, not_run, run_ends, HasAssigned}
-use Rattle.tv_top.proofs.Answering.{completes_nothing}
+use Rattle.tv_top.proofs.AnswerLaws.{completes_nothing}
 use Rattle.tv_top.proofs.ContainerReads.{part_held}
-use Rattle.tv_top.proofs.Claiming.{IsHeld, if_ok, shows_input, shows_then, shows_made, shows_more}
+use Rattle.tv_top.proofs.ClaimLaws.{IsHeld, if_ok, shows_input, shows_then, shows_made, shows_more}
 use Rattle.tv_top.proofs.ProgramLaws.{has_image, within_limits}
 
 -- it ends as a run does, or says that there is none

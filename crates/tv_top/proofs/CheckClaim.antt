@@ -26,8 +26,8 @@ use Rattle.tv_top.specs.Finds.{Finds}
 use Rattle.tv_top.specs.Plan.{Named, name_at, Look, ◌>>=◌, look_on, held_at, input, settled, map_ok}
 use Rattle.tv_top.specs.Tapes.{publics_in, tape_sizes}
 use Rattle.tv_top.proofs.ContainerReads.{part_held, read_of}
-use Rattle.tv_top.proofs.Looking.{finds_as}
-use Rattle.tv_top.proofs.Claiming.{Promises, IsHeld, leads_to, made_is, shows_input, shows_then}
+use Rattle.tv_top.proofs.LookLaws.{finds_as}
+use Rattle.tv_top.proofs.ClaimLaws.{Promises, IsHeld, leads_to, made_is, shows_input, shows_then}
 
 -- ---- reading the system twice, and as many values as wires, is reading each once and whole
 
@@ -102,7 +102,7 @@ pub finds_once : (system witness tape : Named) (old new : Outside) (found : Resu
 finds_once system witness tape old new found finds =
     let same = finds_as (λ files. sym (once system witness tape files)) finds in
     record {
-      told = same.told;
+      known = same.known;
       absent = same.absent;
       only = same.only;
       leaves = same.leaves;
@@ -141,7 +141,7 @@ all_shown system witness tape files =
     (assignments_below in_witness.bytes z (read_of witness_bad (assignment_of in_witness.bytes) z in_witness.reads)))))
 
 pub checks : Promises OnCheck
-checks words count call answers system witness tape are files told =
+checks words count call answers system witness tape are files known =
     leads_to (check_plan (name_at 1 system) (name_at 2 witness) (name_at 3 tape)) check_ends (check_of (name_at 1 system) (name_at 2 witness) (name_at 3 tape))
     (HasVerdict files system witness tape) words count files call
-    (rw are refl) (tt, (tt, (tt, tt))) tt refl told answers (all_shown system witness tape files)
+    (rw are refl) (tt, (tt, (tt, tt))) tt refl known answers (all_shown system witness tape files)

@@ -1,7 +1,6 @@
 -- The names that most proofs here cite, passed on from one place. Declares nothing.
 pub use Rattle.tv_files.specs.Outside.{Names, Outside, OnlyWrites, OnlyReads, MissesOnly, NoneFell, RanOut, SameCounts}
 pub use Rattle.tv_word.specs.Counts.{Rose}
-pub use Rattle.tv_top.specs.declared.amount.Amount.{Amount}
 pub use Rattle.tv_top.specs.declared.refusal.Bad.{Bad}
 pub use Rattle.tv_top.specs.declared.refusal.Ending.{Ending}
 pub use Rattle.tv_top.specs.declared.refusal.Finish.{Finish}
@@ -17,8 +16,8 @@ pub use Rattle.tv_top.specs.declared.inputs.Inputs.{Inputs}
 pub use Rattle.tv_top.specs.declared.programs.Program.{Program}
 pub use Rattle.tv_top.specs.declared.programs.Width.{Width}
 pub use Rattle.tv_top.specs.declared.programs.Width.TheVariants.{Bits16, Bits32}
-pub use Rattle.tv_top.specs.Plan.{Named, name_at, Look, Outcome, Plan, Write, Answer, files_of, answer_by, answer_of, ending_by, writes_by, outcome_by}
-pub use Rattle.tv_top.specs.Plan.{AreWithin, ◌>>=◌, held_at, made_of, settled, same_in, same_of, is_out, limit_of, request_of, map_ok, look_on, within}
+pub use Rattle.tv_top.specs.Plan.{Named, Amount, name_at, Look, Outcome, Plan, Write, Answer, files_of, answer_by, answer_of, ending_by, writes_by, outcome_by}
+pub use Rattle.tv_top.specs.Plan.{◌>>=◌, held_at, made_of, settled, same_in, same_of, is_out, limit_of, request_of, map_ok, look_on, within}
 pub use Rattle.tv_top.specs.Plan.{refusal_of}
 unfoldable pub use Rattle.tv_top.specs.Plan.{input}
 pub use Rattle.tv_top.specs.Finds.{IsOneOf, IsFound, Finds, Leaves, Makes, Spares}

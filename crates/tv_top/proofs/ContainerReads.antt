@@ -11,7 +11,7 @@ use Rattle.tv_container.specs.declared.why.ReadRefusal.TheVariants as refusal
 use Rattle.tv_top.specs.declared.refusal.Bad.TheVariants.{Limit}
 use Rattle.tv_top.specs.declared.refusal.Stop.TheVariants as stop
 use Rattle.tv_top.specs.Containers.{container_result, refusal_stop, system_bad, witness_bad}
-use Rattle.tv_top.proofs.Looking.{finds_still}
+use Rattle.tv_top.proofs.LookLaws.{finds_still}
 
 -- what a refusal of a reader is: a fault of this word, where it is that of reading, or contents that may be refused so
 abbrev pub StopsBy : ℕ → List Size → Type 0 → Stop → Type 0
@@ -26,12 +26,12 @@ came stop (Err why) = Err (stop why)
 
 module _ {Y E A : Type 0} (view : Y → A) (of : E → Stop) (fault : E) (word : ℕ) (sizes : List Size) (name : List ℕ) (due : Option (List ℕ) → Look A)
     (old new : Outside) (Stands : E → Type 0) where
-  told : (result : Result Y E) → of fault ≡ stop.Fault word → word ≤ (due None).at → Known old name (λ file. IsFound view (due (Some file)) (came of result))
+  known : (result : Result Y E) → of fault ≡ stop.Fault word → word ≤ (due None).at → Known old name (λ file. IsFound view (due (Some file)) (came of result))
       → (IsMissing old name → result ≡ Err fault) → (files : Names) → old.contents ≡ Some files →
       (file : Option (List ℕ)) → files name ≡ file → IsFound view (due file) (came of result)
   unfolding bytes_of
-  told result faulty within gives missing files tells (Some file) is = gives file (rw (tells, is) refl)
-  told result faulty within gives missing files tells None is = rw (missing (record { files = files; told = tells; none = is }), faulty) within
+  known result faulty within gives missing files tells (Some file) is = gives file (rw (tells, is) refl)
+  known result faulty within gives missing files tells None is = rw (missing (record { files = files; known = tells; none = is }), faulty) within
 
   -- a file was read by a reader that stands so after a refusal
   pub finds_file : (result : Result Y E) → of fault ≡ stop.Fault word → word ≤ (due None).at → (due None).gives ≡ Err (stop.Fault word)
@@ -41,9 +41,9 @@ module _ {Y E A : Type 0} (view : Y → A) (of : E → Stop) (fault : E) (word :
       MatchResult result (λ _. new ≡ old) Stands → (IsMissing old name → result ≡ Err fault)
       → Finds view (word ∷ []) sizes (λ held. due (held name)) old new (came of result)
   finds_file (Ok y) faulty within none stops stands gives looks missing = rw looks
-      (finds_still (λ files tells. told (Ok y) faulty within gives missing files tells (files name) refl))
+      (finds_still (λ files tells. known (Ok y) faulty within gives missing files tells (files name) refl))
   finds_file (Err why) faulty within none stops stands gives looks missing = record {
-    told = λ files tells. told (Err why) faulty within gives missing files tells (files name) refl;
+    known = λ files tells. known (Err why) faulty within gives missing files tells (files name) refl;
     absent = λ files tells. elim ((stands why looks).1 files tells) [ inl same ↦ inl same | inr missed ↦ inr (word, rw missed none) ];
     only = (stands why looks).0;
     leaves = (stands why looks).2;
@@ -78,12 +78,12 @@ read_caused refusal.Fault old new rose is = rose
 read_caused (refusal.Bad at what) old new leaves is = cc
 read_caused refusal.Memory old new leaves is = cc
 
-read_told : {Y A : Type 0} (view : Y → A) (word : ℕ) (bad : Fault → Bad) (due : Result A Fault) (result : Result Y ReadRefusal) → ReadsAsBy result view due →
+read_found : {Y A : Type 0} (view : Y → A) (word : ℕ) (bad : Fault → Bad) (due : Result A Fault) (result : Result Y ReadRefusal) → ReadsAsBy result view due →
     IsFound view (record { at = word; gives = made_of (container_result bad due) }) (came (refusal_stop word bad) result)
-read_told view word bad due (Ok y) gives = rw gives refl
-read_told view word bad due (Err (refusal.Bad at what)) gives = rw (gives.bad at what refl) refl
-read_told view word bad due (Err refusal.Fault) gives = omega arith
-read_told view word bad due (Err refusal.Memory) gives = tt
+read_found view word bad due (Ok y) gives = rw gives refl
+read_found view word bad due (Err (refusal.Bad at what)) gives = rw (gives.bad at what refl) refl
+read_found view word bad due (Err refusal.Fault) gives = omega arith
+read_found view word bad due (Err refusal.Memory) gives = tt
 
 -- what reading a container found
 pub finds_read : {Y A : Type 0} (view : Y → A) (place : Named) (bad : Fault → Bad) (read : List ℕ → Result A Fault) (old new : Outside)
@@ -101,7 +101,7 @@ finds_read view place bad read old new result none gives looks missing =
       stopped.there,
       read_spares place.word bad why old new stopped.leaves,
       read_caused why old new stopped.leaves,
-    )) (λ file there. read_told view place.word bad (read file) result (gives file there)) looks missing
+    )) (λ file there. read_found view place.word bad (read file) result (gives file there)) looks missing
 
 -- what is found of a container that isn't refused
 pub read_of : {A : Type 0} (bad : Fault → Bad) (read : Result A Fault) (x : A) → container_result bad read ≡ Ok x → read ≡ Ok x

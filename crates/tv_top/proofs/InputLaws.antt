@@ -2,7 +2,7 @@
 use Rattle.std.proofs.Common.{ℕ, List, Ok}
 use Rattle.tv_top.proofs.Common.{Names, name_at, ◌>>=◌, input, settled, bits, program_in}
 use Rattle.tv_top.specs.Inputs.{primary_in, aux_in, inputs_of, HasInputs}
-use Rattle.tv_top.proofs.Claiming.{IsHeld, shows_input, shows_then, shows_made}
+use Rattle.tv_top.proofs.ClaimLaws.{IsHeld, shows_input, shows_then, shows_made}
 
 pub inputs_shown : (text tape aux : List ℕ) (files : Names)
     → IsHeld (inputs_of (name_at 1 text) (name_at 2 tape) (name_at 3 aux) files).gives (HasInputs files text tape aux)

@@ -8,14 +8,14 @@ use Rattle.tv_top.specs.Listing.{listing_ends, listing_plan, HasListed, OnListin
 use Rattle.tv_top.specs.Plan.{name_at}
 use Rattle.tv_top.specs.Programs.{bits}
 use Rattle.tv_top.proofs.AssignmentLaws.{assigned_fits, assigned_shown}
-use Rattle.tv_top.proofs.Claiming.{Promises, leads_to, if_ok, shows_more}
+use Rattle.tv_top.proofs.ClaimLaws.{Promises, leads_to, if_ok, shows_more}
 
 pub lists : Promises OnListing
 unfolding program_system
-lists words count call answers text first second witness order out by n t are is_by is_n is_t a b few some most files told =
+lists words count call answers text first second witness order out by n t are is_by is_n is_t a b few some most files known =
     leads_to (listing_plan (record { by = by; text = name_at 1 text; n = n; t = t; witness = name_at 4 witness; out = name_at 6 out })) (listing_ends by n t)
     (assigned_of (name_at 1 text) (name_at 4 witness)) (HasListed n t (files text) (files witness)) words count files call
-    (rw (are, is_by, is_n, is_t) refl) ((a, tt), ((b, tt), (tt, tt))) (omega arith, few, (omega arith, most, tt)) refl told answers
+    (rw (are, is_by, is_n, is_t) refl) ((a, tt), ((b, tt), (tt, tt))) (omega arith, few, (omega arith, most, tt)) refl known answers
     (shows_more _ _ _ (assigned_shown Benes files text n t witness few some most) (λ held has. record {
       assigned = has;
       satisfying = if_ok held _ (λ assigned is sat.

@@ -1,26 +1,23 @@
--- What holds of a program and of tapes that files hold, and of quantities among words.
-use Rattle.std.proofs.Common.{◌≡◌, ◌≤◌, ◌^◌, ℕ, ◌+◌, nat_le, List, [], ◌∷◌, length, Option, Some, None, option_map, Result, Ok, Err, inl, inr, refl, arith}
-use Rattle.std.specs.List.{find}
-use Rattle.std.specs.Option.{option_or}
-use Rattle.std.specs.Prelude.{IfOk, nat_lt}
-use Rattle.std.proofs.lemmas.Bool.{ltb-false, or_parts, cond_both}
+-- What holds of a program and of tapes that files hold.
+use Rattle.std.proofs.Common.{◌≡◌, ◌≤◌, ◌^◌, ℕ, ◌+◌, nat_le, List, length, Option, Result, Ok, Err, inl, inr, refl, arith}
+use Rattle.std.specs.Prelude.{IfOk}
+use Rattle.std.proofs.lemmas.Bool.{cond_both}
 use Rattle.tv_asm.proofs.RangeLemmas.{images_short, images_words}
 use Rattle.tv_asm.specs.Assembly.{assembled}
 use Rattle.tv_asm.specs.declared.fault.AsmFault.{AsmFault}
 use Rattle.tv_core.specs.declared.limits.TheConstants.{IMAGE_WORDS, TAPE_WORDS, AUX_WORDS, STEPS, TEXT_BYTES}
 use Rattle.tv_layout.specs.Places.{WithinLimits}
 use Rattle.tv_step.specs.Range.{AreWords}
-use Rattle.tv_tape.proofs.Narrowing.{numbers_below, numbers_few}
+use Rattle.tv_tape.proofs.Narrow.{numbers_below, numbers_few}
 use Rattle.tv_tape.specs.Tape.{tape_of}
 use Rattle.tv_tape.specs.declared.items.TapeFault.{TapeFault}
 use Rattle.tv_word.specs.Widths.{IsWidth}
 use Rattle.tv_top.specs.Inputs.{AreInputs, HasInputs}
 use Rattle.tv_top.specs.Finds.{made_by}
 use Rattle.tv_top.specs.Tapes.{tape_stop, numbers_of, numbers_in}
-use Rattle.tv_top.proofs.Common.{Names, Inputs, Amount, Program, Width, Bits16, Bits32, Bad, Refusal, Size, Holds, Named, AreWithin, same_of, is_out}
-use Rattle.tv_top.proofs.Common.{limit_of, refusal_of, within, HasImage, bits, image_words, width_of_text, program_result, program_by, program_of, program_in}
+use Rattle.tv_top.proofs.Common.{Names, Inputs, Program, Width, Bits16, Bits32, Bad, Size, Holds}
+use Rattle.tv_top.proofs.Common.{within, HasImage, bits, image_words, width_of_text, program_result, program_by, program_of, program_in}
 use Rattle.tv_top.specs.declared.refusal.Bad.TheVariants as bad
-use Rattle.tv_top.specs.declared.refusal.Refusal.TheVariants.{Limit}
 use Rattle.tv_top.specs.declared.refusal.Size.TheVariants.{TapeWords, AuxWords, TextBytes}
 
 pub is_width : (width : Width) → IsWidth (bits width)
@@ -92,21 +89,3 @@ inputs_are text tape aux files inputs (inl (program, text_holds, inl (primary, t
 inputs_are text tape aux files inputs (inl (program, text_holds, inl (primary, tape_holds, inr (bad, refused, e)))) = cc
 inputs_are text tape aux files inputs (inl (program, text_holds, inr (bad, refused, e))) = cc
 inputs_are text tape aux files inputs (inr (bad, refused, e)) = cc
-
--- ---- words that aren't refused
-
-not_first : (one other : Option Refusal) → option_or one other ≡ None → other ≡ None
-not_first None other e = e
-not_first (Some why) other e = cc
-
-unlimited : (amounts : List Amount) → limit_of amounts ≡ None → AreWithin amounts
-unlimited [] e = tt
-unlimited (one ∷ more) e =
-    cond_both (is_out one) (Some one) (find is_out more)
-    (λ found. option_map (λ (one : Amount). Limit one.what one.has one.most) found ≡ None → AreWithin (one ∷ more)) (λ _ e. cc)
-    (λ is rest. let tests = or_parts (nat_lt one.has one.least) (nat_lt one.most one.has) is in
-    (ltb-false one.has one.least tests.0, ltb-false one.most one.has tests.1, unlimited more rest)) e
-
--- the quantities of words that aren't refused are within their limits
-pub amounts_within : (reads writes : List Named) (amounts : List Amount) → refusal_of reads writes amounts ≡ None → AreWithin amounts
-amounts_within reads writes amounts e = unlimited amounts (not_first (same_of reads writes) (limit_of amounts) e)

@@ -6,7 +6,7 @@ use Rattle.tv_step.proofs.EndLaws.{answer_is_within}
 use Rattle.tv_top.proofs.Common.{Inputs, name_at, bits}
 use Rattle.tv_top.specs.Inputs.{inputs_of, run_end}
 use Rattle.tv_top.specs.Run.{run_plan, run_ends, HasRun, OnRun}
-use Rattle.tv_top.proofs.Claiming.{Promises, leads_to, if_ok, shows_more}
+use Rattle.tv_top.proofs.ClaimLaws.{Promises, leads_to, if_ok, shows_more}
 use Rattle.tv_top.proofs.InputLaws.{inputs_shown}
 
 -- an answer is what the machine accepts by
@@ -19,8 +19,8 @@ accepted steps inputs value step is = (
 )
 
 pub runs : Promises OnRun
-runs words count call answers text tape aux number steps are is some most files told =
+runs words count call answers text tape aux number steps are is some most files known =
     leads_to (run_plan (name_at 1 text) (name_at 2 tape) (name_at 3 aux) steps) (run_ends steps) (inputs_of (name_at 1 text) (name_at 2 tape) (name_at 3 aux))
     (HasRun files text tape aux steps) words count files call
-    (rw (are, is) refl) (tt, (tt, (tt, tt))) (omega arith, most, tt) refl told answers
+    (rw (are, is) refl) (tt, (tt, (tt, tt))) (omega arith, most, tt) refl known answers
     (shows_more _ _ _ (inputs_shown text tape aux files) (λ held has. record { inputs = has; accepts = if_ok held _ (λ inputs _. accepted steps inputs) }))

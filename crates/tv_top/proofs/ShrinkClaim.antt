@@ -12,7 +12,7 @@ use Rattle.tv_shrink.specs.Shrunk.{Shrunken}
 use Rattle.tv_top.proofs.Common.{Bad, Holds, Then, name_at, input, settled}
 use Rattle.tv_top.specs.Containers.{system_bad, system_in}
 use Rattle.tv_top.specs.Shrink.{terms_bad, narrow_shrunk, shrunk_of, shrunk_look, shrink_ends, shrink_plan, Keeps, IsShrunk, OnShrink}
-use Rattle.tv_top.proofs.Claiming.{Promises, leads_to, shows_input, shows_then, shows_made, shows_more}
+use Rattle.tv_top.proofs.ClaimLaws.{Promises, leads_to, shows_input, shows_then, shows_made, shows_more}
 use Rattle.tv_top.proofs.ContainerReads.{read_of}
 
 whole : (system : System) (file : Option (List ℕ)) → Holds system_in file (Ok system) → IsWhole system
@@ -28,9 +28,9 @@ kept_by system held false (Some has) whole e = rw (← e) tt
 
 pub shrinks : Promises OnShrink
 unfolding shrunk_look
-shrinks words count call answers system out are differ files told =
+shrinks words count call answers system out are differ files known =
     leads_to (shrink_plan (name_at 1 system) (name_at 2 out)) shrink_ends (shrunk_look (name_at 1 system))
-    (Then (Holds system_in (files system)) IsShrunk) words count files call (rw are refl) ((differ, tt), (tt, tt)) tt refl told answers
+    (Then (Holds system_in (files system)) IsShrunk) words count files call (rw are refl) ((differ, tt), (tt, tt)) tt refl known answers
     (shows_then (input (name_at 1 system) system_in files) (λ s. settled (shrunk_of s)) _ _ (shows_input (name_at 1 system) system_in files) (λ s holds.
     shows_more _ _ _ (shows_made (shrunk_of s))
     (λ held is. record { is = sym is; keeps = kept_by s held (ltb most (all_terms s)) (first_wide s.constraints) (whole s (files system) holds) (sym is) })))

@@ -39,15 +39,15 @@ due_at : (word : ℕ) (found : Result System Bad) → word ≤ (look_on word (ma
 due_at word (Ok system) = omega arith
 due_at word (Err bad) = omega arith
 
-shrink_told : (word : ℕ) (result : Result Shrunken ShrinkFault) (file : List ℕ)
+shrink_found : (word : ℕ) (result : Result Shrunken ShrinkFault) (file : List ℕ)
     → MatchResult result (λ shrunken. shrinking.Shrinks shrunken file) (λ fault. FaultMeans fault file) →
     IsFound (λ (s : Shrunken). s) (shrunk_due word (Some file)) (came (shrink_stop word) result)
-shrink_told word (Ok shrunken) file is = rw (is.is, le-ltb most (all_terms is.system) is.few, is.narrow, is.same) refl
-shrink_told word (Err (fault.Bad at why)) file is = rw is refl
-shrink_told word (Err (fault.Terms has)) file is = rw (is.is, ← is.terms, lt-ltb most has is.many) refl
-shrink_told word (Err (fault.Combination has)) file is = rw (is.is, le-ltb most (all_terms is.system) is.few, is.first) refl
-shrink_told word (Err fault.Fault) file is = due_at word (system_in file)
-shrink_told word (Err fault.Memory) file is = tt
+shrink_found word (Ok shrunken) file is = rw (is.is, le-ltb most (all_terms is.system) is.few, is.narrow, is.same) refl
+shrink_found word (Err (fault.Bad at why)) file is = rw is refl
+shrink_found word (Err (fault.Terms has)) file is = rw (is.is, ← is.terms, lt-ltb most has is.many) refl
+shrink_found word (Err (fault.Combination has)) file is = rw (is.is, le-ltb most (all_terms is.system) is.few, is.first) refl
+shrink_found word (Err fault.Fault) file is = due_at word (system_in file)
+shrink_found word (Err fault.Memory) file is = tt
 
 -- what shrinking a system found
 pub finds_shrunk : (place : Named) (old new : Outside) (result : Result Shrunken ShrinkFault)
@@ -60,4 +60,4 @@ finds_shrunk place old new result gives halts missing =
     finds_file (λ (s : Shrunken). s) (shrink_stop place.word) fault.Fault place.word shrink_sizes place.name (shrunk_due place.word) old new
     (Halted old new place.name) result refl (omega arith) refl (shrink_stops place.word)
     (λ why halted. (halted.only, halted.there, shrink_spares place.word why old new halted.leaves, shrink_caused why old new halted.leaves))
-    (λ file there. shrink_told place.word result file (gives file there)) halts missing
+    (λ file there. shrink_found place.word result file (gives file there)) halts missing

@@ -14,7 +14,7 @@ use Rattle.tv_top.specs.declared.refusal.Size.TheVariants.{ImageWords}
 use Rattle.tv_top.specs.Disasm.{text_of}
 use Rattle.tv_top.specs.Finds.{made_by}
 use Rattle.tv_top.specs.Tapes.{tape_stop, numbers_of}
-use Rattle.tv_top.proofs.Looking.{IsLimited, same_err}
+use Rattle.tv_top.proofs.LookLaws.{IsLimited, same_err}
 
 program_result_limited : (width : Width) (found : Result (List ℕ) AsmFault) → IsLimited (program_result width found) (ImageWords ∷ [])
 program_result_limited width (Ok words) what has most e = cc

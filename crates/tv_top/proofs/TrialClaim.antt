@@ -17,7 +17,7 @@ use Rattle.tv_step.specs.Range.{AreWords}
 use Rattle.tv_top.specs.declared.status.Status.TheVariants.{FileFault}
 use Rattle.tv_top.specs.Form.{form}
 use Rattle.tv_top.specs.Trial.{trial_of, trial_plan, IsTrial, Tries, OnTrial}
-use Rattle.tv_top.proofs.Claiming.{due_or_stopped, granted}
+use Rattle.tv_top.proofs.ClaimLaws.{due_or_stopped, granted}
 
 all_hold : (z : List ℕ) (list : List Constraint) → All (λ constraint. Holds constraint z) list → count_by (holds z) list ≡ length list
 all_hold z [] each = refl
@@ -62,10 +62,10 @@ stopped words seed k call answers (inr memory) = inr (inr memory)
 
 pub trials : (words : List (List ℕ)) (count : ℕ) (call : Call) → Answers (request_of (form words)) count call.before call.after call.status
     → OnTrial words count call
-trials words count call asked first second seed k are is_seed is_k some most files told =
+trials words count call asked first second seed k are is_seed is_k some most files known =
     let answers = granted (trial_plan seed k) words count call (rw (are, is_seed, is_k) refl) tt (omega arith, most, tt) asked in
     record {
-      ended = elim (due_or_stopped (trial_plan seed k) count files call answers (answers.ends files told)) [
+      ended = elim (due_or_stopped (trial_plan seed k) count files call answers (answers.ends files known)) [
         | inl answered ↦ inl (answered.status, answered.said)
         | inr cut ↦ stopped count seed k call answers cut
       ];

@@ -5,18 +5,19 @@ use Rattle.tv_core.specs.declared.limits.TheConstants.{STEPS}
 use Rattle.tv_layout.proofs.Systems.{system_complete}
 use Rattle.tv_layout.specs.RunInputs.{run_on}
 use Rattle.tv_step.specs.Machine.{Accepts}
+use Rattle.tv_step.specs.RunTrace.{IsRefused}
 use Rattle.tv_step.specs.declared.end.End.{End}
 use Rattle.tv_step.specs.declared.end.End.TheVariants.{Answer, Silent}
+use Rattle.tv_step.specs.declared.run_trace.TraceFault.TheVariants as traces
 use Rattle.tv_top.proofs.Common.{Outside, Named, name_at, Completes, Inputs, bits}
-use Rattle.tv_top.proofs.Answering.{completes_nothing}
+use Rattle.tv_top.proofs.AnswerLaws.{completes_nothing}
 use Rattle.tv_top.specs.declared.refusal.Finish.TheVariants.{Quiet, NoRun}
 use Rattle.tv_top.specs.Contents.{Content.{Values}}
-use Rattle.tv_fill.specs.Filled.{Filled, IsFilling, IsUnfilled}
-use Rattle.tv_fill.specs.declared.fault.FillFault.TheVariants as fills
+use Rattle.tv_fill.specs.Filled.{Filled, IsFilling}
 use Rattle.tv_top.specs.Kinds.{is_witness}
 use Rattle.tv_top.specs.Inputs.{inputs_of, AreInputs}
 use Rattle.tv_top.specs.Witness.{WitnessWords, program_values, witness_by, witness_ends, witness_plan, IsWitness, HasWitness, OnWitness}
-use Rattle.tv_top.proofs.Claiming.{Promises, leads_to, if_ok, shows_more}
+use Rattle.tv_top.proofs.ClaimLaws.{Promises, leads_to, if_ok, shows_more}
 use Rattle.tv_top.proofs.InputLaws.{inputs_shown}
 use Rattle.tv_top.proofs.ProgramLaws.{within_limits, inputs_are}
 use Rattle.tv_top.proofs.RunClaim.{accepted}
@@ -46,19 +47,19 @@ filled w net t inputs filling width is = let fills = rw width at is in rw (fills
 
 -- and for one that doesn't there are none
 pub unfilled : (w : ℕ) (net : Net) (t : ℕ) (inputs : Inputs) (end : End) (places : List Named) (outside : Outside) → w ≡ bits inputs.program.width
-    → IsUnfilled (run_on w inputs.program.words inputs.tape inputs.aux t) (fills.NoRun end) →
+    → IsRefused w inputs.program.words inputs.tape inputs.aux t (traces.NoRun end) →
     Completes places (witness_ends net t inputs) outside outside (Ok (NoRun end))
 unfilled w net t inputs (Answer v step) places outside width is = let none = rw width at is in absurd (none.1 v (accepted t inputs v step (sym none.0)))
 unfilled w net t inputs end places outside width is = let none = rw width at is in
     rw (← none.0) (completes_nothing places (witness_by net t inputs end) (Ok (NoRun end)) outside refl)
 
 pub witnesses : Promises OnWitness
-witnesses words count call answers text tape aux number name last net t are is_net is first second third some most files told =
+witnesses words count call answers text tape aux number name last net t are is_net is first second third some most files known =
     let given : WitnessWords =
     record { net = net; text = name_at 1 text; tape = name_at 2 tape; aux = name_at 3 aux; t = t; witness = name_at 5 name } in
     leads_to (witness_plan given) (witness_ends net t) (inputs_of (name_at 1 text) (name_at 2 tape) (name_at 3 aux)) (HasWitness given files)
     words count files call
-    (rw (are, is_net, is) refl) ((first, tt), ((second, tt), ((third, tt), (tt, tt)))) (omega arith, most, tt) refl told answers
+    (rw (are, is_net, is) refl) ((first, tt), ((second, tt), ((third, tt), (tt, tt)))) (omega arith, most, tt) refl known answers
     (shows_more _ _ _ (inputs_shown text tape aux files) (λ held has. record {
       inputs = has;
       witness = if_ok held _ (λ inputs is v step end. witness_is net t inputs v (inputs_are text tape aux files inputs (rw is at has)) (omega arith) most

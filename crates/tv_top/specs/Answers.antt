@@ -1,16 +1,18 @@
 -- What every call of the command promises, by what its words ask for.
-use Rattle.std.specs.Prelude.{◌≡◌, ℕ, ◌⊎◌, List, [], ◌∷◌, map, Option, option_map, true, Result, Ok, Err}
+use Rattle.std.specs.Prelude.{◌≡◌, ℕ, ◌⊎◌, Bool, true, false, List, [], ◌∷◌, map, Option, option_map, Result, Ok, Err}
+use Rattle.std.specs.List.{list_any}
 use Rattle.tv_files.specs.Outside.{Names, Outside, WhereKnown, NoneFell, RanOut, with_bytes}
 use Rattle.tv_word.specs.Counts.{Rose}
 use Rattle.tv_top.specs.declared.refusal.Ending.{Ending}
 use Rattle.tv_top.specs.declared.refusal.Ending.TheVariants.{Refused, Stopped, Finished}
 use Rattle.tv_top.specs.declared.refusal.Finish.{Finish}
-use Rattle.tv_top.specs.declared.amount.Amount.{Amount}
 use Rattle.tv_top.specs.declared.refusal.Bad.TheVariants as bad
 use Rattle.tv_top.specs.declared.refusal.Quantity.{Quantity}
+use Rattle.tv_top.specs.declared.refusal.Quantity.TheVariants as quantity
 use Rattle.tv_top.specs.declared.refusal.Refusal.{Refusal}
 use Rattle.tv_top.specs.declared.refusal.Refusal.TheVariants as refusal
 use Rattle.tv_top.specs.declared.refusal.Size.{Size}
+use Rattle.tv_top.specs.declared.refusal.Size.TheVariants as size
 use Rattle.tv_top.specs.declared.refusal.Stop.{Stop}
 use Rattle.tv_top.specs.declared.refusal.Stop.TheVariants.{Fault, Contents}
 use Rattle.tv_top.specs.declared.refusal.Stop.TheVariants as stop
@@ -19,7 +21,7 @@ use Rattle.tv_top.specs.declared.status.Status.TheVariants.{FileFault, Memory}
 use Rattle.tv_top.specs.Codes.{says}
 use Rattle.tv_top.specs.Ends.{Said, SaidPart, Completes, Ends, IsConcluded, IsQuiet, IsUntouched}
 use Rattle.tv_top.specs.Finds.{Finds, IsOneOf}
-use Rattle.tv_top.specs.Plan.{Named, Outcome, Plan, answer_of}
+use Rattle.tv_top.specs.Plan.{Named, Amount, Outcome, Plan, answer_of}
 use Rattle.tv_top.specs.Status.{refusal_status, ending_status}
 
 -- the words of names
@@ -48,6 +50,15 @@ MayStop sizes (Contents (bad.Limit what has most)) = IsOneOf what sizes
 -- the quantities among the words
 abbrev pub quantities_of : List Amount → List Quantity
 quantities_of amounts = map (λ (a : Amount). a.what) amounts
+
+-- a file may hold the quantity that a word is
+abbrev pub is_in_files : Quantity → Size → Bool
+is_in_files quantity.TapeWords size.TapeWords = true
+is_in_files _ _ = false
+
+-- one of these quantities is among the words and in files
+abbrev pub is_shared : List Amount → List Size → Bool
+is_shared amounts sizes = list_any (λ (a : Amount). list_any (is_in_files a.what) sizes) amounts
 
 -- A refusal that comes of words alone: each, but where the words aren't refused a limit on a quantity that isn't among
 -- them, since a file may pass that one.

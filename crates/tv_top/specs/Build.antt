@@ -11,7 +11,6 @@ use Rattle.tv_layout.specs.Reduces.{Reduces}
 use Rattle.tv_layout.specs.Systems.{system_of}
 use Rattle.tv_word.specs.Numeral.{numeral}
 use Rattle.tv_top.specs.declared.build.BuildArgs.{BuildArgs}
-use Rattle.tv_top.specs.declared.amount.Amount.{Amount}
 use Rattle.tv_top.specs.declared.programs.Program.{Program}
 use Rattle.tv_top.specs.declared.refusal.Bad.{Bad}
 use Rattle.tv_top.specs.declared.refusal.Finish.TheVariants.{Quiet}
@@ -19,7 +18,7 @@ use Rattle.tv_top.specs.declared.refusal.Quantity.TheVariants.{TapeWords, Steps}
 use Rattle.tv_top.specs.Claims.{Call, Holds, AnswersOrStops}
 use Rattle.tv_top.specs.Contents.{Content.{Constraints}}
 use Rattle.tv_top.specs.Kinds.{is_quiet}
-use Rattle.tv_top.specs.Plan.{Named, Plan, Outcome, name_at, named, input, outcome_by}
+use Rattle.tv_top.specs.Plan.{Named, Amount, Plan, Outcome, name_at, named, input, outcome_by}
 use Rattle.tv_top.specs.Programs.{bits, program_in, program_sizes}
 
 -- the network that the word after those of the command names: none is Benes' one, and `waksman` is Waksman's

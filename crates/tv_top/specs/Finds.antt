@@ -46,7 +46,7 @@ Leaves found old new = MatchResult found (λ _. new ≡ old) (λ stop. Spares st
 -- these quantities alone, be their contents known or not.
 pub record Finds {X A : Type 0} (view : X → A) (words : List ℕ) (sizes : List Size) (due : Names → Look A)
     (old new : Outside) (found : Result X Stop) : Type 0 where
-  pub told : WhereKnown old (λ files. IsFound view (due files) found)
+  pub known : WhereKnown old (λ files. IsFound view (due files) found)
   pub absent : WhereKnown old (λ files.
       (new.absent ≡ old.absent) ⊎ ((word : ℕ) × ((due files).gives ≡ Err (Fault word))))
   pub only : OnlyReads old new

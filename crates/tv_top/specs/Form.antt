@@ -1,20 +1,18 @@
--- The forms of words, and the plans of jobs.
+-- The forms of words.
 use Rattle.std.specs.Prelude.{ℕ, ◌^◌, List, [], ◌∷◌, Option, Some, None, option_map, codes, if◌then◌else◌}
 use Rattle.std.specs.Str.{bytes_eq}
 use Rattle.tv_word.specs.Numeral.{numeral}
-use Rattle.tv_top.specs.declared.job.Job.{Job}
-use Rattle.tv_top.specs.declared.job.Job.TheVariants.{Asm, Disasm, Run, Build, Witness, Check, Extract, Trial, Shrink, Listing}
-use Rattle.tv_top.specs.Asm.{asm_asks, asm_plan}
-use Rattle.tv_top.specs.Build.{net_word, build_asks, build_plan}
-use Rattle.tv_top.specs.Check.{check_asks, check_plan}
-use Rattle.tv_top.specs.Disasm.{width_word, disasm_asks, disasm_plan}
-use Rattle.tv_top.specs.Extract.{extract_asks, extract_plan}
-use Rattle.tv_top.specs.Listing.{by_word, listing_asks, listing_plan}
+use Rattle.tv_top.specs.Asm.{asm_plan}
+use Rattle.tv_top.specs.Build.{net_word, build_plan}
+use Rattle.tv_top.specs.Check.{check_plan}
+use Rattle.tv_top.specs.Disasm.{width_word, disasm_plan}
+use Rattle.tv_top.specs.Extract.{extract_plan}
+use Rattle.tv_top.specs.Listing.{by_word, listing_plan}
 use Rattle.tv_top.specs.Plan.{Plan, name_at}
-use Rattle.tv_top.specs.Run.{run_asks, run_plan}
-use Rattle.tv_top.specs.Shrink.{shrink_asks, shrink_plan}
-use Rattle.tv_top.specs.Trial.{trial_asks, trial_plan}
-use Rattle.tv_top.specs.Witness.{witness_asks, witness_plan}
+use Rattle.tv_top.specs.Run.{run_plan}
+use Rattle.tv_top.specs.Shrink.{shrink_plan}
+use Rattle.tv_top.specs.Trial.{trial_plan}
+use Rattle.tv_top.specs.Witness.{witness_plan}
 
 -- what two words mean together, where each means something, and what three do
 abbrev pub with_two : {A B C : Type 0} → (A → B → C) → Option A → Option B → Option C
@@ -91,16 +89,3 @@ form (name ∷ words) =
     else (if bytes_eq name (codes "trial") then trial_form words
     else (if bytes_eq name (codes "shrink") then shrink_form words
     else (if bytes_eq name (codes "listing") then listing_form words else None)))))))))
-
--- the plan of the code's job
-abbrev pub plan_of : Job → Plan
-plan_of (Asm args) = asm_asks args
-plan_of (Disasm args) = disasm_asks args
-plan_of (Run args) = run_asks args
-plan_of (Build args) = build_asks args
-plan_of (Witness args) = witness_asks args
-plan_of (Check args) = check_asks args
-plan_of (Extract args) = extract_asks args
-plan_of (Trial args) = trial_asks args
-plan_of (Shrink args) = shrink_asks args
-plan_of (Listing args) = listing_asks args

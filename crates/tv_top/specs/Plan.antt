@@ -1,9 +1,8 @@
 -- What a command's words mean: a plan, whose parts all clauses share.
-use Rattle.std.specs.Prelude.{ℕ, ◌+◌, ◌≤◌, max, Bool, List, [], ◌∷◌, length, Option, Some, None, option_map, find, Result, Ok, Err, nat_le, nat_lt, ◌||◌, if◌then◌else◌}
+use Rattle.std.specs.Prelude.{ℕ, ◌+◌, max, Bool, List, [], ◌∷◌, length, Option, Some, None, option_map, find, Result, Ok, Err, nat_le, nat_lt, ◌||◌, if◌then◌else◌}
 use Rattle.std.specs.Option.{option_or}
 use Rattle.std.specs.Str.{bytes_eq}
 use Rattle.tv_files.specs.Outside.{Names}
-use Rattle.tv_top.specs.declared.amount.Amount.{Amount}
 use Rattle.tv_top.specs.declared.place.Place.{Place}
 use Rattle.tv_top.specs.declared.refusal.Bad.{Bad}
 use Rattle.tv_top.specs.declared.refusal.Bad.TheVariants as bad
@@ -11,6 +10,7 @@ use Rattle.tv_top.specs.declared.refusal.Ending.{Ending}
 use Rattle.tv_top.specs.declared.refusal.Ending.TheVariants.{Refused, Stopped, Finished}
 use Rattle.tv_top.specs.declared.refusal.Finish.{Finish}
 use Rattle.tv_top.specs.declared.refusal.Finish.TheVariants.{Quiet}
+use Rattle.tv_top.specs.declared.refusal.Quantity.{Quantity}
 use Rattle.tv_top.specs.declared.refusal.Refusal.{Refusal}
 use Rattle.tv_top.specs.declared.refusal.Refusal.TheVariants.{Usage, SameName, Limit}
 use Rattle.tv_top.specs.declared.refusal.Size.{Size}
@@ -48,6 +48,13 @@ pub record Outcome : Type 0 where
 abbrev pub writes_bytes : List ℕ → Outcome
 writes_bytes bytes = record { files = Bytes bytes ∷ []; finish = Quiet }
 
+-- a quantity that a word is: how many there are, and how many there may be
+pub record Amount : Type 0 where
+  pub what : Quantity
+  pub has : ℕ
+  pub least : ℕ
+  pub most : ℕ
+
 -- The names that are read and that are written, in order of their words; the quantities among the words, with their
 -- limits; the quantities of which the files that are read may hold too many; how it may end; and what the files'
 -- contents lead to.
@@ -78,11 +85,6 @@ is_out one = nat_lt one.has one.least || nat_lt one.most one.has
 -- the first quantity that does
 abbrev pub limit_of : List Amount → Option Refusal
 limit_of amounts = option_map (λ (one : Amount). Limit one.what one.has one.most) (find is_out amounts)
-
--- each quantity is within its limits
-abbrev pub AreWithin : List Amount → Type 0
-AreWithin [] = Unit {0}
-AreWithin (one ∷ more) = (one.least ≤ one.has) × (one.has ≤ one.most) × AreWithin more
 
 -- what names and quantities are refused for
 abbrev pub refusal_of : List Named → List Named → List Amount → Option Refusal

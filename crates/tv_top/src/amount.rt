@@ -1,59 +1,62 @@
-//! The quantities among the words, and their limits.
-ghost use Rattle.std.specs.Prelude.{◌≡◌};
-ghost use Rattle.tv_core.specs.declared.limits.TheConstants.{STEPS};
-ghost use Rattle.tv_top.specs.declared.refusal.Quantity.TheVariants.{Steps};
-ghost use Rattle.tv_top.specs.Build.{size_amounts};
-ghost use Rattle.tv_top.specs.Plan.{limit_of};
+//! The quantities among the words, each within its limits.
+ghost use Rattle.std.specs.Prelude.{◌≡◌, ◌≤◌, true, false, MatchResult};
+ghost use Rattle.tv_top.specs.declared.refusal.Refusal.TheVariants.{Limit};
+ghost use Rattle.tv_top.specs.Plan.{is_out};
 
 use crate::refusal::{Quantity, Refusal};
-use tv_core::limits::{STEPS, TAPE_WORDS};
+use std::marker::Model;
+use tv_core::limits::{DRAWS, STEPS, TAPE_WORDS};
 
-/// A quantity that a word is: how many there are, and how many there may be.
-#[derive(Clone, Copy)]
-pub(crate) struct Amount {
-    pub(crate) what: Quantity,
-    pub(crate) has: u64,
-    pub(crate) least: u64,
-    pub(crate) most: u64,
+/// A number from `LEAST` to `MOST`. Contracts see it as the number.
+#[derive(Drop)]
+pub(crate) struct Limited<const LEAST: u32, const MOST: u32> {
+    number: u32,
 }
 
-impl Amount {
-    /// The most steps that a run may take, of which there is one at least.
-    pub(crate) fn steps(t: u64) -> Amount
-        ensures { result ≡ record { what = Steps; has = t; least = 1; most = STEPS } }
+/// How many words a primary tape has.
+pub(crate) type TapeWords = Limited<0, TAPE_WORDS>;
+
+/// The most steps of a run.
+pub(crate) type Steps = Limited<1, STEPS>;
+
+/// How many instructions are drawn.
+pub(crate) type Draws = Limited<1, DRAWS>;
+
+impl<const LEAST: u32, const MOST: u32> Model for Limited<LEAST, MOST> {
+    ghost use Rattle.std.specs.Prelude.{ℕ, ◌≤◌};
+
+    ghost Value = { ℕ };
+
+    ghost view = { λ l. l.number };
+
+    ghost invariant = { λ l. (LEAST ≤ l.number) × (l.number ≤ MOST) };
+
+    ghost inverse = { λ n. record { number = n } };
+}
+
+impl<const LEAST: u32, const MOST: u32> Limited<LEAST, MOST> {
+    /// The quantity that a word is, unless it passes its limit or doesn't reach the least.
+    pub(crate) fn of(what: Quantity, has: u64) -> Result<Limited<LEAST, MOST>, Refusal>
+        ensures { let out = is_out (record { what = what; has = has; least = LEAST; most = MOST }) in
+            MatchResult result (λ number. (number ≡ has) × (out ≡ false))
+            (λ why. (why ≡ Limit what has MOST) × (out ≡ true)) }
     {
-        Amount {
-            what: Quantity::Steps,
-            has: t,
-            least: 1,
-            most: u64::from(STEPS),
+        if has < u64::from(LEAST) || u64::from(MOST) < has {
+            return Err(Refusal::Limit {
+                what,
+                has,
+                most: u64::from(MOST),
+            });
         }
+        Ok(Limited { number: has as u32 })
     }
-}
 
-/// How many words the tape has, and how many steps there are at most.
-pub(crate) fn size_amounts(n: u64, t: u64) -> [Amount; 2]
-    ensures { result ≡ size_amounts n t }
-{
-    let tape_words = Amount {
-        what: Quantity::TapeWords,
-        has: n,
-        least: 0,
-        most: u64::from(TAPE_WORDS),
-    };
-    [tape_words, Amount::steps(t)]
-}
-
-/// The first quantity that passes its limit, or doesn't reach the least that it may be.
-pub(crate) fn limit_of(amounts: &[Amount]) -> Option<Refusal>
-    ensures { result ≡ limit_of amounts.now }
-{
-    let one = amounts
-        .iter()
-        .find(|one| one.has < one.least || one.most < one.has)?;
-    Some(Refusal::Limit {
-        what: one.what,
-        has: one.has,
-        most: one.most,
-    })
+    /// The number.
+    pub(crate) fn number(&self) -> u32
+        ensures number { result ≡ self.now }
+        ensures least { LEAST ≤ self.now }
+        ensures most { self.now ≤ MOST }
+    {
+        self.number
+    }
 }

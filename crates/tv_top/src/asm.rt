@@ -1,18 +1,16 @@
 //! `asm TEXT IMAGE`: the image of a program text.
-ghost use Rattle.std.specs.Prelude.{◌≡◌, [], ◌∷◌, map, string_bytes, IfOk};
-ghost use Rattle.std.specs.Prelude.{Some, None, MatchOption};
-ghost use Rattle.tv_top.specs.Answers.{Does};
-ghost use Rattle.tv_top.specs.Asm.{image_in, asm_asks};
+ghost use Rattle.std.specs.Prelude.{◌≡◌, [], ◌∷◌, IfOk};
+ghost use Rattle.tv_top.specs.Asm.{image_in};
 ghost use Rattle.tv_top.specs.Finds.{Finds, Makes};
-ghost use Rattle.tv_top.specs.Form.{asm_form};
-ghost use Rattle.tv_top.specs.Plan.{input, named, refusal_of};
+ghost use Rattle.tv_top.specs.Plan.{input, named};
 ghost use Rattle.tv_top.specs.Programs.{image_bytes, image_of, program_sizes};
 
 use crate::bytes::limited_bytes;
+use crate::job::Job;
 use crate::output::write_bytes;
-use crate::place::Place;
+use crate::place::{Place, keep_apart};
 use crate::programs::{Program, program_of};
-use crate::refusal::{Finish, Refusal, Size, Stop, refusal_of};
+use crate::refusal::{Finish, Refusal, Size, Stop};
 use std::alloc::{AllocError, Global};
 use tv_core::limits::TEXT_BYTES;
 use tv_files::Files;
@@ -25,41 +23,35 @@ pub(crate) struct AsmArgs<'a> {
     pub(crate) image: Place<'a>,
 }
 
-impl<'a> AsmArgs<'a> {
-    /// What the words after the command's name mean.
-    pub(crate) fn read(words: &'a [String]) -> Option<AsmArgs<'a>>
-        ensures { MatchOption result (asm_form (map string_bytes words.now) ≡ None)
-            (λ args. asm_form (map string_bytes words.now) ≡ Some (asm_asks args)) }
-    {
+impl<'a> Job<'a> for AsmArgs<'a> {
+    ghost use Rattle.std.specs.Prelude.{refl};
+    ghost use Rattle.tv_top.specs.Form.{asm_form};
+    ghost use Rattle.tv_top.specs.Asm.{asm_asks};
+
+    ghost form = { asm_form };
+
+    ghost asks = { asm_asks };
+
+    fn read(words: &'a [String]) -> Result<AsmArgs<'a>, Refusal> {
         let [text, image] = words else {
-            return None;
+            return Err(Refusal::Usage);
         };
-        Some(AsmArgs {
-            text: Place::at(1, text.as_str()),
-            image: Place::at(2, image.as_str()),
-        })
+        let (text, image) = (Place::at(1, text.as_str()), Place::at(2, image.as_str()));
+        keep_apart(&[text], &[image])?;
+        Ok(AsmArgs { text, image })
     }
 
-    /// What the words are refused for.
-    pub(crate) fn refusal(self) -> Option<Refusal>
-        ensures { let plan = asm_asks self.entry in
-            result ≡ refusal_of plan.reads plan.writes plan.amounts }
-    {
-        refusal_of(&[self.text], &[self.image], &[])
-    }
-
-    /// Reads the files, and writes the output.
-    pub(crate) fn perform<D: Files>(self, alloc: Global, files: &mut D) -> Result<Finish, Stop>
-        ensures { Does (asm_asks self.entry) (D.seen files.old) (D.seen files.new) result }
-    {
+    fn perform<D: Files>(self, alloc: Global, files: &mut D) -> Result<Finish, Stop> {
         let bytes = read_image(alloc, files, self.text)?;
         write_bytes(files, self.image, &bytes)?;
         Ok(Finish::Quiet)
     }
+
+    ghost apart = { λ _. refl };
 }
 
 /// The bytes of a program's image: those of each word, the lowest first.
-#[tactic(auto, using(crate::proofs::Spelling::word_spelled))]
+#[tactic(auto, using(crate::proofs::WordBytes::word_bytes_narrow))]
 fn image_bytes(alloc: Global, program: &Program) -> Result<Vec<u8>, AllocError>
     ensures { IfOk result (λ v. v.items ≡ image_bytes program.now) }
 {

@@ -1,7 +1,6 @@
 //! A program and an assignment of its system, each read and judged before the next, and the run
 //! that the assignment has.
-ghost use Rattle.std.specs.Prelude.{◌≡◌, ◌≤◌, [], ◌∷◌, Ok, IfOk, IfErr};
-ghost use Rattle.tv_core.specs.declared.limits.TheConstants.{TAPE_WORDS, STEPS};
+ghost use Rattle.std.specs.Prelude.{◌≡◌, [], ◌∷◌, Ok, IfOk, IfErr};
 ghost use Rattle.tv_extract.specs.Extraction.{IsFaultOf};
 ghost use Rattle.tv_top.specs.Assignment.{kept_in, kept_of, kept_run, not_run};
 ghost use Rattle.tv_top.specs.Build.{program_system};
@@ -9,6 +8,7 @@ ghost use Rattle.tv_top.specs.Finds.{Finds};
 ghost use Rattle.tv_top.specs.Plan.{named};
 ghost use Rattle.tv_top.specs.Programs.{HasImage, program_sizes};
 
+use crate::amount::{Steps, TapeWords};
 use crate::containers::read_first_witness;
 use crate::place::Place;
 use crate::programs::{Program, Width, read_program};
@@ -29,14 +29,12 @@ pub(crate) struct Assignment {
 
 /// How many wires the system of a program has.
 #[tactic(auto, unfolding(crate::specs::Build::program_system))]
-fn wires_of(program: &Program, n: u32, t: u32, net: Net) -> u32
-    requires image { HasImage program.now }
-    requires tape { n ≤ TAPE_WORDS }
-    requires some { 1 ≤ t }
-    requires few { t ≤ STEPS }
-    ensures { result ≡ (program_system net n t program.now).wires }
+fn wires_of(program: &Program, n: &TapeWords, t: &Steps, net: Net) -> u32
+    requires { HasImage program.now }
+    ensures { result ≡ (program_system net n.now t.now program.now).wires }
 {
     let image = program.words.as_slice();
+    let (n, t) = (n.number(), t.number());
     match program.width {
         Width::Bits16 => wires::<16>(image, n, t, net),
         Width::Bits32 => wires::<32>(image, n, t, net),
@@ -49,16 +47,13 @@ pub(crate) fn read_assigned<D: Files>(
     alloc: Global,
     files: &mut D,
     text: Place<'_>,
-    n: u32,
-    t: u32,
+    n: &TapeWords,
+    t: &Steps,
     net: Net,
     witness: Place<'_>,
 ) -> Result<Assignment, Stop>
-    requires tape { n ≤ TAPE_WORDS }
-    requires some { 1 ≤ t }
-    requires few { t ≤ STEPS }
     ensures found { Finds kept_in (text.entry.word ∷ witness.entry.word ∷ []) program_sizes
-        (kept_of net n t (named text.entry) (named witness.entry))
+        (kept_of net n.now t.now (named text.entry) (named witness.entry))
         (D.seen files.old) (D.seen files.new) result }
     ensures fits { IfOk result (λ assigned. HasImage assigned.program) }
 {
@@ -74,16 +69,13 @@ pub(crate) fn read_assigned<D: Files>(
 pub(crate) fn run_of(
     alloc: Global,
     assigned: &Assignment,
-    n: u32,
-    t: u32,
+    n: &TapeWords,
+    t: &Steps,
     net: Net,
 ) -> Result<Run, ExtractFault>
-    requires image { HasImage assigned.now.program }
-    requires tape { n ≤ TAPE_WORDS }
-    requires some { 1 ≤ t }
-    requires few { t ≤ STEPS }
-    ensures run { IfOk result (λ run. kept_run net n t (kept_in assigned.now) ≡ Ok run) }
-    ensures fault { IfErr result (IsFaultOf (kept_run net n t (kept_in assigned.now))) }
+    requires { HasImage assigned.now.program }
+    ensures run { IfOk result (λ run. kept_run net n.now t.now (kept_in assigned.now) ≡ Ok run) }
+    ensures fault { IfErr result (IsFaultOf (kept_run net n.now t.now (kept_in assigned.now))) }
 {
     let has = assigned.first.count;
     let wants = wires_of(&assigned.program, n, t, net);
@@ -95,6 +87,7 @@ pub(crate) fn run_of(
     }
     let image = assigned.program.words.as_slice();
     let values = assigned.first.values.as_slice();
+    let (n, t) = (n.number(), t.number());
     match assigned.program.width {
         Width::Bits16 => extract::<16>(alloc, image, n, t, net, values),
         Width::Bits32 => extract::<32>(alloc, image, n, t, net, values),

@@ -1,18 +1,16 @@
 //! `check SYSTEM WITNESS PUBLIC`: the three files, each read to its end and judged before the next,
 //! and the verdict on them.
-ghost use Rattle.std.specs.Prelude.{◌≡◌, [], ◌∷◌, map, string_bytes};
-ghost use Rattle.std.specs.Prelude.{Some, None, MatchOption};
-ghost use Rattle.tv_top.specs.Answers.{Does};
-ghost use Rattle.tv_top.specs.Check.{check_asks, check_of};
+ghost use Rattle.std.specs.Prelude.{[], ◌∷◌};
+ghost use Rattle.tv_top.specs.Check.{check_of};
 ghost use Rattle.tv_top.specs.declared.refusal.Size.TheVariants.{TapeWords};
 ghost use Rattle.tv_top.specs.Finds.{Finds};
-ghost use Rattle.tv_top.specs.Form.{check_form};
-ghost use Rattle.tv_top.specs.Plan.{named, refusal_of};
+ghost use Rattle.tv_top.specs.Plan.{named};
 ghost use Rattle.tv_top.specs.Tapes.{tape_sizes};
 
 use crate::containers::{judge_system, read_first_witness, survey_system};
+use crate::job::Job;
 use crate::place::Place;
-use crate::refusal::{Finish, Refusal, Stop, refusal_of};
+use crate::refusal::{Finish, Refusal, Stop};
 use crate::tapes::read_publics;
 use std::alloc::Global;
 use tv_check::Verdict;
@@ -26,38 +24,32 @@ pub(crate) struct CheckArgs<'a> {
     pub(crate) tape: Place<'a>,
 }
 
-impl<'a> CheckArgs<'a> {
-    /// What the words after the command's name mean.
-    pub(crate) fn read(words: &'a [String]) -> Option<CheckArgs<'a>>
-        ensures { MatchOption result (check_form (map string_bytes words.now) ≡ None)
-            (λ args. check_form (map string_bytes words.now) ≡ Some (check_asks args)) }
-    {
+impl<'a> Job<'a> for CheckArgs<'a> {
+    ghost use Rattle.std.specs.Prelude.{refl};
+    ghost use Rattle.tv_top.specs.Form.{check_form};
+    ghost use Rattle.tv_top.specs.Check.{check_asks};
+
+    ghost form = { check_form };
+
+    ghost asks = { check_asks };
+
+    fn read(words: &'a [String]) -> Result<CheckArgs<'a>, Refusal> {
         let [system, witness, tape] = words else {
-            return None;
+            return Err(Refusal::Usage);
         };
-        Some(CheckArgs {
+        Ok(CheckArgs {
             system: Place::at(1, system.as_str()),
             witness: Place::at(2, witness.as_str()),
             tape: Place::at(3, tape.as_str()),
         })
     }
 
-    /// What the words are refused for: nothing, since no file is written.
-    pub(crate) fn refusal(self) -> Option<Refusal>
-        ensures { let plan = check_asks self.entry in
-            result ≡ refusal_of plan.reads plan.writes plan.amounts }
-    {
-        let reads = [self.system, self.witness, self.tape];
-        refusal_of(&reads, &[], &[])
-    }
-
-    /// Reads the files, and reports the verdict.
-    pub(crate) fn perform<D: Files>(self, alloc: Global, files: &mut D) -> Result<Finish, Stop>
-        ensures { Does (check_asks self.entry) (D.seen files.old) (D.seen files.new) result }
-    {
+    fn perform<D: Files>(self, alloc: Global, files: &mut D) -> Result<Finish, Stop> {
         let verdict = verdict_on(alloc, files, self)?;
         Ok(Finish::Verdict(verdict))
     }
+
+    ghost apart = { λ _. refl };
 }
 
 /// The verdict on the three files. The system is read twice, each time to its end, so that a fault

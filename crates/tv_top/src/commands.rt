@@ -5,10 +5,20 @@ ghost use Rattle.tv_top.specs.Commands.{Commands};
 ghost use Rattle.tv_top.specs.Form.{form};
 ghost use Rattle.tv_top.specs.Plan.{request_of};
 
-use crate::job::Job;
+use crate::asm::AsmArgs;
+use crate::build::BuildArgs;
+use crate::check::CheckArgs;
+use crate::disasm::DisasmArgs;
+use crate::extract::ExtractArgs;
+use crate::job::carry_out;
+use crate::listing::ListingArgs;
 use crate::output::conclude;
-use crate::refusal::Ending;
+use crate::refusal::{Ending, Refusal};
+use crate::run::RunArgs;
+use crate::shrink::ShrinkArgs;
 use crate::status::Status;
+use crate::trial::TrialArgs;
+use crate::witness::WitnessArgs;
 use std::alloc::Global;
 use tv_files::Files;
 
@@ -18,11 +28,23 @@ fn answer<D: Files>(alloc: Global, words: &[String], files: &mut D) -> Status
     ensures { Answers (request_of (form (map string_bytes words.now))) (length words.now)
         (D.seen files.old) (D.seen files.new) result }
 {
-    let ending = match Job::of(words) {
-        Ok(job) => Ending::from(job.perform(alloc, files)),
-        Err(why) => Ending::Refused(why),
+    let count = words.len();
+    let [name, rest @ ..] = words else {
+        return conclude(files, count, Ending::Refused(Refusal::Usage));
     };
-    conclude(files, words.len(), ending)
+    match name.as_str() {
+        "asm" => carry_out::<AsmArgs<'_>, D>(alloc, rest, count, files),
+        "disasm" => carry_out::<DisasmArgs<'_>, D>(alloc, rest, count, files),
+        "run" => carry_out::<RunArgs<'_>, D>(alloc, rest, count, files),
+        "build" => carry_out::<BuildArgs<'_>, D>(alloc, rest, count, files),
+        "witness" => carry_out::<WitnessArgs<'_>, D>(alloc, rest, count, files),
+        "check" => carry_out::<CheckArgs<'_>, D>(alloc, rest, count, files),
+        "extract" => carry_out::<ExtractArgs<'_>, D>(alloc, rest, count, files),
+        "trial" => carry_out::<TrialArgs, D>(alloc, rest, count, files),
+        "shrink" => carry_out::<ShrinkArgs<'_>, D>(alloc, rest, count, files),
+        "listing" => carry_out::<ListingArgs<'_>, D>(alloc, rest, count, files),
+        _ => conclude(files, count, Ending::Refused(Refusal::Usage)),
+    }
 }
 
 /// Does what the words after the program's name ask for, says the line of its end, and returns its

@@ -1,19 +1,17 @@
 //! `disasm IMAGE TEXT` and `disasm IMAGE TEXT 16`: the program text of an image.
 ghost use Rattle.std.specs.Prelude.{◌≡◌, [], ◌∷◌, map, string_bytes};
-ghost use Rattle.std.specs.Prelude.{Some, None, MatchOption};
-ghost use Rattle.tv_top.specs.Answers.{Does};
-ghost use Rattle.tv_top.specs.Disasm.{text_of, text_in, width_word, disasm_asks};
+ghost use Rattle.tv_top.specs.Disasm.{text_of, text_in, width_word};
 ghost use Rattle.tv_top.specs.declared.refusal.Size.TheVariants.{ImageBytes};
 ghost use Rattle.tv_top.specs.Finds.{Finds, Makes};
-ghost use Rattle.tv_top.specs.Form.{disasm_form};
-ghost use Rattle.tv_top.specs.Plan.{input, named, refusal_of};
+ghost use Rattle.tv_top.specs.Plan.{input, named};
 ghost use Rattle.tv_top.specs.Programs.{bits};
 
 use crate::bytes::limited_bytes;
+use crate::job::Job;
 use crate::output::write_bytes;
-use crate::place::Place;
+use crate::place::{Place, keep_apart};
 use crate::programs::Width;
-use crate::refusal::{Finish, Refusal, Size, Stop, refusal_of};
+use crate::refusal::{Finish, Refusal, Size, Stop};
 use std::alloc::Global;
 use tv_disasm::disassemble;
 use tv_files::Files;
@@ -26,38 +24,32 @@ pub(crate) struct DisasmArgs<'a> {
     pub(crate) width: Width,
 }
 
-impl<'a> DisasmArgs<'a> {
-    /// What the words after the command's name mean.
-    pub(crate) fn read(words: &'a [String]) -> Option<DisasmArgs<'a>>
-        ensures { MatchOption result (disasm_form (map string_bytes words.now) ≡ None)
-            (λ args. disasm_form (map string_bytes words.now) ≡ Some (disasm_asks args)) }
-    {
+impl<'a> Job<'a> for DisasmArgs<'a> {
+    ghost use Rattle.std.specs.Prelude.{refl};
+    ghost use Rattle.tv_top.specs.Form.{disasm_form};
+    ghost use Rattle.tv_top.specs.Disasm.{disasm_asks};
+
+    ghost form = { disasm_form };
+
+    ghost asks = { disasm_asks };
+
+    fn read(words: &'a [String]) -> Result<DisasmArgs<'a>, Refusal> {
         let [image, text, last @ ..] = words else {
-            return None;
+            return Err(Refusal::Usage);
         };
-        Some(DisasmArgs {
-            width: width_word(last)?,
-            image: Place::at(1, image.as_str()),
-            text: Place::at(2, text.as_str()),
-        })
+        let width = width_word(last).ok_or(Refusal::Usage)?;
+        let (image, text) = (Place::at(1, image.as_str()), Place::at(2, text.as_str()));
+        keep_apart(&[image], &[text])?;
+        Ok(DisasmArgs { image, text, width })
     }
 
-    /// What the words are refused for.
-    pub(crate) fn refusal(self) -> Option<Refusal>
-        ensures { let plan = disasm_asks self.entry in
-            result ≡ refusal_of plan.reads plan.writes plan.amounts }
-    {
-        refusal_of(&[self.image], &[self.text], &[])
-    }
-
-    /// Reads the files, and writes the output.
-    pub(crate) fn perform<D: Files>(self, alloc: Global, files: &mut D) -> Result<Finish, Stop>
-        ensures { Does (disasm_asks self.entry) (D.seen files.old) (D.seen files.new) result }
-    {
+    fn perform<D: Files>(self, alloc: Global, files: &mut D) -> Result<Finish, Stop> {
         let bytes = read_text(alloc, files, self.width, self.image)?;
         write_bytes(files, self.text, &bytes)?;
         Ok(Finish::Quiet)
     }
+
+    ghost apart = { λ _. refl };
 }
 
 /// The program text of an image.

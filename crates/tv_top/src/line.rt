@@ -225,7 +225,7 @@ fn ending_line(ending: Ending) -> Option<Line>
 }
 
 /// The line of an end and its line feed.
-pub(crate) fn line_of(ending: Ending) -> Option<Line>
+pub(crate) fn printed_line(ending: Ending) -> Option<Line>
     ensures { Reads (λ line. line.bytes) result (says ending) }
 {
     let mut line = ending_line(ending)?;

@@ -4,7 +4,7 @@ ghost use Rattle.tv_top.specs.Contents.{Content.{Bytes}};
 ghost use Rattle.tv_top.specs.Ends.{Concludes, Writes, streamed};
 ghost use Rattle.tv_top.specs.Plan.{named, one_write};
 
-use crate::line::line_of;
+use crate::line::printed_line;
 use crate::place::Place;
 use crate::refusal::{Ending, Stop};
 use crate::status::Status;
@@ -16,7 +16,7 @@ use tv_files::{FileRefusal, Files, write_file};
 pub(crate) fn conclude<D: Files>(files: &mut D, word_count: usize, ending: Ending) -> Status
     ensures { Concludes ending word_count (D.seen files.old) (D.seen files.new) result }
 {
-    let Some(line) = line_of(ending) else {
+    let Some(line) = printed_line(ending) else {
         return Status::from(ending);
     };
     match files.say(line.as_str().as_bytes()) {

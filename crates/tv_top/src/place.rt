@@ -1,5 +1,5 @@
 //! The names among the words, and names that are the same.
-ghost use Rattle.std.specs.Prelude.{◌≡◌, map};
+ghost use Rattle.std.specs.Prelude.{◌≡◌, map, Some, None, MatchResult};
 ghost use Rattle.tv_top.specs.Plan.{named, same_in, same_of};
 
 use crate::refusal::Refusal;
@@ -20,24 +20,34 @@ impl<'a> Place<'a> {
     }
 }
 
-/// The first name that is the same as this one.
-fn same_in(one: Place<'_>, others: &[Place<'_>]) -> Option<Refusal>
-    ensures { result ≡ same_in (named one.entry) (map named others.now) }
+/// Refuses the first name that is the same as this one.
+fn keep_from(one: Place<'_>, others: &[Place<'_>]) -> Result<(), Refusal>
+    ensures { let same = same_in (named one.entry) (map named others.now) in
+        MatchResult result (λ _. same ≡ None) (λ why. same ≡ Some why) }
 {
-    let other = others.iter().find(|other| other.name == one.name)?;
-    Some(Refusal::SameName {
-        first: one.word,
-        second: other.word,
-    })
+    match others.iter().find(|other| other.name == one.name) {
+        None => Ok(()),
+        Some(other) => Err(Refusal::SameName {
+            first: one.word,
+            second: other.word,
+        }),
+    }
 }
 
-/// The first two words that are one name, of which the second is written.
-pub(crate) fn same_of(reads: &[Place<'_>], writes: &[Place<'_>]) -> Option<Refusal>
-    ensures { result ≡ same_of (map named reads.now) (map named writes.now) }
+/// Refuses the first two words that are one name, of which the second is written.
+pub(crate) fn keep_apart(reads: &[Place<'_>], writes: &[Place<'_>]) -> Result<(), Refusal>
+    ensures { let same = same_of (map named reads.now) (map named writes.now) in
+        MatchResult result (λ _. same ≡ None) (λ why. same ≡ Some why) }
 {
     match (reads, writes) {
-        ([], []) => None,
-        ([], [one, rest @ ..]) => same_in(*one, rest).or(same_of(reads, rest)),
-        ([one, rest @ ..], _) => same_in(*one, writes).or(same_of(rest, writes)),
+        ([], []) => Ok(()),
+        ([], [one, rest @ ..]) => {
+            keep_from(*one, rest)?;
+            keep_apart(reads, rest)
+        }
+        ([one, rest @ ..], _) => {
+            keep_from(*one, writes)?;
+            keep_apart(rest, writes)
+        }
     }
 }

@@ -1,10 +1,6 @@
 //! What refuses, stops and ends a command: refused words, refused contents, what keeps a command
 //! from being done, and the good ends.
-ghost use Rattle.std.specs.Prelude.{◌≡◌, map};
-ghost use Rattle.tv_top.specs.Plan.{named, refusal_of};
 
-use crate::amount::{Amount, limit_of};
-use crate::place::{Place, same_of};
 use std::alloc::AllocError;
 use tv_asm::{AsmFault, AsmWhy};
 use tv_check::Verdict;
@@ -124,18 +120,6 @@ pub(crate) enum Ending {
     Stopped(Stop),
     /// All was found, and the files are written.
     Finished(Finish),
-}
-
-/// What names and quantities are refused for: one name for two files of which one is written comes
-/// before limits.
-pub(crate) fn refusal_of(
-    reads: &[Place<'_>],
-    writes: &[Place<'_>],
-    amounts: &[Amount],
-) -> Option<Refusal>
-    ensures { result ≡ refusal_of (map named reads.now) (map named writes.now) amounts.now }
-{
-    same_of(reads, writes).or(limit_of(amounts))
 }
 
 impl From<AllocError> for Stop {

@@ -1,17 +1,13 @@
 //! `shrink SYSTEM OUT`: a system with fewer private wires and the same solutions.
-ghost use Rattle.std.specs.Prelude.{◌≡◌, map, string_bytes, Some, None};
-ghost use Rattle.std.specs.Prelude.{MatchOption};
-ghost use Rattle.tv_top.specs.Answers.{Does};
 ghost use Rattle.tv_top.specs.Contents.{Content.{Rest}};
 ghost use Rattle.tv_top.specs.Ends.{Writes};
-ghost use Rattle.tv_top.specs.Form.{shrink_form};
-ghost use Rattle.tv_top.specs.Plan.{named, one_write, refusal_of};
-ghost use Rattle.tv_top.specs.Shrink.{shrink_asks};
+ghost use Rattle.tv_top.specs.Plan.{named, one_write};
 
 use crate::containers::read_shrunk;
+use crate::job::Job;
 use crate::output::streamed;
-use crate::place::Place;
-use crate::refusal::{Finish, Refusal, Stop, refusal_of};
+use crate::place::{Place, keep_apart};
+use crate::refusal::{Finish, Refusal, Stop};
 use std::alloc::Global;
 use tv_files::Files;
 use tv_shrink::Shrunk;
@@ -23,37 +19,31 @@ pub(crate) struct ShrinkArgs<'a> {
     pub(crate) out: Place<'a>,
 }
 
-impl<'a> ShrinkArgs<'a> {
-    /// What the words after the command's name mean.
-    pub(crate) fn read(words: &'a [String]) -> Option<ShrinkArgs<'a>>
-        ensures { MatchOption result (shrink_form (map string_bytes words.now) ≡ None)
-            (λ args. shrink_form (map string_bytes words.now) ≡ Some (shrink_asks args)) }
-    {
+impl<'a> Job<'a> for ShrinkArgs<'a> {
+    ghost use Rattle.std.specs.Prelude.{refl};
+    ghost use Rattle.tv_top.specs.Form.{shrink_form};
+    ghost use Rattle.tv_top.specs.Shrink.{shrink_asks};
+
+    ghost form = { shrink_form };
+
+    ghost asks = { shrink_asks };
+
+    fn read(words: &'a [String]) -> Result<ShrinkArgs<'a>, Refusal> {
         let [system, out] = words else {
-            return None;
+            return Err(Refusal::Usage);
         };
-        Some(ShrinkArgs {
-            system: Place::at(1, system.as_str()),
-            out: Place::at(2, out.as_str()),
-        })
+        let (system, out) = (Place::at(1, system.as_str()), Place::at(2, out.as_str()));
+        keep_apart(&[system], &[out])?;
+        Ok(ShrinkArgs { system, out })
     }
 
-    /// What the words are refused for.
-    pub(crate) fn refusal(self) -> Option<Refusal>
-        ensures { let plan = shrink_asks self.entry in
-            result ≡ refusal_of plan.reads plan.writes plan.amounts }
-    {
-        refusal_of(&[self.system], &[self.out], &[])
-    }
-
-    /// Reads the files, and writes the output.
-    pub(crate) fn perform<D: Files>(self, alloc: Global, files: &mut D) -> Result<Finish, Stop>
-        ensures { Does (shrink_asks self.entry) (D.seen files.old) (D.seen files.new) result }
-    {
+    fn perform<D: Files>(self, alloc: Global, files: &mut D) -> Result<Finish, Stop> {
         let shrunk = read_shrunk(alloc, files, self.system)?;
         write_shrunk(files, self.out, &shrunk)?;
         Ok(Finish::Quiet)
     }
+
+    ghost apart = { λ _. refl };
 }
 
 /// Writes a shrunk system.

@@ -47,7 +47,7 @@ fn read_numbers<D: Files>(
     ensures found { Finds (λ v. v.items) (place.entry.word ∷ []) (tape_sizes what)
         (input (named place.entry) (numbers_in place.entry.word what below most))
         (D.seen files.old) (D.seen files.new) result }
-    ensures told { IfOk result (λ v. AreTold below most v.items) }
+    ensures known { IfOk result (λ v. AreTold below most v.items) }
 {
     let text = limited_bytes(alloc, files, place, Size::TextBytes, TEXT_BYTES)?;
     read_tape(alloc, &text, below, most).map_err(|fault| tape_stop(place.word, what, fault))

@@ -1,6 +1,5 @@
 //! `trial SEED K`: the system of a program drawn from a number, tested on the values of its run.
-ghost use Rattle.std.specs.Prelude.{◌≡◌, ◌^◌, ◌<◌, ◌≤◌, length, map, string_bytes};
-ghost use Rattle.std.specs.Prelude.{Some, None, MatchOption, IfOk};
+ghost use Rattle.std.specs.Prelude.{◌≡◌, ◌^◌, ◌<◌, ◌≤◌, length, IfOk};
 ghost use Rattle.tv_benes.specs.declared.shape.Net.TheVariants.{Benes};
 ghost use Rattle.tv_core.specs.declared.limits.TheConstants.{DRAWS};
 ghost use Rattle.tv_layout.specs.Places.{WithinLimits};
@@ -8,16 +7,13 @@ ghost use Rattle.tv_layout.specs.RunInputs.{run_on};
 ghost use Rattle.tv_layout.specs.Systems.{system_of, run_values};
 ghost use Rattle.tv_step.specs.Machine.{Accepts};
 ghost use Rattle.tv_step.specs.Range.{AreWords};
-ghost use Rattle.tv_top.specs.Answers.{Does};
-ghost use Rattle.tv_top.specs.Form.{trial_form};
-ghost use Rattle.tv_top.specs.Plan.{AreWithin, refusal_of};
-ghost use Rattle.tv_top.specs.Trial.{tested, trial_asks, trial_of};
+ghost use Rattle.tv_top.specs.Trial.{tested, trial_of};
 
-use crate::amount::Amount;
-use crate::refusal::{Finish, Quantity, Refusal, Stop, Trial, refusal_of};
+use crate::amount::Draws;
+use crate::job::Job;
+use crate::refusal::{Finish, Quantity, Refusal, Stop, Trial};
 use std::alloc::{AllocError, Global};
 use tv_benes::Net;
-use tv_core::limits::DRAWS;
 use tv_core::{F, ListValues, TestSink};
 use tv_draw::draw;
 use tv_files::Files;
@@ -26,50 +22,40 @@ use tv_layout::{emit_system, public_wires, sizes};
 use tv_word::decimal_of;
 
 /// The words of `trial`.
-#[derive(Clone, Copy)]
+#[derive(Drop)]
 pub(crate) struct TrialArgs {
     pub(crate) seed: u64,
     /// How many instructions are drawn.
-    pub(crate) k: u64,
+    pub(crate) k: Draws,
 }
 
-impl TrialArgs {
-    /// What the words after the command's name mean.
-    pub(crate) fn read(words: &[String]) -> Option<TrialArgs>
-        ensures { MatchOption result (trial_form (map string_bytes words.now) ≡ None)
-            (λ args. trial_form (map string_bytes words.now) ≡ Some (trial_asks args)) }
-    {
+impl<'a> Job<'a> for TrialArgs {
+    ghost use Rattle.std.specs.Prelude.{refl};
+    ghost use Rattle.tv_top.specs.Form.{trial_form};
+    ghost use Rattle.tv_top.specs.Trial.{trial_asks};
+
+    ghost form = { trial_form };
+
+    ghost asks = { trial_asks };
+
+    fn read(words: &'a [String]) -> Result<TrialArgs, Refusal> {
         let [seed, k] = words else {
-            return None;
+            return Err(Refusal::Usage);
         };
-        Some(TrialArgs {
-            seed: decimal_of(seed.as_bytes())?,
-            k: decimal_of(k.as_bytes())?,
+        let seed = decimal_of(seed.as_bytes()).ok_or(Refusal::Usage)?;
+        let k = decimal_of(k.as_bytes()).ok_or(Refusal::Usage)?;
+        Ok(TrialArgs {
+            seed,
+            k: Draws::of(Quantity::Draws, k)?,
         })
     }
 
-    /// What the words are refused for.
-    pub(crate) fn refusal(self) -> Option<Refusal>
-        ensures { let plan = trial_asks self in
-            result ≡ refusal_of plan.reads plan.writes plan.amounts }
-    {
-        let draws = Amount {
-            what: Quantity::Draws,
-            has: self.k,
-            least: 1,
-            most: u64::from(DRAWS),
-        };
-        refusal_of(&[], &[], &[draws])
-    }
-
-    /// Reports the result of the trial; no file is read.
-    pub(crate) fn perform<D: Files>(self, alloc: Global, files: &mut D) -> Result<Finish, Stop>
-        requires { AreWithin (trial_asks self).amounts }
-        ensures { Does (trial_asks self) (D.seen files.old) (D.seen files.new) result }
-    {
-        let trial = trial_of(alloc, self.seed, self.k as u32)?;
+    fn perform<D: Files>(self, alloc: Global, files: &mut D) -> Result<Finish, Stop> {
+        let trial = trial_of(alloc, self.seed, self.k.number())?;
         Ok(Finish::Trial(trial))
     }
+
+    ghost apart = { λ _. refl };
 }
 
 /// The values of the system of a run that answers 0 at a step of at most `t`.

@@ -3,13 +3,13 @@ use Rattle.tv_core.specs.Lines.{Line}
 use Rattle.tv_core.specs.declared.lines.PairNum.{PairNum}
 use Rattle.tv_fill.proofs.Packed.{padding_more, item_more}
 use Rattle.tv_layout.specs.Sound.{padding}
-use Rattle.tv_lines.specs.PackedLines.{InRange, packed_item}
+use Rattle.tv_lines.specs.PackedLines.{LineInRange, packed_item}
 use Rattle.tv_step.specs.Trace.{null_line}
 use Rattle.tv_fill.proofs.items.push_padding.Goals as goal
 
 pub push_line-requires : goal.push_line-requires
 push_line-requires c =
-    let line : InRange (null_line (c.args.time + c.loop-i.i)) = record {
+    let line : LineInRange (null_line (c.args.time + c.loop-i.i)) = record {
       cell = omega arith;
       time = omega (arith, c.requires, c.loop-i-test.true);
       old = omega arith;

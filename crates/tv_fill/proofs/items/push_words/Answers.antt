@@ -4,13 +4,13 @@ use Rattle.tv_core.specs.Lines.{Line}
 use Rattle.tv_core.specs.declared.lines.PairNum.{PairNum}
 use Rattle.tv_fill.proofs.Packed.{item_more}
 use Rattle.tv_layout.proofs.Boot.{boot_more}
-use Rattle.tv_lines.specs.PackedLines.{InRange, packed_item}
+use Rattle.tv_lines.specs.PackedLines.{LineInRange, packed_item}
 use Rattle.tv_step.specs.Cells.{boot_from}
 use Rattle.tv_fill.proofs.items.push_words.Goals as goal
 
 pub push_line-requires : goal.push_line-requires
 push_line-requires c =
-    let line : InRange (record {
+    let line : LineInRange (record {
       cell = c.args.cell + c.loop-i.i;
       time = c.args.time + c.loop-i.i;
       old = 0;

@@ -1,4 +1,4 @@
-use Rattle.tv_fill.proofs.Satisfying.{fillings_satisfy}
+use Rattle.tv_fill.proofs.Satisfaction.{fillings_satisfy}
 use Rattle.tv_fill.proofs.laws.fillings_satisfy.Goals as goal
 
 pub returns : goal.returns

@@ -1,6 +1,6 @@
 use Rattle.tv_top.specs.Programs.{image_of}
 use Rattle.tv_top.proofs.Sizes.{image_limited}
-use Rattle.tv_top.proofs.Looking.{made_found}
+use Rattle.tv_top.proofs.LookLaws.{made_found}
 use Rattle.tv_top.proofs.asm.read_image.Goals as goal
 
 pub returns : goal.returns

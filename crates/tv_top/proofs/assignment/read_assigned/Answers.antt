@@ -1,6 +1,6 @@
 use Rattle.std.proofs.Common.{refl}
 use Rattle.tv_top.specs.Assignment.{kept_of}
-use Rattle.tv_top.proofs.Looking.{finds_on, finds_short, finds_still}
+use Rattle.tv_top.proofs.LookLaws.{finds_on, finds_short, finds_still}
 use Rattle.tv_top.proofs.assignment.read_assigned.Goals as goal
 
 pub returns-in_err-program-clause-found : goal.returns-in_err-program-clause-found
@@ -16,4 +16,4 @@ returns-in_err-first-clause-found g c =
 pub returns-clause-found : goal.returns-clause-found
 unfolding kept_of
 returns-clause-found g c = finds_on _ c.in_ok-program.ensures.found
-    (finds_on _ (rw c.wires_of-wires.ensures at c.in_ok-first.ensures) (finds_still (λ files told. refl)))
+    (finds_on _ (rw c.wires_of-wires.ensures at c.in_ok-first.ensures) (finds_still (λ files known. refl)))

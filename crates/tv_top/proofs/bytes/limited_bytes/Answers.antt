@@ -9,7 +9,7 @@ use Rattle.tv_top.specs.declared.refusal.Bad.TheVariants.{Limit}
 use Rattle.tv_top.specs.Plan.{named}
 use Rattle.tv_top.proofs.Common.{Outside, OnlyReads, Rose, Leaves, Size, Stop, Fault, Memory, Contents, IsFound, Named, input, within}
 use Rattle.tv_top.proofs.ContainerReads.{came}
-use Rattle.tv_top.proofs.Looking.{same_outside}
+use Rattle.tv_top.proofs.LookLaws.{same_outside}
 use Rattle.tv_top.proofs.bytes.limited_bytes.Goals as goal
 
 -- what a refusal of the file at a word stops
@@ -19,16 +19,16 @@ stop_of word what most slurp.Memory = Memory
 stop_of word what most (slurp.TooLong limit) = Contents (Limit what (most + 1) most)
 
 module _ {V : Type 0} (view : V → List ℕ) (place : Named) (what : Size) (most : ℕ) where
-  told : (old : Outside) (result : Result V Slurp) → IfOk result (λ v. WhereKnown old (λ held. held place.name ≡ Some (view v)))
+  known : (old : Outside) (result : Result V Slurp) → IfOk result (λ v. WhereKnown old (λ held. held place.name ≡ Some (view v)))
       → IfOk result (λ v. length (view v) ≤ most) →
       ((limit : ℕ) → result ≡ Err (slurp.TooLong limit) → (limit ≡ most) × WhereKnown old (λ held. IsLonger most (held place.name))) →
       WhereKnown old (λ files. IsFound view (input place (within what most (λ bytes. Ok bytes)) files) (came (stop_of place.word what most) result))
   unfolding input
-  told old (Ok v) whole short longer files is = rw (whole files is, le-leb (length (view v)) most short) refl
-  told old (Err (slurp.TooLong limit)) whole short longer files is = let long = (longer limit refl).1 files is in
+  known old (Ok v) whole short longer files is = rw (whole files is, le-leb (length (view v)) most short) refl
+  known old (Err (slurp.TooLong limit)) whole short longer files is = let long = (longer limit refl).1 files is in
       rw (long.1, lt-leb (length long.0) most long.2) refl
-  told old (Err slurp.Fault) whole short longer files is = omega arith
-  told old (Err slurp.Memory) whole short longer files is = tt
+  known old (Err slurp.Fault) whole short longer files is = omega arith
+  known old (Err slurp.Memory) whole short longer files is = tt
 
   caused : (result : Result V Slurp) (at : ℕ) → came (stop_of place.word what most) result ≡ Err (Fault at) → (at ≡ place.word) × (result ≡ Err slurp.Fault)
   caused (Err slurp.Fault) at e = (cc, refl)
@@ -64,8 +64,8 @@ returns g c =
     let slurped = c.slurp.ensures in
     let place = named c.args.place in
     rw came (record {
-      told = told (λ v. v.items) place c.args.what c.args.most (g.D.Files.seen c.args.files.now) c.slurp.result slurped.whole slurped.short slurped.longer;
-      absent = λ files told. elim (slurped.there files told) [ inl same ↦ inl same | inr none ↦ inr (place.word, rw none refl) ];
+      known = known (λ v. v.items) place c.args.what c.args.most (g.D.Files.seen c.args.files.now) c.slurp.result slurped.whole slurped.short slurped.longer;
+      absent = λ files known. elim (slurped.there files known) [ inl same ↦ inl same | inr none ↦ inr (place.word, rw none refl) ];
       only = slurped.only;
       leaves = spared (λ v. v.items) place c.args.what c.args.most c.slurp.result _ _ slurped.only slurped.leaves;
       caused = λ at e. let cause = caused (λ v. v.items) place c.args.what c.args.most c.slurp.result at e in

@@ -1,6 +1,6 @@
 use Rattle.std.proofs.Common.{refl}
 use Rattle.tv_top.proofs.CheckClaim.{check_twice, finds_once, finds_verdict, finds_wires}
-use Rattle.tv_top.proofs.Looking.{finds_on, finds_short, finds_still}
+use Rattle.tv_top.proofs.LookLaws.{finds_on, finds_short, finds_still}
 use Rattle.tv_top.proofs.check.verdict_on.Goals as goal
 
 pub returns-in_err-counts : goal.returns-in_err-counts
@@ -35,4 +35,4 @@ unfolding check_twice
 returns g c =
     finds_once _ _ _ _ _ _ (finds_on _ c.in_ok-counts.ensures (finds_on _ c.in_ok-first.ensures (finds_on _ c.in_ok-publics.ensures
     (finds_wires _ _ _ _ _ _ _ c.if-first-counts.false
-    (finds_on _ c.in_ok-survey_system.ensures (finds_still (λ files told. rw (c.from.ensures, c.from-2.ensures) refl)))))))
+    (finds_on _ c.in_ok-survey_system.ensures (finds_still (λ files known. rw (c.from.ensures, c.from-2.ensures) refl)))))))

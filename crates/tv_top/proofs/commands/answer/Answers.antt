@@ -1,16 +1,18 @@
-use Rattle.tv_top.specs.Form.{plan_of}
-use Rattle.tv_top.proofs.Answering.{answers_done, answers_refused}
-use Rattle.tv_top.proofs.Plans.{plans_apart}
-use Rattle.tv_top.proofs.ProgramLaws.{amounts_within}
+use Rattle.std.proofs.Common.{◌≡◌, ℕ, ◌<◌, List, [], ◌∷◌, length, map, string_bytes, Err, refl, arith, rules}
+use Rattle.tv_top.specs.Form.{form}
+use Rattle.tv_top.specs.Plan.{request_of}
+use Rattle.tv_top.specs.declared.refusal.Refusal.TheVariants.{Usage}
+use Rattle.tv_top.proofs.AnswerLaws.{answers_refused}
 use Rattle.tv_top.proofs.commands.answer.Goals as goal
-use Rattle.tv_top.proofs.commands.answer.Goals.{in-Ok, in-Err}
 
-pub perform-requires : goal.perform-requires
-perform-requires g c = let plan = plan_of c.in-Ok.job in amounts_within plan.reads plan.writes plan.amounts c.in-Ok.ensures.unrefused
+none_asked : {A : Type 0} (f : A → List ℕ) (xs : List A) → length xs < 1 → request_of (form (map f xs)) ≡ Err Usage
+none_asked f [] few = refl
+none_asked f (x ∷ xs) few = absurd (omega (arith, few))
 
-pub returns : goal.returns
-returns g c = elim c.match-of.branch [
-  | in-Ok w ↦ rw w.in-Ok.ensures.due (answers_done (plan_of w.in-Ok.job) w.perform.result _ _ _ _ _ (plans_apart w.in-Ok.job) w.perform.ensures
-      (rw (w.files-is, w.ending-is, w.from-ending.ensures) at c.conclude.ensures))
-  | in-Err w ↦ answers_refused _ _ _ _ _ _ w.in-Err.ensures.due (rw (w.files-is, w.ending-is) at c.conclude.ensures)
-]
+pub returns-in_default : goal.returns-in_default
+returns-in_default g c = answers_refused _ _ _ _ _ _ (none_asked string_bytes c.args.words.now c.in_default.len_below) c.conclude.ensures
+
+pub returns-in_default-as_str : goal.returns-in_default-as_str
+returns-in_default-as_str g c =
+    let asked : request_of (form (map string_bytes c.args.words.now)) ≡ Err Usage = search rules in
+    answers_refused _ _ _ _ _ _ asked c.conclude-in_default-as_str.ensures

@@ -1,7 +1,7 @@
 use Rattle.tv_top.specs.Disasm.{text_of}
 use Rattle.tv_top.specs.Programs.{bits}
 use Rattle.tv_top.proofs.Sizes.{text_limited}
-use Rattle.tv_top.proofs.Looking.{made_found}
+use Rattle.tv_top.proofs.LookLaws.{made_found}
 use Rattle.tv_top.proofs.disasm.read_text.Goals as goal
 
 pub returns : goal.returns

@@ -1,13 +1,13 @@
 use Rattle.std.proofs.Common.{refl}
-use Rattle.tv_top.proofs.Answering.{completes_whole, completes_cut, completes_wanting}
-use Rattle.tv_top.proofs.Streaming.{writes_first, writes_next}
+use Rattle.tv_top.proofs.AnswerLaws.{completes_whole, completes_cut, completes_without_memory}
+use Rattle.tv_top.proofs.StreamLaws.{writes_first, writes_next}
 use Rattle.tv_top.proofs.extract.write_run.Goals as goal
 
 pub returns-in_err-tape : goal.returns-in_err-tape
-returns-in_err-tape g c = completes_wanting _ _ _ _ c.from_residual.ensures.1
+returns-in_err-tape g c = completes_without_memory _ _ _ _ c.from_residual.ensures.1
 
 pub returns-in_err-aux : goal.returns-in_err-aux
-returns-in_err-aux g c = completes_wanting _ _ _ _ c.from_residual-in_err-aux.ensures.1
+returns-in_err-aux g c = completes_without_memory _ _ _ _ c.from_residual-in_err-aux.ensures.1
 
 pub returns-in_err-write_bytes : goal.returns-in_err-write_bytes
 returns-in_err-write_bytes g c =

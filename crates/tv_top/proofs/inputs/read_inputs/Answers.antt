@@ -1,6 +1,6 @@
 use Rattle.std.proofs.Common.{refl}
 use Rattle.tv_top.specs.Inputs.{inputs_of}
-use Rattle.tv_top.proofs.Looking.{finds_on, finds_short, finds_still}
+use Rattle.tv_top.proofs.LookLaws.{finds_on, finds_short, finds_still}
 use Rattle.tv_top.proofs.inputs.read_inputs.Goals as goal
 
 pub returns-in_err-program-clause-found : goal.returns-in_err-program-clause-found
@@ -25,4 +25,4 @@ unfolding inputs_of
 returns-clause-found g c =
     let tape = rw c.word_bound-below.ensures at c.in_ok-tape.ensures.found in
     let aux = rw c.word_bound-below.ensures at c.in_ok-aux.ensures.found in
-    finds_on _ c.in_ok-program.ensures.found (finds_on _ tape (finds_on _ aux (finds_still (λ files told. refl))))
+    finds_on _ c.in_ok-program.ensures.found (finds_on _ tape (finds_on _ aux (finds_still (λ files known. refl))))

@@ -1,9 +1,9 @@
 use Rattle.std.proofs.Common.{refl}
-use Rattle.tv_top.proofs.Answering.{completes_whole, completes_cut, completes_wanting}
+use Rattle.tv_top.proofs.AnswerLaws.{completes_whole, completes_cut, completes_without_memory}
 use Rattle.tv_top.proofs.listing.write_lines.Goals as goal
 
 pub returns-in_err-text : goal.returns-in_err-text
-returns-in_err-text g c = completes_wanting _ _ _ _ c.from_residual.ensures.1
+returns-in_err-text g c = completes_without_memory _ _ _ _ c.from_residual.ensures.1
 
 pub returns-in_err-write_bytes : goal.returns-in_err-write_bytes
 returns-in_err-write_bytes g c = completes_cut _ _ _ _ _ _

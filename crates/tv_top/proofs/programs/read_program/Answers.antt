@@ -1,6 +1,6 @@
 use Rattle.tv_top.specs.Programs.{program_of}
 use Rattle.tv_top.proofs.Sizes.{program_limited}
-use Rattle.tv_top.proofs.Looking.{made_found}
+use Rattle.tv_top.proofs.LookLaws.{made_found}
 use Rattle.tv_top.proofs.programs.read_program.Goals as goal
 
 pub returns-clause-found : goal.returns-clause-found

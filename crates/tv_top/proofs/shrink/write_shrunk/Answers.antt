@@ -1,5 +1,5 @@
 use Rattle.tv_top.specs.Contents.{Content.{Rest}}
-use Rattle.tv_top.proofs.Streaming.{writes_streamed}
+use Rattle.tv_top.proofs.StreamLaws.{writes_streamed}
 use Rattle.tv_top.proofs.shrink.write_shrunk.Goals as goal
 
 pub returns : goal.returns

@@ -7,7 +7,7 @@ use Rattle.tv_top.specs.Tapes.{numbers_of, tape_stop}
 use Rattle.tv_top.proofs.Common.{Makes, Size}
 use Rattle.tv_top.proofs.ContainerReads.{came}
 use Rattle.tv_top.proofs.Sizes.{numbers_limited}
-use Rattle.tv_top.proofs.Looking.{made_found}
+use Rattle.tv_top.proofs.LookLaws.{made_found}
 use Rattle.tv_top.proofs.tapes.read_numbers.Goals as goal
 
 -- what reading a tape makes of a text

@@ -1,19 +1,19 @@
 use Rattle.std.proofs.Common.{sym, ◌∙◌, arith}
 use Rattle.tv_core.specs.declared.field.TheConstants.{P}
 use Rattle.tv_core.specs.declared.limits.TheConstants.{CHECK_WORDS}
-use Rattle.tv_tape.proofs.Narrowing.{residues_same}
-use Rattle.tv_top.proofs.Looking.{finds_passed, finds_view, finds_wanting}
+use Rattle.tv_tape.proofs.Narrow.{residues_same}
+use Rattle.tv_top.proofs.LookLaws.{finds_passed, finds_view, finds_without_memory}
 use Rattle.tv_top.proofs.tapes.read_publics.Goals as goal
 
 pub returns-in_err-numbers : goal.returns-in_err-numbers
 returns-in_err-numbers g c = finds_passed _ _ _ _ _ _ _ _ _ c.from_residual.ensures.1 c.in_err-numbers.ensures.found
 
 pub returns-in_err-residues : goal.returns-in_err-residues
-returns-in_err-residues g c = finds_wanting _ _ _ _ _ _ _ _ _ c.from_residual-in_err-residues.ensures.1 c.in_ok-numbers.ensures.found
+returns-in_err-residues g c = finds_without_memory _ _ _ _ _ _ _ _ _ c.from_residual-in_err-residues.ensures.1 c.in_ok-numbers.ensures.found
 
 pub returns : goal.returns
 returns g c =
-    let told = c.in_ok-numbers.ensures.told in
-    let same = residues_same told.0 c.in_ok-numbers.numbers.items P CHECK_WORDS P (omega arith) told.1 in
+    let known = c.in_ok-numbers.ensures.known in
+    let same = residues_same known.0 c.in_ok-numbers.numbers.items P CHECK_WORDS P (omega arith) known.1 in
     let residues = rw c.deref.ensures.value at c.in_ok-residues.ensures in
     finds_view _ _ _ _ _ _ _ _ _ (sym (residues ∙ same)) c.in_ok-numbers.ensures.found

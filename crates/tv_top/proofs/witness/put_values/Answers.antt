@@ -1,10 +1,10 @@
 use Rattle.std.proofs.Common.{ap, ◌∙◌, rules}
 use Rattle.std.proofs.lemmas.Result.{err_from_is_err_and}
-use Rattle.tv_wtns.proofs.Streaming.{IsBegun, streamed_some, streamed_all}
-use Rattle.tv_wtns.specs.Takers.{Progress, taker_of}
+use Rattle.tv_wtns.proofs.StreamLaws.{IsBegun, streamed_some, streamed_all}
+use Rattle.tv_wtns.specs.Takers.{ValuesProgress, taker_of}
 use Rattle.tv_wtns.specs.declared.file_values.FileValues.{FileValues}
 use Rattle.tv_top.specs.Contents.{Content.{Values}}
-use Rattle.tv_top.proofs.Streaming.{writes_nothing, writes_values}
+use Rattle.tv_top.proofs.StreamLaws.{writes_nothing, writes_values}
 use Rattle.tv_top.proofs.witness.put_values.Given as given
 use Rattle.tv_top.proofs.witness.put_values.Goals as goal
 use Rattle.tv_top.proofs.witness.put_values.Goals.{In-Ok}
@@ -15,7 +15,7 @@ begun g c = record {
   creates = c.in-Ok.ensures.ok_creates;
   named = c.in-Ok.ensures.name;
   stands = c.in-Ok.ensures.stands;
-  count = ap (λ (p : Progress). p.count) c.in-Ok.ensures.begun ∙ c.count.ensures;
+  count = ap (λ (p : ValuesProgress). p.count) c.in-Ok.ensures.begun ∙ c.count.ensures;
   few = rw (← c.count.ensures) (search rules);
 }
 
