@@ -9,7 +9,7 @@ pub mod NetworkChain
 pub mod NetworkComplete
 pub mod NetworkLaws
 pub mod NormalLaws
-pub mod Permuting
+pub mod Permutations
 pub mod Placed
 pub mod Sizes
 pub mod Sources

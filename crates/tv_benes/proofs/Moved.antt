@@ -10,8 +10,8 @@ use Rattle.std.proofs.lemmas.List.FromFn.{fill_by_all}
 use Rattle.std.proofs.lemmas.Nat.{pow_pos}
 use Rattle.std.specs.Prelude.{nat_lt}
 use Rattle.tv_benes.proofs.ColumnChain.{one_switch, switch_refused, values_as}
-use Rattle.tv_benes.proofs.Permuting.{alternating-even, alternating-odd}
-use Rattle.tv_benes.proofs.Permuting.{places-length, places-at, places-same}
+use Rattle.tv_benes.proofs.Permutations.{alternating-even, alternating-odd}
+use Rattle.tv_benes.proofs.Permutations.{places-length, places-at, places-same}
 use Rattle.tv_benes.proofs.Sources.{from_from, last_even, last_odd}
 use Rattle.tv_benes.proofs.ThroughLaws.{twice, missing_small, kept_bit}
 use Rattle.tv_benes.proofs.ThroughLaws.{passed-same, alternating-same, joined-same, through-same}

@@ -5,7 +5,7 @@ use Rattle.std.specs.Prelude.{slice_index}
 use Rattle.std.proofs.lemmas.Bool.{cases_eq}
 use Rattle.std.proofs.lemmas.Nat.{pow_pos}
 use Rattle.tv_core.proofs.CombinationLaws.{value-less}
-use Rattle.tv_core.proofs.Meeting.{Meets-join, HasFrom-split, whole}
+use Rattle.tv_core.proofs.MeetsLaws.{Meets-join, HasFrom-split, whole}
 use Rattle.tv_core.specs.Circuits.{Circuit, here, fresh, put, pure, turns, ◌>>=◌}
 use Rattle.tv_core.specs.Combinations.{less}
 use Rattle.tv_core.specs.Constraints.{Combination, value}
@@ -22,28 +22,26 @@ use Rattle.tv_benes.proofs.NetworkLaws.{IsSwitch, remainder_complete, column_sou
 use Rattle.tv_benes.proofs.NetworkLaws.{bound-suc, one_wires, level_bit, each_bit, first_switch}
 use Rattle.tv_benes.proofs.ThroughLaws.{twice, switches-suc, missing_small, one_switch, alternating-same, through-same}
 use Rattle.tv_benes.specs.Levels.{width, other, innermost, level_wires}
-use Rattle.tv_benes.specs.Network.{remainder_of, switch_of, column_of, last_column_of, level_of, bit_number, product, switch_values, column_values}
+use Rattle.tv_benes.specs.Network.{remainder_of, switch_of, column_of, last_column_of, level_of, product, switch_values, column_values}
 use Rattle.tv_benes.specs.Network.{level_values, NetworkIsComplete}
 use Rattle.tv_benes.specs.Places.{switch_wire, bit_place, ItemsOf, item_in, to_upper_of, to_lower_of, end_in, last_pair}
 use Rattle.tv_benes.specs.Through.{switches, missing, from, passed, to_upper, to_lower, alternating, through}
 use Rattle.tv_benes.specs.declared.shape.Form.{Form}
 use Rattle.tv_benes.specs.declared.shape.Form.TheVariants.{Bound, Open}
 use Rattle.tv_benes.specs.declared.shape.Net.{Net}
+use Rattle.tv_word.proofs.FlagLaws.{flag_small}
+use Rattle.tv_word.specs.Word.{flag_of}
 
 -- ---- a switch
-bit_number-small : (b : Bool) → bit_number b < 2
-bit_number-small true = omega arith
-bit_number-small false = omega arith
+flag_of-is : (b : Bool) → (flag_of b == 1) ≡ b
+flag_of-is true = refl
+flag_of-is false = refl
 
-bit_number-is : (b : Bool) → (bit_number b == 1) ≡ b
-bit_number-is true = refl
-bit_number-is false = refl
-
-chosen_first : (b : Bool) (x y : PairNum) → (passed b x y).first ≡ selected (bit_number b) y.first x.first
+chosen_first : (b : Bool) (x y : PairNum) → (passed b x y).first ≡ selected (flag_of b) y.first x.first
 chosen_first true x y = refl
 chosen_first false x y = refl
 
-chosen_second : (b : Bool) (x y : PairNum) → (passed b x y).second ≡ selected (bit_number b) y.second x.second
+chosen_second : (b : Bool) (x y : PairNum) → (passed b x y).second ≡ selected (flag_of b) y.second x.second
 chosen_second true x y = refl
 chosen_second false x y = refl
 
@@ -56,15 +54,15 @@ summed_second : (b : Bool) (x y : PairNum) (p q : ℕ) → p ≡ (passed b x y).
 summed_second true x y p q e f = let p_is : p ≡ y.second = e in let q_is : q ≡ x.second = f in omega arith
 summed_second false x y p q e f = let p_is : p ≡ x.second = e in let q_is : q ≡ y.second = f in omega arith
 
-product_selected : (b : Bool) (x y : ℕ) → product b x y ≡ selected (bit_number b) ((x + (P - y)) % P) 0
+product_selected : (b : Bool) (x y : ℕ) → product b x y ≡ selected (flag_of b) ((x + (P - y)) % P) 0
 product_selected true x y = refl
 product_selected false x y = refl
 
 -- the product of a bit and the difference of two combinations
-product_is : (z : List ℕ) (b : Bool) (x y : Combination) (m at : ℕ) → at ≡ bit_number b → m ≡ product b (value x z) (value y z)
+product_is : (z : List ℕ) (b : Bool) (x y : Combination) (m at : ℕ) → at ≡ flag_of b → m ≡ product b (value x z) (value y z)
     → m ≡ selected at (value (less x y) z) (value [] z)
 product_is z b x y m at e is =
-    is ∙ product_selected b (value x z) (value y z) ∙ ap (λ d. selected (bit_number b) d 0) (sym (value-less x y z))
+    is ∙ product_selected b (value x z) (value y z) ∙ ap (λ d. selected (flag_of b) d 0) (sym (value-less x y z))
     ∙ ap (λ n. selected n (value (less x y) z) 0) (sym e)
 
 switch_complete : (z : List ℕ) (form : Form) (x y : Pair) (next : ℕ) (b : Bool) → Assigns z
@@ -73,18 +71,18 @@ unfolding switch_of remainder_of bit_of pick_of fresh put pure ◌>>=◌
 switch_complete z Bound x y next b assigns has =
     let px = pair_value z x in
     let py = pair_value z y in
-    let is : slice_index z next ≡ bit_number b = has.0 in
-    let bit : IsBit (slice_index z next) = subst IsBit (sym is) (bit_number-small b) in
+    let is : slice_index z next ≡ flag_of b = has.0 in
+    let bit : IsBit (slice_index z next) = subst IsBit (sym is) (flag_small b) in
     let one = bit_complete z next next assigns bit in
-    let at : (u v : ℕ) → selected (bit_number b) u v ≡ selected (slice_index z next) u v = λ u v. ap (λ n. selected n u v) (sym is) in
+    let at : (u v : ℕ) → selected (flag_of b) u v ≡ selected (slice_index z next) u v = λ u v. ap (λ n. selected n u v) (sym is) in
     let p = select_complete z (next + 1) next y.first x.first assigns bit (has.1.0 ∙ chosen_first b px py ∙ at py.first px.first, tt) in
     let p' = select_complete z (next + 1 + 1) next y.second x.second assigns bit (has.1.1.0 ∙ chosen_second b px py ∙ at py.second px.second, tt) in
     let q = remainder_complete z assigns x.first y.first (next + 1) (next + 1 + 1 + 1) (summed_first b px py _ _ has.1.0 has.1.1.1.0) in
     let q' = remainder_complete z assigns x.second y.second (next + 1 + 1) (next + 1 + 1 + 1 + 1) (summed_second b px py _ _ has.1.1.0 has.1.1.1.1.0) in
     (one.0, (p.0, (p'.0, (q.0, (q'.0, tt)))))
 switch_complete z Open x y next b assigns has =
-    let is : slice_index z next ≡ bit_number b = has.0 in
-    let bit : IsBit (slice_index z next) = subst IsBit (sym is) (bit_number-small b) in
+    let is : slice_index z next ≡ flag_of b = has.0 in
+    let bit : IsBit (slice_index z next) = subst IsBit (sym is) (flag_small b) in
     let one = bit_complete z next next assigns bit in
     let m = select_complete z (next + 1) next (less x.first y.first) [] assigns bit (product_is z b x.first y.first _ _ is has.1.0, tt) in
     let m' = select_complete z (next + 1 + 1) next (less x.second y.second) [] assigns bit (product_is z b x.second y.second _ _ is has.1.1.0, tt) in
@@ -110,7 +108,7 @@ column_values-length form (suc n) bit v =
 column_complete : (z : List ℕ) (form : Form) (n : ℕ) (item : ℕ → Pair) (next : ℕ) (bit : ℕ → Bool) (v : ℕ → PairNum) → Assigns z
     → ((j : ℕ) → j < 2 * n → pair_value z (item j) ≡ v j)
     → HasFrom z next (column_values form n bit v) → Meets z (column_of form n item next).list
-    × ((j : ℕ) → j < n → slice_index z (switch_wire form next j) ≡ bit_number (bit j))
+    × ((j : ℕ) → j < n → slice_index z (switch_wire form next j) ≡ flag_of (bit j))
 unfolding column_of column_values turns pure
 column_complete z form zero item next bit v assigns is has = (tt, λ j h. absurd (omega arith))
 column_complete z form (suc n) item next bit v assigns is has =
@@ -129,12 +127,12 @@ column_complete z form (suc n) item next bit v assigns is has =
       whole z (turns n piece tt) (piece n) next rest.0 meets,
       λ j h. elim (cases_eq j n) [
         | inl same ↦ ap (λ k. slice_index z (switch_wire form next k)) same
-            ∙ first_of_values form (bit n) (v (2 * n)) (v (2 * n + 1)) (switch_wire form next n) have ∙ ap (λ k. bit_number (bit k)) (sym same)
+            ∙ first_of_values form (bit n) (v (2 * n)) (v (2 * n + 1)) (switch_wire form next n) have ∙ ap (λ k. flag_of (bit k)) (sym same)
         | inr apart ↦ rest.1 j (omega arith)
       ],
     )
   where
-    first_of_values : (form : Form) (b : Bool) (x y : PairNum) (at : ℕ) → HasFrom z at (switch_values form b x y) → slice_index z at ≡ bit_number b
+    first_of_values : (form : Form) (b : Bool) (x y : PairNum) (at : ℕ) → HasFrom z at (switch_values form b x y) → slice_index z at ≡ flag_of b
     first_of_values Bound b x y at has = has.0
     first_of_values Open b x y at has = has.0
 
@@ -169,12 +167,12 @@ network_values-length net h bit v = level_values-length net Bound h bit v
 -- what is put is met, and the bits are there
 record HasLevel (z : List ℕ) (net : Net) (form : Form) (h next : ℕ) (items : ItemsOf form) (bit : ℕ → Bool) : Type 0 where
   meets : Meets z (level_of net form h items next).list
-  bits : (j : ℕ) → j < switches net h → slice_index z (bit_place net form h next j) ≡ bit_number (bit j)
+  bits : (j : ℕ) → j < switches net h → slice_index z (bit_place net form h next j) ≡ flag_of (bit j)
 
-bit_there : (z : List ℕ) (at : ℕ) (b : Bool) → slice_index z at ≡ bit_number b → (slice_index z at == 1) ≡ b
-bit_there z at b is = ap (λ k. k == 1) is ∙ bit_number-is b
+bit_there : (z : List ℕ) (at : ℕ) (b : Bool) → slice_index z at ≡ flag_of b → (slice_index z at == 1) ≡ b
+bit_there z at b is = ap (λ k. k == 1) is ∙ flag_of-is b
 
-passed_at : (z : List ℕ) (at : ℕ) (b : Bool) (x x' y y' : PairNum) → slice_index z at ≡ bit_number b → x ≡ x' → y ≡ y'
+passed_at : (z : List ℕ) (at : ℕ) (b : Bool) (x x' y y' : PairNum) → slice_index z at ≡ flag_of b → x ≡ x' → y ≡ y'
     → passed (slice_index z at == 1) x y ≡ passed b x' y'
 passed_at z at b x x' y y' is p q = ap (λ c. passed c x y) (bit_there z at b is) ∙ ap₂ (λ m n. passed b m n) p q
 
@@ -201,7 +199,7 @@ level_complete z net form zero next items bit v assigns is has =
           let one = one_switch net in
           let none : j ≡ 0 = omega arith in
           let start : next + 0 * width f ≡ next = omega arith in
-          ap (λ w. slice_index z w) (sym start) ∙ column.1 0 (omega arith) ∙ ap (λ i. bit_number (bit i)) (sym none);
+          ap (λ w. slice_index z w) (sym start) ∙ column.1 0 (omega arith) ∙ ap (λ i. flag_of (bit i)) (sym none);
     }
 level_complete z net form (suc h) next items bit v assigns is has =
     let n = 2 ^ suc h in
@@ -265,7 +263,7 @@ level_complete z net form (suc h) next items bit v assigns is has =
     record {
       meets = Meets-join z c.list (u.list ++ (l.list ++ (d.list ++ []))) column.0
           (Meets-join z u.list (l.list ++ (d.list ++ [])) upper.meets (Meets-join z l.list (d.list ++ []) lower.meets (Meets-join z d.list [] end.0 tt)));
-      bits = each_bit z net form h next c.next u.next l.next c_next u_next l_next (λ j w. slice_index z w ≡ bit_number (bit j)) column.1 upper.bits lower.bits
+      bits = each_bit z net form h next c.next u.next l.next c_next u_next l_next (λ j w. slice_index z w ≡ flag_of (bit j)) column.1 upper.bits lower.bits
           (λ j k. end.1 j (omega arith));
     }
 

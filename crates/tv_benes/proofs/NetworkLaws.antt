@@ -7,7 +7,7 @@ use Rattle.std.proofs.lemmas.Nat.{pow_pos}
 use Rattle.tv_core.proofs.CombinationLaws.{value-append, value-below, value-less, value-once, value-wire, wire-below}
 use Rattle.tv_core.proofs.LineLaws.{pair_same}
 use Rattle.tv_core.proofs.LoopLaws.{turn_met, turns-next}
-use Rattle.tv_core.proofs.Meeting.{Meets-split}
+use Rattle.tv_core.proofs.MeetsLaws.{Meets-split}
 use Rattle.tv_core.proofs.NormalLaws.{value-normal}
 use Rattle.tv_core.specs.Circuits.{Circuit, here, fresh, put, pure, ◌>>=◌}
 use Rattle.tv_core.specs.Combinations.{wire, constant, less}

@@ -11,7 +11,7 @@ use Rattle.tv_benes.proofs.ThroughLaws.{twice, missing_small, alternating_keeps,
 use Rattle.tv_benes.specs.Levels.{other, innermost}
 use Rattle.tv_benes.specs.Network.{column_of, level_of, last_column_of, product, switch_values, column_values, level_values, NetworkFills}
 use Rattle.tv_benes.specs.Places.{wires_at, fifth, row, switch_wire, first_of, second_of, passed_to, ItemsOf, to_upper_of, to_lower_of, output, output_wire}
-use Rattle.tv_benes.specs.Places.{column_outputs, sum_at, EndsOf, two_ends, last_ends, last_pair, AreMade, AreBelow, IsPairMade}
+use Rattle.tv_benes.specs.Places.{column_outputs, sum_at, EndsOf, two_ends, last_ends, last_pair, ArePairsMade, AreBelow, IsPairMade}
 use Rattle.tv_benes.specs.Through.{switches, missing, from, to_upper, to_lower, alternating, through}
 use Rattle.tv_benes.specs.declared.places.Outputs.{Outputs}
 use Rattle.tv_benes.specs.declared.places.Sums.{Sums}
@@ -43,7 +43,7 @@ pub below_later : (o : Outputs) (n a b : ℕ) → a ≤ b → AreBelow o n a →
 below_later o n a b more below i within = let at = below i within in omega arith
 
 -- ---- pairs that are made of wires below a number
-pub made_by : (pair : ℕ → Pair) (count wires : ℕ) → ((i : ℕ) → i < count → IsPairMade (pair i) wires) → AreMade pair count wires
+pub made_by : (pair : ℕ → Pair) (count wires : ℕ) → ((i : ℕ) → i < count → IsPairMade (pair i) wires) → ArePairsMade pair count wires
 made_by pair count wires each = record {
   first = λ i h. (each i h).first;
   second = λ i h. (each i h).second;
@@ -51,7 +51,7 @@ made_by pair count wires each = record {
   second_short = λ i h. (each i h).second_short;
 }
 
-pub made_at : (pair : ℕ → Pair) (count wires : ℕ) → AreMade pair count wires → (i : ℕ) → i < count → IsPairMade (pair i) wires
+pub made_at : (pair : ℕ → Pair) (count wires : ℕ) → ArePairsMade pair count wires → (i : ℕ) → i < count → IsPairMade (pair i) wires
 made_at pair count wires made i h = record {
   first = made.first i h;
   second = made.second i h;
@@ -68,11 +68,11 @@ first_made w at wires h k = record { first = omega arith; second = omega arith; 
 second_made : (w at wires : ℕ) → w + 1 < wires → at + 2 < wires → IsPairMade (second_of Open at (wires_at w)) wires
 second_made w at wires h k = record { first = omega arith; second = omega arith; first_short = omega arith; second_short = omega arith }
 
-pub row_made : (from count wires : ℕ) → from + 5 * count ≤ wires + 3 → AreMade (row from) count wires
+pub row_made : (from count wires : ℕ) → from + 5 * count ≤ wires + 3 → ArePairsMade (row from) count wires
 row_made from count wires h = made_by (row from) count wires (λ i k. wires_made (from + 5 * i) wires (omega arith))
 
 -- what an open column passes to the two networks within
-pub passed_made : (lower : Bool) (first from n wires : ℕ) → from + 10 * n ≤ wires + 3 → first + 3 * n ≤ wires → AreMade (passed_to lower first from) n wires
+pub passed_made : (lower : Bool) (first from n wires : ℕ) → from + 10 * n ≤ wires + 3 → first + 3 * n ≤ wires → ArePairsMade (passed_to lower first from) n wires
 passed_made true first from n wires h k = made_by (passed_to true first from) n wires
     (λ j l. second_made (from + 5 * (2 * j + 1)) (first + j * 3) wires (omega arith) (omega arith))
 passed_made false first from n wires h k = made_by (passed_to false first from) n wires
@@ -80,7 +80,7 @@ passed_made false first from n wires h k = made_by (passed_to false first from) 
 
 -- the outputs of an open network, whose last column has n switches but for those that are missing
 pub sums_made : (net : Net) (o : Sums) (n wires : ℕ) → AreBelow o.upper n wires → AreBelow o.lower n wires → o.others + 3 * (n - missing net) ≤ wires
-    → AreMade (sum_at net o) (2 * n) wires
+    → ArePairsMade (sum_at net o) (2 * n) wires
 sums_made net o n wires upper lower others = made_by (sum_at net o) (2 * n) wires each
   where
     each : (i : ℕ) → i < 2 * n → IsPairMade (sum_at net o i) wires
@@ -95,14 +95,14 @@ sums_made net o n wires upper lower others = made_by (sum_at net o) (2 * n) wire
           (second_made (output_wire o.lower (i / 2)) (switch_wire Open o.others (i / 2 - missing net)) wires (lower (i / 2) (omega arith)) (omega arith)))
     ]
 
-pub made_later : (pair : ℕ → Pair) (n a b : ℕ) → a ≤ b → AreMade pair n a → AreMade pair n b
+pub made_later : (pair : ℕ → Pair) (n a b : ℕ) → a ≤ b → ArePairsMade pair n a → ArePairsMade pair n b
 made_later pair n a b more made = made_by pair n b
     (λ i h. let m = made_at pair n a made i h in
     record { first = omega (arith, m.first); second = omega (arith, m.second); first_short = m.first_short; second_short = m.second_short })
 
 -- the items of a bound last column
-pub last_made : (net : Net) (u l : Sums) (n wires : ℕ) → 1 ≤ n → AreMade (sum_at net u) n wires → AreMade (sum_at net l) n wires
-    → AreMade (last_pair net Bound u l) (2 * (n - missing net)) wires
+pub last_made : (net : Net) (u l : Sums) (n wires : ℕ) → 1 ≤ n → ArePairsMade (sum_at net u) n wires → ArePairsMade (sum_at net l) n wires
+    → ArePairsMade (last_pair net Bound u l) (2 * (n - missing net)) wires
 last_made net u l n wires some upper lower = let one = missing_small net in
     made_by (last_pair net Bound u l) (2 * (n - missing net)) wires (λ i h.
     alternating_keeps (λ (p : Pair). IsPairMade p wires) (sum_at net u) (sum_at net l) (i + 2 * missing net)
@@ -117,20 +117,20 @@ HasItems Open from h next = from + 10 * 2 ^ h ≤ next + 3
 
 abbrev pub HasEnds : Net → (form : Form) → EndsOf form → ℕ → ℕ → Type 0
 HasEnds net Bound o n wires = AreBelow o n wires
-HasEnds net Open o n wires = AreMade (sum_at net o) n wires
+HasEnds net Open o n wires = ArePairsMade (sum_at net o) n wires
 
 lone_below : (w wires : ℕ) → w + 1 < wires → AreBelow (record { first = w; second = w; others = w }) 1 wires
 lone_below w wires h i k = let none : i ≡ 0 = omega arith in
     subst (λ v. v + 1 < wires) (sym (output_zero (record { first = w; second = w; others = w }) i none)) h
 
 -- the outputs of a bound last column of n switches but for those that are missing
-bound_below : (net : Net) (n g end : ℕ) (u l : Sums) → 2 ≤ n → AreMade (sum_at net u) n g → AreMade (sum_at net l) n g
+bound_below : (net : Net) (n g end : ℕ) (u l : Sums) → 2 ≤ n → ArePairsMade (sum_at net u) n g → ArePairsMade (sum_at net l) n g
     → end ≡ switch_wire Bound g (n - missing net)
     → AreBelow (last_ends net Bound g u l) (2 * n) end
 bound_below net n g end u l some upper lower at = let count : 2 * (n - 1 + 1) ≡ 2 * n = omega arith in
     subst (λ c. AreBelow (last_ends net Bound g u l) c end) count (by net upper lower at)
   where
-    by : (net : Net) → AreMade (sum_at net u) n g → AreMade (sum_at net l) n g → end ≡ switch_wire Bound g (n - missing net)
+    by : (net : Net) → ArePairsMade (sum_at net u) n g → ArePairsMade (sum_at net l) n g → end ≡ switch_wire Bound g (n - missing net)
         → AreBelow (last_ends net Bound g u l) (2 * (n - 1 + 1)) end
     by Benes upper lower at = outputs_below (column_outputs g) (n - 1) end (omega arith) (omega arith) (omega arith)
     by Waksman upper lower at =
@@ -180,7 +180,7 @@ level_below net Open (suc h) next from has =
     let l_next = level_next net Bound h (to_lower_of Open next from) u.next in
     let at = column_next Open (n - missing net) (last_pair net Open u.answer l.answer) l.next in
     let o : Sums = record { upper = u.answer; lower = l.answer; others = l.next } in
-    subst (λ c. AreMade (sum_at net o) c last.next) (sym (twice (suc h)))
+    subst (λ c. ArePairsMade (sum_at net o) c last.next) (sym (twice (suc h)))
     (sums_made net o n last.next (below_later u.answer n u.next last.next (omega arith) (level_below net Bound h c.next (to_upper_of Open next from) tt))
     (below_later l.answer n l.next last.next (omega arith) (level_below net Bound h u.next (to_lower_of Open next from) tt)) (omega arith))
 

@@ -2,7 +2,7 @@
 use Rattle.std.proofs.Common.{◌≡◌, ℕ, suc, ◌+◌, ◌*◌, ◌/◌, ◌%◌, ◌^◌, ◌≤◌, ◌==◌, inl, inr, Bool, true, false, not, if◌then◌else◌, refl, sym, ◌∙◌, ap, arith}
 use Rattle.std.proofs.Math.Bool.{beq}
 use Rattle.std.proofs.lemmas.Bool.{cases_eq}
-use Rattle.tv_benes.proofs.Permuting.{alternating-even, alternating-odd}
+use Rattle.tv_benes.proofs.Permutations.{alternating-even, alternating-odd}
 use Rattle.tv_benes.proofs.ThroughLaws.{through_places}
 use Rattle.tv_benes.specs.Through.{switches, from, passed, to_upper, to_lower, alternating, joined, last_bit, through}
 use Rattle.tv_benes.specs.Items.{half_item}

@@ -2,7 +2,7 @@
 use Rattle.std.proofs.Common.{◌≡◌, ℕ, zero, suc, ◌+◌, ◌-◌, ◌*◌, ◌/◌, ◌%◌, ◌^◌, ◌<◌, ◌≤◌, ◌==◌, Bool, true, false, if◌then◌else◌, refl, sym, ◌∙◌, ap, ap₂, arith}
 use Rattle.std.proofs.lemmas.Bool.{ne_eqb}
 use Rattle.std.proofs.lemmas.Nat.{pow_pos}
-use Rattle.tv_benes.specs.Through.{switches, from, passed, to_upper, to_lower, alternating, joined, last_bit, missing, through, PlacesTell}
+use Rattle.tv_benes.specs.Through.{switches, from, passed, to_upper, to_lower, alternating, joined, last_bit, missing, through, PlacesDetermineOutputs}
 use Rattle.tv_benes.specs.declared.shape.Net.{Net}
 use Rattle.tv_benes.specs.declared.shape.Net.TheVariants.{Benes, Waksman}
 
@@ -121,8 +121,8 @@ module _ {X Y : Type 0} (f : X → Y) where
 pub through_places : {X : Type 0} (net : Net) (h : ℕ) (bit : ℕ → Bool) (item : ℕ → X) (i : ℕ) → through net h bit item i ≡ item (through net h bit (λ j. j) i)
 through_places net h bit item i = through_map item net h bit (λ j. j) i
 
-pub through_tells : PlacesTell
-through_tells net h bit item i = through_places net h bit item i
+pub through_by_places : PlacesDetermineOutputs
+through_by_places net h bit item i = through_places net h bit item i
 
 -- ---- a level and the one below
 pub record IsAbove (net : Net) (h k : ℕ) : Type 0 where

@@ -19,6 +19,7 @@ use Rattle.tv_core.specs.Normal.{normal, AreNormal}
 use Rattle.tv_core.specs.declared.field.TheConstants.{P}
 use Rattle.tv_core.specs.declared.lines.Pair.{Pair}
 use Rattle.tv_core.specs.declared.lines.PairNum.{PairNum}
+use Rattle.tv_word.specs.Word.{flag_of}
 
 -- a new wire that is x less y where the bit b is 1, and 0 where it is 0: the product of b and x less y
 abbrev pub product_of : ℕ → Combination → Combination → Circuit ℕ
@@ -87,18 +88,14 @@ inner_of net form (suc h) up low two = do
   last_column_of net form (suc h) upper lower
 
 -- ---- the values
--- a bit as a number
-abbrev pub bit_number : Bool → ℕ
-bit_number b = if b then 1 else 0
-
 -- the product of a bit and a difference
 abbrev pub product : Bool → ℕ → ℕ → ℕ
 product b x y = if b then (x + (P - y)) % P else 0
 
 -- the values of a switch's wires
 abbrev pub switch_values : Form → Bool → PairNum → PairNum → List ℕ
-switch_values Bound b x y = bit_number b ∷ (passed b x y).first ∷ (passed b x y).second ∷ (passed b y x).first ∷ (passed b y x).second ∷ []
-switch_values Open b x y = bit_number b ∷ product b x.first y.first ∷ product b x.second y.second ∷ []
+switch_values Bound b x y = flag_of b ∷ (passed b x y).first ∷ (passed b x y).second ∷ (passed b y x).first ∷ (passed b y x).second ∷ []
+switch_values Open b x y = flag_of b ∷ product b x.first y.first ∷ product b x.second y.second ∷ []
 
 -- of n switches, of which number j has the bit j and takes items 2 j and 2 j + 1
 unfoldable pub column_values : Form → ℕ → (ℕ → Bool) → (ℕ → PairNum) → List ℕ
@@ -151,7 +148,7 @@ pub record Setting : Type 0 where
 -- switches, in order, and at the outputs what goes through by these bits of these numbers
 pub record IsFilled (z : List ℕ) (net : Net) (h first : ℕ) (item : ℕ → Pair) (by : Setting) : Type 0 where
   pub meets : Meets z (network_of net h item first).list
-  pub bits : (j : ℕ) → j < switches net h → slice_index z (bit_place net Bound h first j) ≡ bit_number (by.bit j)
+  pub bits : (j : ℕ) → j < switches net h → slice_index z (bit_place net Bound h first j) ≡ flag_of (by.bit j)
   pub outputs : (i : ℕ) → i < 2 ^ suc h → pair_value z (output (network_of net h item first).answer i) ≡ through net h by.bit by.number i
 
 abbrev pub NetworkIsComplete : Type 0

@@ -139,7 +139,7 @@ pub record IsPairMade (pair : Pair) (wires : ℕ) : Type 0 where
   pub second_short : length pair.second ≤ 64
 
 -- the items at places below count are combinations of at most 64 terms over wires below `wires`
-pub record AreMade (pair : ℕ → Pair) (count wires : ℕ) : Type 0 where
+pub record ArePairsMade (pair : ℕ → Pair) (count wires : ℕ) : Type 0 where
   pub first : (i : ℕ) → i < count → top (pair i).first ≤ wires
   pub second : (i : ℕ) → i < count → top (pair i).second ≤ wires
   pub first_short : (i : ℕ) → i < count → length (pair i).first ≤ 64

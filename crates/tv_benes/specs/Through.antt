@@ -75,5 +75,5 @@ abbrev pub PairsArePermuted : Type 0
 PairsArePermuted = (net : Net) (h : ℕ) (bit : ℕ → Bool) (item : ℕ → PairNum) → IsPermutation (places (2 ^ suc h) item) (places (2 ^ suc h) (through net h bit item))
 
 -- which item comes out where does not depend on the items: output i is the item at the place that comes out there
-abbrev pub PlacesTell : Type 0
-PlacesTell = (net : Net) (h : ℕ) (bit : ℕ → Bool) (item : ℕ → PairNum) (i : ℕ) → through net h bit item i ≡ item (through net h bit (λ j. j) i)
+abbrev pub PlacesDetermineOutputs : Type 0
+PlacesDetermineOutputs = (net : Net) (h : ℕ) (bit : ℕ → Bool) (item : ℕ → PairNum) (i : ℕ) → through net h bit item i ≡ item (through net h bit (λ j. j) i)

@@ -3,13 +3,13 @@ ghost use Rattle.std.specs.Prelude.{◌≡◌, ℕ, ◌+◌, ◌*◌, ◌<◌, �
 ghost use Rattle.tv_core.specs.Combinations.{top};
 ghost use Rattle.tv_core.specs.Sinks.{PutsIn, Grows, Room};
 ghost use Rattle.tv_benes.specs.Network.{remainder_of, switch_of, column_of};
-ghost use Rattle.tv_benes.specs.Places.{wires_at, AreMade, IsPairMade};
+ghost use Rattle.tv_benes.specs.Places.{wires_at, ArePairsMade, IsPairMade};
 ghost use Rattle.tv_benes.specs.declared.shape.Form.TheVariants.{Bound, Open};
 
 use crate::open_switches::open_switch;
 use crate::places::{Pairs, Places};
 use tv_bits::{bit_by, select_terms};
-use tv_core::{F, Lc, Pair, Put, Scratch, Sink, Wire};
+use tv_core::{F, Pair, Put, Scratch, Sink, Wire};
 
 // A wire that is with the wire `p` the sum of `x` and `y`. It makes 1 wire and 1 constraint, of 3
 // terms and those of the sum.
@@ -117,7 +117,7 @@ pub(crate) fn bound_column<S: Sink, T: Pairs>(
 ) -> Put<()>
     requires room { Room S.meaning s.old (5 * n) (5 * n) }
     requires count { 2 * n ≤ T.count items.now }
-    requires made { AreMade (T.pair items.now) (2 * n) (S.meaning.wires s.old) }
+    requires made { ArePairsMade (T.pair items.now) (2 * n) (S.meaning.wires s.old) }
     ensures puts { PutsIn S.meaning s.old s.new (column_of Bound n (T.pair items.now)) result }
     ensures grows { IfOk result (λ _. Grows S.meaning s.old s.new (5 * n) (5 * n)) }
 {
@@ -141,16 +141,8 @@ impl Buffers {
     pub(crate) fn new() -> Buffers {
         Buffers {
             scratch: Scratch::new(),
-            x: no_terms(),
-            y: no_terms(),
+            x: Pair::empty(),
+            y: Pair::empty(),
         }
-    }
-}
-
-// Two combinations without terms, to be filled.
-fn no_terms() -> Pair {
-    Pair {
-        first: Lc::empty(),
-        second: Lc::empty(),
     }
 }

@@ -2,19 +2,19 @@
 ghost use Rattle.tv_benes.specs.Costs.{NetworkIsCounted};
 ghost use Rattle.tv_benes.specs.Network.{NetworkIsSound, NetworkIsComplete, NetworkIsNormal};
 ghost use Rattle.tv_benes.specs.Network.{NetworkFills};
-ghost use Rattle.tv_benes.specs.Through.{NumbersArePermuted, PairsArePermuted, PlacesTell};
+ghost use Rattle.tv_benes.specs.Through.{NumbersArePermuted, PairsArePermuted, PlacesDetermineOutputs};
 
-/// Whatever the bits, what comes out of a network is what went in, in another order.
-#[tactic(auto, using(crate::proofs::Permuting::permuted))]
+/// Whatever the bits, the outputs of a network are a permutation of its inputs.
+#[tactic(auto, using(crate::proofs::Permutations::permuted))]
 pub fn through_is_a_permutation()
     ensures numbers { NumbersArePermuted }
     ensures pairs { PairsArePermuted }
 {}
 
-/// Which item comes out at a place follows from the bits alone.
-#[tactic(auto, using(crate::proofs::ThroughLaws::through_tells))]
-pub fn places_tell()
-    ensures { PlacesTell }
+/// The bits alone determine which item comes out at a place.
+#[tactic(auto, using(crate::proofs::ThroughLaws::through_by_places))]
+pub fn places_determine_outputs()
+    ensures { PlacesDetermineOutputs }
 {}
 
 /// Where an assignment satisfies the constraints of a network, it has 0 or 1 at each switch, and at

@@ -21,7 +21,7 @@ mod values;
 pub use costs::{inner_terms, switch_terms};
 pub use laws::{
     network_fills, network_is_complete, network_is_counted, network_is_normal, network_is_sound,
-    places_tell, through_is_a_permutation,
+    places_determine_outputs, through_is_a_permutation,
 };
 pub use networks::{network, routing_network};
 pub use places::{Inputs, Outputs};

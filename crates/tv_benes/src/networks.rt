@@ -2,7 +2,7 @@
 ghost use Rattle.std.specs.Prelude.{◌≡◌, true, false, ◌+◌, ◌-◌, ◌*◌, ◌^◌, ◌<◌, ◌≤◌, IfOk};
 ghost use Rattle.tv_benes.specs.Levels.{level_wires, network_wires};
 ghost use Rattle.tv_benes.specs.Network.{last_column_of, inner_of, level_of, network_of};
-ghost use Rattle.tv_benes.specs.Places.{column_outputs, passed_to, two_ends, sum_at, AreMade};
+ghost use Rattle.tv_benes.specs.Places.{column_outputs, passed_to, two_ends, sum_at, ArePairsMade};
 ghost use Rattle.tv_benes.specs.Places.{AreBelow};
 ghost use Rattle.tv_benes.specs.Through.{missing};
 ghost use Rattle.tv_benes.specs.declared.shape.Form.TheVariants.{Bound, Open};
@@ -11,8 +11,8 @@ ghost use Rattle.tv_core.specs.Sinks.{PutsIn, Grows, Room};
 
 use crate::columns::{Buffers, bound_column, open_column};
 use crate::places::{
-    Given, Inputs, LastItems, LastSums, Outputs, Passed, Row, Sums, column_outputs, last_outputs,
-    lone,
+    Given, Inputs, LastItems, LastSums, Outputs, Passed, Sums, SwitchRow, column_outputs,
+    last_outputs, lone,
 };
 use crate::shape::Net;
 use tv_core::{Put, Sink, Wire};
@@ -27,7 +27,7 @@ pub fn network<S: Sink, I: Inputs>(s: &mut S, k: u32, inputs: &I) -> Put<Outputs
     requires room { Room S.meaning s.old (network_wires Benes (k - 1))
         (network_wires Benes (k - 1)) }
     requires count { I.count inputs.now ≡ 2 ^ k }
-    requires made { AreMade (I.pair inputs.now) (2 ^ k) (S.meaning.wires s.old) }
+    requires made { ArePairsMade (I.pair inputs.now) (2 ^ k) (S.meaning.wires s.old) }
     ensures puts { PutsIn S.meaning s.old s.new (network_of Benes (k - 1) (I.pair inputs.now))
         result }
     ensures grows { IfOk result (λ _. Grows S.meaning s.old s.new (network_wires Benes (k - 1))
@@ -43,7 +43,7 @@ pub fn routing_network<S: Sink, I: Inputs>(s: &mut S, net: Net, k: u32, inputs: 
     requires few { k ≤ 31 }
     requires room { Room S.meaning s.old (network_wires net (k - 1)) (network_wires net (k - 1)) }
     requires count { I.count inputs.now ≡ 2 ^ k }
-    requires made { AreMade (I.pair inputs.now) (2 ^ k) (S.meaning.wires s.old) }
+    requires made { ArePairsMade (I.pair inputs.now) (2 ^ k) (S.meaning.wires s.old) }
     ensures puts { PutsIn S.meaning s.old s.new (network_of net (k - 1) (I.pair inputs.now))
         result }
     ensures grows { IfOk result (λ _. Grows S.meaning s.old s.new (network_wires net (k - 1))
@@ -127,7 +127,7 @@ fn open_network<S: Sink>(
         return open_two(s, buffers, net, from);
     }
     let first = Wire(s.wires());
-    open_column(s, &mut buffers.scratch, power(h), &Row(from))?;
+    open_column(s, &mut buffers.scratch, power(h), &SwitchRow(from))?;
     open_inner(s, buffers, net, h, first, from)
 }
 
@@ -179,7 +179,7 @@ fn open_two<S: Sink>(s: &mut S, buffers: &mut Buffers, net: Net, from: Wire) -> 
     let first = Wire(s.wires());
     match net {
         Net::Benes => {
-            open_column(s, &mut buffers.scratch, 1, &Row(from))?;
+            open_column(s, &mut buffers.scratch, 1, &SwitchRow(from))?;
             Ok(Sums {
                 upper: lone(from),
                 lower: lone(from.offset(5)),
@@ -187,7 +187,7 @@ fn open_two<S: Sink>(s: &mut S, buffers: &mut Buffers, net: Net, from: Wire) -> 
             })
         }
         Net::Waksman => {
-            bound_column(s, buffers, 1, &Row(from))?;
+            bound_column(s, buffers, 1, &SwitchRow(from))?;
             Ok(Sums {
                 upper: lone(first.offset(1)),
                 lower: lone(first.offset(3)),
@@ -209,8 +209,8 @@ fn bound_last<S: Sink>(
     requires level { h < 31 }
     requires some { 1 ≤ h }
     requires room { Room S.meaning s.old (5 * (2 ^ h - missing net)) (5 * (2 ^ h - missing net)) }
-    requires upper { AreMade (sum_at net upper.now) (2 ^ h) (S.meaning.wires s.old) }
-    requires lower { AreMade (sum_at net lower.now) (2 ^ h) (S.meaning.wires s.old) }
+    requires upper { ArePairsMade (sum_at net upper.now) (2 ^ h) (S.meaning.wires s.old) }
+    requires lower { ArePairsMade (sum_at net lower.now) (2 ^ h) (S.meaning.wires s.old) }
     ensures puts { PutsIn S.meaning s.old s.new (last_column_of net Bound h upper.now lower.now)
         result }
     ensures grows { IfOk result (λ _. Grows S.meaning s.old s.new (5 * (2 ^ h - missing net))

@@ -23,8 +23,8 @@ pub trait Inputs {
         requires { i < count self.now }
         ensures { result ≡ pair self.now i };
 
-    /// Makes `item` the item at place `i`. A network reuses the same two pairs for each switch, so
-    /// an input that can write its combinations in place does so here.
+    /// Sets `item` to the item at place `i`. A network reuses the same two pairs for each switch,
+    /// so an input that can write its combinations in place does so here.
     fn set_item(&self, i: u32, item: &mut Pair)
         requires { i < count self.now }
         ensures { item.new ≡ pair self.now i }
@@ -131,9 +131,9 @@ pub(crate) trait Places {
 
 // Every fifth pair of wires: what the switches of a bound column pass first, or second.
 #[derive(Clone, Copy)]
-pub(crate) struct Row(pub(crate) Wire);
+pub(crate) struct SwitchRow(pub(crate) Wire);
 
-impl Places for Row {
+impl Places for SwitchRow {
     ghost place = { λ r. fifth r.0 };
 
     fn at(&self, i: u32) -> Wire {
@@ -141,7 +141,7 @@ impl Places for Row {
     }
 }
 
-impl Pairs for Row {
+impl Pairs for SwitchRow {
     ghost pair = { λ r. row r.0 };
 
     ghost count = { λ _. 2 ^ 28 };
@@ -177,7 +177,7 @@ impl Outputs {
         }
     }
 
-    /// Makes `item` output `i`.
+    /// Sets `item` to output `i`.
     pub fn set_item(&self, i: u32, item: &mut Pair)
         requires { output_wire self.now i + 1 < 2 ^ 32 }
         ensures { item.new ≡ output self.now i }

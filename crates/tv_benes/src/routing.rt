@@ -15,7 +15,7 @@ use tv_core::{PairNum, Put, Values};
 
 /// Assigns the values of the wires that `routing_network` makes, as `fill_routing_network` does,
 /// and moves the items to the places where they come out; a bit that is not there counts as 0.
-/// `spare` is scratch space for as many items; its contents afterwards are unspecified, and so are
+/// `spare` is scratch space of the same length; its contents afterwards are unspecified, and so are
 /// those of both after a refusal. It takes time linear in the number of switches, and no memory.
 pub fn route_items<V: Values>(
     v: &mut V,

@@ -6,7 +6,7 @@ use Rattle.std.proofs.lemmas.Nat.{mul-mod_first}
 use Rattle.tv_core.proofs.BelowLaws.{length-weighted}
 use Rattle.tv_core.proofs.CombinationLaws.{value-append, value-cons, value-scaled, value-wire, value-empty}
 use Rattle.tv_core.proofs.FieldLaws.{InField-cons, InField-append}
-use Rattle.tv_core.proofs.Meeting.{Meets-split, Meets-join, HasFrom-split}
+use Rattle.tv_core.proofs.MeetsLaws.{Meets-split, Meets-join, HasFrom-split}
 use Rattle.tv_core.specs.Circuits.{fresh, put, pure, here, turns, ◌>>=◌}
 use Rattle.tv_core.specs.Combinations.{wire, scaled}
 use Rattle.tv_core.specs.Constraints.{Combination, Constraint, value}
@@ -15,7 +15,7 @@ use Rattle.tv_core.specs.Loops.{sequence}
 use Rattle.tv_core.specs.Meanings.{terms_in}
 use Rattle.tv_core.specs.declared.field.TheConstants.{P}
 use Rattle.tv_bits.proofs.GateLaws.{length-scaled, terms-append}
-use Rattle.tv_bits.proofs.NewBitsLaws.{bits_spell, bits_met}
+use Rattle.tv_bits.proofs.NewBitsLaws.{bits_are, bits_met}
 use Rattle.tv_bits.proofs.RowNumbers.{row_sound, row_edge_met}
 use Rattle.tv_bits.proofs.SizeLaws.{length-bits, bits_in_field}
 use Rattle.tv_bits.proofs.BitNumbers.{HasBits-below, HasBits-low, HasBits-high, HasBits-join, HasBits-from_values, value-bits_below}
@@ -62,7 +62,7 @@ row_wires_sound w width z next assigns meets =
     let made = new_bits_of (2 * w) next in
     let v = binary_value z next (2 * w) in
     let both = Meets-split z made.list _ meets in
-    let s : HasBits z next (w + w) v = subst (λ n. HasBits z next n v) (twice w) (bits_spell z (2 * w) next assigns both.0) in
+    let s : HasBits z next (w + w) v = subst (λ n. HasBits z next n v) (twice w) (bits_are z (2 * w) next assigns both.0) in
     let low = HasBits-low z next w w v s in
     let high = HasBits-high z next w w v s in
     let low_is = kept_sound z made.next (bits_combination next w) assigns (both.1.0, tt) ∙ value-bits_below low (omega arith) in
@@ -84,7 +84,7 @@ value-above_edge w width z signed high assigns bit =
 pub double_row_sound : DoubleRowIsSound
 unfolding double_row_of pure ◌>>=◌
 double_row_sound = record {
-  spells = λ w width z next signed assigns meets. row_wires_sound w width z next assigns (Meets-split z (row_wires_of w next).list _ meets).0;
+  decomposes = λ w width z next signed assigns meets. row_wires_sound w width z next assigns (Meets-split z (row_wires_of w next).list _ meets).0;
   row = λ w width z next signed assigns plain meets.
       let row = (row_wires_of w next).answer in
       let both = Meets-split z (row_wires_of w next).list _ meets in
@@ -110,14 +110,14 @@ module _ (w : ℕ) (width : IsWidth w) (z : List ℕ) (next : ℕ) (assigns : As
   words_has : HasFrom z (next + 2 * w) (low ∷ high ∷ ratio_values (above_edge_in w high v) low)
   words_has = let same : next + w + w ≡ next + 2 * w = omega arith in rw same at high_has.1
 
-  low_spells : HasBits z next w low
-  low_spells = HasBits-from_values z next w low l low_has.0
+  low_bits_are : HasBits z next w low
+  low_bits_are = HasBits-from_values z next w low l low_has.0
 
-  high_spells : HasBits z (next + w) w high
-  high_spells = HasBits-from_values z (next + w) w high h high_has.0
+  high_bits_are : HasBits z (next + w) w high
+  high_bits_are = HasBits-from_values z (next + w) w high h high_has.0
 
   bits_met' : Meets z (new_bits_of (2 * w) next).list
-  bits_met' = bits_met z (2 * w) next assigns (λ i h. (HasBits-join z next w w low high low_spells high_spells).bits i (omega arith))
+  bits_met' = bits_met z (2 * w) next assigns (λ i h. (HasBits-join z next w w low high low_bits_are high_bits_are).bits i (omega arith))
 
   row_wires_met : Meets z (row_wires_of w next).list
   unfolding row_wires_of times_of new_bits_of here fresh put pure ◌>>=◌
@@ -126,8 +126,8 @@ module _ (w : ℕ) (width : IsWidth w) (z : List ℕ) (next : ℕ) (assigns : As
       let made = new_bits_of (2 * w) next in
       let end : made.next ≡ next + 2 * w = new_bits_next (2 * w) next in
       let words = subst (λ n. HasFrom z n (low ∷ high ∷ ratio_values (above_edge_in w high v) low)) (sym end) words_has in
-      let low_is = value-bits_below low_spells (omega arith) in
-      let high_is = value-bits_below high_spells (omega arith) in
+      let low_is = value-bits_below low_bits_are (omega arith) in
+      let high_is = value-bits_below high_bits_are (omega arith) in
       let first = kept_complete z made.next (bits_combination next w) assigns (words.0 ∙ sym low_is, tt) in
       let second = kept_complete z (made.next + 1) (bits_combination (next + w) w) assigns (words.1.0 ∙ sym high_is, tt) in
       Meets-join z made.list _ bits_met' (first.0, (second.0, tt))

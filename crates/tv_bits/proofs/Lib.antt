@@ -16,5 +16,6 @@ pub mod SizeLaws
 pub mod BitNumbers
 pub mod BitsLaws
 pub mod TimesLaws
+pub mod WireProducts
 pub mod ZeroLaws
 pub mod ZeroSignLaws

@@ -2,7 +2,7 @@
 use Rattle.std.proofs.Common.{ℕ, ◌+◌, ◌<◌, List, refl}
 use Rattle.std.specs.Prelude.{slice_index}
 use Rattle.std.specs.Int.{bit_at}
-use Rattle.tv_core.proofs.Having.{has_of_each}
+use Rattle.tv_core.proofs.HasLaws.{has_of_each}
 use Rattle.tv_core.specs.Laws.{Assigns, Meets}
 use Rattle.tv_bits.proofs.BitNumbers.{HasBits-bit_at}
 use Rattle.tv_bits.proofs.BitsLaws.{new_bits_sound, new_bits_complete, new_bits_answer}
@@ -10,8 +10,8 @@ use Rattle.tv_bits.specs.Bit.{IsBit}
 use Rattle.tv_bits.specs.Bits.{HasBits, binary_value, new_bits_of}
 
 -- an assignment that satisfies the constraints of bits has wires that represent some number
-pub bits_spell : (z : List ℕ) (n at : ℕ) → Assigns z → Meets z (new_bits_of n at).list → HasBits z at n (binary_value z at n)
-bits_spell z n at assigns meets = rw new_bits_answer at (new_bits_sound z at n assigns meets)
+pub bits_are : (z : List ℕ) (n at : ℕ) → Assigns z → Meets z (new_bits_of n at).list → HasBits z at n (binary_value z at n)
+bits_are z n at assigns meets = rw new_bits_answer at (new_bits_sound z at n assigns meets)
 
 -- an assignment that has bits at them meets it
 pub bits_met : (z : List ℕ) (n at : ℕ) → Assigns z → ((i : ℕ) → i < n → IsBit (slice_index z (at + i))) → Meets z (new_bits_of n at).list

@@ -9,7 +9,7 @@ use Rattle.tv_core.proofs.BelowLaws.{sum_below-single, value-weighted, has_each}
 use Rattle.tv_core.proofs.CombinationLaws.{value-less, value-below, value-constant, value-wire, wire-below}
 use Rattle.tv_core.proofs.DifferenceLaws.{same_of_minus}
 use Rattle.tv_core.proofs.LoopLaws.{turn_met, turns_met, turns-next}
-use Rattle.tv_core.proofs.Meeting.{Meets-split, Meets-join}
+use Rattle.tv_core.proofs.MeetsLaws.{Meets-split, Meets-join}
 use Rattle.tv_core.proofs.PrimeLaws.{p_zero_product_below}
 use Rattle.tv_core.specs.Below.{weighted}
 use Rattle.tv_core.specs.Circuits.{here, fresh, put, pure, ◌>>=◌}

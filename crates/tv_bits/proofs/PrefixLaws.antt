@@ -10,7 +10,7 @@ use Rattle.tv_core.proofs.CombinationLaws.{value-less, value-below, value-wire}
 use Rattle.tv_core.proofs.DifferenceLaws.{same_of_minus}
 use Rattle.tv_core.proofs.FieldLaws.{InField-each_below}
 use Rattle.tv_core.proofs.LoopLaws.{turns-next}
-use Rattle.tv_core.proofs.Meeting.{parts, whole}
+use Rattle.tv_core.proofs.MeetsLaws.{parts, whole}
 use Rattle.tv_core.proofs.PrimeLaws.{p_zero_product_below}
 use Rattle.tv_core.specs.Circuits.{fresh, put, pure, turns, ◌>>=◌}
 use Rattle.tv_core.specs.Combinations.{less}

@@ -59,7 +59,7 @@ double_row_values w low high signed = bits_values low w ++ (bits_values high w +
 
 -- in an assignment that satisfies the constraints the bits represent the wires' words, which are a row unless it is signed
 pub record DoubleRowIsSound : Type 0 where
-  pub spells : (w : ℕ) → IsWidth w → (z : List ℕ) (next : ℕ) (signed : Combination) → Assigns z → Meets z (double_row_of w signed next).list
+  pub decomposes : (w : ℕ) → IsWidth w → (z : List ℕ) (next : ℕ) (signed : Combination) → Assigns z → Meets z (double_row_of w signed next).list
       → HasRowBits w z (double_row_of w signed next).answer
   pub row : (w : ℕ) → IsWidth w → (z : List ℕ) (next : ℕ) (signed : Combination) → Assigns z → value signed z ≡ 0 → Meets z (double_row_of w signed next).list
       → IsRow w (slice_index z (double_row_of w signed next).answer.low) (slice_index z (double_row_of w signed next).answer.high)

@@ -3,6 +3,7 @@ pub mod Bits
 pub mod DoubleRow
 pub mod Gate
 pub mod Nonzero
+pub mod Number
 pub mod OneHot
 pub mod Order
 pub mod Pairs

@@ -1,12 +1,13 @@
 -- A step's parts one after another, and where each begins.
 use Rattle.std.proofs.Common.{◌≡◌, ℕ, ◌+◌, List, ◌∙◌, ap, arith}
 use Rattle.tv_bits.proofs.ZeroSignLaws.{zero_sign_sizes}
+use Rattle.tv_bits.specs.Number.{number_of}
 use Rattle.tv_bits.specs.ZeroSign.{zero_sign_of}
 use Rattle.tv_core.specs.Circuits.{Made, fresh, pure, ◌>>=◌}
 use Rattle.tv_decode.proofs.InstructionLaws.{instruction_sizes}
-use Rattle.tv_decode.specs.Instructions.{instruction_of, dest_bits, source_bits, register_bits, imm_wire, number_of}
+use Rattle.tv_decode.specs.Instructions.{instruction_of, dest_bits, source_bits, register_bits, imm_wire}
 use Rattle.tv_decode.specs.declared.records.InstructionWires.{InstructionWires}
-use Rattle.tv_numbers.specs.Tables.{store_ops}
+use Rattle.tv_isa.specs.Opcodes.{store_ops}
 use Rattle.tv_regs.proofs.TripleLaws.{triple_sizes}
 use Rattle.tv_regs.specs.declared.triple.Triple.{Triple}
 use Rattle.tv_word.specs.Widths.{IsWidth}

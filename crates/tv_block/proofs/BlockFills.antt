@@ -7,26 +7,27 @@ use Rattle.tv_bits.proofs.ZeroSignLaws.{zero_sign_complete, zero_sign_sizes}
 use Rattle.tv_bits.specs.Bit.{IsBit}
 use Rattle.tv_bits.specs.Bits.{HasBits, bits_values}
 use Rattle.tv_bits.specs.DoubleRow.{double_row_values}
+use Rattle.tv_bits.specs.Number.{number_of}
 use Rattle.tv_bits.specs.ZeroSign.{sign_at_zero, zero_sign_values}
 use Rattle.tv_core.proofs.CombinationLaws.{value-wire}
-use Rattle.tv_core.proofs.Meeting.{Meets-join, HasFrom-split}
+use Rattle.tv_core.proofs.MeetsLaws.{Meets-join, HasFrom-split}
 use Rattle.tv_core.specs.Circuits.{fresh, pure, ◌>>=◌}
 use Rattle.tv_core.specs.Constraints.{value}
 use Rattle.tv_core.specs.Laws.{Assigns, Meets, HasFrom}
 use Rattle.tv_decode.proofs.InstructionLaws.{instruction_complete, instruction_sizes}
-use Rattle.tv_decode.specs.Instructions.{instruction_values, imm_wire, dest_bits, source_bits, register_bits, number_of, IsDecoded}
+use Rattle.tv_decode.specs.Instructions.{instruction_values, imm_wire, dest_bits, source_bits, register_bits, IsDecoded}
 use Rattle.tv_isa.specs.Instruction.{decode}
-use Rattle.tv_isa.specs.Opcodes.{among}
+use Rattle.tv_isa.specs.Opcodes.{among, store_ops}
 use Rattle.tv_isa.specs.declared.instr.Instr.{Instr}
 use Rattle.tv_numbers.specs.Laws.{AtNumbers}
-use Rattle.tv_numbers.specs.Numbers.{Did, did_of, operand_word, other_word, found, step_words}
-use Rattle.tv_numbers.specs.Tables.{store_ops}
-use Rattle.tv_numbers.specs.Views.{View, flag_of}
+use Rattle.tv_numbers.specs.Numbers.{Transition, transition_of, operand_word, other_word, found, step_words}
+use Rattle.tv_numbers.specs.Views.{View}
 use Rattle.tv_regs.proofs.TripleLaws.{triple_complete, triple_sizes}
 use Rattle.tv_regs.specs.Triple.{AreNumbers, other_number, triple_values}
+use Rattle.tv_word.proofs.FlagLaws.{flag_small}
 use Rattle.tv_word.specs.Widths.{IsWidth}
 use Rattle.tv_parts.proofs.ArithmeticCounts.{arithmetic_sizes}
-use Rattle.tv_parts.proofs.ArithmeticFills.{arithmetic_complete, row_spelled}
+use Rattle.tv_parts.proofs.ArithmeticFills.{arithmetic_complete, decomposed_below}
 use Rattle.tv_parts.proofs.ArithmeticLaws.{arithmetic_sound}
 use Rattle.tv_parts.proofs.FlagFills.{flag_complete, flag_sizes}
 use Rattle.tv_parts.proofs.MemoryFills.{memory_complete, memory_sizes}
@@ -35,7 +36,6 @@ use Rattle.tv_parts.proofs.OperandLaws.{operand_complete, operand_sizes}
 use Rattle.tv_parts.proofs.PcFills.{pc_complete}
 use Rattle.tv_parts.proofs.ResultFills.{results_complete, results_sizes}
 use Rattle.tv_parts.proofs.TapeFills.{tapes_filled, tapes_sizes}
-use Rattle.tv_parts.proofs.TapeLaws.{flag_small}
 use Rattle.tv_parts.proofs.WrittenFills.{written_complete, written_sizes}
 use Rattle.tv_parts.specs.Arithmetic.{shift_ops, division_ops, decomposed_word, arithmetic_values, sums_values, products_values, shifts_values}
 use Rattle.tv_parts.specs.Arithmetic.{HasArithmetic, IsArithmetic}
@@ -56,9 +56,10 @@ use Rattle.tv_block.proofs.BlockLaws.{state_sixteen, register_word, other_below,
 use Rattle.tv_block.proofs.PartLaws.{used_again, opcode_of_row, op_below, dest_below, source_below, among_each, AreRegisters, registers_sound}
 use Rattle.tv_block.proofs.PartLaws.{sign_value}
 use Rattle.tv_parts.proofs.ShiftTests.{below_width}
-use Rattle.tv_block.specs.Block.{computed_of, data_of, sources_of, effects_of, block_of, did, IsStep}
+use Rattle.tv_block.specs.Block.{computed_of, data_of, sources_of, effects_of, block_of, transition_in, IsStep}
 use Rattle.tv_block.specs.Complete.{BlockIsComplete}
 use Rattle.tv_block.specs.Values.{row_low, row_high, tested_in, test_in, effects_values, other_register, block_values}
+use Rattle.tv_word.specs.Word.{flag_of}
 
 -- an assignment that has two lists has the first, and from the next wire on the second
 some_had : (z : List ℕ) (at next : ℕ) (xs ys : List ℕ) → next ≡ at + length xs → HasFrom z at (xs ++ ys) → HasFrom z at xs × HasFrom z next ys
@@ -130,7 +131,7 @@ module _ (w : ℕ) (z : List ℕ) (n : ℕ) (state : StateWires) (at head tail :
     pub is : IsOperand w z (operand w n state at).answer a_of
     pub tests : slice_index z (test w n state at) ≡ test_in w n now instr low_at high_at takes
     pub does : IsArithmetic w z (made w n state at).answer (test w n state at) (operand w n state at).answer (operation_of instr.op x_of a_of)
-    pub spelled : HasBits z (made w n state at).answer.x.first w (decomposed_word w instr.op x_of a_of)
+    pub decomposed : HasBits z (made w n state at).answer.x.first w (decomposed_word w instr.op x_of a_of)
     pub low : low_at ≡ row_low w now instr o
     pub rest : HasFrom z (made w n state at).next (later_values w n now instr takes low_at high_at (slice_index z (test w n state at)))
 
@@ -218,7 +219,7 @@ front w width z n state at head tail o takes assigns in_range has =
     let bits_at = HasFrom-split z (taken.next + 1) (bits_values (decomposed_word w i.op x a) w) row_bits bits_had.0 in
     let first_is = arithmetic_sizes.answer w width ins.answer.op regs.answer.other_word taken.next taken.answer (taken.next + 1) in
     let bits_from : HasBits z (taken.next + 1) w (decomposed_word w i.op x a) =
-    HasBits-from_values z (taken.next + 1) w (decomposed_word w i.op x a) (row_spelled w width i.op x a x_word (HasBits-below is.bits)) bits_at.0 in
+    HasBits-from_values z (taken.next + 1) w (decomposed_word w i.op x a) (decomposed_below w width i.op x a x_word (HasBits-below is.bits)) bits_at.0 in
     record {
       met1 = first.0;
       met2 = m2;
@@ -230,7 +231,7 @@ front w width z n state at head tail o takes assigns in_range has =
       is = is;
       tests = f_is ∙ ap₂ (λ l h. test_in w n v i l h takes) (sym m4.1) (sym m4.2);
       does = does;
-      spelled = subst (λ k. HasBits z k w (decomposed_word w i.op x a)) (sym (ap (λ m. m.x.first) first_is)) bits_from;
+      decomposed = subst (λ k. HasBits z k w (decomposed_word w i.op x a)) (sym (ap (λ m. m.x.first) first_is)) bits_from;
       low = m4.1;
       rest = had_later w n v i takes z does_made.next low high f _ _ _ m4.1 m4.2 f_is h4.1;
     }
@@ -241,18 +242,18 @@ shown : (w : ℕ) (z : List ℕ) (n : ℕ) (state : StateWires) (time at head ta
     (is : IsStep w z n time state (block_of w n state time at).answer) → Assigns z
     → slice_index z (instruction w n state at).answer.head ≡ head → slice_index z (instruction w n state at).answer.tail ≡ tail
     → slice_index z (made w n state at).answer.row.low ≡ low → took z (tapes w n state at).answer ≡ takes
-    → did z state (block_of w n state time at).answer ≡ did_of w n time (state_in z state) (step_words head tail low takes)
+    → transition_in z state (block_of w n state time at).answer ≡ transition_of w n time (state_in z state) (step_words head tail low takes)
 unfolding block_of computed_of effects_of fresh pure ◌>>=◌
 shown w z n state time at head tail low takes is assigns head_at tail_at low_at takes_at =
     let v = state_in z state in
-    let head_is : is.head ≡ head = sym (ap (λ (b : Did). b.first.old) is.same) ∙ value-wire assigns (instruction w n state at).answer.head ∙ head_at in
-    let tail_is : is.tail ≡ tail = sym (ap (λ (b : Did). b.second.old) is.same) ∙ value-wire assigns (instruction w n state at).answer.tail ∙ tail_at in
-    let word_is : is.word ≡ low = sym (ap (λ (b : Did). b.word) is.same) ∙ low_at in
-    let takes_is : is.takes ≡ takes = sym (ap (λ (b : Did). b.takes) is.same) ∙ takes_at in
+    let head_is : is.head ≡ head = sym (ap (λ (b : Transition). b.first.old) is.same) ∙ value-wire assigns (instruction w n state at).answer.head ∙ head_at in
+    let tail_is : is.tail ≡ tail = sym (ap (λ (b : Transition). b.second.old) is.same) ∙ value-wire assigns (instruction w n state at).answer.tail ∙ tail_at in
+    let word_is : is.word ≡ low = sym (ap (λ (b : Transition). b.word) is.same) ∙ low_at in
+    let takes_is : is.takes ≡ takes = sym (ap (λ (b : Transition). b.takes) is.same) ∙ takes_at in
     is.same
-    ∙ ap (λ k. did_of w n time v (step_words k is.tail is.word is.takes)) head_is
-    ∙ ap (λ k. did_of w n time v (step_words head k is.word is.takes)) tail_is
-    ∙ ap₂ (λ k b. did_of w n time v (step_words head tail k b)) word_is takes_is
+    ∙ ap (λ k. transition_of w n time v (step_words k is.tail is.word is.takes)) head_is
+    ∙ ap (λ k. transition_of w n time v (step_words head k is.word is.takes)) tail_is
+    ∙ ap₂ (λ k b. transition_of w n time v (step_words head tail k b)) word_is takes_is
 
 -- an assignment that has the values of the parts after the arithmetic meets these
 record Back (w : ℕ) (z : List ℕ) (n : ℕ) (state : StateWires) (at : ℕ) (takes : Bool) : Type 0 where
@@ -283,7 +284,7 @@ back w width z n state at head tail o takes assigns in_range fore =
     let arith_made = made w n state at in
     let low = slice_index z arith_made.answer.row.low in
     let high = slice_index z arith_made.answer.row.high in
-    let spelled = decomposed_word w i.op x a in
+    let decomposed = decomposed_word w i.op x a in
     let x_word = other_below w n v head tail range in
     let t = tapes w n state at in
     let h5 = some_had z arith_made.next t.next (tapes_values w n v i low takes) (effects_values w n v i low high takes f)
@@ -312,9 +313,9 @@ back w width z n state at head tail o takes assigns in_range fore =
     let r2 : List ℕ = results_values w i.op a low high finds ++ r3 in
     let d = data_of arith_made.answer regs.answer.other_word in
     let mem = memory w n state at in
-    let h6 = some_had z t.next mem.next (memory_values w (input_of n v i low) spelled b) r2
-    (memory_sizes.fills w width n state row_op taken.answer d t.answer v i spelled low b t.next) rest in
-    let m6 = memory_complete w width z t.next n state row_op taken.answer d t.answer v i spelled low (record {
+    let h6 = some_had z t.next mem.next (memory_values w (input_of n v i low) decomposed b) r2
+    (memory_sizes.fills w width n state row_op taken.answer d t.answer v i decomposed low b t.next) rest in
+    let m6 = memory_complete w width z t.next n state row_op taken.answer d t.answer v i decomposed low (record {
       assigns = assigns;
       short = in_range.short;
       within = range.taken;
@@ -323,7 +324,7 @@ back w width z n state at head tail o takes assigns in_range fore =
       operand = fore.is;
       bits = fore.does.row.low;
       word = refl;
-      spelled = fore.spelled;
+      decomposed = fore.decomposed;
       stored = λ e. ap (λ k. decomposed_word w k x a) e;
       other = fore.are.other;
       both = fore.does.both;

@@ -10,7 +10,7 @@ use Rattle.tv_bits.proofs.ZeroSignLaws.{zero_sign_sound}
 use Rattle.tv_bits.specs.Bit.{IsBit}
 use Rattle.tv_bits.specs.ZeroSign.{zero_sign_of}
 use Rattle.tv_core.proofs.CombinationLaws.{value-append, value-wire, value-constant, value-cons}
-use Rattle.tv_core.proofs.Meeting.{Meets-split}
+use Rattle.tv_core.proofs.MeetsLaws.{Meets-split}
 use Rattle.tv_core.specs.Circuits.{fresh, pure, ◌>>=◌}
 use Rattle.tv_core.specs.Combinations.{constant}
 use Rattle.tv_core.specs.Constraints.{value}
@@ -21,7 +21,7 @@ use Rattle.tv_decode.proofs.InstructionLaws.{instruction_sound}
 use Rattle.tv_decode.specs.Instructions.{imm_wire, instruction_of, IsDecoded}
 use Rattle.tv_decode.specs.declared.records.InstructionWires.{InstructionWires}
 use Rattle.tv_isa.specs.Instruction.{decode}
-use Rattle.tv_isa.specs.Opcodes.{among, chosen}
+use Rattle.tv_isa.specs.Opcodes.{among, chosen, store_ops, writer_ops}
 use Rattle.tv_isa.specs.declared.instr.Instr.{Instr}
 use Rattle.tv_isa.specs.declared.opcode.TheConstants.{CMPE, CMOV, ANSWER}
 use Rattle.tv_mem.specs.Bytes.{byte_of}
@@ -29,9 +29,9 @@ use Rattle.tv_numbers.proofs.LineRows.{same_line}
 use Rattle.tv_numbers.proofs.RangeLaws.{numbers_stay_in_range}
 use Rattle.tv_numbers.proofs.StepLaws.{numbers_do, same_view}
 use Rattle.tv_numbers.specs.Laws.{DoesStep}
-use Rattle.tv_numbers.specs.Numbers.{Did, operand_word, other_word, result_in, stepped}
-use Rattle.tv_numbers.specs.Tables.{store_ops, writer_ops, pcs}
-use Rattle.tv_numbers.specs.Views.{View, flag_of, ViewInRange}
+use Rattle.tv_numbers.specs.Numbers.{Transition, operand_word, other_word, result_in, stepped}
+use Rattle.tv_numbers.specs.Tables.{pcs}
+use Rattle.tv_numbers.specs.Views.{View, ViewInRange}
 use Rattle.tv_step.specs.Rows.{word_size}
 use Rattle.tv_word.proofs.WidthLaws.{for_widths}
 use Rattle.tv_word.specs.Widths.{IsWidth}
@@ -64,6 +64,7 @@ use Rattle.tv_parts.specs.declared.records.TapeWires.{TapeWires}
 use Rattle.tv_block.proofs.PartLaws.{opcode_of_row, op_below, dest_below, source_below, among_each, registers_sound, written_sound, sign_value}
 use Rattle.tv_block.proofs.PartLaws.{sign_shift, sign_division}
 use Rattle.tv_block.specs.Block.{registers_of, data_of, sources_of, computed_of, effects_of, block_of, word_inverse, cell_of, BlockIsStep, BlockIsSound}
+use Rattle.tv_word.specs.Word.{flag_of}
 
 -- ---- the state
 pub state_sixteen : (w : ℕ) (z : List ℕ) (n : ℕ) (state : StateWires) → ViewInRange w n (state_in z state) → length state.regs ≡ 16
@@ -198,7 +199,7 @@ module _ {w : ℕ} {z : List ℕ} {n : ℕ} {state : StateWires} (known : Before
             operand = is;
             bits = does.row.low;
             word = refl;
-            spelled = does.bits.1;
+            decomposed = does.bits.1;
             stored = λ e. does.bits.1.number ∙ sym (does.same (ap (among division_ops) e)).number;
             other = held;
             both = does.both;
@@ -296,11 +297,11 @@ cell_value w width pc is = ap (λ n. (word_inverse w * n + 0) % P) is.whole ∙ 
 small_time : (t : ℕ) → t < 2 ^ 33 → t % P ≡ t
 small_time t h = omega arith
 
-same_did : (a b c d : View) (e f g h k l : Line) (m n : Bool) (o p : ℕ) (q r : Bool) (s t : ℕ)
+same_transition : (a b c d : View) (e f g h k l : Line) (m n : Bool) (o p : ℕ) (q r : Bool) (s t : ℕ)
     → a ≡ b → c ≡ d → e ≡ f → g ≡ h → k ≡ l → m ≡ n → o ≡ p → q ≡ r → s ≡ t
-    → ◌≡◌ {A = Did} (record { now = a; after = c; first = e; second = g; data_line = k; takes = m; word = o; answers = q; value = s })
+    → ◌≡◌ {A = Transition} (record { now = a; after = c; first = e; second = g; data_line = k; takes = m; word = o; answers = q; value = s })
     (record { now = b; after = d; first = f; second = h; data_line = l; takes = n; word = p; answers = r; value = t })
-same_did a b c d e f g h k l m n o p q r s t e1 e2 e3 e4 e5 e6 e7 e8 e9 = cc
+same_transition a b c d e f g h k l m n o p q r s t e1 e2 e3 e4 e5 e6 e7 e8 e9 = cc
 
 -- the cells of the instruction's words
 module _ {w : ℕ} {z : List ℕ} {n : ℕ} {state : StateWires} (known : Before w z n state) where
@@ -391,7 +392,7 @@ step_in w width z n state time at short early assigns range meets =
         used = row.used;
         asked = are_tapes.asked;
       };
-      same = same_did _ _ _ _ _ _ _ _ _ _ _ _ _ _ _ _ _ _ refl
+      same = same_transition _ _ _ _ _ _ _ _ _ _ _ _ _ _ _ _ _ _ refl
           (same_view _ _ _ _ _ _ _ _ _ _ pc_is regs_are flag_is are_tapes.taken are_tapes.ended)
           (same_line _ _ _ _ _ _ _ _ (head_cell known) (time_is known time (omega arith)) head_is head_is)
           (same_line _ _ _ _ _ _ _ _ (tail_cell known) (time_is known (time + 1) (omega arith)) tail_is tail_is)
@@ -409,8 +410,8 @@ block_sound w width z x state time next short early assigns range meets =
     let after = numbers_stay_in_range w width (length x) time v step.head step.tail step.word step.takes step.at_numbers in
     let does = numbers_do w width x time v step.head step.tail step.word step.takes step.at_numbers in
     record {
-      range = subst (λ (b : Did). ViewInRange w (length x) b.after) (sym step.same) after;
+      range = subst (λ (b : Transition). ViewInRange w (length x) b.after) (sym step.same) after;
       does = subst (DoesStep w x time) (sym step.same) does;
-      takes = step.taken ∙ sym (ap (λ (b : Did). flag_of b.takes) step.same);
-      answers = step.answers ∙ sym (ap (λ (b : Did). flag_of b.answers) step.same);
+      takes = step.taken ∙ sym (ap (λ (b : Transition). flag_of b.takes) step.same);
+      answers = step.answers ∙ sym (ap (λ (b : Transition). flag_of b.answers) step.same);
     }

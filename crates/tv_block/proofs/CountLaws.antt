@@ -2,15 +2,16 @@
 use Rattle.std.proofs.Common.{◌≡◌, ℕ, ◌+◌, ◌-◌, ◌*◌, ◌/◌, ◌^◌, ◌≤◌, ◌==◌, if◌then◌else◌, Bool, true, false, length, All, refl, ap, arith}
 use Rattle.tv_bits.proofs.NormalLaws.{bits_normal_plain, bits_top}
 use Rattle.tv_bits.proofs.ZeroSignLaws.{zero_sign_sizes, zero_sign_costs}
+use Rattle.tv_bits.specs.Number.{number_of}
 use Rattle.tv_bits.specs.ZeroSign.{zero_sign_of}
 use Rattle.tv_core.specs.Below.{weighted}
 use Rattle.tv_core.specs.Circuits.{fresh}
 use Rattle.tv_core.specs.Combinations.{top}
 use Rattle.tv_core.specs.declared.lines.LineLc.{LineLc}
 use Rattle.tv_decode.proofs.InstructionLaws.{instruction_sizes, instruction_costs}
-use Rattle.tv_decode.specs.Instructions.{instruction_of, dest_bits, source_bits, register_bits, number_of}
+use Rattle.tv_decode.specs.Instructions.{instruction_of, dest_bits, source_bits, register_bits}
 use Rattle.tv_decode.specs.declared.records.InstructionWires.{InstructionWires}
-use Rattle.tv_numbers.specs.Tables.{store_ops}
+use Rattle.tv_isa.specs.Opcodes.{store_ops}
 use Rattle.tv_regs.proofs.TripleLaws.{triple_sizes, triple_costs}
 use Rattle.tv_word.proofs.WidthLaws.{for_widths}
 use Rattle.tv_word.specs.Widths.{IsWidth}

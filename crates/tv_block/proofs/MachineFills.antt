@@ -7,14 +7,13 @@ use Rattle.std.proofs.lemmas.Bool.Decides.{nat_tests}
 use Rattle.std.proofs.lemmas.List.Elements.{All-head}
 use Rattle.tv_core.specs.Lines.{Line}
 use Rattle.tv_isa.specs.Instruction.{decode}
-use Rattle.tv_isa.specs.Opcodes.{among}
+use Rattle.tv_isa.specs.Opcodes.{among, memory_ops}
 use Rattle.tv_isa.specs.declared.instr.Instr.{Instr}
 use Rattle.tv_isa.specs.declared.opcode.TheConstants.{STORE_B, STORE_W, READ}
 use Rattle.tv_mem.proofs.WordLaws.{words_are_small}
 use Rattle.tv_numbers.proofs.ShownLaws.{machine_shows, seen_in_range}
-use Rattle.tv_numbers.specs.Numbers.{other_word, operand_word, touches, takes_primary, asks, with_byte_in, data_line, Did, did_of, lines_in, step_words}
+use Rattle.tv_numbers.specs.Numbers.{other_word, operand_word, touches, takes_primary, asks, with_byte_in, data_line, Transition, transition_of, lines_in, step_words}
 use Rattle.tv_numbers.specs.Shown.{data_word_of, head_at, tail_at, data_at}
-use Rattle.tv_numbers.specs.Tables.{memory_ops}
 use Rattle.tv_numbers.specs.Views.{View, seen}
 use Rattle.tv_step.proofs.CellLaws.{lines_in_range}
 use Rattle.tv_step.specs.Cells.{IsLine}
@@ -86,10 +85,10 @@ same_data_line w n v i o takes time = by (among data_ops i.op) refl
         none.memory (ap (λ r. (r && (operand_word v i == 0)) && nat_lt v.taken n) none.read) none.word none.byte
 
 same_lines : (w n time : ℕ) (v : View) (head tail o : ℕ) (takes : Bool)
-    → lines_in (did_of w n time v (step_words head tail (row_low w v (decode w head tail) o) takes))
-    ≡ lines_in (did_of w n time v (step_words head tail o takes))
+    → lines_in (transition_of w n time v (step_words head tail (row_low w v (decode w head tail) o) takes))
+    ≡ lines_in (transition_of w n time v (step_words head tail o takes))
 same_lines w n time v head tail o takes =
-    let b = did_of w n time v (step_words head tail o takes) in
+    let b = transition_of w n time v (step_words head tail o takes) in
     ap (λ (line : Line). b.first ∷ b.second ∷ line ∷ []) (same_data_line w n v (decode w head tail) o takes (time + 2))
 
 -- ---- the machine's step
@@ -106,9 +105,9 @@ machine_step_met w width z x state time next st word given =
     record {
       met = is.met;
       lines = ap lines_in is.shows ∙ same_lines w n time v head tail o (is_some word) ∙ shown.lines;
-      takes = ap (λ (b : Did). b.takes) is.shows;
+      takes = ap (λ (b : Transition). b.takes) is.shows;
       same = λ u e.
-          ap (λ (b : Did). b.word) is.shows ∙ low_is_data w v i o (asks_data v i (shown.range.asked (ap is_some e)))
+          ap (λ (b : Transition). b.word) is.shows ∙ low_is_data w v i o (asks_data v i (shown.range.asked (ap is_some e)))
           ∙ ap (data_word_of (traced_line w n st (time + 2)).old) e;
     }
 

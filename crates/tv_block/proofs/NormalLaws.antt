@@ -1,6 +1,7 @@
 -- A step's constraints are of normal combinations.
 use Rattle.std.proofs.Common.{◌≡◌, ℕ, ◌+◌, ◌-◌, ◌*◌, ◌/◌, ◌^◌, ◌<◌, ◌≤◌, [], ◌∷◌, ◌++◌, refl, ◌∙◌, ap, arith}
 use Rattle.tv_bits.proofs.NormalLaws.{bits_normal_plain, bits_top, zero_sign_normal}
+use Rattle.tv_bits.specs.Number.{number_of}
 use Rattle.tv_core.proofs.NormalCircuits.{normal_both}
 use Rattle.tv_core.proofs.NormalLaws.{IsNormalFrom-lower}
 use Rattle.tv_core.specs.Circuits.{fresh, pure, ◌>>=◌}
@@ -8,9 +9,9 @@ use Rattle.tv_core.specs.Combinations.{top}
 use Rattle.tv_core.specs.Normal.{IsNormal, AreNormal}
 use Rattle.tv_decode.proofs.InstructionLaws.{instruction_sizes}
 use Rattle.tv_decode.proofs.NormalLaws.{instruction_normal}
-use Rattle.tv_decode.specs.Instructions.{dest_bits, source_bits, register_bits, imm_wire, number_of}
+use Rattle.tv_decode.specs.Instructions.{dest_bits, source_bits, register_bits, imm_wire}
 use Rattle.tv_decode.specs.declared.records.InstructionWires.{InstructionWires}
-use Rattle.tv_numbers.specs.Tables.{store_ops}
+use Rattle.tv_isa.specs.Opcodes.{store_ops}
 use Rattle.tv_regs.proofs.NormalLaws.{reg_below, triple_normal}
 use Rattle.tv_regs.proofs.TripleLaws.{triple_sizes}
 use Rattle.tv_regs.specs.Triple.{triple_wires}

@@ -6,52 +6,51 @@ use Rattle.std.specs.Prelude.{slice_index, slice_set}
 use Rattle.std.proofs.lemmas.Bool.{cases_eq, ne_eqb, eqb-true, and_parts}
 use Rattle.std.proofs.lemmas.Bool.Decides.{nat_tests}
 use Rattle.tv_bits.specs.Bit.{IsBit}
+use Rattle.tv_bits.specs.Number.{number_of}
 use Rattle.tv_core.proofs.CombinationLaws.{value-append, value-wire}
-use Rattle.tv_core.proofs.Meeting.{Meets-split}
+use Rattle.tv_core.proofs.MeetsLaws.{Meets-split}
 use Rattle.tv_core.specs.Circuits.{◌>>=◌}
 use Rattle.tv_core.specs.Combinations.{wire}
 use Rattle.tv_core.specs.Constraints.{Combination, value}
 use Rattle.tv_core.specs.Laws.{Assigns, Meets}
 use Rattle.tv_core.specs.declared.field.TheConstants.{P}
 use Rattle.tv_decode.proofs.InstructionLaws.{opcode_wire}
-use Rattle.tv_decode.specs.Instructions.{place, number_of, dest_bits, source_bits, register_bits, IsOpcodeRow, IsDecoded}
+use Rattle.tv_decode.specs.Instructions.{dest_bits, source_bits, register_bits, IsOpcodeRow, IsDecoded}
 use Rattle.tv_decode.specs.declared.records.InstructionWires.{InstructionWires}
 use Rattle.tv_isa.specs.Instruction.{decode}
-use Rattle.tv_isa.specs.Opcodes.{among, is_used}
+use Rattle.tv_isa.specs.Opcodes.{among, is_used, unused_ops, store_ops, writer_ops, place_of}
 use Rattle.tv_isa.specs.declared.instr.Instr.{Instr}
 use Rattle.tv_isa.specs.declared.opcode.TheConstants.{CMOV, USED}
 use Rattle.tv_numbers.specs.Numbers.{other_word, result_in, stepped}
-use Rattle.tv_numbers.specs.Tables.{unused_ops, store_ops, writer_ops}
-use Rattle.tv_numbers.specs.Views.{View, flag_of}
+use Rattle.tv_numbers.specs.Views.{View}
 use Rattle.tv_regs.proofs.TripleLaws.{triple_sound}
 use Rattle.tv_regs.proofs.UpdateLaws.{update_sound}
 use Rattle.tv_regs.specs.Reads.{words_at}
 use Rattle.tv_regs.specs.Triple.{AreNumbers}
 use Rattle.tv_regs.specs.Writes.{written_regs}
 use Rattle.tv_regs.specs.declared.triple.Triple.{Triple}
+use Rattle.tv_word.proofs.FlagLaws.{flag_small}
 use Rattle.tv_word.proofs.WidthLaws.{for_widths}
 use Rattle.tv_word.specs.Widths.{IsWidth}
 use Rattle.tv_parts.proofs.AccumulationLaws.{accumulated_sound}
 use Rattle.tv_parts.proofs.OpcodeLaws.{opcode_terms_sound, opcode_sum_sound}
 use Rattle.tv_parts.proofs.TapeFills.{flag_test}
-use Rattle.tv_parts.proofs.TapeLaws.{among_one, flag_small}
+use Rattle.tv_parts.proofs.TapeLaws.{among_one}
 use Rattle.tv_parts.proofs.WrittenFills.{on_number, writes_among, written_where, none_of}
 use Rattle.tv_parts.specs.Accumulation.{accumulated_of}
 use Rattle.tv_parts.specs.Arithmetic.{shift_ops, division_ops}
 use Rattle.tv_parts.specs.Flag.{sign_at}
-use Rattle.tv_parts.specs.OpcodeSums.{place_of, opcode_sum, opcode_terms, distinct, IsOpcode}
+use Rattle.tv_parts.specs.OpcodeSums.{opcode_sum, opcode_terms, distinct, IsOpcode}
 use Rattle.tv_parts.specs.Results.{place_bits, sign_of}
 use Rattle.tv_parts.specs.States.{state_in}
 use Rattle.tv_parts.specs.Written.{written_of}
 use Rattle.tv_parts.specs.declared.records.StateWires.{StateWires}
 use Rattle.tv_block.specs.Block.{registers_of}
+use Rattle.tv_word.specs.Word.{flag_of}
 
 -- ---- the opcode
 pub used_again : (k : ℕ) → k < 32 → among unused_ops k ≡ false → is_used k ≡ true
 used_again k h u = grind (arith, nat_tests)
-
-same_place : (k : ℕ) → k < 32 → among unused_ops k ≡ false → place k ≡ place_of k
-same_place k h u = grind (arith, nat_tests)
 
 not_unused : (k : ℕ) → is_used k ≡ true → among unused_ops k ≡ false
 not_unused k u = grind (arith, nat_tests)
@@ -60,7 +59,7 @@ pub opcode_of_row : (z : List ℕ) (op k : ℕ) → k < 32 → IsOpcodeRow z op 
 opcode_of_row z op k small is = record {
   within = small;
   used = not_unused k is.used;
-  row = λ j h u. ap (λ p. slice_index z (op + p)) (sym (same_place j h u)) ∙ opcode_wire z op k j is (used_again j h u);
+  row = λ j h u. opcode_wire z op k j is (used_again j h u);
 }
 
 pub op_below : (w head tail : ℕ) → (decode w head tail).op < 32

@@ -28,7 +28,7 @@ use Rattle.tv_block.proofs.PlaceLaws.{same_state, same_wires, all_three}
 use Rattle.tv_block.specs.Block.{data_of, cell_of, computed_of, effects_of, block_of}
 use Rattle.tv_block.specs.Complete.{block_made}
 use Rattle.tv_block.specs.Places.{arithmetic_at, tapes_at, memory_at, written_at, flag_at, pc_at}
-use Rattle.tv_block.specs.Places.{first_line, second_line, third_line, block_wires, IsShort, BlockPlaces}
+use Rattle.tv_block.specs.Places.{first_line, second_line, third_line, block_wires, IsShortLine, BlockPlaces}
 use Rattle.tv_block.specs.Under.{LineUnder, SpotUnder}
 
 -- ---- what is answered
@@ -92,13 +92,13 @@ block_placed w width n state time at =
 
 -- ---- short, and below the step's end
 module _ (w : ℕ) (state : StateWires) (time at : ℕ) where
-  short_first : IsShort (first_line w state time at)
+  short_first : IsShortLine (first_line w state time at)
   short_first = record { cell = omega arith; time = omega arith; old = omega arith; new = omega arith }
 
-  short_second : IsShort (second_line w state time at)
+  short_second : IsShortLine (second_line w state time at)
   short_second = record { cell = omega arith; time = omega arith; old = omega arith; new = omega arith }
 
-  short_third : IsShort (third_line w time at)
+  short_third : IsShortLine (third_line w time at)
   short_third = record { cell = omega arith; time = omega arith; old = omega arith; new = omega arith }
 
   module _ (width : IsWidth w) where
@@ -118,7 +118,7 @@ pub block_places : BlockPlaces
 block_places = record {
   answer = block_placed;
   short = λ w width state time next.
-      all_three IsShort (first_line w state time next) (second_line w state time next) (third_line w time next)
+      all_three IsShortLine (first_line w state time next) (second_line w state time next) (third_line w time next)
       (short_first w state time next) (short_second w state time next) (short_third w state time next);
   below = λ w width state time next pc.
       all_three (LineUnder (next + block_made w)) (first_line w state time next) (second_line w state time next) (third_line w time next)

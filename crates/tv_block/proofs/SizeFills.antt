@@ -19,7 +19,7 @@ use Rattle.tv_numbers.proofs.Cases.{chosen_in}
 use Rattle.tv_numbers.proofs.RangeLaws.{some_words, results_small}
 use Rattle.tv_numbers.specs.Numbers.{operand_word, other_word, found, writes, result_in, stepped, step_words}
 use Rattle.tv_numbers.specs.Tables.{results}
-use Rattle.tv_numbers.specs.Views.{View, flag_of, ViewInRange}
+use Rattle.tv_numbers.specs.Views.{View, ViewInRange}
 use Rattle.tv_regs.proofs.TripleLaws.{triple_sizes}
 use Rattle.tv_regs.specs.Triple.{triple_of, triple_values}
 use Rattle.tv_regs.specs.declared.triple.Triple.{Triple}
@@ -52,6 +52,7 @@ use Rattle.tv_block.proofs.BlockChain.{block_end}
 use Rattle.tv_block.specs.Block.{data_of, sources_of, block_of}
 use Rattle.tv_block.specs.Complete.{block_made, BlockSizes}
 use Rattle.tv_block.specs.Values.{row_low, row_high, tested_in, test_in, other_register, block_values}
+use Rattle.tv_word.specs.Word.{flag_of}
 
 -- ---- as many as the wires
 -- a list has n numbers

@@ -1,29 +1,30 @@
 -- One step as a circuit of nine parts: instruction, registers, rows, arithmetic, tapes, memory, result, registers written,
 -- flag and program counter.
 use Rattle.std.specs.Prelude.{◌≡◌, ℕ, ◌+◌, ◌-◌, ◌/◌, ◌^◌, ◌<◌, ◌==◌, Bool, List, [], ◌∷◌, ◌++◌, length, slice_index}
+use Rattle.tv_bits.specs.Number.{number_of}
 use Rattle.tv_bits.specs.ZeroSign.{zero_sign_of}
 use Rattle.tv_core.specs.Circuits.{Circuit, fresh, pure, ◌>>=◌}
 use Rattle.tv_core.specs.Combinations.{wire, constant}
 use Rattle.tv_core.specs.Constraints.{Combination}
 use Rattle.tv_core.specs.Laws.{Assigns, Meets}
 use Rattle.tv_core.specs.declared.field.TheConstants.{P}
-use Rattle.tv_decode.specs.Instructions.{instruction_of, dest_bits, source_bits, register_bits, imm_wire, number_of}
+use Rattle.tv_decode.specs.Instructions.{instruction_of, dest_bits, source_bits, register_bits, imm_wire}
 use Rattle.tv_decode.specs.declared.records.InstructionWires.{InstructionWires}
 use Rattle.tv_isa.specs.Instruction.{decode}
+use Rattle.tv_isa.specs.Opcodes.{store_ops, place_of}
 use Rattle.tv_isa.specs.declared.opcode.TheConstants.{ANSWER}
 use Rattle.tv_lines.specs.PackedLines.{line_value}
 use Rattle.tv_lines.specs.Placed.{line_in}
 use Rattle.tv_numbers.specs.Laws.{AtNumbers, DoesStep}
-use Rattle.tv_numbers.specs.Numbers.{Did, did_of, step_words}
-use Rattle.tv_numbers.specs.Tables.{store_ops}
-use Rattle.tv_numbers.specs.Views.{flag_of, ViewInRange}
+use Rattle.tv_numbers.specs.Numbers.{Transition, transition_of, step_words}
+use Rattle.tv_numbers.specs.Views.{ViewInRange}
 use Rattle.tv_regs.specs.Triple.{triple_of}
 use Rattle.tv_regs.specs.declared.triple.Triple.{Triple}
 use Rattle.tv_word.specs.Widths.{IsWidth}
 use Rattle.tv_parts.specs.Arithmetic.{arithmetic_of}
 use Rattle.tv_parts.specs.Flag.{next_flag_of}
 use Rattle.tv_parts.specs.Memory.{memory_of}
-use Rattle.tv_parts.specs.OpcodeSums.{place_of, opcode_sum}
+use Rattle.tv_parts.specs.OpcodeSums.{opcode_sum}
 use Rattle.tv_parts.specs.Operand.{operand_of}
 use Rattle.tv_parts.specs.Pc.{pc_of}
 use Rattle.tv_parts.specs.Results.{sign_of, results_of}
@@ -38,6 +39,7 @@ use Rattle.tv_block.specs.declared.records.Computed.{Computed}
 use Rattle.tv_block.specs.declared.records.Effects.{Effects}
 use Rattle.tv_block.specs.declared.records.Reached.{Reached}
 use Rattle.tv_parts.specs.declared.records.StateWires.{StateWires}
+use Rattle.tv_word.specs.Word.{flag_of}
 
 -- ---- the circuit
 -- three registers, by the numbers that the instruction names: at stores the other one is the destination
@@ -106,15 +108,15 @@ abbrev pub reached : Block → Reached
 reached made = record { next = made.next; answers = made.answers; value = made.value }
 
 -- one step that returns only this part
-abbrev pub step_of : ℕ → ℕ → StateWires → ℕ → Circuit Reached
-step_of w n state time = do
+abbrev pub reached_of : ℕ → ℕ → StateWires → ℕ → Circuit Reached
+reached_of w n state time = do
   made ← block_of w n state time
   pure (reached made)
 
 -- ---- what it says
 -- the step in numbers that an assignment has in a block's wires
-abbrev pub did : List ℕ → StateWires → Block → Did
-did z state made = record {
+abbrev pub transition_in : List ℕ → StateWires → Block → Transition
+transition_in z state made = record {
   now = state_in z state;
   after = state_in z made.next;
   first = line_value z (line_in made.lines 0);
@@ -134,7 +136,7 @@ pub record IsStep (w : ℕ) (z : List ℕ) (n time : ℕ) (state : StateWires) (
   pub word : ℕ
   pub takes : Bool
   pub at_numbers : AtNumbers w n (state_in z state) (step_words head tail word takes)
-  pub same : did z state made ≡ did_of w n time (state_in z state) (step_words head tail word takes)
+  pub same : transition_in z state made ≡ transition_of w n time (state_in z state) (step_words head tail word takes)
   pub taken : slice_index z made.spot.taken ≡ flag_of takes
   pub answers : slice_index z made.answers ≡ flag_of ((decode w head tail).op == ANSWER)
 
@@ -149,9 +151,9 @@ BlockIsStep = (w : ℕ) → IsWidth w → (z : List ℕ) (n : ℕ) (state : Stat
 -- range; the wires that say whether it takes a word and whether it answers hold 0 or 1
 pub record IsMachineStep (w : ℕ) (z x : List ℕ) (time : ℕ) (state : StateWires) (made : Block) : Type 0 where
   pub range : ViewInRange w (length x) (state_in z made.next)
-  pub does : DoesStep w x time (did z state made)
-  pub takes : slice_index z made.spot.taken ≡ flag_of (did z state made).takes
-  pub answers : slice_index z made.answers ≡ flag_of (did z state made).answers
+  pub does : DoesStep w x time (transition_in z state made)
+  pub takes : slice_index z made.spot.taken ≡ flag_of (transition_in z state made).takes
+  pub answers : slice_index z made.answers ≡ flag_of (transition_in z state made).answers
 
 -- where an assignment satisfies a step's constraints, and the state before the step is in range, the numbers in its wires
 -- are those of a machine's step

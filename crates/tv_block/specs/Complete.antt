@@ -4,10 +4,10 @@ use Rattle.tv_core.specs.Laws.{Assigns, Meets, HasFrom, Fills, InField}
 use Rattle.tv_core.specs.Lines.{Line}
 use Rattle.tv_isa.specs.Instruction.{decode}
 use Rattle.tv_numbers.specs.Laws.{AtNumbers}
-use Rattle.tv_numbers.specs.Numbers.{lines_in, StepWords, step_words, did_of}
+use Rattle.tv_numbers.specs.Numbers.{lines_in, StepWords, step_words, transition_of}
 use Rattle.tv_numbers.specs.Shown.{data_word_of, MayTake}
 use Rattle.tv_numbers.specs.Views.{View, seen, ViewInRange, Matches}
-use Rattle.tv_step.specs.Range.{InRange}
+use Rattle.tv_step.specs.Range.{StateInRange}
 use Rattle.tv_step.specs.Reads.{word_taken}
 use Rattle.tv_step.specs.Runs.{IsDefined}
 use Rattle.tv_step.specs.State.{State}
@@ -15,7 +15,7 @@ use Rattle.tv_step.specs.Trace.{step_lines}
 use Rattle.tv_word.specs.Widths.{IsWidth}
 use Rattle.tv_parts.specs.States.{state_in}
 use Rattle.tv_parts.specs.declared.records.StateWires.{StateWires}
-use Rattle.tv_block.specs.Block.{block_of, did}
+use Rattle.tv_block.specs.Block.{block_of, transition_in}
 use Rattle.tv_block.specs.Values.{row_low, block_values}
 
 -- ---- of numbers
@@ -29,8 +29,8 @@ pub record BlockPlace : Type 0 where
 -- show is the low half of the row, which is that of these words where the instruction loads, stores or reads
 pub record MeetsStep (w : ℕ) (z : List ℕ) (n : ℕ) (at : BlockPlace) (by : StepWords) : Type 0 where
   pub met : Meets z (block_of w n at.state at.time at.next).list
-  pub shows : did z at.state (block_of w n at.state at.time at.next).answer
-      ≡ did_of w n at.time (state_in z at.state)
+  pub shows : transition_in z at.state (block_of w n at.state at.time at.next).answer
+      ≡ transition_of w n at.time (state_in z at.state)
       (step_words by.head by.tail (row_low w (state_in z at.state) (decode w by.head by.tail) by.word) by.takes)
 
 -- an assignment that has the values of a step in range at the wires that are made satisfies the constraints, and its
@@ -57,7 +57,7 @@ pub record HasMachineStep (w : ℕ) (z x : List ℕ) (at : BlockPlace) (st : Sta
   pub early : at.time + 2 < 2 ^ 32
   pub assigns : Assigns z
   pub range : ViewInRange w (length x) (state_in z at.state)
-  pub machine : InRange w st
+  pub machine : StateInRange w st
   pub matches : Matches x (state_in z at.state) st
   pub defined : IsDefined w st
   pub may : MayTake w (state_in z at.state) st word
@@ -66,9 +66,9 @@ pub record HasMachineStep (w : ℕ) (z x : List ℕ) (at : BlockPlace) (st : Sta
 -- z satisfies a block's constraints; the lines are those of the machine's step, and the word is the one that was passed
 pub record MeetsMachineStep (w : ℕ) (z x : List ℕ) (at : BlockPlace) (st : State) (word : Option ℕ) : Type 0 where
   pub met : Meets z (block_of w (length x) at.state at.time at.next).list
-  pub lines : lines_in (did z at.state (block_of w (length x) at.state at.time at.next).answer) ≡ step_lines w (length x) st at.time
-  pub takes : (did z at.state (block_of w (length x) at.state at.time at.next).answer).takes ≡ is_some word
-  pub same : (v : ℕ) → word ≡ Some v → (did z at.state (block_of w (length x) at.state at.time at.next).answer).word ≡ v
+  pub lines : lines_in (transition_in z at.state (block_of w (length x) at.state at.time at.next).answer) ≡ step_lines w (length x) st at.time
+  pub takes : (transition_in z at.state (block_of w (length x) at.state at.time at.next).answer).takes ≡ is_some word
+  pub same : (v : ℕ) → word ≡ Some v → (transition_in z at.state (block_of w (length x) at.state at.time at.next).answer).word ≡ v
 
 -- an assignment that has the values of a machine's step satisfies the constraints, and has that step in its wires
 abbrev pub MachineStepIsMet : Type 0
@@ -108,6 +108,6 @@ pub record BlockSizes : Type 0 where
 -- the values of a machine's step, from a state in range of which `gone` words of the primary tape are taken, with the
 -- word that it takes of the auxiliary tape, are one number of the field for each wire, whatever its opcode is.
 abbrev pub MachineValuesFit : Type 0
-MachineValuesFit = (w : ℕ) → IsWidth w → (n time : ℕ) (st : State) (gone ended : ℕ) → n < 2 ^ 29 → gone ≤ n → ended < 2 → InRange w st
+MachineValuesFit = (w : ℕ) → IsWidth w → (n time : ℕ) (st : State) (gone ended : ℕ) → n < 2 ^ 29 → gone ≤ n → ended < 2 → StateInRange w st
     → (length (step_values w n (seen st gone ended) (olds_of w n st time) (word_taken w st)) ≡ block_made w)
     × InField (step_values w n (seen st gone ended) (olds_of w n st time) (word_taken w st))

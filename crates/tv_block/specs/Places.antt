@@ -4,9 +4,9 @@ use Rattle.std.specs.Prelude.{◌≡◌, ℕ, ◌+◌, ◌-◌, ◌*◌, ◌/◌
 use Rattle.std.specs.List.{range_with_len}
 use Rattle.tv_core.specs.Combinations.{wire, constant}
 use Rattle.tv_core.specs.declared.lines.LineLc.{LineLc}
+use Rattle.tv_isa.specs.Opcodes.{place_of}
 use Rattle.tv_isa.specs.declared.opcode.TheConstants.{ANSWER}
 use Rattle.tv_word.specs.Widths.{IsWidth}
-use Rattle.tv_parts.specs.OpcodeSums.{place_of}
 use Rattle.tv_parts.specs.declared.records.StateWires.{StateWires}
 use Rattle.tv_block.specs.Block.{cell_of, block_of}
 use Rattle.tv_block.specs.Complete.{block_made}
@@ -85,7 +85,7 @@ block_wires w state time at = record {
 }
 
 -- the combinations of a line have at most 32 terms
-pub record IsShort (line : LineLc) : Type 0 where
+pub record IsShortLine (line : LineLc) : Type 0 where
   pub cell : length line.cell ≤ 32
   pub time : length line.time ≤ 32
   pub old : length line.old ≤ 32
@@ -95,7 +95,7 @@ pub record IsShort (line : LineLc) : Type 0 where
 -- so are the state after it, and where it takes a word
 pub record BlockPlaces : Type 0 where
   pub answer : (w : ℕ) → IsWidth w → (n : ℕ) (state : StateWires) (time next : ℕ) → (block_of w n state time next).answer ≡ block_wires w state time next
-  pub short : (w : ℕ) → IsWidth w → (state : StateWires) (time next : ℕ) → All IsShort (block_wires w state time next).lines
+  pub short : (w : ℕ) → IsWidth w → (state : StateWires) (time next : ℕ) → All IsShortLine (block_wires w state time next).lines
   pub below : (w : ℕ) → IsWidth w → (state : StateWires) (time next : ℕ) → state.pc < next + block_made w
       → All (LineUnder (next + block_made w)) (block_wires w state time next).lines
   pub after : (w : ℕ) → IsWidth w → (next : ℕ) → (next_state w next).pc < next + block_made w

@@ -3,8 +3,8 @@
 use Rattle.std.specs.Prelude.{◌≡◌, ℕ, ◌-◌, ◌^◌, ◌<◌, Bool, length, is_some, slice_index}
 use Rattle.tv_numbers.specs.Numbers.{step_words}
 use Rattle.tv_numbers.specs.Shown.{data_word_of}
-use Rattle.tv_numbers.specs.Views.{flag_of, seen, ViewInRange}
-use Rattle.tv_step.specs.Range.{InRange}
+use Rattle.tv_numbers.specs.Views.{seen, ViewInRange}
+use Rattle.tv_step.specs.Range.{StateInRange}
 use Rattle.tv_step.specs.Reads.{word_taken}
 use Rattle.tv_step.specs.State.{State}
 use Rattle.tv_step.specs.Trace.{traced_state}
@@ -12,6 +12,7 @@ use Rattle.tv_word.specs.Widths.{IsWidth}
 use Rattle.tv_parts.specs.Traced.{traced_view}
 use Rattle.tv_block.specs.Complete.{olds_of, step_values}
 use Rattle.tv_block.specs.Values.{block_values}
+use Rattle.tv_word.specs.Word.{flag_of}
 
 -- the words of a step's instruction, and its data word, which it takes of the auxiliary tape or finds in its cell
 abbrev pub step_head : ℕ → ℕ → State → ℕ → ℕ
@@ -35,4 +36,4 @@ pub record IsTracedStep (w n m time : ℕ) (st : State) (ended : Bool) : Type 0 
 
 -- each machine's step from a state in range is such a traced step
 abbrev pub StepsAreGiven : Type 0
-StepsAreGiven = (w : ℕ) → IsWidth w → (n m time : ℕ) (st : State) (ended : Bool) → n < 2 ^ 29 → InRange w st → IsTracedStep w n m time st ended
+StepsAreGiven = (w : ℕ) → IsWidth w → (n m time : ℕ) (st : State) (ended : Bool) → n < 2 ^ 29 → StateInRange w st → IsTracedStep w n m time st ended

@@ -4,11 +4,10 @@ use Rattle.std.specs.Prelude.{◌≡◌, ℕ, ◌%◌, Bool, if◌then◌else◌
 use Rattle.tv_bits.specs.ZeroSign.{sign_at_zero, zero_sign_values}
 use Rattle.tv_decode.specs.Instructions.{instruction_values}
 use Rattle.tv_isa.specs.Instruction.{decode}
-use Rattle.tv_isa.specs.Opcodes.{among}
+use Rattle.tv_isa.specs.Opcodes.{among, store_ops}
 use Rattle.tv_isa.specs.declared.instr.Instr.{Instr}
 use Rattle.tv_numbers.specs.Numbers.{operand_word, other_word, found, StepWords}
-use Rattle.tv_numbers.specs.Tables.{store_ops}
-use Rattle.tv_numbers.specs.Views.{View, flag_of}
+use Rattle.tv_numbers.specs.Views.{View}
 use Rattle.tv_regs.specs.Triple.{triple_values}
 use Rattle.tv_parts.specs.Arithmetic.{decomposed_word, low_number, high_number, arithmetic_values}
 use Rattle.tv_parts.specs.Flag.{sign_at, flag_values}
@@ -22,6 +21,7 @@ use Rattle.tv_parts.specs.Traced.{AreNumbers}
 use Rattle.tv_parts.specs.Written.{written_values}
 use Rattle.tv_parts.specs.declared.step_numbers.StepNumbers.{StepNumbers}
 use Rattle.tv_block.specs.declared.records.StateNum.{StateNum}
+use Rattle.tv_word.specs.Word.{flag_of}
 
 -- the view of a state in numbers
 abbrev pub numbers_view : StateNum → View
@@ -36,7 +36,7 @@ row_high w v i = high_number w i.op (other_word v i) (operand_word v i)
 
 -- the numbers of a step from a view, and the word whose bits stand beside its row
 pub record AreStepNumbers (w : ℕ) (v : View) (step : StepNumbers) : Type 0 where
-  pub spelled : step.spelled ≡ decomposed_word w step.instr.op step.other step.operand
+  pub decomposed : step.decomposed ≡ decomposed_word w step.instr.op step.other step.operand
   pub numbers : AreNumbers w v step
 
 -- they are by these words, the primary tape having n words

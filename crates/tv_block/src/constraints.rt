@@ -2,7 +2,7 @@
 ghost use Rattle.std.specs.Prelude.{◌+◌, ◌/◌, ◌≤◌, ◌<◌, ◌^◌, ℕ, IfOk};
 ghost use Rattle.tv_bits.specs.ZeroSign.{zero_sign_of};
 ghost use Rattle.tv_block.specs.Block.{registers_of, computed_of, data_of, sources_of, effects_of};
-ghost use Rattle.tv_block.specs.Block.{block_of, step_of};
+ghost use Rattle.tv_block.specs.Block.{block_of, reached_of};
 ghost use Rattle.tv_block.specs.Complete.{computed_made, computed_added};
 ghost use Rattle.tv_block.specs.Complete.{effects_made, effects_added, block_made, block_added};
 ghost use Rattle.tv_block.specs.Under.{BlockUnder, InstructionUnder, ComputedUnder, BeforeUnder};
@@ -50,7 +50,7 @@ pub fn step<const W: u32, S: Sink>(s: &mut S, state: &StateWires, n: u32) -> Put
     requires width { IsWidth W }
     requires room { Room S.meaning s.old (block_made W) (block_added W) }
     requires state_made { StateUnder (S.meaning.wires s.old) state.now }
-    ensures puts { (time : ℕ) → PutsIn S.meaning s.old s.new (step_of W n state.now time) result }
+    ensures puts { (time : ℕ) → PutsIn S.meaning s.old s.new (reached_of W n state.now time) result }
     ensures grows { IfOk result (λ _. Grows S.meaning s.old s.new (block_made W) (block_added W)) }
     ensures next_below { IfOk result (λ made. StateUnder (S.meaning.wires s.new) made.next) }
     ensures answers_below { IfOk result (λ made. made.answers < S.meaning.wires s.new) }

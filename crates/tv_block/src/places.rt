@@ -3,7 +3,7 @@ ghost use Rattle.std.specs.Prelude.{◌≡◌, ◌+◌, ◌<◌, ◌^◌, ℕ};
 ghost use Rattle.tv_block.specs.Block.{word_inverse};
 ghost use Rattle.tv_block.specs.Complete.{block_made};
 ghost use Rattle.tv_block.specs.Places.{tapes_at, memory_at, written_at, next_state, block_wires};
-ghost use Rattle.tv_block.specs.Places.{first_line, second_line, third_line, IsShort};
+ghost use Rattle.tv_block.specs.Places.{first_line, second_line, third_line, IsShortLine};
 ghost use Rattle.tv_block.specs.Under.{LineUnder, SpotUnder};
 ghost use Rattle.tv_lines.specs.Placed.{line_in};
 ghost use Rattle.tv_lines.specs.Compact.{line_lc};
@@ -81,7 +81,7 @@ pub fn block_line<const W: u32>(
     requires times { time + 2 < 2 ^ 32 }
     requires which { which < 3 }
     ensures is { line_lc result ≡ line_in (block_wires W state.now time first).lines which }
-    ensures short { IsShort (line_lc result) }
+    ensures short { IsShortLine (line_lc result) }
     ensures below { state.now.pc < first + block_made W →
         LineUnder (first + block_made W) (line_lc result) }
 {

@@ -2,9 +2,8 @@
 ghost use Rattle.std.specs.Prelude.{◌≡◌, ◌<◌, ◌^◌, ◌||◌, if◌then◌else◌};
 ghost use Rattle.tv_block.specs.Values.{AreStepNumbers, AreBy, other_register};
 ghost use Rattle.tv_isa.specs.Instruction.{IsInstruction};
-ghost use Rattle.tv_isa.specs.Opcodes.{among};
+ghost use Rattle.tv_isa.specs.Opcodes.{among, memory_ops};
 ghost use Rattle.tv_numbers.specs.Numbers.{operand_word, other_word, takes_primary, step_words};
-ghost use Rattle.tv_numbers.specs.Tables.{memory_ops};
 ghost use Rattle.tv_numbers.specs.Views.{ViewInRange};
 ghost use Rattle.tv_parts.specs.Traced.{traced_view};
 ghost use Rattle.tv_step.specs.Range.{AreWords};
@@ -43,7 +42,7 @@ pub(crate) fn step_numbers<const W: u32>(
         instr,
         operand,
         other,
-        spelled: decomposed_word::<W>(instr.op, other, operand),
+        decomposed: decomposed_word::<W>(instr.op, other, operand),
         low,
         high,
         primary,

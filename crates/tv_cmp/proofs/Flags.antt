@@ -5,6 +5,7 @@ use Rattle.std.proofs.lemmas.Bool.{lt-ltb, le-ltb}
 use Rattle.std.proofs.lemmas.Int.{ints}
 use Rattle.std.proofs.lemmas.Bool.Decides.{nat_tests}
 use Rattle.tv_cmp.specs.Compare.{equal_flag, above_flag, greater_flag}
+use Rattle.tv_word.proofs.SignedLaws.{int_lt_cases}
 use Rattle.tv_word.specs.Widths.{IsWidth}
 use Rattle.tv_word.specs.Word.{signed}
 
@@ -22,16 +23,9 @@ pub above_flag-not : (x y : ℕ) → x ≤ y → above_flag x y ≡ 0
 above_flag-not x y h = ap (λ b. if b then 1 else 0) (le-ltb y x h)
 
 -- ---- signed words: the sign bit counts for - 2 ^ (w - 1) in place of 2 ^ (w - 1)
-int_lt_tells : (a b : ℤ) → ((int_lt a b ≡ true) × (a <ℤ b)) ⊎ ((int_lt a b ≡ false) × (b ≤ℤ a))
-int_lt_tells a b = by (int_lt a b) refl
-  where
-    by : (t : Bool) → int_lt a b ≡ t → ((int_lt a b ≡ true) × (a <ℤ b)) ⊎ ((int_lt a b ≡ false) × (b ≤ℤ a))
-    by true e = inl (e, omega (arith, ints))
-    by false e = inr (e, omega (arith, ints))
-
 -- greater is above, but for the sign bits
 pub greater_is : (w : ℕ) → IsWidth w → (x y : ℕ) → x < 2 ^ w → y < 2 ^ w → greater_flag w x y + x / 2 ^ (w - 1) ≡ above_flag x y + y / 2 ^ (w - 1)
-greater_is w width x y h k = grind (arith, ints, nat_tests, int_lt_tells)
+greater_is w width x y h k = grind (arith, ints, nat_tests, int_lt_cases)
 
 pub greater_flag-bit : (w x y : ℕ) → greater_flag w x y < 2
 greater_flag-bit w x y = by (int_lt (signed w y) (signed w x))

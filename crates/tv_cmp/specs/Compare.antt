@@ -1,5 +1,5 @@
 -- Two words compared.
-use Rattle.std.specs.Prelude.{◌≡◌, ℕ, ◌+◌, ◌-◌, ◌/◌, ◌%◌, ◌==◌, nat_lt, int_lt, if◌then◌else◌, List, [], ◌∷◌, ◌++◌, slice_index}
+use Rattle.std.specs.Prelude.{◌≡◌, ℕ, ◌+◌, ◌-◌, ◌/◌, ◌%◌, List, [], ◌∷◌, ◌++◌, slice_index}
 use Rattle.tv_bits.specs.Bit.{bit_of}
 use Rattle.tv_bits.specs.Bits.{HasBits, bits_combination, bits_values, new_bits_of}
 use Rattle.tv_bits.specs.Order.{first_difference}
@@ -11,19 +11,20 @@ use Rattle.tv_core.specs.Combinations.{wire, constant, less}
 use Rattle.tv_core.specs.Constraints.{Combination}
 use Rattle.tv_core.specs.Laws.{Assigns, Meets, HasFrom, Fills, InField}
 use Rattle.tv_core.specs.declared.field.TheConstants.{P}
+use Rattle.tv_word.specs.Operations.{cmpe_flag, cmpa_flag, cmpg_flag}
 use Rattle.tv_word.specs.Widths.{IsWidth}
-use Rattle.tv_word.specs.Word.{signed}
+use Rattle.tv_word.specs.Word.{flag_of}
 
 -- ---- the relation
 -- 1 where x is y, where x is above y, and where x is greater than y as signed words of w bits; else 0
 abbrev pub equal_flag : ℕ → ℕ → ℕ
-equal_flag x y = if x == y then 1 else 0
+equal_flag x y = flag_of (cmpe_flag x y)
 
 abbrev pub above_flag : ℕ → ℕ → ℕ
-above_flag x y = if nat_lt y x then 1 else 0
+above_flag x y = flag_of (cmpa_flag x y)
 
 abbrev pub greater_flag : ℕ → ℕ → ℕ → ℕ
-greater_flag w x y = if int_lt (signed w y) (signed w x) then 1 else 0
+greater_flag w x y = flag_of (cmpg_flag w x y)
 
 -- the three wires hold the flags of x and y
 pub record IsCompared (w : ℕ) (z : List ℕ) (cmp : Cmp) (x y : ℕ) : Type 0 where

@@ -10,7 +10,7 @@ use Rattle.tv_bits.specs.OneHot.{onehot_of, onehot_values, one_at}
 use Rattle.tv_bits.specs.declared.bit_wires.Bits.{Bits}
 use Rattle.tv_core.proofs.BelowLaws.{length-each_below}
 use Rattle.tv_core.proofs.FieldLaws.{InField-append}
-use Rattle.tv_core.proofs.Meeting.{Meets-split, Meets-join, HasFrom-split}
+use Rattle.tv_core.proofs.MeetsLaws.{Meets-split, Meets-join, HasFrom-split}
 use Rattle.tv_core.specs.Below.{each_below}
 use Rattle.tv_core.specs.Circuits.{pure, ◌>>=◌}
 use Rattle.tv_core.specs.Laws.{HasFrom}
@@ -20,23 +20,23 @@ use Rattle.tv_isa.specs.declared.instr.Instr.{Instr}
 use Rattle.tv_word.specs.Widths.{IsWidth}
 
 -- some of a word's bits represent a field of it
-pub field_spelled : (z : List ℕ) (w first low count more v : ℕ) → low + (count + more) ≡ w → HasBits z first w v
+pub field_bits_are : (z : List ℕ) (w first low count more v : ℕ) → low + (count + more) ≡ w → HasBits z first w v
     → HasBits z (first + low) count (field low count v)
-field_spelled z w first low count more v size s =
+field_bits_are z w first low count more v size s =
     HasBits-low z (first + low) count more (v / 2 ^ low) (HasBits-high z first low (count + more) v (subst (λ n. HasBits z first n v) (sym size) s))
 
 module _ (w : ℕ) (width : IsWidth w) (z : List ℕ) (h a : Bits) (v u : ℕ) (s : HasBits z h.first w v) (r : HasBits z a.first w u) where
-  op_spelled : HasBits z (h.first + (w - 5)) 5 (field (w - 5) 5 v)
-  op_spelled = field_spelled z w h.first (w - 5) 5 0 v (omega arith) s
+  op_bits_are : HasBits z (h.first + (w - 5)) 5 (field (w - 5) 5 v)
+  op_bits_are = field_bits_are z w h.first (w - 5) 5 0 v (omega arith) s
 
-  dest_spelled : HasBits z (h.first + (w - 10)) 4 (field (w - 10) 4 v)
-  dest_spelled = field_spelled z w h.first (w - 10) 4 6 v (omega arith) s
+  dest_bits_are : HasBits z (h.first + (w - 10)) 4 (field (w - 10) 4 v)
+  dest_bits_are = field_bits_are z w h.first (w - 10) 4 6 v (omega arith) s
 
-  source_spelled : HasBits z (h.first + (w - 14)) 4 (field (w - 14) 4 v)
-  source_spelled = field_spelled z w h.first (w - 14) 4 10 v (omega arith) s
+  source_bits_are : HasBits z (h.first + (w - 14)) 4 (field (w - 14) 4 v)
+  source_bits_are = field_bits_are z w h.first (w - 14) 4 10 v (omega arith) s
 
-  reg_spelled : HasBits z (a.first + 0) 4 (u % 16)
-  reg_spelled =
+  reg_bits_are : HasBits z (a.first + 0) 4 (u % 16)
+  reg_bits_are =
       let same : a.first ≡ a.first + 0 = omega arith in
       let size : w ≡ 4 + (w - 4) = omega arith in
       subst (λ k. HasBits z k 4 (u % 16)) same (HasBits-low z a.first 4 (w - 4) u (subst (λ n. HasBits z a.first n u) size r))
@@ -59,11 +59,11 @@ fields_sound w width z next h a v u assigns s r meets =
     let m3 = Meets-split z source.list _ m2.1 in
     let m4 = Meets-split z reg.list _ m3.1 in
     record {
-      op = onehot_sound z next (part h (w - 5) 5) (field (w - 5) 5 v) (omega arith) assigns (op_spelled w width z h a v u s r) m1.0;
+      op = onehot_sound z next (part h (w - 5) 5) (field (w - 5) 5 v) (omega arith) assigns (op_bits_are w width z h a v u s r) m1.0;
       imm = imm_bit w width z h a v u s r;
-      dest = onehot_sound z op.next (part h (w - 10) 4) (field (w - 10) 4 v) (omega arith) assigns (dest_spelled w width z h a v u s r) m2.0;
-      source = onehot_sound z dest.next (part h (w - 14) 4) (field (w - 14) 4 v) (omega arith) assigns (source_spelled w width z h a v u s r) m3.0;
-      reg = onehot_sound z source.next (part a 0 4) (u % 16) (omega arith) assigns (reg_spelled w width z h a v u s r) m4.0;
+      dest = onehot_sound z op.next (part h (w - 10) 4) (field (w - 10) 4 v) (omega arith) assigns (dest_bits_are w width z h a v u s r) m2.0;
+      source = onehot_sound z dest.next (part h (w - 14) 4) (field (w - 14) 4 v) (omega arith) assigns (source_bits_are w width z h a v u s r) m3.0;
+      reg = onehot_sound z source.next (part a 0 4) (u % 16) (omega arith) assigns (reg_bits_are w width z h a v u s r) m4.0;
     }
 
 -- what an assignment has after a row
@@ -84,10 +84,10 @@ fields_complete w width z next h a v u assigns s r has =
     let h1 = row_had z next (field (w - 5) 5 v) 5 _ op_bits refl has in
     let h2 = row_had z (onehot_of op_bits next).next (field (w - 10) 4 v) 4 _ dest_bits refl h1.1 in
     let h3 = row_had z (onehot_of dest_bits (onehot_of op_bits next).next).next (field (w - 14) 4 v) 4 _ source_bits refl h2.1 in
-    let m1 = onehot_complete z next op_bits (field (w - 5) 5 v) assigns (op_spelled w width z h a v u s r) h1.0 in
-    let m2 = onehot_complete z _ dest_bits (field (w - 10) 4 v) assigns (dest_spelled w width z h a v u s r) h2.0 in
-    let m3 = onehot_complete z _ source_bits (field (w - 14) 4 v) assigns (source_spelled w width z h a v u s r) h3.0 in
-    let m4 = onehot_complete z _ (part a 0 4) (u % 16) assigns (reg_spelled w width z h a v u s r) h3.1 in
+    let m1 = onehot_complete z next op_bits (field (w - 5) 5 v) assigns (op_bits_are w width z h a v u s r) h1.0 in
+    let m2 = onehot_complete z _ dest_bits (field (w - 10) 4 v) assigns (dest_bits_are w width z h a v u s r) h2.0 in
+    let m3 = onehot_complete z _ source_bits (field (w - 14) 4 v) assigns (source_bits_are w width z h a v u s r) h3.0 in
+    let m4 = onehot_complete z _ (part a 0 4) (u % 16) assigns (reg_bits_are w width z h a v u s r) h3.1 in
     Meets-join z _ _ m1 (Meets-join z _ _ m2 (Meets-join z _ _ m3 (Meets-join z _ _ m4 tt)))
 
 -- ---- where the circuit ends, and what it answers

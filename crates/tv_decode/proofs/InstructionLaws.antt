@@ -7,7 +7,7 @@ use Rattle.std.proofs.lemmas.Bool.Decides.{nat_tests}
 use Rattle.std.proofs.lemmas.List.{length-append}
 use Rattle.std.proofs.lemmas.Nat.{pow_pos}
 use Rattle.tv_bits.proofs.BitLaws.{bit_cases}
-use Rattle.tv_bits.proofs.NewBitsLaws.{bits_spell, bits_met}
+use Rattle.tv_bits.proofs.NewBitsLaws.{bits_are, bits_met}
 use Rattle.tv_bits.proofs.OneHotLaws.{value-onehot, one_at-same, one_at-other}
 use Rattle.tv_bits.proofs.SizeLaws.{bits_in_field, length-bits}
 use Rattle.tv_bits.proofs.BitNumbers.{HasBits-low, HasBits-bit_at, HasBits-below, HasBits-from_values, value-bits_below}
@@ -15,48 +15,51 @@ use Rattle.tv_bits.proofs.BitsLaws.{new_bits_next, new_bits_complete}
 use Rattle.tv_bits.proofs.TimesLaws.{kept_sound, kept_complete, kept_answer, kept_next}
 use Rattle.tv_bits.specs.Bit.{IsBit, bit_of}
 use Rattle.tv_bits.specs.Bits.{HasBits, binary_value, bits_combination, bits_values, new_bit, new_bits_of}
+use Rattle.tv_bits.specs.Number.{number_of}
 use Rattle.tv_bits.specs.OneHot.{IsOneHot, row_sum, one_at}
 use Rattle.tv_bits.specs.Times.{kept_of, times_of}
 use Rattle.tv_core.proofs.BelowLaws.{sum_below-zero, sum_below-suc, sum_below-add, sum_below-same, sum_below-single, sum_below-zeros, value-weighted}
 use Rattle.tv_core.proofs.BelowLaws.{has_each, length-each_below}
 use Rattle.tv_core.proofs.CombinationLaws.{value-below, value-append, value-constant}
 use Rattle.tv_core.proofs.FieldLaws.{InField-none, InField-cons, InField-append, InField-each_below}
-use Rattle.tv_core.proofs.Meeting.{Meets-split, Meets-join, HasFrom-split}
+use Rattle.tv_core.proofs.HasLaws.{HasFrom-after}
+use Rattle.tv_core.proofs.MeetsLaws.{Meets-split, Meets-join}
 use Rattle.tv_core.specs.Below.{sum_below, weighted}
 use Rattle.tv_core.specs.Circuits.{here, fresh, put, pure, turns, ◌>>=◌}
 use Rattle.tv_core.specs.Constraints.{Combination, value}
 use Rattle.tv_core.specs.Laws.{Assigns, Meets, HasFrom, InField}
 use Rattle.tv_core.specs.Meanings.{terms_in}
 use Rattle.tv_core.specs.declared.field.TheConstants.{P}
-use Rattle.tv_decode.specs.Instructions.{place, opcode_at, IsOpcodeRow, opcode_values, number_of, opcode_weight, head_of, instruction_of, instruction_wires}
+use Rattle.tv_decode.specs.Instructions.{IsOpcodeRow, opcode_values, opcode_weight, head_of, instruction_of, instruction_wires}
 use Rattle.tv_decode.specs.Instructions.{instruction_values, IsDecoded, InstructionIsSound, InstructionIsComplete, InstructionSizes, InstructionCosts}
 use Rattle.tv_decode.specs.Instructions.{OpcodeWireIsRight}
 use Rattle.tv_decode.specs.declared.records.InstructionWires.{InstructionWires}
-use Rattle.tv_decode.proofs.FieldsLaws.{field_spelled}
+use Rattle.tv_decode.proofs.FieldsLaws.{field_bits_are}
 use Rattle.tv_isa.specs.Instruction.{field, decode}
-use Rattle.tv_isa.specs.Opcodes.{is_used}
+use Rattle.tv_isa.specs.Opcodes.{is_used, place_of, opcode_at}
 use Rattle.tv_word.proofs.WidthLaws.{for_widths}
 use Rattle.tv_word.specs.Widths.{IsWidth}
+use Rattle.tv_word.specs.Word.{flag_of}
 
 -- ---- places in the row
 -- a used opcode is below 32, and not one of the three unused
 used_is : (k : ℕ) → is_used k ≡ true → (k < 23) ⊎ ((26 ≤ k) × (k < 32))
 used_is k u = grind (arith, nat_tests)
 
-place-low : (k : ℕ) → k < 23 → place k ≡ k
+place-low : (k : ℕ) → k < 23 → place_of k ≡ k
 place-low k h = grind (arith, nat_tests)
 
-place-high : (k : ℕ) → 26 ≤ k → place k ≡ k - 3
+place-high : (k : ℕ) → 26 ≤ k → place_of k ≡ k - 3
 place-high k h = grind (arith, nat_tests)
 
 used_from : (k : ℕ) → k < 32 → (k < 23) ⊎ (26 ≤ k) → is_used k ≡ true
 used_from k h (inl low) = grind (arith, nat_tests)
 used_from k h (inr high) = grind (arith, nat_tests)
 
-place_below : (k : ℕ) → is_used k ≡ true → place k < 29
+place_below : (k : ℕ) → is_used k ≡ true → place_of k < 29
 place_below k u = elim (used_is k u) [ inl low ↦ omega (arith, place-low k low) | inr high ↦ omega (arith, place-high k high.0, high.1) ]
 
-at_place : (k : ℕ) → is_used k ≡ true → opcode_at (place k) ≡ k
+at_place : (k : ℕ) → is_used k ≡ true → opcode_at (place_of k) ≡ k
 at_place k u = elim (used_is k u) [ inl low ↦ grind (arith, nat_tests) | inr high ↦ grind (arith, nat_tests) ]
 
 pub at_below : (j : ℕ) → j < 29 → opcode_at j < 32
@@ -68,7 +71,7 @@ at_used j h = used_from (opcode_at j) (at_below j h) (parts j h)
     parts : (j : ℕ) → j < 29 → (opcode_at j < 23) ⊎ (26 ≤ opcode_at j)
     parts j h = elim (cases_lt j 23) [ inl low ↦ inl (grind (arith, nat_tests)) | inr high ↦ inr (grind (arith, nat_tests)) ]
 
-place_at : (j : ℕ) → j < 29 → place (opcode_at j) ≡ j
+place_at : (j : ℕ) → j < 29 → place_of (opcode_at j) ≡ j
 place_at j h = elim (cases_lt j 23) [ inl low ↦ grind (arith, nat_tests) | inr high ↦ grind (arith, nat_tests) ]
 
 -- ---- one of some bits is 1 where their sum is
@@ -142,23 +145,20 @@ whole_again : (w : ℕ) → IsWidth w → (h : ℕ) → h < 2 ^ w → h % 2 ^ (w
 whole_again w width h small = grind arith
 
 -- ---- the row
-abbrev flag : Bool → ℕ
-flag b = if b then 1 else 0
+wire_here : (z : List ℕ) (first op k : ℕ) → IsOpcodeRow z first op → k ≡ op → slice_index z (first + place_of k) ≡ 1
+wire_here z first op k is same = ap (λ n. slice_index z (first + place_of n)) same ∙ is.row.hot
 
-wire_here : (z : List ℕ) (first op k : ℕ) → IsOpcodeRow z first op → k ≡ op → slice_index z (first + place k) ≡ 1
-wire_here z first op k is same = ap (λ n. slice_index z (first + place n)) same ∙ is.row.hot
-
-wire_there : (z : List ℕ) (first op k : ℕ) → IsOpcodeRow z first op → is_used k ≡ true → k ≢ op → slice_index z (first + place k) ≡ 0
+wire_there : (z : List ℕ) (first op k : ℕ) → IsOpcodeRow z first op → is_used k ≡ true → k ≢ op → slice_index z (first + place_of k) ≡ 0
 wire_there z first op k is u apart =
-    is.row.cold (place k) (place_below k u) (λ same. apart (sym (at_place k u) ∙ ap opcode_at same ∙ at_place op is.used))
+    is.row.cold (place_of k) (place_below k u) (λ same. apart (sym (at_place k u) ∙ ap opcode_at same ∙ at_place op is.used))
 
 pub opcode_wire : OpcodeWireIsRight
 opcode_wire z first op k is u = elim (cases_eq k op) [
-  | inl same ↦ wire_here z first op k is same ∙ sym (ap flag (eq-eqb k op same))
+  | inl same ↦ wire_here z first op k is same ∙ sym (ap flag_of (eq-eqb k op same))
   | inr apart ↦ wire_there z first op k is u apart ∙ sym (none_at k op apart)
 ]
   where
-    none_at : (a b : ℕ) → a ≢ b → flag (a == b) ≡ 0
+    none_at : (a b : ℕ) → a ≢ b → flag_of (a == b) ≡ 0
     none_at a b apart = grind (arith, nat_tests)
 
 -- ---- the first word's combination
@@ -208,8 +208,8 @@ module _ (z : List ℕ) (w : ℕ) (width : IsWidth w) (low op v p : ℕ) (s : Ha
       joined a b h = omega arith
 
 -- ---- what two words and their row say of the wires
-reg_spelled : (z : List ℕ) (w : ℕ) → IsWidth w → (first a : ℕ) → HasBits z first w a → HasBits z (first + 0) 4 (a % 16)
-reg_spelled z w width first a r =
+reg_bits_are : (z : List ℕ) (w : ℕ) → IsWidth w → (first a : ℕ) → HasBits z first w a → HasBits z (first + 0) 4 (a % 16)
+reg_bits_are z w width first a r =
     let same : first ≡ first + 0 = omega arith in
     let size : w ≡ 4 + (w - 4) = omega arith in
     subst (λ k. HasBits z k 4 (a % 16)) same (HasBits-low z first 4 (w - 4) a (subst (λ n. HasBits z first n a) size r))
@@ -229,11 +229,11 @@ module _ (z : List ℕ) (w : ℕ) (width : IsWidth w) (made : InstructionWires) 
       let op_below = at_below p row.within in
       let op = whole_op w width v k below op_below in
       let used : is_used k ≡ true = at_used p row.within in
-      let row_at : IsOneHot z made.op 29 (place k) = subst (IsOneHot z made.op 29) (sym (place_at p row.within)) row in
+      let row_at : IsOneHot z made.op 29 (place_of k) = subst (IsOneHot z made.op 29) (sym (place_at p row.within)) row in
       let bit = HasBits-bit_at low (w - 6) (omega arith) in
       let imm_small : field (w - 6) 1 h < 2 = omega arith in
-      let dest = value-bits_below (field_spelled z (w - 5) made.low.first (w - 10) 4 1 v (omega arith) low) (omega arith) in
-      let source = value-bits_below (field_spelled z (w - 5) made.low.first (w - 14) 4 5 v (omega arith) low) (omega arith) in
+      let dest = value-bits_below (field_bits_are z (w - 5) made.low.first (w - 10) 4 1 v (omega arith) low) (omega arith) in
+      let source = value-bits_below (field_bits_are z (w - 5) made.low.first (w - 14) 4 5 v (omega arith) low) (omega arith) in
       record {
         head_word = whole_below w width v k below op_below;
         tail_word = HasBits-below second;
@@ -243,7 +243,7 @@ module _ (z : List ℕ) (w : ℕ) (width : IsWidth w) (made : InstructionWires) 
         imm = bit ∙ sym (whole_imm w width v k below op_below) ∙ by_parity (field (w - 6) 1 h) imm_small;
         dest = dest ∙ sym (whole_dest w width v k below op_below);
         source = source ∙ sym (whole_source w width v k below op_below);
-        register = value-bits_below (reg_spelled z w width made.second.first a second) (omega arith);
+        register = value-bits_below (reg_bits_are z w width made.second.first a second) (omega arith);
         second = second;
       }
 
@@ -268,9 +268,9 @@ instruction_sound w width z next assigns meets =
     let m5 = Meets-split z (kept_of (bits_combination row.next w) tail_at).list _ m4.1 in
     let v = binary_value z next (w - 5) in
     let a = binary_value z row.next w in
-    let low_spells : HasBits z next (w - 5) v = bits_spell z (w - 5) next assigns m1.0 in
-    let second_spells : HasBits z row.next w a = bits_spell z w row.next assigns m3.0 in
-    let row_bits = (bits_spell z 29 low.next assigns m2.0).bits in
+    let low_spells : HasBits z next (w - 5) v = bits_are z (w - 5) next assigns m1.0 in
+    let second_spells : HasBits z row.next w a = bits_are z w row.next assigns m3.0 in
+    let row_bits = (bits_are z 29 low.next assigns m2.0).bits in
     let product = ap (λ n. value (row_sum low.next 29) z * n % P) (sym (value-constant assigns 1)) ∙ ones ∙ value-constant assigns 1 in
     let one = row_of z low.next assigns row_bits (one_times (value (row_sum low.next 29) z) sum product) in
     let is : IsOneHot z low.next 29 one.number = record { within = one.within; hot = one.hot; cold = one.cold } in
@@ -279,12 +279,6 @@ instruction_sound w width z next assigns meets =
     let made = (instruction_of w next).answer in
     let all = decoded z w width made v one.number a low_spells is second_spells head tail in
     rw (head, tail) all
-
--- what is had after some values of a known number
-had_after : (z : List ℕ) (at next n : ℕ) (xs rest : List ℕ) → length xs ≡ n → next ≡ at + n → HasFrom z at (xs ++ rest) → HasFrom z at xs × HasFrom z next rest
-had_after z at next n xs rest size place has =
-    let split = HasFrom-split z at xs rest has in
-    (split.0, subst (λ k. HasFrom z k rest) (ap (λ k. at + k) size ∙ sym place) split.1)
 
 one_at-bit : (v i : ℕ) → one_at v i < 2
 one_at-bit v i = grind (arith, nat_tests)
@@ -300,11 +294,11 @@ instruction_met w width z next head tail assigns head_word tail_word used has =
     let second = new_bits_of w row.next in
     let k = field (w - 5) 5 head in
     let v = head % 2 ^ (w - 5) in
-    let p = place k in
+    let p = place_of k in
     let words : List ℕ = bits_values tail w ++ head ∷ tail ∷ [] in
-    let h1 = had_after z next low.next (w - 5) (bits_values v (w - 5)) (opcode_values k ++ words) (length-bits v (w - 5)) (new_bits_next (w - 5) next) has in
-    let h2 = had_after z low.next row.next 29 (opcode_values k) words (length-each_below 29 (one_at p)) (new_bits_next 29 low.next) h1.1 in
-    let h3 = had_after z row.next second.next w (bits_values tail w) (head ∷ tail ∷ []) (length-bits tail w) (new_bits_next w row.next) h2.1 in
+    let h1 = HasFrom-after z next low.next (w - 5) (bits_values v (w - 5)) (opcode_values k ++ words) (length-bits v (w - 5)) (new_bits_next (w - 5) next) has in
+    let h2 = HasFrom-after z low.next row.next 29 (opcode_values k) words (length-each_below 29 (one_at p)) (new_bits_next 29 low.next) h1.1 in
+    let h3 = HasFrom-after z row.next second.next w (bits_values tail w) (head ∷ tail ∷ []) (length-bits tail w) (new_bits_next w row.next) h2.1 in
     let each = has_each z low.next 29 (one_at p) h2.0 in
     let within = place_below k used in
     let is : IsOneHot z low.next 29 p = record {
@@ -404,7 +398,7 @@ length-instruction w width head tail =
       length-append (opcode_values k) words,
       length-append (bits_values tail w) (head ∷ tail ∷ []),
       length-bits v (w - 5),
-      length-each_below 29 (one_at (place k)),
+      length-each_below 29 (one_at (place_of k)),
       length-bits tail w,
     )
 
@@ -416,7 +410,7 @@ instruction_in_field w width head tail hs ts =
     let word : 2 ^ w < P = grind arith in
     let both = InField-cons head (tail ∷ []) (omega (arith, hs, word)) (InField-cons tail [] (omega (arith, ts, word)) InField-none) in
     let last = InField-append (bits_values tail w) (head ∷ tail ∷ []) (bits_in_field tail w) both in
-    let row = InField-each_below (one_at (place k)) (λ i. let bit = one_at-bit (place k) i in omega arith) 29 in
+    let row = InField-each_below (one_at (place_of k)) (λ i. let bit = one_at-bit (place_of k) i in omega arith) 29 in
     InField-append (bits_values v (w - 5)) (opcode_values k ++ words) (bits_in_field v (w - 5)) (InField-append (opcode_values k) words row last)
 
 pub instruction_sizes : InstructionSizes

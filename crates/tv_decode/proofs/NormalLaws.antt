@@ -14,8 +14,9 @@ use Rattle.tv_core.specs.Circuits.{here, pure, put, ◌>>=◌}
 use Rattle.tv_core.specs.Combinations.{constant}
 use Rattle.tv_core.specs.Normal.{IsNormal, IsNormalFrom, AreNormal}
 use Rattle.tv_core.specs.declared.field.TheConstants.{P}
-use Rattle.tv_decode.specs.Instructions.{opcode_at, opcode_weight, head_of, instruction_of}
+use Rattle.tv_decode.specs.Instructions.{opcode_weight, head_of, instruction_of}
 use Rattle.tv_decode.proofs.InstructionLaws.{at_below}
+use Rattle.tv_isa.specs.Opcodes.{opcode_at}
 use Rattle.tv_word.specs.Widths.{IsWidth}
 
 -- ---- the weights of the opcodes but 0

@@ -1,6 +1,7 @@
 -- The two words of an instruction, with a one-hot row of the used opcodes in place of the opcode's bits.
-use Rattle.std.specs.Prelude.{◌≡◌, ℕ, ◌+◌, ◌-◌, ◌*◌, ◌%◌, ◌^◌, ◌<◌, ◌==◌, true, nat_lt, if◌then◌else◌, List, [], ◌∷◌, ◌++◌, length, slice_index}
+use Rattle.std.specs.Prelude.{◌≡◌, ℕ, ◌+◌, ◌-◌, ◌*◌, ◌%◌, ◌^◌, ◌<◌, ◌==◌, true, if◌then◌else◌, List, [], ◌∷◌, ◌++◌, length, slice_index}
 use Rattle.tv_bits.specs.Bits.{HasBits, part, bits_combination, bits_values, new_bits_of}
+use Rattle.tv_bits.specs.Number.{number_of}
 use Rattle.tv_bits.specs.OneHot.{IsOneHot, row_sum, one_at}
 use Rattle.tv_bits.specs.Times.{kept_of}
 use Rattle.tv_bits.specs.declared.bit_wires.Bits.{Bits}
@@ -12,31 +13,19 @@ use Rattle.tv_core.specs.Laws.{Assigns, Meets, HasFrom, Fills, InField}
 use Rattle.tv_core.specs.Meanings.{terms_in}
 use Rattle.tv_decode.specs.declared.records.InstructionWires.{InstructionWires}
 use Rattle.tv_isa.specs.Instruction.{field, decode}
-use Rattle.tv_isa.specs.Opcodes.{is_used}
-use Rattle.tv_isa.specs.declared.opcode.TheConstants.{USED, UNUSED, STORE_B}
+use Rattle.tv_isa.specs.Opcodes.{is_used, opcodes, place_of, opcode_at}
 use Rattle.tv_word.specs.Widths.{IsWidth}
+use Rattle.tv_word.specs.Word.{flag_of}
 
 -- ---- the row of the used opcodes
--- how many opcodes are used
-abbrev pub opcodes : ℕ
-opcodes = length USED
-
--- the place of a used opcode's wire in the row; the unused ones stand below store.b and have none
-abbrev pub place : ℕ → ℕ
-place k = if nat_lt k STORE_B then k else k - length UNUSED
-
--- and the opcode at a place
-abbrev pub opcode_at : ℕ → ℕ
-opcode_at j = if nat_lt j (STORE_B - length UNUSED) then j else j + length UNUSED
-
 -- the wire of a used opcode is 1, and the wire of each other one is 0
 pub record IsOpcodeRow (z : List ℕ) (first op : ℕ) : Type 0 where
   pub used : is_used op ≡ true
-  pub row : IsOneHot z first opcodes (place op)
+  pub row : IsOneHot z first opcodes (place_of op)
 
 -- the values of the row
 abbrev pub opcode_values : ℕ → List ℕ
-opcode_values op = each_below opcodes (one_at (place op))
+opcode_values op = each_below opcodes (one_at (place_of op))
 
 -- ---- the circuit
 -- the bits that name the source and the destination, and the register that the second word names; and the immediate bit
@@ -51,10 +40,6 @@ register_bits made = part made.second 0 4
 
 abbrev pub imm_wire : ℕ → InstructionWires → ℕ
 imm_wire w made = made.low.first + (w - 6)
-
--- the number that the bits below the opcode represent
-abbrev pub number_of : Bits → Combination
-number_of bits = bits_combination bits.first bits.n
 
 -- the first word: the bits below the opcode, and the opcode above them, whose wire alone is 1; opcode 0 adds nothing
 abbrev pub opcode_weight : ℕ → ℕ → ℕ
@@ -128,4 +113,4 @@ pub record InstructionCosts : Type 0 where
 
 -- the wire of an opcode is 1 exactly where it is the instruction's
 abbrev pub OpcodeWireIsRight : Type 0
-OpcodeWireIsRight = (z : List ℕ) (first op k : ℕ) → IsOpcodeRow z first op → is_used k ≡ true → slice_index z (first + place k) ≡ (if k == op then 1 else 0)
+OpcodeWireIsRight = (z : List ℕ) (first op k : ℕ) → IsOpcodeRow z first op → is_used k ≡ true → slice_index z (first + place_of k) ≡ flag_of (k == op)

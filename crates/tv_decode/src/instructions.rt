@@ -10,7 +10,7 @@ ghost use Rattle.tv_core.specs.Circuits.{put};
 ghost use Rattle.tv_core.specs.Combinations.{constant, top};
 ghost use Rattle.tv_core.specs.Values.{GivesIn};
 ghost use Rattle.tv_core.specs.Sinks.{PutsIn, Grows, Room};
-ghost use Rattle.tv_decode.specs.Instructions.{place, opcode_at, opcode_weight, head_of};
+ghost use Rattle.tv_decode.specs.Instructions.{opcode_weight, head_of};
 ghost use Rattle.tv_decode.specs.Instructions.{opcode_values, instruction_of};
 ghost use Rattle.tv_decode.specs.Instructions.{instruction_wires, instruction_values};
 ghost use Rattle.tv_decode.specs.Instructions.{source_bits, dest_bits, register_bits, imm_wire};
@@ -18,18 +18,17 @@ ghost use Rattle.tv_decode.specs.Instructions.{InstructionIsSound, InstructionIs
 ghost use Rattle.tv_decode.specs.Instructions.{InstructionSizes, InstructionCosts};
 ghost use Rattle.tv_decode.specs.Instructions.{OpcodeWireIsRight};
 ghost use Rattle.tv_isa.specs.Instruction.{decode};
+ghost use Rattle.tv_isa.specs.Opcodes.{opcodes};
 ghost use Rattle.tv_word.specs.Widths.{IsWidth};
 
 use crate::records::InstructionWires;
 use tv_bits::{Bits, fill_bits, kept_by, new_bits_by, plus_row};
 use tv_core::{F, Lc, Put, Scratch, Sink, Values, Wire, give_words};
-use tv_isa::{decode, opcode};
+use tv_isa::decode;
+use tv_isa::opcode::{USED, at_place, place};
 
 // How many opcodes are used: the wires of the row.
-const OPCODES: u32 = 29;
-
-// How many aren't, all right before the first of the stores.
-const GAP: u32 = 3;
+const OPCODES: u32 = USED.len() as u32;
 
 /// Constrains the two words of an instruction of `W` bits whose opcode is used. Of the first word
 /// it makes the bits below the opcode and a one-hot row of the 29 used opcodes, of the second all
@@ -63,9 +62,9 @@ pub fn instruction<const W: u32, S: Sink>(s: &mut S, scratch: &mut Scratch) -> P
 // Constrains the sum of the row to 1.
 fn one_opcode<S: Sink>(s: &mut S, scratch: &mut Scratch, op: Wire) -> Put<()>
     requires room { Room S.meaning s.old 0 1 }
-    requires op_made { op + 29 ≤ S.meaning.wires s.old }
+    requires op_made { op + opcodes ≤ S.meaning.wires s.old }
     ensures puts { PutsIn S.meaning s.old s.new
-        (put (row_sum op 29) (constant 1) (constant 1)) result }
+        (put (row_sum op opcodes) (constant 1) (constant 1)) result }
     ensures grows { IfOk result (λ _. Grows S.meaning s.old s.new 0 1) }
 {
     scratch.a.clear();
@@ -77,10 +76,10 @@ fn one_opcode<S: Sink>(s: &mut S, scratch: &mut Scratch, op: Wire) -> Put<()>
 // Appends the opcodes of the row, each times its wire, above the other bits of a word.
 fn plus_opcodes<const W: u32>(lc: &mut Lc, op: Wire)
     requires width { IsWidth W }
-    requires within { op + 29 < 2 ^ 32 }
+    requires within { op + opcodes < 2 ^ 32 }
     requires room { length lc.old ≤ 64 }
-    ensures terms { lc.new ≡ lc.old ++ weighted (op + 1) 28 (λ j. opcode_weight W (j + 1)) }
-    ensures top { top lc.new ≤ max (top lc.old) (op + 29) }
+    ensures terms { lc.new ≡ lc.old ++ weighted (op + 1) (opcodes - 1) (λ j. opcode_weight W (j + 1)) }
+    ensures top { top lc.new ≤ max (top lc.old) (op + opcodes) }
 {
     let second = op.offset(1);
     for i in 0..OPCODES - 1 {
@@ -91,36 +90,10 @@ fn plus_opcodes<const W: u32>(lc: &mut Lc, op: Wire)
 // The opcode at a place of the row, as the highest bits of a word.
 fn opcode_weight<const W: u32>(j: u32) -> u32
     requires width { IsWidth W }
-    requires within { j < 29 }
+    requires within { j < opcodes }
     ensures { result ≡ opcode_weight W j }
 {
-    opcode_at(j) * (1 << (W - 5))
-}
-
-// The opcode at a place of the row.
-fn opcode_at(j: u32) -> u32
-    requires within { j < 29 }
-    ensures opcode { result ≡ opcode_at j }
-    ensures below { result < 32 }
-{
-    if j < u32::from(opcode::STORE_B) - GAP {
-        j
-    } else {
-        j + GAP
-    }
-}
-
-// The place of a used opcode in the row.
-fn place(k: u32) -> u32
-    requires within { k < 32 }
-    ensures place { result ≡ place k }
-    ensures below { result < 29 }
-{
-    if k < u32::from(opcode::STORE_B) {
-        k
-    } else {
-        k - GAP
-    }
+    at_place(j) * (1 << (W - 5))
 }
 
 impl InstructionWires {
@@ -172,7 +145,7 @@ pub fn fill_instruction<const W: u32, V: Values>(v: &mut V, head: u32, tail: u32
     ensures whole { OnOk result (V.giving.broken v.new ≡ false) }
 {
     fill_bits(v, F::from(below_opcode::<W>(head)), W - 5)?;
-    fill_row(v, u32::from(decode::<W>(head, tail).op))?;
+    fill_row(v, decode::<W>(head, tail).op)?;
     fill_bits(v, F::from(tail), W)?;
     give_words(v, &[head, tail])
 }
@@ -186,7 +159,7 @@ fn below_opcode<const W: u32>(head: u32) -> u32
 }
 
 // Assigns the row of an opcode.
-fn fill_row<V: Values>(v: &mut V, k: u32) -> Put<()>
+fn fill_row<V: Values>(v: &mut V, k: u8) -> Put<()>
     requires within { k < 32 }
     requires whole { V.giving.broken v.old ≡ false }
     ensures gives { GivesIn V.giving v.old v.new (opcode_values k) result }

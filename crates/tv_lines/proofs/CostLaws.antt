@@ -22,9 +22,6 @@ counts_add = record { nothing = refl; joins = λ a b. length-append a b }
 pub terms_add : Adds terms_in
 terms_add = record { nothing = refl; joins = λ a b. sum_by-append _ a b }
 
-pub scaled_long : (k : ℕ) (x : Combination) → length (scaled k x) ≡ length x
-scaled_long k x = length-map x (λ t. (k * t.0 % P, t.1))
-
 pub sum_same : (n k : ℕ) → sum_below n (λ _. k) ≡ n * k
 sum_same zero k = sum_below-zero (λ _. k) ∙ omega arith
 sum_same (suc n) k = sum_below-suc n (λ _. k) ∙ omega (arith, sum_same n k)

@@ -25,6 +25,6 @@ ordered_places n line first follows =
 
 pub neighbours_ordered : NeighboursAreOrdered
 neighbours_ordered z n bits line assigns s = ordered_places n line
-    (λ h. first_line_sound z s.first_at (bits 0) (line 0) (s.widths 0 h) assigns (s.spells 0 h) (s.first h))
+    (λ h. first_line_sound z s.first_at (bits 0) (line 0) (s.widths 0 h) assigns (s.decomposes 0 h) (s.first h))
     (λ i h. sorted_pair_sound z (s.pair_at i) (bits i) (bits (i + 1)) (line i) (line (i + 1)) (s.widths i (omega arith)) (s.widths (i + 1) h) assigns
-    (s.spells i (omega arith)) (s.spells (i + 1) h) (s.pairs i h))
+    (s.decomposes i (omega arith)) (s.decomposes (i + 1) h) (s.pairs i h))

@@ -7,12 +7,13 @@ use Rattle.tv_bits.proofs.BitsLaws.{new_bits_answer, new_bits_next, new_bits_sou
 use Rattle.tv_bits.proofs.TimesLaws.{kept_answer, kept_next, kept_sound, kept_complete}
 use Rattle.tv_bits.proofs.ZeroLaws.{zero_next, zero_sound, zero_complete}
 use Rattle.tv_bits.specs.Bits.{HasBits, binary_value, bits_values, bits_combination, new_bits_of}
+use Rattle.tv_bits.specs.Number.{number_of}
 use Rattle.tv_bits.specs.Times.{times_of}
 use Rattle.tv_bits.specs.Zero.{zero_of, zero_flag, zero_values}
 use Rattle.tv_bits.specs.declared.bit_wires.Bits.{Bits}
 use Rattle.tv_core.proofs.BelowLaws.{length-each_below}
 use Rattle.tv_core.proofs.CombinationLaws.{value-less, value-wire}
-use Rattle.tv_core.proofs.Meeting.{Meets-split, Meets-join, HasFrom-split}
+use Rattle.tv_core.proofs.MeetsLaws.{Meets-split, Meets-join, HasFrom-split}
 use Rattle.tv_core.specs.Circuits.{fresh, put, pure, ◌>>=◌}
 use Rattle.tv_core.specs.Combinations.{constant, less, wire}
 use Rattle.tv_core.specs.Constraints.{value}
@@ -20,18 +21,18 @@ use Rattle.tv_core.specs.Laws.{Assigns, Meets, HasFrom}
 use Rattle.tv_core.specs.Lines.{Line}
 use Rattle.tv_core.specs.declared.field.TheConstants.{P}
 use Rattle.tv_lines.proofs.Numbers.{number_value}
-use Rattle.tv_lines.specs.SortedPair.{number, apart_of, carried_of, size_of, size_values, cells_apart}
+use Rattle.tv_lines.specs.SortedPair.{apart_of, carried_of, size_of, size_values, cells_apart}
 use Rattle.tv_lines.specs.UnpackedLines.{HasWidths, HasLineBits}
 use Rattle.tv_lines.specs.declared.rows.LineBits.{LineBits}
 
 -- ---- what the circuits answer, and where they end
 pub apart_answer : (before after : LineBits) (next : ℕ) → (apart_of before after next).answer ≡ next
 unfolding apart_of
-apart_answer before after next = kept_answer (less (number after.cell) (number before.cell)) next
+apart_answer before after next = kept_answer (less (number_of after.cell) (number_of before.cell)) next
 
 pub apart_next : (before after : LineBits) (next : ℕ) → (apart_of before after next).next ≡ next + 1
 unfolding apart_of
-apart_next before after next = kept_next (less (number after.cell) (number before.cell)) next
+apart_next before after next = kept_next (less (number_of after.cell) (number_of before.cell)) next
 
 pub carried_next : (apart : ℕ) (before after : LineBits) (next : ℕ) → (carried_of apart before after next).next ≡ next + 2
 unfolding carried_of put ◌>>=◌
@@ -82,24 +83,24 @@ size_complete z next v some small assigns has =
 -- ---- two lines
 module _ (z : List ℕ) (before after : LineBits) (l m : Line) (b : HasWidths before) (a : HasWidths after) (assigns : Assigns z) (sl : HasLineBits z before l)
     (sm : HasLineBits z after m) where
-  cells : value (less (number after.cell) (number before.cell)) z ≡ cells_apart l m
+  cells : value (less (number_of after.cell) (number_of before.cell)) z ≡ cells_apart l m
   cells =
-      value-less (number after.cell) (number before.cell) z
+      value-less (number_of after.cell) (number_of before.cell) z
       ∙ ap₂ (λ x y. (x + (P - y)) % P) (number_value z after.cell 31 m.cell a.cell (omega arith) sm.cell)
       (number_value z before.cell 31 l.cell b.cell (omega arith) sl.cell)
 
   pub apart_sound : (next : ℕ) → Meets z (apart_of before after next).list → slice_index z (apart_of before after next).answer ≡ cells_apart l m
   unfolding apart_of
-  apart_sound next meets = kept_sound z next (less (number after.cell) (number before.cell)) assigns meets ∙ cells
+  apart_sound next meets = kept_sound z next (less (number_of after.cell) (number_of before.cell)) assigns meets ∙ cells
 
   pub apart_complete : (next : ℕ) → slice_index z next ≡ cells_apart l m → Meets z (apart_of before after next).list
   unfolding apart_of
-  apart_complete next is = kept_complete z next (less (number after.cell) (number before.cell)) assigns (is ∙ sym cells, tt)
+  apart_complete next is = kept_complete z next (less (number_of after.cell) (number_of before.cell)) assigns (is ∙ sym cells, tt)
 
-  olds : value (number after.old) z ≡ m.old
+  olds : value (number_of after.old) z ≡ m.old
   olds = number_value z after.old 32 m.old a.old (omega arith) sm.old
 
-  news : value (number before.new) z ≡ l.new
+  news : value (number_of before.new) z ≡ l.new
   news = number_value z before.new 32 l.new b.new (omega arith) sl.new
 
   pub carried_sound : (apart x next : ℕ) → slice_index z apart ≡ x → Meets z (carried_of apart before after next).list → zero_flag x * l.new % P ≡ m.old

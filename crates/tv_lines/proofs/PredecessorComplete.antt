@@ -13,7 +13,7 @@ use Rattle.tv_bits.proofs.BitsLaws.{new_bits_answer, new_bits_next, new_bits_com
 use Rattle.tv_bits.proofs.TimesLaws.{kept_answer, kept_next, kept_complete}
 use Rattle.tv_core.proofs.BelowLaws.{length-each_below}
 use Rattle.tv_core.proofs.CombinationLaws.{value-wire}
-use Rattle.tv_core.proofs.Meeting.{Meets-join, HasFrom-split}
+use Rattle.tv_core.proofs.MeetsLaws.{Meets-join, HasFrom-split}
 use Rattle.tv_core.specs.Circuits.{put, ◌>>=◌}
 use Rattle.tv_core.specs.Combinations.{wire}
 use Rattle.tv_core.specs.Constraints.{value}
@@ -24,7 +24,7 @@ use Rattle.tv_core.specs.declared.lines.LineLc.{LineLc}
 use Rattle.tv_core.specs.declared.lines.Pair.{Pair}
 use Rattle.tv_core.specs.declared.lines.PairNum.{PairNum}
 use Rattle.tv_lines.specs.Ordered.{Follows}
-use Rattle.tv_lines.specs.PackedLines.{InRange, line_value}
+use Rattle.tv_lines.specs.PackedLines.{LineInRange, line_value}
 use Rattle.tv_lines.proofs.PredecessorValues.{value-excess, value-cells, value-times}
 use Rattle.tv_lines.specs.Predecessor.{excess, cell_difference, time_difference, either_of, follows_of, reach_between, excess_between, follows_values}
 use Rattle.tv_lines.specs.Predecessor.{FollowsIsComplete}
@@ -61,7 +61,7 @@ later p l follows same = elim follows.rises [ inl higher ↦ absurd (omega arith
 above : (p l : Line) → Follows p l → p.cell ≢ l.cell → p.cell < l.cell
 above p l follows apart = elim follows.rises [ inl higher ↦ higher | inr both ↦ absurd (apart both.0) ]
 
-fit : (p l : Line) → InRange p → InRange l → Follows p l → Fit p l (reach_between p l) (excess_between p l)
+fit : (p l : Line) → LineInRange p → LineInRange l → Follows p l → Fit p l (reach_between p l) (excess_between p l)
 fit p l in_p in_l follows = elim (cases_eq p.cell l.cell) [
   | inl same ↦
       let lt : p.time < l.time = later p l follows same in

@@ -2,6 +2,7 @@
 use Rattle.std.proofs.Common.{◌≡◌, ℕ, ◌+◌, ◌-◌, ◌*◌, ◌%◌, ◌^◌, ◌≤◌, List, [], ◌∷◌, ◌++◌, length, refl, sym, ◌∙◌, ap, arith}
 use Rattle.std.proofs.lemmas.List.{length-append}
 use Rattle.tv_bits.proofs.BitsLaws.{new_bits_answer}
+use Rattle.tv_bits.proofs.GateLaws.{length-scaled}
 use Rattle.tv_bits.specs.Bits.{bits_combination, new_bits_of}
 use Rattle.tv_bits.specs.Times.{times_of, kept_of}
 use Rattle.tv_bits.specs.declared.bit_wires.Bits.{Bits}
@@ -14,7 +15,7 @@ use Rattle.tv_core.specs.Meanings.{terms_in}
 use Rattle.tv_core.specs.declared.field.TheConstants.{P}
 use Rattle.tv_core.specs.declared.lines.LineLc.{LineLc}
 use Rattle.tv_core.specs.declared.lines.Pair.{Pair}
-use Rattle.tv_lines.proofs.CostLaws.{counts_add, terms_add, scaled_long, new_bits_cost, bit_count, bit_terms}
+use Rattle.tv_lines.proofs.CostLaws.{counts_add, terms_add, new_bits_cost, bit_count, bit_terms}
 use Rattle.tv_lines.proofs.NormalLaws.{length-cell_excess, length-less_above}
 use Rattle.tv_lines.specs.Predecessor.{less_above, cell_excess, excess, cell_difference, time_difference, either_of, follows_of, follows_terms, FollowsCosts}
 
@@ -25,7 +26,7 @@ bits_long first n = length-each_below n (λ i. (2 ^ i % P, first + i))
 excess_long : (reach : Bits) (line : LineLc) (item : Pair) → length (excess reach line item) ≡ length (cell_excess line item.first) + reach.n
 excess_long reach line item =
     let bits : Combination = bits_combination reach.first reach.n in
-    length-append (cell_excess line item.first) (scaled (2 ^ 32) bits) ∙ omega (arith, scaled_long (2 ^ 32) bits, bits_long reach.first reach.n)
+    length-append (cell_excess line item.first) (scaled (2 ^ 32) bits) ∙ omega (arith, length-scaled (2 ^ 32) bits, bits_long reach.first reach.n)
 
 -- ---- the parts
 either_count : (e : ℕ) (line : LineLc) (item : Pair) (next : ℕ) → length (either_of e line item next).list ≡ 2

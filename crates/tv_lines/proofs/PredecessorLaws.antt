@@ -9,7 +9,7 @@ use Rattle.tv_bits.proofs.BitNumbers.{HasBits-below}
 use Rattle.tv_bits.proofs.BitsLaws.{new_bits_answer, new_bits_next, new_bits_sound, new_bits_complete}
 use Rattle.tv_bits.proofs.TimesLaws.{kept_answer, kept_next, kept_sound, kept_complete}
 use Rattle.tv_core.proofs.CombinationLaws.{value-wire, value-below, wire-below}
-use Rattle.tv_core.proofs.Meeting.{Meets-split, Meets-join, HasFrom-split}
+use Rattle.tv_core.proofs.MeetsLaws.{Meets-split, Meets-join, HasFrom-split}
 use Rattle.tv_core.proofs.PrimeLaws.{p_zero_product_below}
 use Rattle.tv_core.specs.Circuits.{put, ◌>>=◌}
 use Rattle.tv_core.specs.Combinations.{wire}
@@ -21,14 +21,14 @@ use Rattle.tv_core.specs.declared.lines.LineLc.{LineLc}
 use Rattle.tv_core.specs.declared.lines.Pair.{Pair}
 use Rattle.tv_core.specs.declared.lines.PairNum.{PairNum}
 use Rattle.tv_lines.specs.Ordered.{Follows}
-use Rattle.tv_lines.specs.PackedLines.{InRange, line_value}
+use Rattle.tv_lines.specs.PackedLines.{LineInRange, line_value}
 use Rattle.tv_lines.proofs.PredecessorNumbers.{other_cells, same_cells, same_times}
 use Rattle.tv_lines.proofs.PredecessorValues.{value-excess, value-cells, value-times}
 use Rattle.tv_lines.specs.PackedLines.{packed_item}
 use Rattle.tv_lines.specs.Predecessor.{excess, cell_difference, time_difference, either_of, follows_of, FollowsIsSound}
 
 -- what e, the cells and the times are as numbers, and what follows from them
-met_follows : (p l : Line) (r e : ℕ) → InRange p → InRange l → r < 2 ^ 31 → e ≡ (2 ^ 32 * (r + 1 + p.cell) + (P - (2 ^ 32 * l.cell + l.old))) % P
+met_follows : (p l : Line) (r e : ℕ) → LineInRange p → LineInRange l → r < 2 ^ 31 → e ≡ (2 ^ 32 * (r + 1 + p.cell) + (P - (2 ^ 32 * l.cell + l.old))) % P
     → (e ≡ 0) ⊎ (((2 ^ 32 * p.cell + (P - 2 ^ 32 * l.cell)) % P ≡ 0) × (((e + (2 ^ 32 * p.time + p.new)) % P + (P - 2 ^ 32 * l.time)) % P ≡ 0))
     → Follows p l
 met_follows p l r e in_p in_l small is (inl none) =

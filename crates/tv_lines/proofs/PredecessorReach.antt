@@ -4,11 +4,11 @@ use Rattle.std.proofs.Math.Nat.{pow-le-pow_right}
 use Rattle.std.proofs.lemmas.Bool.{cases_eq}
 use Rattle.tv_core.specs.Lines.{Line}
 use Rattle.tv_lines.specs.Ordered.{Follows, key}
-use Rattle.tv_lines.specs.PackedLines.{InRange}
+use Rattle.tv_lines.specs.PackedLines.{LineInRange}
 use Rattle.tv_lines.proofs.PredecessorComplete.{reach_same, reach_apart}
 use Rattle.tv_lines.specs.Predecessor.{reach_between, FollowsReaches, FollowsRises}
 
-reach_far : (p l : Line) → InRange l → reach_between p l < 2 ^ 31
+reach_far : (p l : Line) → LineInRange l → reach_between p l < 2 ^ 31
 reach_far p l range = elim (cases_eq p.cell l.cell) [
   | inl same ↦ omega (arith, reach_same p l same, range.time)
   | inr apart ↦ omega (arith, reach_apart p l apart, range.cell)

@@ -15,7 +15,7 @@ use Rattle.tv_core.specs.Lines.{Line}
 use Rattle.tv_core.specs.declared.field.TheConstants.{P}
 use Rattle.tv_core.specs.declared.lines.LineLc.{LineLc}
 use Rattle.tv_core.specs.declared.lines.Pair.{Pair}
-use Rattle.tv_lines.specs.PackedLines.{InRange}
+use Rattle.tv_lines.specs.PackedLines.{LineInRange}
 use Rattle.tv_lines.proofs.PredecessorComplete.{excess_same, excess_apart}
 use Rattle.tv_lines.specs.Predecessor.{excess, either_of, follows_of, reach_between, excess_between, follows_values, FollowsSizes}
 
@@ -34,7 +34,7 @@ pub follows_many : (m : ℕ) (p l : Line) → length (follows_values m p l) ≡ 
 follows_many m p l = length-append (bits_values (reach_between p l) m) (excess_between p l ∷ [])
     ∙ ap (λ n. n + 1) (length-each_below m (bit_at (reach_between p l)))
 
-excess_below : (p l : Line) → InRange l → excess_between p l < P
+excess_below : (p l : Line) → LineInRange l → excess_between p l < P
 excess_below p l range = elim (cases_eq p.cell l.cell) [
   | inl same ↦ omega (arith, excess_same p l same, range.time)
   | inr apart ↦ omega (arith, excess_apart p l apart)

@@ -9,7 +9,7 @@ use Rattle.tv_bits.proofs.PrefixLaws.{zero_product_next, zero_product_sound, zer
 use Rattle.tv_bits.proofs.BitNumbers.{HasBits-below, HasBits-high, value-bits_below}
 use Rattle.tv_bits.specs.Bits.{HasBits}
 use Rattle.tv_bits.specs.Order.{prefix_difference, first_difference}
-use Rattle.tv_bits.specs.Prefixes.{products_values}
+use Rattle.tv_bits.specs.Prefixes.{products_values, prefix}
 use Rattle.tv_bits.specs.declared.bit_wires.Bits.{Bits}
 use Rattle.tv_core.proofs.CombinationLaws.{value-less, value-cons, value-wire, wire-below}
 use Rattle.tv_core.proofs.DifferenceLaws.{same_of_minus}
@@ -18,7 +18,7 @@ use Rattle.tv_core.specs.Constraints.{value}
 use Rattle.tv_core.specs.Laws.{Assigns, Meets, HasFrom}
 use Rattle.tv_core.specs.Lines.{Line}
 use Rattle.tv_core.specs.declared.field.TheConstants.{P}
-use Rattle.tv_lines.specs.SortedPair.{bits_from, cell_less, key_less, prefix_less, rises_of, cells_apart, size, key_less_in, prefix_less_in, factor_in}
+use Rattle.tv_lines.specs.SortedPair.{cell_less, key_less, prefix_less, rises_of, cells_apart, size, key_less_in, prefix_less_in, factor_in}
 use Rattle.tv_lines.specs.UnpackedLines.{HasWidths, HasLineBits}
 use Rattle.tv_lines.specs.declared.rows.LineBits.{LineBits}
 
@@ -127,7 +127,7 @@ module _ (l m : Line) (cl : l.cell < 2 ^ 31) (cm : m.cell < 2 ^ 31) (tl : l.time
       }
 
 -- ---- the prefixes of bits
-value_from : (z : List ℕ) (x : Bits) (p v : ℕ) → p ≤ x.n → x.n ≤ 63 → HasBits z x.first x.n v → value (bits_from x p) z ≡ v / 2 ^ p
+value_from : (z : List ℕ) (x : Bits) (p v : ℕ) → p ≤ x.n → x.n ≤ 63 → HasBits z x.first x.n v → value (prefix x p) z ≡ v / 2 ^ p
 value_from z x p v within short s =
     let whole : x.n ≡ p + (x.n - p) = omega arith in
     value-bits_below (HasBits-high z x.first p (x.n - p) v (subst (λ n. HasBits z x.first n v) whole s)) (omega arith)
@@ -139,7 +139,7 @@ module _ (z : List ℕ) (before after : LineBits) (l m : Line) (b : HasWidths be
 
   cell_value : (p : ℕ) → p ≤ 31 → value (cell_less before after p) z ≡ prefix_difference m.cell l.cell p
   cell_value p h =
-      value-less (bits_from after.cell p) (bits_from before.cell p) z
+      value-less (prefix after.cell p) (prefix before.cell p) z
       ∙ ap₂ (λ x y. (x + (P - y)) % P) (value_from z after.cell p m.cell (omega (arith, a.cell)) (omega (arith, a.cell))
       (row after.cell 31 m.cell a.cell sm.cell))
       (value_from z before.cell p l.cell (omega (arith, b.cell)) (omega (arith, b.cell)) (row before.cell 31 l.cell b.cell sl.cell))
@@ -147,9 +147,9 @@ module _ (z : List ℕ) (before after : LineBits) (l m : Line) (b : HasWidths be
   key_value : (apart p : ℕ) → p ≤ 20 → slice_index z apart ≡ cells_apart l m → value (key_less apart before after p) z ≡ key_less_in l m p
   key_value apart p h is =
       let small : l.time / 2 ^ p < P = omega (arith, div-le_self l.time (2 ^ p), HasBits-below sl.time) in
-      value-less ((2 ^ (20 - p), apart) ∷ bits_from after.time p) (bits_from before.time p) z
+      value-less ((2 ^ (20 - p), apart) ∷ prefix after.time p) (prefix before.time p) z
       ∙ ap₂ (λ x y. (x + (P - y)) % P)
-      (value-cons (2 ^ (20 - p)) apart (bits_from after.time p) z
+      (value-cons (2 ^ (20 - p)) apart (prefix after.time p) z
       ∙ ap₂ (λ x y. (2 ^ (20 - p) * x + y) % P) is
       (value_from z after.time p m.time (omega (arith, a.time)) (omega (arith, a.time)) (row after.time 20 m.time a.time sm.time)))
       (value_from z before.time p l.time (omega (arith, b.time)) (omega (arith, b.time)) (row before.time 20 l.time b.time sl.time))

@@ -11,7 +11,7 @@ use Rattle.tv_bits.specs.Prefixes.{products_values}
 use Rattle.tv_bits.specs.Zero.{zero_flag, zero_values}
 use Rattle.tv_core.proofs.BelowLaws.{length-each_below}
 use Rattle.tv_core.proofs.DifferenceLaws.{same_of_minus}
-use Rattle.tv_core.proofs.Meeting.{Meets-join, HasFrom-split}
+use Rattle.tv_core.proofs.MeetsLaws.{Meets-join, HasFrom-split}
 use Rattle.tv_core.specs.Circuits.{◌>>=◌}
 use Rattle.tv_core.specs.Laws.{HasFrom}
 use Rattle.tv_core.specs.declared.field.TheConstants.{P}

@@ -16,7 +16,7 @@ use Rattle.tv_core.specs.declared.field.TheConstants.{P}
 use Rattle.tv_lines.proofs.PairParts.{apart_next, carried_next, size_next}
 use Rattle.tv_lines.proofs.PrefixOrder.{rises_next, size_same, size_apart}
 use Rattle.tv_lines.proofs.SortedComplete.{size_many}
-use Rattle.tv_lines.specs.PackedLines.{InRange}
+use Rattle.tv_lines.specs.PackedLines.{LineInRange}
 use Rattle.tv_lines.specs.SortedPair.{apart_of, carried_of, size_of, sorted_pair_of, cells_apart, size, size_values, factor_in, sorted_pair_values}
 use Rattle.tv_lines.specs.SortedPair.{SortedPairSizes}
 use Rattle.tv_lines.specs.declared.rows.LineBits.{LineBits}
@@ -43,7 +43,7 @@ sorted_pair_many l m =
     let b : length products ≡ 3 = length-products (factor_in l m) 5 in
     omega (arith, length-append sizes products, size_many (size l m))
 
-size_below : (l m : Line) → InRange m → size l m < P
+size_below : (l m : Line) → LineInRange m → size l m < P
 size_below l m range = elim (cases_eq l.cell m.cell) [
   | inl same ↦ omega (arith, size_same l m same, first_difference-le 11 2 m.time l.time, range.time)
   | inr apart ↦ omega (arith, size_apart l m apart, first_difference-le 11 3 m.cell l.cell, range.cell)

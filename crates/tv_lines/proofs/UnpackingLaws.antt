@@ -8,7 +8,7 @@ use Rattle.tv_bits.proofs.BitsLaws.{bits_answer, bits_next, bits_sound, bits_com
 use Rattle.tv_bits.specs.Bits.{bits_of, bits_values}
 use Rattle.tv_core.proofs.BelowLaws.{length-each_below}
 use Rattle.tv_core.proofs.FieldLaws.{InField-append}
-use Rattle.tv_core.proofs.Meeting.{Meets-split, Meets-join, HasFrom-split}
+use Rattle.tv_core.proofs.MeetsLaws.{Meets-split, Meets-join, HasFrom-split}
 use Rattle.tv_core.specs.Circuits.{pure, ◌>>=◌}
 use Rattle.tv_core.specs.Constraints.{value}
 use Rattle.tv_core.specs.Laws.{Assigns, Meets, HasFrom}

@@ -19,7 +19,7 @@ abbrev pub time_bits : ℕ
 time_bits = TIME_BITS
 
 -- what is packed without loss
-pub record InRange (line : Line) : Type 0 where
+pub record LineInRange (line : Line) : Type 0 where
   pub cell : line.cell < 2 ^ cell_bits
   pub time : line.time < 2 ^ time_bits
   pub old : line.old < 2 ^ 32
@@ -41,8 +41,8 @@ abbrev pub packed_item : Line → PairNum
 packed_item line = packed (without_old line)
 
 -- the line of four residues
-abbrev pub line_of : LineNum → Line
-line_of line = record { cell = line.cell; time = line.time; old = line.old; new = line.new }
+abbrev pub line_of_numbers : LineNum → Line
+line_of_numbers line = record { cell = line.cell; time = line.time; old = line.old; new = line.new }
 
 -- ---- combinations
 -- the values of a line's
@@ -64,16 +64,16 @@ pack_item line = record { first = normal (scaled (2 ^ 32 % P) line.cell); second
 -- ---- the laws
 -- the values of a packed line are the packed values, for a line in range
 abbrev pub PackIsRight : Type 0
-PackIsRight = (z : List ℕ) (line : LineLc) → InRange (line_value z line) → pair_value z (pack line) ≡ packed (line_value z line)
+PackIsRight = (z : List ℕ) (line : LineLc) → LineInRange (line_value z line) → pair_value z (pack line) ≡ packed (line_value z line)
 
 -- so are those of an item
 abbrev pub ItemIsRight : Type 0
-ItemIsRight = (z : List ℕ) (line : LineLc) → InRange (line_value z line) → pair_value z (pack_item line) ≡ packed_item (line_value z line)
+ItemIsRight = (z : List ℕ) (line : LineLc) → LineInRange (line_value z line) → pair_value z (pack_item line) ≡ packed_item (line_value z line)
 
 -- two lines in range that are packed to one pair are one
 abbrev pub PackIsOneToOne : Type 0
-PackIsOneToOne = (l m : Line) → InRange l → InRange m → packed l ≡ packed m → l ≡ m
+PackIsOneToOne = (l m : Line) → LineInRange l → LineInRange m → packed l ≡ packed m → l ≡ m
 
 -- a line in range that is packed is unpacked to the same line
 abbrev pub UnpackUndoesPack : Type 0
-UnpackUndoesPack = (line : Line) → InRange line → unpacked (packed line) ≡ line
+UnpackUndoesPack = (line : Line) → LineInRange line → unpacked (packed line) ≡ line

@@ -15,7 +15,7 @@ use Rattle.tv_core.specs.declared.field.TheConstants.{P}
 use Rattle.tv_core.specs.declared.lines.LineLc.{LineLc}
 use Rattle.tv_core.specs.declared.lines.Pair.{Pair}
 use Rattle.tv_lines.specs.Ordered.{Follows, key}
-use Rattle.tv_lines.specs.PackedLines.{InRange, line_value, packed_item, time_bits}
+use Rattle.tv_lines.specs.PackedLines.{LineInRange, line_value, packed_item, time_bits}
 use Rattle.tv_lines.specs.Compact.{cell_lc, word_lc}
 use Rattle.tv_lines.specs.declared.compact.CompactLine.{CompactLine}
 
@@ -85,19 +85,19 @@ follows_values m p l = bits_values (reach_between p l) m ++ excess_between p l �
 -- in an assignment that satisfies the constraints the line follows that of the item
 abbrev pub FollowsIsSound : Type 0
 FollowsIsSound = (z : List ℕ) (next m : ℕ) (line : LineLc) (item : Pair) (p l : Line) → m ≤ 31 → Assigns z
-    → line_value z line ≡ l → pair_value z item ≡ packed_item p → InRange p → InRange l → Meets z (follows_of m line item next).list → Follows p l
+    → line_value z line ≡ l → pair_value z item ≡ packed_item p → LineInRange p → LineInRange l → Meets z (follows_of m line item next).list → Follows p l
 
 -- where it does, and the reach has m bits, an assignment that has these values at the wires that were made satisfies the constraints
 abbrev pub FollowsIsComplete : Type 0
 FollowsIsComplete = (z : List ℕ) (next m : ℕ) (line : LineLc) (item : Pair) (p l : Line) → m ≤ 31 → Assigns z
-    → line_value z line ≡ l → pair_value z item ≡ packed_item p → InRange p → InRange l → Follows p l → reach_between p l < 2 ^ m
+    → line_value z line ≡ l → pair_value z item ≡ packed_item p → LineInRange p → LineInRange l → Follows p l → reach_between p l < 2 ^ m
     → HasFrom z next (follows_values m p l) → Meets z (follows_of m line item next).list
 
 -- as many values as wires, and each below P for lines in range
 pub record FollowsSizes : Type 0 where
   pub end : (m : ℕ) (line : LineLc) (item : Pair) (next : ℕ) → (follows_of m line item next).next ≡ next + m + 1
   pub fills : (m : ℕ) (line : LineLc) (item : Pair) (p l : Line) → Fills (follows_of m line item) (follows_values m p l)
-  pub in_field : (m : ℕ) (p l : Line) → InRange l → InField (follows_values m p l)
+  pub in_field : (m : ℕ) (p l : Line) → LineInRange l → InField (follows_values m p l)
 
 -- how many terms they have where the item is two wires after those of the line: each part over the line has one more then
 abbrev pub follows_terms : ℕ → LineLc → ℕ
@@ -117,7 +117,7 @@ FollowsIsNormal = (m : ℕ) (line : LineLc) (item : Pair) (next : ℕ) → 1 ≤
 
 -- 31 bits of reach are enough for lines in range; and k bits where the cell is at most the one after p's, and the time has k bits
 pub record FollowsReaches : Type 0 where
-  pub far : (p l : Line) → InRange l → reach_between p l < 2 ^ 31
+  pub far : (p l : Line) → LineInRange l → reach_between p l < 2 ^ 31
   pub near : (k : ℕ) (p l : Line) → l.cell ≤ p.cell + 1 → l.time < 2 ^ k → reach_between p l < 2 ^ k
 
 -- the key rises from a line to one that follows it

@@ -1,8 +1,9 @@
 -- Two lines that are neighbours in address order, and the first of all.
 use Rattle.std.specs.Prelude.{◌≡◌, ℕ, ◌+◌, ◌-◌, ◌*◌, ◌%◌, ◌^◌, ◌<◌, ◌==◌, nat_lt, if◌then◌else◌, List, [], ◌∷◌, ◌++◌}
 use Rattle.tv_bits.specs.Bits.{bits_combination, bits_values, new_bits_of}
+use Rattle.tv_bits.specs.Number.{number_of}
 use Rattle.tv_bits.specs.Order.{prefix_difference, first_difference}
-use Rattle.tv_bits.specs.Prefixes.{zero_product_of, products_values}
+use Rattle.tv_bits.specs.Prefixes.{zero_product_of, products_values, prefix}
 use Rattle.tv_bits.specs.Times.{kept_of}
 use Rattle.tv_bits.specs.Zero.{zero_of, zero_values}
 use Rattle.tv_bits.specs.declared.bit_wires.Bits.{Bits}
@@ -14,7 +15,7 @@ use Rattle.tv_core.specs.Laws.{Assigns, Meets, HasFrom, Fills, InField}
 use Rattle.tv_core.specs.Lines.{Line}
 use Rattle.tv_core.specs.declared.field.TheConstants.{P}
 use Rattle.tv_lines.specs.Ordered.{Follows, Ordered}
-use Rattle.tv_lines.specs.PackedLines.{time_bits, InRange}
+use Rattle.tv_lines.specs.PackedLines.{time_bits, LineInRange}
 use Rattle.tv_lines.specs.UnpackedLines.{HasWidths, HasLineBits}
 use Rattle.tv_lines.specs.declared.rows.LineBits.{LineBits}
 
@@ -28,38 +29,30 @@ cell_chunks = 3
 abbrev pub time_chunks : ℕ
 time_chunks = 2
 
--- the number that some bits represent
-abbrev pub number : Bits → Combination
-number x = bits_combination x.first x.n
-
--- the number that its bits from place p on represent
-abbrev pub bits_from : Bits → ℕ → Combination
-bits_from x p = bits_combination (x.first + p) (x.n - p)
-
 -- ---- the circuit
 -- a new wire: by how much the second cell is above the first, modulo P
 unfoldable pub apart_of : LineBits → LineBits → Circuit ℕ
-apart_of before after = kept_of (less (number after.cell) (number before.cell))
+apart_of before after = kept_of (less (number_of after.cell) (number_of before.cell))
 
 -- where the cells are not apart the second old is the first new, and else it is 0
 unfoldable pub carried_of : ℕ → LineBits → LineBits → Circuit (Unit {0})
 carried_of apart before after = do
   same ← zero_of (wire apart)
-  put (wire same) (number before.new) (number after.old)
+  put (wire same) (number_of before.new) (number_of after.old)
 
 -- a new wire that is from 1 to 2 ^ c
 unfoldable pub size_of : ℕ → Circuit ℕ
 size_of c = do
   bits ← new_bits_of c
-  kept_of (number bits ++ constant 1)
+  kept_of (number_of bits ++ constant 1)
 
 -- by how much the second cell is above the first, both without their p lowest bits
 abbrev pub cell_less : LineBits → LineBits → ℕ → Combination
-cell_less before after p = less (bits_from after.cell p) (bits_from before.cell p)
+cell_less before after p = less (prefix after.cell p) (prefix before.cell p)
 
 -- the same for the keys, of which the p lowest bits are of the times
 abbrev pub key_less : ℕ → LineBits → LineBits → ℕ → Combination
-key_less apart before after p = less ((2 ^ (time_bits - p), apart) ∷ bits_from after.time p) (bits_from before.time p)
+key_less apart before after p = less ((2 ^ (time_bits - p), apart) ∷ prefix after.time p) (prefix before.time p)
 
 -- prefix number j, first of the cells and then of the keys
 abbrev pub prefix_less : ℕ → LineBits → LineBits → ℕ → Combination
@@ -82,7 +75,7 @@ sorted_pair_of before after = do
 
 -- the first line's old is 0
 unfoldable pub first_line_of : LineBits → Circuit (Unit {0})
-first_line_of line = put (number line.old) (constant 1) []
+first_line_of line = put (number_of line.old) (constant 1) []
 
 -- ---- the values
 -- by how much the second cell is above the first, modulo P
@@ -128,7 +121,7 @@ SortedPairIsComplete = (z : List ℕ) (next : ℕ) (before after : LineBits) (l 
 pub record SortedPairSizes : Type 0 where
   pub end : (before after : LineBits) (next : ℕ) → (sorted_pair_of before after next).next ≡ next + 18
   pub fills : (before after : LineBits) (l m : Line) → Fills (sorted_pair_of before after) (sorted_pair_values l m)
-  pub in_field : (l m : Line) → InRange m → InField (sorted_pair_values l m)
+  pub in_field : (l m : Line) → LineInRange m → InField (sorted_pair_values l m)
 
 -- an assignment satisfies the constraints for a line exactly where its old is 0
 abbrev pub FirstLineIsSound : Type 0
@@ -147,7 +140,7 @@ pub record FirstLineSizes : Type 0 where
 -- the bits of n lines, of which the first is constrained to begin at 0 and each two neighbours to follow each other
 pub record AreSorted (z : List ℕ) (n : ℕ) (bits : ℕ → LineBits) (line : ℕ → Line) : Type 0 where
   pub widths : (i : ℕ) → i < n → HasWidths (bits i)
-  pub spells : (i : ℕ) → i < n → HasLineBits z (bits i) (line i)
+  pub decomposes : (i : ℕ) → i < n → HasLineBits z (bits i) (line i)
   pub first_at : ℕ
   pub first : 0 < n → Meets z (first_line_of (bits 0) first_at).list
   pub pair_at : ℕ → ℕ

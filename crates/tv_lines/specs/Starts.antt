@@ -10,7 +10,7 @@ use Rattle.tv_core.specs.Normal.{normal, AreNormal}
 use Rattle.tv_core.specs.declared.lines.LineLc.{LineLc}
 use Rattle.tv_core.specs.declared.lines.Pair.{Pair}
 use Rattle.tv_lines.specs.Ordered.{Follows}
-use Rattle.tv_lines.specs.PackedLines.{InRange, line_value, packed_item}
+use Rattle.tv_lines.specs.PackedLines.{LineInRange, line_value, packed_item}
 use Rattle.tv_lines.specs.Predecessor.{less_above}
 
 -- ---- a boot line
@@ -20,7 +20,7 @@ boot_line_of c item = put (less_above item.first (constant c)) (constant 1) []
 
 -- in an assignment that satisfies the constraints, a line of the next cell whose old word is 0 follows that of the item
 abbrev pub BootLineIsSound : Type 0
-BootLineIsSound = (z : List ℕ) (next c : ℕ) (item : Pair) (p l : Line) → c < 2 ^ 31 → Assigns z → pair_value z item ≡ packed_item p → InRange p
+BootLineIsSound = (z : List ℕ) (next c : ℕ) (item : Pair) (p l : Line) → c < 2 ^ 31 → Assigns z → pair_value z item ≡ packed_item p → LineInRange p
     → l.cell ≡ c + 1 → l.old ≡ 0 → Meets z (boot_line_of c item next).list → Follows p l
 
 -- where the item is of that cell, an assignment satisfies the constraints

@@ -6,7 +6,7 @@ use Rattle.tv_core.specs.Laws.{Assigns, Meets, HasFrom, Fills, InField}
 use Rattle.tv_core.specs.Lines.{Line, pair_value}
 use Rattle.tv_core.specs.declared.lines.Pair.{Pair}
 use Rattle.tv_core.specs.declared.lines.PairNum.{PairNum}
-use Rattle.tv_lines.specs.PackedLines.{cell_bits, time_bits, InRange, packed, unpacked}
+use Rattle.tv_lines.specs.PackedLines.{cell_bits, time_bits, LineInRange, packed, unpacked}
 use Rattle.tv_lines.specs.declared.rows.LineBits.{LineBits}
 
 -- a line's parts have as many bits as they should
@@ -17,7 +17,7 @@ pub record HasWidths (bits : LineBits) : Type 0 where
   pub new : bits.new.n ≡ 32
 
 -- the bits are wires below a number
-pub record AreMade (bits : LineBits) (wires : ℕ) : Type 0 where
+pub record AreBitsMade (bits : LineBits) (wires : ℕ) : Type 0 where
   pub cell : bits.cell.first + bits.cell.n ≤ wires
   pub time : bits.time.first + bits.time.n ≤ wires
   pub old : bits.old.first + bits.old.n ≤ wires
@@ -26,7 +26,7 @@ pub record AreMade (bits : LineBits) (wires : ℕ) : Type 0 where
 -- both: a line's parts have as many bits as they should, which are wires below a number
 pub record IsLineBelow (wires : ℕ) (bits : LineBits) : Type 0 where
   pub widths : HasWidths bits
-  pub made : AreMade bits wires
+  pub made : AreBitsMade bits wires
 
 -- the bits of cell and time are wires below this number
 abbrev pub key_end : LineBits → ℕ
@@ -68,7 +68,7 @@ UnpackIsSound = (z : List ℕ) (next : ℕ) (pair : Pair) → Assigns z → Meet
 
 -- where the pair packs a line in range, an assignment that has its bits at the wires that were made satisfies the constraints
 abbrev pub UnpackIsComplete : Type 0
-UnpackIsComplete = (z : List ℕ) (next : ℕ) (pair : Pair) (line : Line) → Assigns z → InRange line → pair_value z pair ≡ packed line
+UnpackIsComplete = (z : List ℕ) (next : ℕ) (pair : Pair) (line : Line) → Assigns z → LineInRange line → pair_value z pair ≡ packed line
     → HasFrom z next (unpack_values (packed line)) → Meets z (unpack_of pair next).list
 
 -- which wires are returned, and as many values as wires, each below P

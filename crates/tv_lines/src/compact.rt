@@ -12,21 +12,21 @@ use tv_core::{F, Lc, LineLc, Pair, Wire};
 // By how much the cell and the time stand above the words of a packed line.
 pub(crate) const SHIFT: u64 = 1 << 32;
 
-/// A line of memory in compact form: the parts of its combinations. It takes a few bytes, where
-/// they take 8 KB.
+/// A line of memory in compact form: the parts of its combinations. It takes a few bytes, and the
+/// combinations take 8 KB.
 #[derive(Clone, Copy, PartialEq, Eq, Debug)]
 pub struct CompactLine {
     /// The number of the cell.
     pub cell: Cell,
     /// The time.
     pub time: u32,
-    /// The word that the cell holds before.
+    /// The cell's word before that time.
     pub old: Word,
-    /// The word that it holds from then on.
+    /// The cell's word from then on.
     pub new: Word,
 }
 
-/// The number of a cell. A number that is known is a multiple of the constant wire.
+/// The number of a cell. A constant number is a multiple of the constant wire.
 #[derive(Clone, Copy, PartialEq, Eq, Debug)]
 pub enum Cell {
     /// A multiple of a wire.
@@ -38,11 +38,11 @@ pub enum Cell {
 /// A word of a line.
 #[derive(Clone, Copy, PartialEq, Eq, Debug)]
 pub enum Word {
-    /// 0, without a term.
+    /// 0, which has no term.
     Nothing,
-    /// A number that is known.
+    /// A constant number.
     Number(u32),
-    /// What a wire holds.
+    /// The value of a wire.
     Wired(Wire),
 }
 

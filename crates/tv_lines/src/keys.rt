@@ -3,12 +3,12 @@ ghost use Rattle.std.specs.Prelude.{◌≡◌, ◌+◌, ◌-◌, ◌≤◌, ◌<
 ghost use Rattle.std.specs.Prelude.{min, max, IfOk, OnOk};
 ghost use Rattle.tv_bits.specs.Bits.{AreBitsBelow};
 ghost use Rattle.tv_bits.specs.Order.{first_difference, prefix_difference};
-ghost use Rattle.tv_bits.specs.Prefixes.{products_values};
+ghost use Rattle.tv_bits.specs.Prefixes.{products_values, prefix};
 ghost use Rattle.tv_core.specs.Combinations.{less, top, wire};
 ghost use Rattle.tv_core.specs.Values.{GivesIn};
 ghost use Rattle.tv_core.specs.Sinks.{PutsIn, Grows, Room};
-ghost use Rattle.tv_lines.specs.PackedLines.{line_of};
-ghost use Rattle.tv_lines.specs.SortedPair.{bits_from, prefix_less, prefix_less_in, factor_in};
+ghost use Rattle.tv_lines.specs.PackedLines.{line_of_numbers};
+ghost use Rattle.tv_lines.specs.SortedPair.{prefix_less, prefix_less_in, factor_in};
 ghost use Rattle.tv_lines.specs.SortedPair.{rises_of, size};
 ghost use Rattle.tv_lines.specs.UnpackedLines.{IsLineBelow, key_end};
 
@@ -103,8 +103,8 @@ fn plus_key(lc: &mut Lc, apart: Wire, before: &Bits, after: &Bits, from: u32)
     requires within { from ≤ 20 }
     requires before_bits { AreBitsBelow (2 ^ 32 - 1) 20 before.now }
     requires after_bits { AreBitsBelow (2 ^ 32 - 1) 20 after.now }
-    ensures terms { lc.new ≡ less ((2 ^ (20 - from), apart) ∷ bits_from after.now from)
-        (bits_from before.now from) }
+    ensures terms { lc.new ≡ less ((2 ^ (20 - from), apart) ∷ prefix after.now from)
+        (prefix before.now from) }
     ensures len { length lc.new ≤ 41 }
     ensures top { top lc.new ≤ max (apart + 1)
         (max (before.now.first + 20) (after.now.first + 20)) }
@@ -120,7 +120,7 @@ fn plus_less(lc: &mut Lc, before: &Bits, after: &Bits, from: u32)
     requires made { max (before.now.first + before.now.n) (after.now.first + after.now.n)
         < 2 ^ 32 }
     requires room { length lc.old ≤ 1 }
-    ensures terms { lc.new ≡ less (lc.old ++ bits_from after.now from) (bits_from before.now from) }
+    ensures terms { lc.new ≡ less (lc.old ++ prefix after.now from) (prefix before.now from) }
     ensures len { length lc.new ≤ length lc.old + after.now.n + before.now.n }
     ensures top { top lc.new ≤ max (top lc.old)
         (max (before.now.first + before.now.n) (after.now.first + after.now.n)) }
@@ -133,7 +133,7 @@ fn plus_less(lc: &mut Lc, before: &Bits, after: &Bits, from: u32)
 pub(crate) fn fill_rises<V: Values>(v: &mut V, before: &LineNum, after: &LineNum) -> Put<()>
     requires { V.giving.broken v.old ≡ false }
     ensures gives { GivesIn V.giving v.old v.new
-        (products_values (factor_in (line_of before.now) (line_of after.now)) 5) result }
+        (products_values (factor_in (line_of_numbers before.now) (line_of_numbers after.now)) 5) result }
     ensures whole { OnOk result (V.giving.broken v.new ≡ false) }
 {
     let size = size(before, after);
@@ -148,7 +148,7 @@ pub(crate) fn fill_rises<V: Values>(v: &mut V, before: &LineNum, after: &LineNum
 // Prefix number `j` of the second line less that of the first.
 fn prefix_less_in(before: &LineNum, after: &LineNum, j: u32) -> F
     requires { j < 5 }
-    ensures { result ≡ prefix_less_in (line_of before.now) (line_of after.now) j }
+    ensures { result ≡ prefix_less_in (line_of_numbers before.now) (line_of_numbers after.now) j }
 {
     let apart = after.cell - before.cell;
     if j == 0 {
@@ -172,7 +172,7 @@ fn prefix_difference_in(before: F, after: F, from: u32) -> F
 // How far the shortest prefixes that differ are apart: of the cells, or where these are the same of
 // the times.
 pub(crate) fn size(before: &LineNum, after: &LineNum) -> F
-    ensures { result ≡ size (line_of before.now) (line_of after.now) }
+    ensures { result ≡ size (line_of_numbers before.now) (line_of_numbers after.now) }
 {
     if before.cell == after.cell {
         shortest_difference(before.time, after.time, TIME_CHUNKS)

@@ -5,8 +5,8 @@
 //! line's item is the pair of the line with its old word left out.
 //!
 //! `follows` checks a line at its own place, against the item of its predecessor in address order:
-//! nothing of the item is unpacked. `boot_line` and `least_line` check lines of which more is
-//! known. On these the memory argument stands.
+//! nothing of the item is unpacked. `boot_line` checks a line whose cell is a constant, and
+//! `least_line` the first line in address order. The memory argument uses these three.
 //!
 //! `first_line` and `sorted_pair`, along a list of unpacked lines, constrain them to be in address
 //! order: `Ordered`. Laws on plain lists of lines say what that is for: lines in time order are

@@ -1,7 +1,7 @@
 //! Lines packed into pairs of combinations and of numbers.
 ghost use Rattle.std.specs.Prelude.{◌≡◌, ◌+◌, ◌*◌, ◌/◌, ◌%◌, ◌^◌, ◌<◌, ◌≤◌, length, max};
 ghost use Rattle.tv_core.specs.Combinations.{top};
-ghost use Rattle.tv_lines.specs.PackedLines.{packed_terms, line_of, pack};
+ghost use Rattle.tv_lines.specs.PackedLines.{packed_terms, line_of_numbers, pack};
 ghost use Rattle.tv_lines.specs.PackedLines.{packed, unpacked, PackIsRight};
 ghost use Rattle.tv_lines.specs.PackedLines.{packed_item, ItemIsRight, PackIsOneToOne};
 
@@ -87,7 +87,7 @@ fn joined_words(low: u32, high: u32) -> F
 
 /// Returns the numbers of the line that a pair stands for.
 pub fn unpack_line(pair: &PairNum) -> LineNum
-    ensures { line_of result ≡ unpacked pair.now }
+    ensures { line_of_numbers result ≡ unpacked pair.now }
 {
     let (old, cell) = split_words(pair.first);
     let (new, time) = split_words(pair.second);

@@ -196,7 +196,7 @@ pub fn follows_is_complete()
     ensures { FollowsIsComplete }
 {}
 
-/// `fill_follows` assigns as many values as `follows` makes wires, each below P for lines in range.
+/// `fill_follows` assigns one value to each wire that `follows` makes, below P for lines in range.
 pub fn follows_fills()
     ensures { FollowsSizes }
 {}

@@ -2,7 +2,7 @@
 ghost use Rattle.std.specs.Prelude.{◌≡◌, ◌<◌, [], false, IfOk, OnOk};
 ghost use Rattle.tv_core.specs.Values.{GivesIn};
 ghost use Rattle.tv_core.specs.Sinks.{PutsIn, Grows, Room};
-ghost use Rattle.tv_lines.specs.PackedLines.{line_of};
+ghost use Rattle.tv_lines.specs.PackedLines.{line_of_numbers};
 ghost use Rattle.tv_lines.specs.SortedPair.{apart_of, carried_of, size_of, size_values};
 ghost use Rattle.tv_lines.specs.SortedPair.{sorted_pair_of, sorted_pair_values, first_line_of};
 ghost use Rattle.tv_lines.specs.SortedPair.{SortedPairIsSound, SortedPairIsComplete};
@@ -17,7 +17,7 @@ use tv_core::{F, Lc, LineNum, Put, Scratch, Sink, Values, Wire};
 
 /// Constrains two lines to follow each other in address order: the cell of the second is above that
 /// of the first, or in the same cell its time; its old word is the first's new one where the cells
-/// are the same, and else 0. Makes 18 wires and 20 constraints, of 312 terms.
+/// are the same, and else 0. It makes 18 wires and 20 constraints, of 312 terms.
 pub fn sorted_pair<S: Sink>(s: &mut S, before: &LineBits, after: &LineBits) -> Put<()>
     requires room { Room S.meaning s.old 18 20 }
     requires before_line { IsLineBelow (S.meaning.wires s.old) before.now }
@@ -87,8 +87,8 @@ fn new_size<S: Sink>(s: &mut S, scratch: &mut Scratch) -> Put<Wire>
     kept_by(s, &mut scratch.b, &mut scratch.c, &scratch.a)
 }
 
-/// Constrains the old word of the first line in address order to 0. Makes no wire and 1 constraint,
-/// of 33 terms.
+/// Constrains the old word of the first line in address order to 0. It makes no wire and 1
+/// constraint, of 33 terms.
 pub fn first_line<S: Sink>(s: &mut S, line: &LineBits) -> Put<()>
     requires room { Room S.meaning s.old 0 1 }
     requires line { IsLineBelow (S.meaning.wires s.old) line.now }
@@ -102,7 +102,7 @@ pub fn first_line<S: Sink>(s: &mut S, line: &LineBits) -> Put<()>
 pub fn fill_sorted_pair<V: Values>(v: &mut V, before: &LineNum, after: &LineNum) -> Put<()>
     requires { V.giving.broken v.old ≡ false }
     ensures gives { GivesIn V.giving v.old v.new
-        (sorted_pair_values (line_of before.now) (line_of after.now)) result }
+        (sorted_pair_values (line_of_numbers before.now) (line_of_numbers after.now)) result }
     ensures whole { OnOk result (V.giving.broken v.new ≡ false) }
 {
     let apart = after.cell - before.cell;
@@ -144,8 +144,8 @@ pub fn sorted_pair_is_complete()
     ensures { SortedPairIsComplete }
 {}
 
-/// `fill_sorted_pair` assigns as many values as `sorted_pair` makes wires, and for lines in range
-/// each is below P.
+/// `fill_sorted_pair` assigns one value to each wire that `sorted_pair` makes, and for lines in
+/// range each is below P.
 pub fn sorted_pair_fills()
     ensures { SortedPairSizes }
 {}
@@ -167,8 +167,8 @@ pub fn first_line_fills()
     ensures { FirstLineSizes }
 {}
 
-/// Along a list of lines, `first_line` on the first and `sorted_pair` on each two neighbours hold
-/// them to address order.
+/// Along a list of lines, `first_line` on the first and `sorted_pair` on each two neighbours
+/// constrain them to be in address order.
 pub fn neighbours_are_ordered()
     ensures { NeighboursAreOrdered }
 {}

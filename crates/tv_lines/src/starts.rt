@@ -12,8 +12,8 @@ ghost use Rattle.tv_lines.specs.Compact.{line_lc};
 use crate::compact::{CompactLine, subtract_number_above};
 use tv_core::{Lc, Pair, Put, Scratch, Sink, Wire};
 
-/// Constrains the line of `item` to be of cell `c`. A boot line of cell `c + 1`, whose old word is
-/// the constant 0, so follows it. It makes no wire and 1 constraint,
+/// Constrains the line of `item` to be of cell `c`. Then a boot line of cell `c + 1`, whose old
+/// word is the constant 0, follows it. It makes no wire and 1 constraint,
 /// `[item.first - 2^32 c] [1] = [0]`.
 pub fn boot_line<S: Sink>(s: &mut S, scratch: &mut Scratch, c: u32, item: &Pair) -> Put<()>
     requires room { Room S.meaning s.old 0 1 }

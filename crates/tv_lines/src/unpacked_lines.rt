@@ -15,8 +15,8 @@ use tv_core::{Pair, PairNum, Put, Scratch, Sink, Values, Wire};
 // The bits of a word, which stand below those of the cell or of the time.
 const WORD_BITS: u32 = 32;
 
-/// Emits the constraints of the bits of the line that a pair packs, and returns the bits. So its
-/// cell is below 2^31, its time below 2^20 and its words below 2^32. It makes 115 wires and 117
+/// Emits the constraints of the bits of the line that a pair packs, and returns the bits: its cell
+/// is below 2^31, its time below 2^20 and its words below 2^32. It makes 115 wires and 117
 /// constraints, of 462 terms beside those of the pair.
 pub fn unpack<S: Sink>(s: &mut S, pair: &Pair) -> Put<LineBits>
     requires room { Room S.meaning s.old 115 117 }
@@ -82,7 +82,7 @@ pub fn unpack_is_complete()
     ensures { UnpackIsComplete }
 {}
 
-/// `fill_unpack` assigns as many values as `unpack` makes wires, each below P.
+/// `fill_unpack` assigns one value below P to each wire that `unpack` makes.
 pub fn unpack_fills()
     ensures { UnpackSizes }
 {}

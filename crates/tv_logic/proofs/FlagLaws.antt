@@ -2,12 +2,13 @@
 use Rattle.std.proofs.Common.{◌≡◌, ℕ, ◌+◌, ◌*◌, ◌%◌, List, [], ◌∷◌, ◌++◌, inl, inr, sym, subst, ◌∙◌, ap, ap₂, arith}
 use Rattle.std.specs.Prelude.{slice_index}
 use Rattle.std.proofs.lemmas.Bool.{cases_eq}
-use Rattle.tv_bits.proofs.TimesLaws.{times_answer, times_next, times_sound, times_complete}
+use Rattle.tv_bits.proofs.TimesLaws.{times_answer, times_next}
+use Rattle.tv_bits.proofs.WireProducts.{wires_sound, wires_complete}
 use Rattle.tv_bits.proofs.ZeroLaws.{zero_flag-zero, zero_flag-other, zero_sound, zero_complete, zero_answer, zero_next}
 use Rattle.tv_bits.specs.Times.{times_of}
 use Rattle.tv_bits.specs.Zero.{zero_flag, zero_of, zero_values}
 use Rattle.tv_core.proofs.CombinationLaws.{value-wire}
-use Rattle.tv_core.proofs.Meeting.{Meets-split, Meets-join, HasFrom-split}
+use Rattle.tv_core.proofs.MeetsLaws.{Meets-split, Meets-join, HasFrom-split}
 use Rattle.tv_core.specs.Circuits.{pure, ◌>>=◌}
 use Rattle.tv_core.specs.Combinations.{wire}
 use Rattle.tv_core.specs.Laws.{Assigns, Meets, HasFrom}
@@ -25,17 +26,6 @@ flag-sum m n sum is = elim (cases_eq m 0) [
   ]
   | inr some ↦ ap (λ a. a * zero_flag n % P) (zero_flag-other m some) ∙ omega arith ∙ sym (zero_flag-other sum (λ e. some (omega arith)))
 ]
-
--- ---- the product of two wires
-both_sound : (z : List ℕ) (next a b : ℕ) → Assigns z → Meets z (times_of (wire a) (wire b) next).list
-    → slice_index z (times_of (wire a) (wire b) next).answer ≡ slice_index z a * slice_index z b % P
-both_sound z next a b assigns meets =
-    times_sound z next (wire a) (wire b) assigns meets ∙ ap₂ (λ m n. m * n % P) (value-wire assigns a) (value-wire assigns b)
-
-both_complete : (z : List ℕ) (next a b : ℕ) → Assigns z → slice_index z next ≡ slice_index z a * slice_index z b % P
-    → Meets z (times_of (wire a) (wire b) next).list
-both_complete z next a b assigns is =
-    times_complete z next (wire a) (wire b) assigns (is ∙ sym (ap₂ (λ m n. m * n % P) (value-wire assigns a) (value-wire assigns b)), tt)
 
 -- ---- a wire's flag
 flag_sound : (z : List ℕ) (next w v : ℕ) → Assigns z → slice_index z w ≡ v → Meets z (zero_of (wire w) next).list
@@ -110,7 +100,7 @@ module _ (z : List ℕ) (next : ℕ) (words : LogicWords) (ands ors xors nots : 
       let of_xor = flag_sound z (xor_from words next) words.xor_word xors assigns q xors_met.0 in
       record {
         of_and = of_and;
-        of_or = both_sound z (or_from words next) (ands_wire words next) (xors_wire words next) assigns ors_met.0 ∙ ap₂ (λ m n. m * n % P) of_and of_xor
+        of_or = wires_sound z (or_from words next) (ands_wire words next) (xors_wire words next) assigns ors_met.0 ∙ ap₂ (λ m n. m * n % P) of_and of_xor
             ∙ flag-sum ands xors ors sum;
         of_xor = of_xor;
         of_not = flag_sound z (not_from words next) words.not_word nots assigns r nots_met.0;
@@ -134,4 +124,4 @@ module _ (z : List ℕ) (next : ℕ) (words : LogicWords) (ands ors xors nots : 
       (Meets-join z (zero_of (wire words.xor_word) (xor_from words next)).list _ xors_met
       (Meets-join z (zero_of (wire words.not_word) (not_from words next)).list _ nots_met
       (Meets-join z (times_of (wire (ands_wire words next)) (wire (xors_wire words next)) (or_from words next)).list []
-      (both_complete z (or_from words next) (ands_wire words next) (xors_wire words next) assigns of_or) tt)))
+      (wires_complete z (or_from words next) (ands_wire words next) (xors_wire words next) assigns of_or) tt)))

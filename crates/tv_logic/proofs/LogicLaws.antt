@@ -5,10 +5,11 @@ use Rattle.tv_bits.proofs.SizeLaws.{zero_in_field, zero_flag-below}
 use Rattle.tv_bits.specs.Zero.{zero_flag, zero_values}
 use Rattle.tv_bits.specs.declared.bit_wires.Bits.{Bits}
 use Rattle.tv_core.proofs.BelowLaws.{length-each_below}
-use Rattle.tv_core.proofs.Meeting.{Meets-split, Meets-join, HasFrom-split}
+use Rattle.tv_core.proofs.MeetsLaws.{Meets-split, Meets-join, HasFrom-split}
 use Rattle.tv_core.specs.Circuits.{pure, ◌>>=◌}
 use Rattle.tv_core.specs.Laws.{HasFrom, Fills, InField}
 use Rattle.tv_core.specs.declared.field.TheConstants.{P}
+use Rattle.tv_logic.proofs.DigitNumbers.{or_sum}
 use Rattle.tv_logic.proofs.FlagLaws.{flags_sound, flags_complete, flags_answer, flags_next, flags_same}
 use Rattle.tv_core.proofs.FieldLaws.{InField-none, InField-cons, InField-append, InField-each_below}
 use Rattle.tv_logic.proofs.PairSums.{pair_in-small, and-below}
@@ -16,19 +17,16 @@ use Rattle.tv_logic.proofs.WordLaws.{words_sound, words_complete, words_answer, 
 use Rattle.tv_logic.specs.Ands.{pair_in, pair_values}
 use Rattle.tv_logic.specs.Flags.{logic_flags_of, flag_values}
 use Rattle.tv_logic.specs.Logic.{together, logic_of, logic_made, logic_wires, LogicIsSound, logic_values, LogicIsComplete, LogicSizes}
-use Rattle.tv_logic.specs.Words.{bits_turned, logic_words_of, word_values}
+use Rattle.tv_logic.specs.Words.{logic_words_of, word_values}
 use Rattle.tv_logic.specs.declared.answers.LogicWords.{LogicWords}
+use Rattle.tv_word.specs.Operations.{not_result}
 use Rattle.tv_word.specs.Widths.{IsWidth}
 use Rattle.tv_word.proofs.WidthLaws.{word_small}
-
--- or is and plus xor
-or-sum : (a b : ℕ) → bit_or a b ≡ bit_and a b + bit_xor a b
-or-sum a b = omega (arith, or_add_and a b, xor_add_and a b)
 
 words_size : (w : ℕ) → IsWidth w → (a b : ℕ) → length (word_values w a b) ≡ w / 2 + 3
 words_size w width a b =
     let v = bit_and a b in
-    omega (arith, length-append (pair_values w v) (bit_or a b ∷ bit_xor a b ∷ bits_turned w b ∷ []), length-each_below (w / 2 - 1) (λ i. pair_in w v (i + 1)))
+    omega (arith, length-append (pair_values w v) (bit_or a b ∷ bit_xor a b ∷ not_result w b ∷ []), length-each_below (w / 2 - 1) (λ i. pair_in w v (i + 1)))
 
 pub logic_sound : LogicIsSound
 unfolding logic_of pure ◌>>=◌
@@ -38,7 +36,7 @@ logic_sound w width z next x y a b assigns p q meets =
     let made = (logic_words_of w x y next).answer in
     let at = (logic_words_of w x y next).next in
     let last = Meets-split z (logic_flags_of made at).list [] both.1 in
-    let flags = flags_sound z at made (bit_and a b) (bit_or a b) (bit_xor a b) (bits_turned w b) assigns words.ands words.xors words.nots (or-sum a b) last.0 in
+    let flags = flags_sound z at made (bit_and a b) (bit_or a b) (bit_xor a b) (not_result w b) assigns words.ands words.xors words.nots (or_sum a b) last.0 in
     record {
       and_word = words.ands;
       or_word = words.ors;
@@ -53,7 +51,7 @@ logic_sound w width z next x y a b assigns p q meets =
 pub logic_complete : LogicIsComplete
 unfolding logic_of pure ◌>>=◌
 logic_complete w width z next x y a b assigns p q has =
-    let flag_list = flag_values (bit_and a b) (bit_or a b) (bit_xor a b) (bits_turned w b) in
+    let flag_list = flag_values (bit_and a b) (bit_or a b) (bit_xor a b) (not_result w b) in
     let split = HasFrom-split z next (word_values w a b) flag_list has in
     let words_met = words_complete w width z next x y a b assigns p q split.0 in
     let words = words_sound w width z next x y a b assigns p q words_met in
@@ -61,7 +59,7 @@ logic_complete w width z next x y a b assigns p q has =
     let at = (logic_words_of w x y next).next in
     let size : length (word_values w a b) ≡ w / 2 + 3 = words_size w width a b in
     let place : next + length (word_values w a b) ≡ at = omega (arith, words_next w width x y next, size) in
-    let flags_met = flags_complete z at made (bit_and a b) (bit_or a b) (bit_xor a b) (bits_turned w b) assigns words.ands words.xors words.nots (or-sum a b)
+    let flags_met = flags_complete z at made (bit_and a b) (bit_or a b) (bit_xor a b) (not_result w b) assigns words.ands words.xors words.nots (or_sum a b)
     (subst (λ k. HasFrom z k flag_list) place split.1) in
     Meets-join z (logic_words_of w x y next).list _ words_met (Meets-join z (logic_flags_of made at).list [] flags_met tt)
 
@@ -91,7 +89,7 @@ logic_answer w width x y next =
 -- as many values as wires
 logic_fills : (w : ℕ) → IsWidth w → (x y : Bits) (a b : ℕ) → Fills (logic_of w x y) (logic_values w a b)
 logic_fills w width x y a b next =
-    let flags = flag_values (bit_and a b) (bit_or a b) (bit_xor a b) (bits_turned w b) in
+    let flags = flag_values (bit_and a b) (bit_or a b) (bit_xor a b) (not_result w b) in
     omega (arith, logic_next w width x y next, length-append (word_values w a b) flags, words_size w width a b)
 
 -- ---- the values are below the prime
@@ -101,7 +99,7 @@ or-below w width a b h k = let sum = or_add_and a b in grind arith
 xor-below : (w : ℕ) → IsWidth w → (a b : ℕ) → a < 2 ^ w → b < 2 ^ w → bit_xor a b < P
 xor-below w width a b h k = let sum = xor_add_and a b in grind arith
 
-turned-below : (w : ℕ) → IsWidth w → (b : ℕ) → bits_turned w b < P
+turned-below : (w : ℕ) → IsWidth w → (b : ℕ) → not_result w b < P
 turned-below w width b = grind arith
 
 pairs-below : (w : ℕ) → IsWidth w → (v : ℕ) → InField (pair_values w v)
@@ -111,11 +109,11 @@ words-below : (w : ℕ) → IsWidth w → (a b : ℕ) → a < 2 ^ w → b < 2 ^ 
 words-below w width a b h k =
     let v = bit_and a b in
     let small : v < P = (let word = word_small w width v (and-below w a b h) in omega arith) in
-    let nots = InField-cons (bits_turned w b) [] (turned-below w width b) InField-none in
-    let xors = InField-cons (bit_xor a b) (bits_turned w b ∷ []) (xor-below w width a b h k) nots in
-    let ors = InField-cons (bit_or a b) (bit_xor a b ∷ bits_turned w b ∷ []) (or-below w width a b h k) xors in
-    InField-cons v (pair_values w v ++ bit_or a b ∷ bit_xor a b ∷ bits_turned w b ∷ []) small
-    (InField-append (pair_values w v) (bit_or a b ∷ bit_xor a b ∷ bits_turned w b ∷ []) (pairs-below w width v) ors)
+    let nots = InField-cons (not_result w b) [] (turned-below w width b) InField-none in
+    let xors = InField-cons (bit_xor a b) (not_result w b ∷ []) (xor-below w width a b h k) nots in
+    let ors = InField-cons (bit_or a b) (bit_xor a b ∷ not_result w b ∷ []) (or-below w width a b h k) xors in
+    InField-cons v (pair_values w v ++ bit_or a b ∷ bit_xor a b ∷ not_result w b ∷ []) small
+    (InField-append (pair_values w v) (bit_or a b ∷ bit_xor a b ∷ not_result w b ∷ []) (pairs-below w width v) ors)
 
 flags-below : (ands ors xors nots : ℕ) → InField (flag_values ands ors xors nots)
 flags-below ands ors xors nots =
@@ -126,8 +124,8 @@ flags-below ands ors xors nots =
 
 logic_in_field : (w : ℕ) → IsWidth w → (a b : ℕ) → a < 2 ^ w → b < 2 ^ w → InField (logic_values w a b)
 logic_in_field w width a b h k =
-    let flags = flag_values (bit_and a b) (bit_or a b) (bit_xor a b) (bits_turned w b) in
-    InField-append (word_values w a b) flags (words-below w width a b h k) (flags-below (bit_and a b) (bit_or a b) (bit_xor a b) (bits_turned w b))
+    let flags = flag_values (bit_and a b) (bit_or a b) (bit_xor a b) (not_result w b) in
+    InField-append (word_values w a b) flags (words-below w width a b h k) (flags-below (bit_and a b) (bit_or a b) (bit_xor a b) (not_result w b))
 
 pub logic_sizes : LogicSizes
 logic_sizes = record { answer = logic_answer; end = logic_next; fills = logic_fills; in_field = logic_in_field }

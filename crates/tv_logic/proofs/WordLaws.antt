@@ -11,7 +11,7 @@ use Rattle.tv_bits.specs.Times.{kept_of}
 use Rattle.tv_bits.specs.declared.bit_wires.Bits.{Bits}
 use Rattle.tv_core.proofs.BelowLaws.{length-each_below}
 use Rattle.tv_core.proofs.CombinationLaws.{value-append, value-scaled, value-less, value-constant}
-use Rattle.tv_core.proofs.Meeting.{Meets-split, Meets-join, HasFrom-split}
+use Rattle.tv_core.proofs.MeetsLaws.{Meets-split, Meets-join, HasFrom-split}
 use Rattle.tv_core.specs.Circuits.{pure, ◌>>=◌}
 use Rattle.tv_core.specs.Combinations.{constant, scaled}
 use Rattle.tv_core.specs.Constraints.{value}
@@ -19,9 +19,10 @@ use Rattle.tv_core.specs.Laws.{Assigns, Meets, HasFrom}
 use Rattle.tv_core.specs.declared.field.TheConstants.{P}
 use Rattle.tv_logic.proofs.AndLaws.{and_answer, and_next, and_sound, and_complete}
 use Rattle.tv_logic.specs.Ands.{pair_in, pair_values, and_of}
-use Rattle.tv_logic.specs.Words.{bits_turned, sum_less, complement, logic_words_of, word_values}
+use Rattle.tv_logic.specs.Words.{sum_less, complement, logic_words_of, word_values}
 use Rattle.tv_logic.specs.declared.answers.LogicWords.{LogicWords}
 use Rattle.tv_word.proofs.WidthLaws.{width_short, word_small}
+use Rattle.tv_word.specs.Operations.{not_result}
 use Rattle.tv_word.specs.Widths.{IsWidth}
 
 -- ---- the values
@@ -31,7 +32,7 @@ or_number a b ands ors h k is = omega arith
 xor_number : (a b ands xors : ℕ) → a < 2 ^ 32 → b < 2 ^ 32 → xors + ands * 2 ≡ a + b → ((a + 1 * b % P) % P + (P - 2) * ands % P) % P ≡ xors
 xor_number a b ands xors h k is = omega arith
 
-not_number : (w : ℕ) → IsWidth w → (b : ℕ) → b < 2 ^ w → ((2 ^ w - 1) % P + (P - b)) % P ≡ bits_turned w b
+not_number : (w : ℕ) → IsWidth w → (b : ℕ) → b < 2 ^ w → ((2 ^ w - 1) % P + (P - b)) % P ≡ not_result w b
 not_number w width b h = grind arith
 
 module _ (w : ℕ) (width : IsWidth w) (z : List ℕ) (assigns : Assigns z) (x y : Bits) (a b : ℕ) (p : HasBits z x.first w a) (q : HasBits z y.first w b) where
@@ -57,7 +58,7 @@ module _ (w : ℕ) (width : IsWidth w) (z : List ℕ) (assigns : Assigns z) (x y
       value-sum_less 2 at ∙ ap (λ k. ((a + 1 * b % P) % P + (P - 2) * k % P) % P) is
       ∙ xor_number a b (bit_and a b) (bit_xor a b) (word_small w width a (HasBits-below p)) (word_small w width b (HasBits-below q)) (xor_add_and a b)
 
-  value-not : value (complement w y) z ≡ bits_turned w b
+  value-not : value (complement w y) z ≡ not_result w b
   value-not =
       value-less (constant (2 ^ w - 1)) (bits_combination y.first w) z
       ∙ ap₂ (λ m n. (m + (P - n)) % P) (value-constant assigns (2 ^ w - 1)) (value-bits_below q short)
@@ -68,7 +69,7 @@ pub record HoldWords (w : ℕ) (z : List ℕ) (words : LogicWords) (a b : ℕ) :
   pub ands : slice_index z words.and_word ≡ bit_and a b
   pub ors : slice_index z words.or_word ≡ bit_or a b
   pub xors : slice_index z words.xor_word ≡ bit_xor a b
-  pub nots : slice_index z words.not_word ≡ bits_turned w b
+  pub nots : slice_index z words.not_word ≡ not_result w b
 
 -- where the or and the xor begin, and the complement
 module _ (w : ℕ) (width : IsWidth w) (x y : Bits) (next : ℕ) where
@@ -131,9 +132,9 @@ unfolding logic_words_of pure ◌>>=◌
 words_complete w width z next x y a b assigns p q has =
     let v = bit_and a b in
     let at = (and_of w x y next).answer in
-    let split = HasFrom-split z (next + 1) (pair_values w v) (bit_or a b ∷ bit_xor a b ∷ bits_turned w b ∷ []) has.1 in
+    let split = HasFrom-split z (next + 1) (pair_values w v) (bit_or a b ∷ bit_xor a b ∷ not_result w b ∷ []) has.1 in
     let place : next + 1 + length (pair_values w v) ≡ next + w / 2 = omega (arith, length-each_below (w / 2 - 1) (λ i. pair_in w v (i + 1))) in
-    let rest = subst (λ k. HasFrom z k (bit_or a b ∷ bit_xor a b ∷ bits_turned w b ∷ [])) place split.1 in
+    let rest = subst (λ k. HasFrom z k (bit_or a b ∷ bit_xor a b ∷ not_result w b ∷ [])) place split.1 in
     let ands : slice_index z at ≡ v = ap (λ k. slice_index z k) (and_answer w x y next) ∙ has.0 in
     let ors = ap (λ k. slice_index z k) (and_next w width x y next) ∙ rest.0 ∙ sym (value-or w width z assigns x y a b p q at ands) in
     let xors = ap (λ k. slice_index z k) (xor_from_is w width x y next) ∙ rest.1.0 ∙ sym (value-xor w width z assigns x y a b p q at ands) in

@@ -6,10 +6,11 @@ use Rattle.tv_bits.specs.declared.bit_wires.Bits.{Bits}
 use Rattle.tv_core.specs.Circuits.{Circuit, pure, ◌>>=◌}
 use Rattle.tv_core.specs.Laws.{Assigns, Meets, HasFrom, Fills, InField}
 use Rattle.tv_logic.specs.Flags.{logic_flags_of, flag_values}
-use Rattle.tv_logic.specs.Words.{bits_turned, logic_words_of, word_values}
+use Rattle.tv_logic.specs.Words.{logic_words_of, word_values}
 use Rattle.tv_logic.specs.declared.answers.Logic.{Logic}
 use Rattle.tv_logic.specs.declared.answers.LogicFlags.{LogicFlags}
 use Rattle.tv_logic.specs.declared.answers.LogicWords.{LogicWords}
+use Rattle.tv_word.specs.Operations.{not_result}
 use Rattle.tv_word.specs.Widths.{IsWidth}
 
 -- words and their flags together
@@ -52,18 +53,18 @@ logic_wires w first = record {
 
 -- the values of the wires that are made
 abbrev pub logic_values : ℕ → ℕ → ℕ → List ℕ
-logic_values w x y = word_values w x y ++ flag_values (bit_and x y) (bit_or x y) (bit_xor x y) (bits_turned w y)
+logic_values w x y = word_values w x y ++ flag_values (bit_and x y) (bit_or x y) (bit_xor x y) (not_result w y)
 
 -- the wires hold the words of the operations on x and y, and whether each is 0; `not` is of y
 pub record IsLogic (w : ℕ) (z : List ℕ) (answer : Logic) (x y : ℕ) : Type 0 where
   pub and_word : slice_index z answer.and_word ≡ bit_and x y
   pub or_word : slice_index z answer.or_word ≡ bit_or x y
   pub xor_word : slice_index z answer.xor_word ≡ bit_xor x y
-  pub not_word : slice_index z answer.not_word ≡ bits_turned w y
+  pub not_word : slice_index z answer.not_word ≡ not_result w y
   pub and_zero : slice_index z answer.and_zero ≡ zero_flag (bit_and x y)
   pub or_zero : slice_index z answer.or_zero ≡ zero_flag (bit_or x y)
   pub xor_zero : slice_index z answer.xor_zero ≡ zero_flag (bit_xor x y)
-  pub not_zero : slice_index z answer.not_zero ≡ zero_flag (bits_turned w y)
+  pub not_zero : slice_index z answer.not_zero ≡ zero_flag (not_result w y)
 
 -- in an assignment that meets what was put the answer is the operations' words and flags
 abbrev pub LogicIsSound : Type 0

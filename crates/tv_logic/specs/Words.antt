@@ -9,10 +9,7 @@ use Rattle.tv_core.specs.Combinations.{constant, scaled, less}
 use Rattle.tv_core.specs.Constraints.{Combination}
 use Rattle.tv_logic.specs.Ands.{and_of, and_values}
 use Rattle.tv_logic.specs.declared.answers.LogicWords.{LogicWords}
-
--- the word with each bit of x turned
-abbrev pub bits_turned : ℕ → ℕ → ℕ
-bits_turned w x = 2 ^ w - 1 - x
+use Rattle.tv_word.specs.Operations.{not_result}
 
 -- the sum of two words, less k times a wire
 abbrev pub sum_less : ℕ → Bits → Bits → ℕ → ℕ → Combination
@@ -33,4 +30,4 @@ logic_words_of w x y = do
 
 -- the values of the wires that are made
 abbrev pub word_values : ℕ → ℕ → ℕ → List ℕ
-word_values w x y = and_values w (bit_and x y) ++ bit_or x y ∷ bit_xor x y ∷ bits_turned w y ∷ []
+word_values w x y = and_values w (bit_and x y) ++ bit_or x y ∷ bit_xor x y ∷ not_result w y ∷ []

@@ -17,7 +17,7 @@ const BASE: u32 = 4;
 
 /// Constrains the double row, where `gate` is 1: its low half is the bitwise and of the words `x`
 /// and `y`, and its high half is their exclusive or, so their or is the sum of the halves. Where
-/// `gate` is 0, nothing is asked of the row. It makes no wire and 2 constraints, of `4 W` terms and
+/// `gate` is 0, the row is free. It makes no wire and 2 constraints, of `4 W` terms and
 /// twice those of `gate`. Half of a word's digits stand in each, so that no sum reaches P.
 pub fn bitwise<const W: u32, S: Sink>(
     s: &mut S,
@@ -110,7 +110,7 @@ pub fn bitwise_fills()
     ensures { BitwiseSizes }
 {}
 
-/// Says how many constraints and terms `bitwise` puts.
+/// Says how many constraints and terms `bitwise` emits.
 #[tactic(auto, using(crate::proofs::DigitLaws::bitwise_cost_laws))]
 pub fn bitwise_costs()
     ensures { BitwiseCosts }

@@ -1,7 +1,6 @@
 -- Worked rows of the definitions.
 use Rattle.std.proofs.Common.{◌≡◌, ◌/◌, ◌^◌, true, false, refl}
-use Rattle.tv_muldiv.specs.Quotient.{quotient_in, remainder_in}
-use Rattle.tv_muldiv.specs.SignedHigh.{product_twos, signed_product}
+use Rattle.tv_word.specs.Operations.{udiv_result, umod_result, product_twos, signed_product}
 use Rattle.tv_word.specs.Twos.{fits}
 
 -- 80000000 by 80000000, ffffffff by 1, and 80000000 by ffffffff, as signed numbers
@@ -34,8 +33,8 @@ least_negated_over_16 : fits 16 (signed_product 16 32768 65535) ≡ false
 least_negated_over_16 = refl
 
 -- 7 by 2 and by 0
-seven_by_two : (quotient_in 7 2 ≡ 3) × (remainder_in 7 2 ≡ 1)
+seven_by_two : (udiv_result 7 2 ≡ 3) × (umod_result 7 2 ≡ 1)
 seven_by_two = (refl, refl)
 
-seven_by_zero : (quotient_in 7 0 ≡ 0) × (remainder_in 7 0 ≡ 0)
+seven_by_zero : (udiv_result 7 0 ≡ 0) × (umod_result 7 0 ≡ 0)
 seven_by_zero = (refl, refl)

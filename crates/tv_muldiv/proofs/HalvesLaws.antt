@@ -4,7 +4,7 @@ use Rattle.std.specs.Int.{bit_at}
 use Rattle.std.proofs.lemmas.Nat.{shr_split}
 use Rattle.tv_core.proofs.BelowLaws.{length-each_below}
 use Rattle.tv_core.proofs.FieldLaws.{InField-append}
-use Rattle.tv_core.proofs.Meeting.{HasFrom-split}
+use Rattle.tv_core.proofs.MeetsLaws.{HasFrom-split}
 use Rattle.tv_core.specs.Below.{each_below}
 use Rattle.tv_core.specs.Laws.{HasFrom, InField}
 use Rattle.tv_bits.proofs.SizeLaws.{bits_in_field}
@@ -18,8 +18,8 @@ length-halves w v =
     length-append (each_below w (bit_at (v % 2 ^ w))) (each_below w (bit_at (v / 2 ^ w)))
     ∙ omega (arith, length-each_below w (bit_at (v % 2 ^ w)), length-each_below w (bit_at (v / 2 ^ w)))
 
-pub halves_spell : (w : ℕ) → IsWidth w → (z : List ℕ) (first v : ℕ) → v < 2 ^ (2 * w) → HasFrom z first (halves_values w v) → HasBits z first (2 * w) v
-halves_spell w width z first v small has =
+pub halves_are : (w : ℕ) → IsWidth w → (z : List ℕ) (first v : ℕ) → v < 2 ^ (2 * w) → HasFrom z first (halves_values w v) → HasBits z first (2 * w) v
+halves_are w width z first v small has =
     let both = HasFrom-split z first (each_below w (bit_at (v % 2 ^ w))) (each_below w (bit_at (v / 2 ^ w))) has in
     let low = HasBits-from_values z first w (v % 2 ^ w) (grind arith) both.0 in
     let high = HasBits-from_values z (first + w) w (v / 2 ^ w) (grind arith) (rw length-each_below at both.1) in

@@ -8,19 +8,19 @@ use Rattle.std.proofs.lemmas.Nat.{mul-le, mul-mod}
 use Rattle.std.proofs.lemmas.Nat.Bits.{bit_at-lt, bit_at_lowest}
 use Rattle.tv_core.proofs.CombinationLaws.{value-wire}
 use Rattle.tv_core.proofs.FieldLaws.{InField-append}
-use Rattle.tv_core.proofs.Meeting.{Meets-split, Meets-join, HasFrom-split}
+use Rattle.tv_core.proofs.MeetsLaws.{Meets-split, Meets-join, HasFrom-split}
 use Rattle.tv_core.specs.Circuits.{here, fresh, put, pure, ◌>>=◌}
 use Rattle.tv_core.specs.Combinations.{wire}
 use Rattle.tv_core.specs.Constraints.{value}
 use Rattle.tv_core.specs.Laws.{Assigns, Meets}
 use Rattle.tv_core.specs.declared.field.TheConstants.{P}
-use Rattle.tv_bits.proofs.NewBitsLaws.{bits_spell, bits_met}
+use Rattle.tv_bits.proofs.NewBitsLaws.{bits_are, bits_met}
 use Rattle.tv_bits.proofs.BitNumbers.{HasBits-below, HasBits-bit_at, HasBits-low, HasBits-high, value-bits, value-bits_below}
 use Rattle.tv_bits.proofs.BitsLaws.{new_bits_next}
 use Rattle.tv_bits.specs.Bit.{IsBit}
 use Rattle.tv_bits.specs.Bits.{HasBits, binary_value, bits_combination, new_bits_of}
 use Rattle.tv_bits.specs.declared.bit_wires.Bits.{Bits}
-use Rattle.tv_muldiv.proofs.HalvesLaws.{length-halves, halves_spell, halves_in_field}
+use Rattle.tv_muldiv.proofs.HalvesLaws.{length-halves, halves_are, halves_in_field}
 use Rattle.tv_bits.proofs.NonzeroLaws.{nonzero_answer, nonzero_sound, nonzero_complete, nonzero_sizes}
 use Rattle.tv_word.proofs.WidthLaws.{width_short}
 use Rattle.tv_word.specs.Widths.{IsWidth}
@@ -73,7 +73,7 @@ module _ (z : List ℕ) (assigns : Assigns z) where
         let first : bit_at a 0 * bit_at b 0 % P ≡ slice_index z next =
         sym (ap₂ (λ m n. m * n % P) (lowest x.first (omega arith) p) (lowest y.first (omega arith) q)) ∙ both.1.0 ∙ value-wire assigns next in
         let small = product_bit (bit_at a 0) (bit_at b 0) (bit_at-lt a 0) (bit_at-lt b 0) in
-        let rest = (bits_spell z (2 * w - 1) (next + 1) assigns both.0).bits in
+        let rest = (bits_are z (2 * w - 1) (next + 1) assigns both.0).bits in
         let s : HasBits z next (2 * w) (binary_value z next (2 * w)) = record { bits = bits_of_product (omega arith) rest; number = refl } in
         let whole : a * b % P ≡ binary_value z next (2 * w) % P =
         sym (ap₂ (λ m n. m * n % P) (value-bits_below p (omega arith)) (value-bits_below q (omega arith))) ∙ both.1.1.0 ∙ value-bits s in
@@ -151,7 +151,7 @@ pub product_complete : ProductIsComplete
 product_complete w width z next x y a b assigns p q has =
     let short = width_short w width in
     let both = rw length-halves at (HasFrom-split z next (halves_values w (a * b)) (nonzero_values (a * b / 2 ^ w)) has) in
-    let s = halves_spell w width z next (a * b) (product_small w width a b (HasBits-below p) (HasBits-below q)).1 both.0 in
+    let s = halves_are w width z next (a * b) (product_small w width a b (HasBits-below p) (HasBits-below q)).1 both.0 in
     let two = subst (λ n. HasBits z next n (a * b)) (let same : 2 * w ≡ w + w = omega arith in same) s in
     let high = value-bits_below (HasBits-high z next w w (a * b) two) (omega arith) in
     product_whole w width z x y next (product_bits_complete z assigns w width next x y a b p q s)

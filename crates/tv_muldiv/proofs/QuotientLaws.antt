@@ -6,7 +6,7 @@ use Rattle.std.proofs.lemmas.Bool.Decides.{nat_tests}
 use Rattle.tv_core.proofs.BelowLaws.{length-each_below}
 use Rattle.tv_core.proofs.CombinationLaws.{value-append, value-scaled, value-less, value-wire, value-constant}
 use Rattle.tv_core.proofs.FieldLaws.{InField-cons, InField-append}
-use Rattle.tv_core.proofs.Meeting.{Meets-split, Meets-join, HasFrom-split}
+use Rattle.tv_core.proofs.MeetsLaws.{Meets-split, Meets-join, HasFrom-split}
 use Rattle.tv_core.specs.Below.{each_below}
 use Rattle.tv_core.specs.Circuits.{fresh, put, pure, ◌>>=◌}
 use Rattle.tv_core.specs.Combinations.{wire, constant, scaled, less}
@@ -14,7 +14,7 @@ use Rattle.tv_core.specs.Constraints.{value}
 use Rattle.tv_core.specs.Laws.{Assigns, Meets, HasFrom, InField}
 use Rattle.tv_core.specs.declared.field.TheConstants.{P}
 use Rattle.tv_bits.proofs.BitLaws.{bit_sound, bit_complete, bit_next}
-use Rattle.tv_bits.proofs.NewBitsLaws.{bits_spell, bits_met}
+use Rattle.tv_bits.proofs.NewBitsLaws.{bits_are, bits_met}
 use Rattle.tv_bits.proofs.PrefixLaws.{prefix_difference_sound, prefix_difference_complete, prefix_difference_next, length-products, products_in_field}
 use Rattle.tv_bits.proofs.SizeLaws.{length-bits, bits_in_field, zero_flag-below}
 use Rattle.tv_bits.proofs.BitNumbers.{HasBits-below, HasBits-from_values, value-bits_below}
@@ -26,9 +26,10 @@ use Rattle.tv_bits.specs.Prefixes.{prefix_less_in, prefix_difference_values}
 use Rattle.tv_bits.specs.Zero.{zero_flag}
 use Rattle.tv_bits.specs.declared.bit_wires.Bits.{Bits}
 use Rattle.tv_word.proofs.WidthLaws.{width_short}
+use Rattle.tv_word.specs.Operations.{udiv_result, umod_result}
 use Rattle.tv_word.specs.Widths.{IsWidth}
 use Rattle.tv_muldiv.proofs.QuotientNumbers.{Divides, Divides-sound, Divides-complete, quotient-small, remainder-small, above-below, above-difference}
-use Rattle.tv_muldiv.specs.Quotient.{quotient_in, remainder_in, gate_in, above_in, words_values, above_values, zero_divisor_of, quotient_wires_of, gate_of}
+use Rattle.tv_muldiv.specs.Quotient.{gate_in, above_in, words_values, above_values, zero_divisor_of, quotient_wires_of, gate_of}
 use Rattle.tv_muldiv.specs.Quotient.{division_of, remainder_below_of, quotient_of, quotient_values, QuotientIsSound, QuotientIsComplete, QuotientSizes}
 use Rattle.tv_muldiv.specs.declared.records.Quot.{Quot}
 
@@ -159,7 +160,7 @@ module _ (w : ℕ) (width : IsWidth w) (z : List ℕ) (assigns : Assigns z) (y :
   remainder_below_sound meets =
       let short = width_short w width in
       let both = Meets-split z (new_bits_of (w / 4) next).list _ meets in
-      let s = bits_spell z (w / 4) next assigns both.0 in
+      let s = bits_are z (w / 4) next assigns both.0 in
       let rest = rw (new_bits_answer, new_bits_next) at both.1 in
       let found = prefix_difference_sound z (next + w / 4) (record { first = y.first; n = w }) (record { first = at; n = w })
       (less (bits_combination next (w / 4) ++ constant 1) (wire flag)) (w / 4) 4 b rem
@@ -220,8 +221,8 @@ quotient_sound w width z next x y a b assigns p q meets =
     let wires = quotient_wires_parts w z y next all.0 in
     let quot = binary_value z next w in
     let rem = binary_value z (next + w) w in
-    let s = bits_spell z w next assigns wires.0 in
-    let t = bits_spell z w (next + w) assigns wires.1 in
+    let s = bits_are z w next assigns wires.0 in
+    let t = bits_are z w (next + w) assigns wires.1 in
     let flag = zero_divisor_sound w width z assigns y b q (next + 2 * w) wires.2 in
     let whole = division_sound w width z assigns x y a b quot rem p q (made_at w next) s t (next + 2 * w + 1) all.1 in
     let found = remainder_below_sound w width z assigns y b rem q (record { first = next; n = w }) (next + w) (next + 2 * w) t (next + 2 * w + 2) all.2 in
@@ -237,8 +238,8 @@ quotient_sound w width z next x y a b assigns p q meets =
 
 length-words : (w a b : ℕ) → length (words_values w a b) ≡ 2 * w
 length-words w a b =
-    length-append (each_below w (bit_at (quotient_in a b))) (each_below w (bit_at (remainder_in a b)))
-    ∙ omega (arith, length-each_below w (bit_at (quotient_in a b)), length-each_below w (bit_at (remainder_in a b)))
+    length-append (each_below w (bit_at (udiv_result a b))) (each_below w (bit_at (umod_result a b)))
+    ∙ omega (arith, length-each_below w (bit_at (udiv_result a b)), length-each_below w (bit_at (umod_result a b)))
 
 pub quotient_complete : QuotientIsComplete
 unfolding made_at
@@ -248,22 +249,22 @@ quotient_complete w width z next x y a b assigns p q has =
     let above = above_in w a b in
     let above_place : next + 2 * w + 1 + 1 ≡ next + 2 * w + 2 = omega arith in
     let both = rw length-words at (HasFrom-split z next (words_values w a b) (zero_flag b ∷ gate_in a b ∷ above_values w a b) has) in
-    let words = rw length-each_below at (HasFrom-split z next (each_below w (bit_at (quotient_in a b))) (each_below w (bit_at (remainder_in a b))) both.0) in
+    let words = rw length-each_below at (HasFrom-split z next (each_below w (bit_at (udiv_result a b))) (each_below w (bit_at (umod_result a b))) both.0) in
     let gate : slice_index z (next + 2 * w + 1) ≡ gate_in a b = both.1.1.0 in
     let rest : HasFrom z (next + 2 * w + 2) (above_values w a b) = rw above_place at both.1.1.1 in
     let last = rw length-each_below at (HasFrom-split z (next + 2 * w + 2) (each_below (w / 4) (bit_at (above - 1)))
-    (prefix_difference_values b (remainder_in a b) above (w / 4) 4) rest) in
-    let s = HasBits-from_values z next w (quotient_in a b) (quotient-small a b (2 ^ w) a_small) words.0 in
-    let t = HasBits-from_values z (next + w) w (remainder_in a b) (remainder-small a b (2 ^ w) b_small) words.1 in
+    (prefix_difference_values b (umod_result a b) above (w / 4) 4) rest) in
+    let s = HasBits-from_values z next w (udiv_result a b) (quotient-small a b (2 ^ w) a_small) words.0 in
+    let t = HasBits-from_values z (next + w) w (umod_result a b) (remainder-small a b (2 ^ w) b_small) words.1 in
     let bits = HasBits-from_values z (next + 2 * w + 2) (w / 4) (above - 1) (omega (arith, above-below w width a b b_small)) last.0 in
     let divides = Divides-complete w width a b a_small b_small in
     let flag : slice_index z (next + 2 * w) ≡ zero_flag b = both.1.0 in
     let difference = above-difference w width a b b_small in
     let wires = quotient_wires_whole w z y next (bits_met z w next assigns s.bits) (bits_met z w (next + w) assigns t.bits)
     (zero_divisor_complete w width z assigns y b q (next + 2 * w) (rw flag divides.bit) (rw flag divides.zero)) in
-    let division = division_complete w width z assigns x y a b (quotient_in a b) (remainder_in a b) p q (made_at w next) s t (next + 2 * w + 1)
+    let division = division_complete w width z assigns x y a b (udiv_result a b) (umod_result a b) p q (made_at w next) s t (next + 2 * w + 1)
     (rw (flag, gate) divides.gated) (rw gate divides.whole) in
-    let below = remainder_below_complete w width z assigns y b (remainder_in a b) q (record { first = next; n = w }) (next + w) (next + 2 * w) t
+    let below = remainder_below_complete w width z assigns y b (umod_result a b) q (record { first = next; n = w }) (next + w) (next + 2 * w) t
     (next + 2 * w + 2) (above - 1) above bits
     (rw flag (sym difference)) (rw difference at divides.below) last.1 in
     quotient_whole w z x y next wires division below
@@ -271,8 +272,8 @@ quotient_complete w width z next x y a b assigns p q has =
 -- ---- how many values there are, and that they are numbers of the field
 length-above : (w a b : ℕ) → length (above_values w a b) ≡ w / 4 + 2
 length-above w a b =
-    length-append (bits_values (above_in w a b - 1) (w / 4)) (prefix_difference_values b (remainder_in a b) (above_in w a b) (w / 4) 4)
-    ∙ omega (arith, length-bits (above_in w a b - 1) (w / 4), length-products (λ j. prefix_less_in b (remainder_in a b) (above_in w a b) (w / 4 * j)) 4)
+    length-append (bits_values (above_in w a b - 1) (w / 4)) (prefix_difference_values b (umod_result a b) (above_in w a b) (w / 4) 4)
+    ∙ omega (arith, length-bits (above_in w a b - 1) (w / 4), length-products (λ j. prefix_less_in b (umod_result a b) (above_in w a b) (w / 4 * j)) 4)
 
 length-quotient_values : (w a b : ℕ) → length (quotient_values w a b) ≡ 2 * w + w / 4 + 4
 length-quotient_values w a b =
@@ -283,12 +284,12 @@ gate-small w width a b h = grind (arith, nat_tests)
 
 quotient_in_field : (w : ℕ) → IsWidth w → (a b : ℕ) → a < 2 ^ w → InField (quotient_values w a b)
 quotient_in_field w width a b h =
-    let quot = bits_values (quotient_in a b) w in
-    let rem = bits_values (remainder_in a b) w in
+    let quot = bits_values (udiv_result a b) w in
+    let rem = bits_values (umod_result a b) w in
     let bits = bits_values (above_in w a b - 1) (w / 4) in
-    let products = prefix_difference_values b (remainder_in a b) (above_in w a b) (w / 4) 4 in
-    let words_in = InField-append quot rem (bits_in_field (quotient_in a b) w) (bits_in_field (remainder_in a b) w) in
-    let products_in = products_in_field (λ j. prefix_less_in b (remainder_in a b) (above_in w a b) (w / 4 * j)) 4 in
+    let products = prefix_difference_values b (umod_result a b) (above_in w a b) (w / 4) 4 in
+    let words_in = InField-append quot rem (bits_in_field (udiv_result a b) w) (bits_in_field (umod_result a b) w) in
+    let products_in = products_in_field (λ j. prefix_less_in b (umod_result a b) (above_in w a b) (w / 4 * j)) 4 in
     let rest_in = InField-append bits products (bits_in_field (above_in w a b - 1) (w / 4)) products_in in
     let gate_small = InField-cons (gate_in a b) (bits ++ products) (gate-small w width a b h) rest_in in
     let flag_small = InField-cons (zero_flag b) (gate_in a b ∷ (bits ++ products)) (zero_flag-below b) gate_small in

@@ -12,8 +12,9 @@ use Rattle.tv_bits.proofs.ZeroLaws.{zero_flag-zero, zero_flag-other}
 use Rattle.tv_bits.specs.Bit.{IsBit}
 use Rattle.tv_bits.specs.Order.{IsPrefixDifference}
 use Rattle.tv_bits.specs.Zero.{zero_flag}
+use Rattle.tv_word.specs.Operations.{udiv_result, umod_result}
 use Rattle.tv_word.specs.Widths.{IsWidth}
-use Rattle.tv_muldiv.specs.Quotient.{quotient_in, remainder_in, gate_in, above_in}
+use Rattle.tv_muldiv.specs.Quotient.{gate_in, above_in}
 
 -- what the constraints say of numbers: of the words a and b of w bits, the quotient q, the remainder r, whether b is 0,
 -- the gate, and one less than by how much b is above r
@@ -25,16 +26,16 @@ pub record Divides (w a b q r by_zero gate above : ℕ) : Type 0 where
   pub below : IsPrefixDifference (w / 4) 4 b r (((above + 1) % P + (P - by_zero)) % P)
 
 -- ---- the two cases of the definitions
-quotient-zero : (a b : ℕ) → b ≡ 0 → quotient_in a b ≡ 0
+pub quotient-zero : (a b : ℕ) → b ≡ 0 → udiv_result a b ≡ 0
 quotient-zero a b none = rw none refl
 
-quotient-other : (a b : ℕ) → b ≢ 0 → quotient_in a b ≡ a / b
+pub quotient-other : (a b : ℕ) → b ≢ 0 → udiv_result a b ≡ a / b
 quotient-other a b some = grind (arith, nat_tests)
 
-remainder-zero : (a b : ℕ) → b ≡ 0 → remainder_in a b ≡ 0
+pub remainder-zero : (a b : ℕ) → b ≡ 0 → umod_result a b ≡ 0
 remainder-zero a b none = rw none refl
 
-remainder-other : (a b : ℕ) → b ≢ 0 → remainder_in a b ≡ a % b
+pub remainder-other : (a b : ℕ) → b ≢ 0 → umod_result a b ≡ a % b
 remainder-other a b some = grind (arith, nat_tests)
 
 gate-zero : (a b : ℕ) → b ≡ 0 → gate_in a b ≡ a
@@ -43,33 +44,33 @@ gate-zero a b none = rw none refl
 gate-other : (a b : ℕ) → b ≢ 0 → gate_in a b ≡ 0
 gate-other a b some = grind (arith, nat_tests)
 
-pub quotient-small : (a b most : ℕ) → a < most → quotient_in a b < most
+pub quotient-small : (a b most : ℕ) → a < most → udiv_result a b < most
 quotient-small a b most h = elim (cases_eq b 0) [
   | inl none ↦ omega (arith, quotient-zero a b none)
   | inr some ↦ omega (arith, quotient-other a b some, div-le_self a b)
 ]
 
-pub remainder-small : (a b most : ℕ) → b < most → remainder_in a b < most
+pub remainder-small : (a b most : ℕ) → b < most → umod_result a b < most
 remainder-small a b most h = elim (cases_eq b 0) [
   | inl none ↦ omega (arith, remainder-zero a b none)
   | inr some ↦ let less : a % b < b = mod-lt a (omega arith) in omega (arith, remainder-other a b some)
 ]
 
-remainder-below : (a b : ℕ) → b ≢ 0 → remainder_in a b < b
+pub remainder-below : (a b : ℕ) → b ≢ 0 → umod_result a b < b
 remainder-below a b some = let less : a % b < b = mod-lt a (omega arith) in omega (arith, remainder-other a b some)
 
 -- ---- by how much the divisor is above the remainder
 module _ (w : ℕ) (width : IsWidth w) (a b : ℕ) where
   above-zero : b ≡ 0 → above_in w a b ≡ 0
-  above-zero none = first_difference-none (w / 4) 4 b (remainder_in a b) (omega (arith, none))
+  above-zero none = first_difference-none (w / 4) 4 b (umod_result a b) (omega (arith, none))
 
   above-some : b < 2 ^ w → b ≢ 0 → 0 < above_in w a b
-  above-some h some = first_difference-some w (w / 4) 4 b (remainder_in a b) (grind arith) (grind arith) h (remainder-below a b some)
+  above-some h some = first_difference-some w (w / 4) 4 b (umod_result a b) (grind arith) (grind arith) h (remainder-below a b some)
 
   pub above-below : b < 2 ^ w → above_in w a b < 2 ^ (w / 4)
   above-below h = elim (cases_eq b 0) [
     | inl none ↦ let zero = above-zero none in grind arith
-    | inr some ↦ first_difference-below w (w / 4) 4 b (remainder_in a b) (grind arith) (grind arith) h (remainder-below a b some)
+    | inr some ↦ first_difference-below w (w / 4) 4 b (umod_result a b) (grind arith) (grind arith) h (remainder-below a b some)
   ]
 
   -- the difference that the constraints hold
@@ -79,10 +80,10 @@ module _ (w : ℕ) (width : IsWidth w) (a b : ℕ) where
     | inr some ↦ let below = above-below h in let small : above_in w a b < 2 ^ 8 = grind arith in omega (arith, above-some h some, zero_flag-other b some)
   ]
 
-  above-is : b < 2 ^ w → IsPrefixDifference (w / 4) 4 b (remainder_in a b) (above_in w a b)
+  above-is : b < 2 ^ w → IsPrefixDifference (w / 4) 4 b (umod_result a b) (above_in w a b)
   above-is h = elim (cases_eq b 0) [
     | inl none ↦ rw (above-zero none, remainder-zero a b none, none) (IsPrefixDifference-none (w / 4) 4 0 (grind arith) (grind arith))
-    | inr some ↦ IsPrefixDifference-first w (w / 4) 4 b (remainder_in a b) (grind arith) (grind arith) h (remainder-below a b some)
+    | inr some ↦ IsPrefixDifference-first w (w / 4) 4 b (umod_result a b) (grind arith) (grind arith) h (remainder-below a b some)
   ]
 
 -- ---- from the constraints to the division
@@ -101,8 +102,8 @@ nothing_of : (w : ℕ) → IsWidth w → (a q r m gate : ℕ) → a < 2 ^ w → 
 nothing_of w width a q r m gate h k l none is e = (grind arith, grind arith)
 
 pub record IsDivided (a b q r by_zero : ℕ) : Type 0 where
-  pub quot : q ≡ quotient_in a b
-  pub rem : r ≡ remainder_in a b
+  pub quot : q ≡ udiv_result a b
+  pub rem : r ≡ umod_result a b
   pub zero : by_zero ≡ zero_flag b
 
 module _ (w : ℕ) (width : IsWidth w) (a b q r by_zero gate above : ℕ) (h : a < 2 ^ w) (k : b < 2 ^ w) (l : q < 2 ^ w) (m : r < 2 ^ w)
@@ -145,25 +146,25 @@ module _ (w : ℕ) (width : IsWidth w) (a b : ℕ) (h : a < 2 ^ w) (k : b < 2 ^ 
     | inr some ↦ ap (λ n. n * b % P) (zero_flag-other b some) ∙ ap (λ n. n % P) (zero-mul b)
   ]
 
-  gated : zero_flag b * ((a + quotient_in a b) % P) % P ≡ gate_in a b
+  gated : zero_flag b * ((a + udiv_result a b) % P) % P ≡ gate_in a b
   gated = elim (cases_eq b 0) [
-    | inl none ↦ ap (λ n. n * ((a + quotient_in a b) % P) % P) (zero_flag-zero b none)
+    | inl none ↦ ap (λ n. n * ((a + udiv_result a b) % P) % P) (zero_flag-zero b none)
         ∙ (let quot = quotient-zero a b none in let gate = gate-zero a b none in grind arith)
-    | inr some ↦ ap (λ n. n * ((a + quotient_in a b) % P) % P) (zero_flag-other b some) ∙ ap (λ n. n % P) (zero-mul ((a + quotient_in a b) % P))
+    | inr some ↦ ap (λ n. n * ((a + udiv_result a b) % P) % P) (zero_flag-other b some) ∙ ap (λ n. n % P) (zero-mul ((a + udiv_result a b) % P))
         ∙ sym (gate-other a b some)
   ]
 
-  whole_some : b ≢ 0 → quotient_in a b * b + remainder_in a b ≡ a
+  whole_some : b ≢ 0 → udiv_result a b * b + umod_result a b ≡ a
   whole_some some = ap₂ (λ m n. m * b + n) (quotient-other a b some) (remainder-other a b some) ∙ ap (λ n. n + a % b) (mul_comm (a / b) b) ∙ div-add-mod a b
 
-  whole : quotient_in a b * b % P ≡ ((a + (P - remainder_in a b)) % P + (P - gate_in a b)) % P
+  whole : udiv_result a b * b % P ≡ ((a + (P - umod_result a b)) % P + (P - gate_in a b)) % P
   whole = elim (cases_eq b 0) [
-    | inl none ↦ ap (λ n. quotient_in a b * n % P) none ∙ ap (λ n. n % P) (mul-zero (quotient_in a b))
+    | inl none ↦ ap (λ n. udiv_result a b * n % P) none ∙ ap (λ n. n % P) (mul-zero (udiv_result a b))
         ∙ (let rem = remainder-zero a b none in let gate = gate-zero a b none in grind arith)
     | inr some ↦ let whole = whole_some some in let gate = gate-other a b some in grind arith
   ]
 
-  pub Divides-complete : Divides w a b (quotient_in a b) (remainder_in a b) (zero_flag b) (gate_in a b) (above_in w a b - 1)
+  pub Divides-complete : Divides w a b (udiv_result a b) (umod_result a b) (zero_flag b) (gate_in a b) (above_in w a b - 1)
   Divides-complete = record {
     bit = flag_bit;
     zero = no_divisor;

@@ -12,8 +12,9 @@ use Rattle.tv_bits.specs.DoubleRow.{IsRow}
 use Rattle.tv_bits.specs.Zero.{zero_flag}
 use Rattle.tv_core.proofs.Residues.{add-mod_same}
 use Rattle.tv_core.specs.declared.field.TheConstants.{P}
-use Rattle.tv_muldiv.specs.Quotient.{quotient_in, remainder_in}
+use Rattle.tv_muldiv.proofs.QuotientNumbers.{quotient-zero, quotient-other, remainder-zero, remainder-other, remainder-below}
 use Rattle.tv_muldiv.specs.RowDivision.{below_divisor}
+use Rattle.tv_word.specs.Operations.{udiv_result, umod_result}
 use Rattle.tv_word.specs.Widths.{IsWidth}
 
 -- what the constraints say of the numbers at the wires: words a and b, the row's halves, the bit, the word that it keeps,
@@ -25,8 +26,8 @@ pub record Divides (w a b low high by_zero kept product bits : ℕ) : Type 0 whe
   pub below : (b + 2 ^ w * by_zero) % P ≡ (1 + low + bits) % P
 
 pub record IsDivided (a b low high by_zero : ℕ) : Type 0 where
-  pub rem : low ≡ remainder_in a b
-  pub quot : high ≡ quotient_in a b
+  pub rem : low ≡ umod_result a b
+  pub quot : high ≡ udiv_result a b
   pub zero : by_zero ≡ zero_flag b
 
 some_if : (b m : ℕ) → b ≢ 0 → (if b == 0 then 0 else m) ≡ m
@@ -94,37 +95,22 @@ module _ (w : ℕ) (width : IsWidth w) (a b low high by_zero kept product bits :
   ]
 
 -- ---- the honest division
-quotient-zero : (a b : ℕ) → b ≡ 0 → quotient_in a b ≡ 0
-quotient-zero a b e = rw e refl
-
-remainder-zero : (a b : ℕ) → b ≡ 0 → remainder_in a b ≡ 0
-remainder-zero a b e = rw e refl
-
-quotient-other : (a b : ℕ) → b ≢ 0 → quotient_in a b ≡ a / b
-quotient-other a b e = grind (arith, nat_tests)
-
-remainder-other : (a b : ℕ) → b ≢ 0 → remainder_in a b ≡ a % b
-remainder-other a b e = grind (arith, nat_tests)
-
-remainder-less : (a b : ℕ) → b ≢ 0 → remainder_in a b < b
-remainder-less a b some = let less : a % b < b = mod-lt a (omega arith) in omega (arith, remainder-other a b some)
-
-parts_some : (a b : ℕ) → b ≢ 0 → quotient_in a b * b + remainder_in a b ≡ a
+parts_some : (a b : ℕ) → b ≢ 0 → udiv_result a b * b + umod_result a b ≡ a
 parts_some a b some = ap₂ (λ q r. q * b + r) (quotient-other a b some) (remainder-other a b some) ∙ ap (λ n. n + a % b) (mul_comm (a / b) b) ∙ div-add-mod a b
 
-edge_some : (w a b : ℕ) → a < 2 ^ w → b ≢ 0 → quotient_in a b ≡ 2 ^ w - 1 → remainder_in a b ≡ 0
+edge_some : (w a b : ℕ) → a < 2 ^ w → b ≢ 0 → udiv_result a b ≡ 2 ^ w - 1 → umod_result a b ≡ 0
 edge_some w a b h some full =
-    let whole : (2 ^ w - 1) * b + remainder_in a b ≡ a = ap (λ q. q * b + remainder_in a b) (sym full) ∙ parts_some a b some in
+    let whole : (2 ^ w - 1) * b + umod_result a b ≡ a = ap (λ q. q * b + umod_result a b) (sym full) ∙ parts_some a b some in
     let most : (2 ^ w - 1) * 1 ≤ (2 ^ w - 1) * b = mul-le (2 ^ w - 1) 1 (2 ^ w - 1) b (omega arith) (omega arith) in
     omega arith
 
 module _ (w : ℕ) (width : IsWidth w) (a b : ℕ) (h : a < 2 ^ w) (k : b < 2 ^ w) where
-  pub division_row : IsRow w (remainder_in a b) (quotient_in a b)
+  pub division_row : IsRow w (umod_result a b) (udiv_result a b)
   division_row = elim (cases_eq b 0) [
     | inl none ↦ let q = quotient-zero a b none in let r = remainder-zero a b none in record { low_word = grind arith; high_word = grind arith; edge = λ e. r }
     | inr some ↦
         let q = quotient-other a b some in
-        let less = remainder-less a b some in
+        let less = remainder-below a b some in
         let most = div-le_self a b in
         record { low_word = omega arith; high_word = omega arith; edge = edge_some w a b h some }
   ]
@@ -132,10 +118,10 @@ module _ (w : ℕ) (width : IsWidth w) (a b : ℕ) (h : a < 2 ^ w) (k : b < 2 ^ 
   pub below_word : below_divisor w a b < 2 ^ w
   below_word = elim (cases_eq b 0) [
     | inl none ↦ let z = zero_flag-zero b none in let r = remainder-zero a b none in grind arith
-    | inr some ↦ let z = zero_flag-other b some in let less = remainder-less a b some in grind arith
+    | inr some ↦ let z = zero_flag-other b some in let less = remainder-below a b some in grind arith
   ]
 
-  met_zero : b ≡ 0 → Divides w a b (remainder_in a b) (quotient_in a b) (zero_flag b) (zero_flag b * a % P) (quotient_in a b * ((b + zero_flag b) % P) % P)
+  met_zero : b ≡ 0 → Divides w a b (umod_result a b) (udiv_result a b) (zero_flag b) (zero_flag b * a % P) (udiv_result a b * ((b + zero_flag b) % P) % P)
       (below_divisor w a b)
   met_zero none =
       let z = zero_flag-zero b none in
@@ -144,26 +130,26 @@ module _ (w : ℕ) (width : IsWidth w) (a b : ℕ) (h : a < 2 ^ w) (k : b < 2 ^ 
       record {
         keeps = refl;
         multiplies = refl;
-        parts = sym (ap₂ (λ m n. (remainder_in a b + m + n) % P) (ap (λ m. m * a % P) z
+        parts = sym (ap₂ (λ m n. (umod_result a b + m + n) % P) (ap (λ m. m * a % P) z
             ∙ ap (λ n. n % P) (one-mul a)) (ap (λ m. m * ((b + zero_flag b) % P) % P) q ∙ ap (λ n. n % P) (zero-mul ((b + zero_flag b) % P))) ∙ grind arith);
         below = ap (λ n. n % P) (grind arith);
       }
 
-  met_some : b ≢ 0 → Divides w a b (remainder_in a b) (quotient_in a b) (zero_flag b) (zero_flag b * a % P) (quotient_in a b * ((b + zero_flag b) % P) % P)
+  met_some : b ≢ 0 → Divides w a b (umod_result a b) (udiv_result a b) (zero_flag b) (zero_flag b * a % P) (udiv_result a b * ((b + zero_flag b) % P) % P)
       (below_divisor w a b)
   met_some some =
       let z = zero_flag-other b some in
-      let less = remainder-less a b some in
+      let less = remainder-below a b some in
       let one : (b + zero_flag b) % P ≡ b = grind arith in
       let whole = parts_some a b some in
       record {
         keeps = refl;
         multiplies = refl;
-        parts = sym (ap₂ (λ m n. (remainder_in a b + m + n) % P) (ap (λ m. m * a % P) z
-            ∙ ap (λ n. n % P) (zero-mul a)) (ap (λ m. quotient_in a b * m % P) one) ∙ grind arith);
+        parts = sym (ap₂ (λ m n. (umod_result a b + m + n) % P) (ap (λ m. m * a % P) z
+            ∙ ap (λ n. n % P) (zero-mul a)) (ap (λ m. udiv_result a b * m % P) one) ∙ grind arith);
         below = ap (λ n. n % P) (grind arith);
       }
 
-  pub division_met : Divides w a b (remainder_in a b) (quotient_in a b) (zero_flag b) (zero_flag b * a % P) (quotient_in a b * ((b + zero_flag b) % P) % P)
+  pub division_met : Divides w a b (umod_result a b) (udiv_result a b) (zero_flag b) (zero_flag b * a % P) (udiv_result a b * ((b + zero_flag b) % P) % P)
       (below_divisor w a b)
   division_met = elim (cases_eq b 0) [ inl none ↦ met_zero none | inr some ↦ met_some some ]

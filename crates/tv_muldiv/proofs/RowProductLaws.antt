@@ -5,7 +5,8 @@ use Rattle.std.proofs.lemmas.Nat.{mul-le}
 use Rattle.tv_bits.proofs.DoubleRowLaws.{value-row_number}
 use Rattle.tv_bits.proofs.GateLaws.{gated_sound, gated_complete, gated_next, gated_constraints, gated_terms, terms-append}
 use Rattle.tv_bits.proofs.RowNumbers.{row_below, row_is, row_low, row_high, row_of, row_whole}
-use Rattle.tv_bits.proofs.TimesLaws.{times_sound, times_complete, times_sizes}
+use Rattle.tv_bits.proofs.TimesLaws.{times_sizes}
+use Rattle.tv_bits.proofs.WireProducts.{wires_sound, wires_complete}
 use Rattle.tv_bits.specs.DoubleRow.{whole, row_number}
 use Rattle.tv_bits.specs.Gate.{gated_of}
 use Rattle.tv_bits.specs.Times.{times_of}
@@ -28,19 +29,6 @@ product_small w width a b h k = let most = mul-le a b (2 ^ w - 1) (2 ^ w - 1) (o
 product_short : (w : ℕ) → IsWidth w → (a b : ℕ) → a < 2 ^ w → b < 2 ^ w → a * b ≤ 2 ^ w * (2 ^ w - 1)
 product_short w width a b h k = let most = mul-le a b (2 ^ w - 1) (2 ^ w - 1) (omega arith) (omega arith) in grind arith
 
--- the wire that is made
-product_is : (z : List ℕ) (next x y : ℕ) → Assigns z → Meets z (times_of (wire x) (wire y) next).list
-    → slice_index z (times_of (wire x) (wire y) next).answer ≡ slice_index z x * slice_index z y % P
-product_is z next x y assigns meets = times_sound z next (wire x) (wire y) assigns meets ∙ ap₂ (λ m n. m * n % P) (value-wire assigns x) (value-wire assigns y)
-
-pub product_met : (z : List ℕ) (next x y : ℕ) → Assigns z → HasFrom z next (row_product_values (slice_index z x) (slice_index z y))
-    → Meets z (times_of (wire x) (wire y) next).list
-product_met z next x y assigns has = times_complete z next (wire x) (wire y) assigns (
-  has.0
-      ∙ sym (ap₂ (λ m n. m * n % P) (value-wire assigns x) (value-wire assigns y)),
-  tt,
-)
-
 pub row_product_sound : RowProductIsSound
 unfolding row_product_of times_of fresh put pure ◌>>=◌
 row_product_sound w width z next gate x y row assigns one a_word b_word r meets =
@@ -49,7 +37,7 @@ row_product_sound w width z next gate x y row assigns one a_word b_word r meets 
     let a = slice_index z x in
     let b = slice_index z y in
     let same = sym (value-row_number w z row assigns) ∙ gated_sound z (next + 1) gate (row_number w row) (wire next) one meets.1 ∙ value-wire assigns next
-    ∙ product_is z next x y assigns (meets.0, tt) in
+    ∙ wires_sound z next x y assigns (meets.0, tt) in
     let is : whole w low high ≡ a * b = row_is (whole w low high) (a * b) (row_below w width low high r) (product_small w width a b a_word b_word) same in
     record { low = row_low w width low high (a * b) r.low_word is; high = row_high w width low high (a * b) r.low_word is }
 
@@ -66,12 +54,12 @@ unfolding row_product_of times_of fresh put pure ◌>>=◌
 row_product_complete = record {
   row = λ w width a b h k. row_of w width (a * b) (product_short w width a b h k);
   on = λ w z next gate x y row assigns is has. (
-    (product_met z next x y assigns has).0,
+    (wires_complete z next x y assigns has.0).0,
     gated_complete.same z (next + 1) gate (row_number w row) (wire next)
         (row_product_on w z next x y row assigns is has.0),
   );
   off = λ w z next gate x y row assigns none has.
-      ((product_met z next x y assigns has).0, gated_complete.off z (next + 1) gate (row_number w row) (wire next) none);
+      ((wires_complete z next x y assigns has.0).0, gated_complete.off z (next + 1) gate (row_number w row) (wire next) none);
 }
 
 pub row_product_next : (w : ℕ) (gate : Combination) (x y : ℕ) (row : DoubleRow) (next : ℕ) → (row_product_of w gate x y row next).next ≡ next + 1

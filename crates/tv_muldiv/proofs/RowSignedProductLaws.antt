@@ -25,7 +25,7 @@ use Rattle.tv_muldiv.proofs.SignedNumbers.{Stands, Stands-product, Stands-signed
 use Rattle.tv_muldiv.specs.RowSignedProduct.{IsRowSignedProduct, sign_weight, signed_word, signed_in, signed_row, row_signed_product_of}
 use Rattle.tv_muldiv.specs.RowSignedProduct.{row_signed_product_values, RowSignedProductIsSound, RowSignedProductFits, RowSignedProductIsComplete}
 use Rattle.tv_muldiv.specs.RowSignedProduct.{RowSignedProductSizes, RowSignedProductCosts}
-use Rattle.tv_muldiv.specs.SignedHigh.{signed_product, product_twos}
+use Rattle.tv_word.specs.Operations.{signed_product, product_twos}
 use Rattle.tv_word.specs.Widths.{IsWidth}
 use Rattle.tv_word.specs.Word.{signed}
 
@@ -112,8 +112,6 @@ row_signed_product_sound w width z next gate x y row a b assigns one p q s meets
       high = row_high w width low high (product_twos w a b)
           (HasBits-below s.low) is;
     }
-
-pub ruleset row_signed_product_laws = (row_signed_product_sound, signed_product_fits)
 
 on_values : (w : ℕ) → IsWidth w → (z : List ℕ) (next : ℕ) (x y : SignedWord) (row : DoubleRow) (a b : ℕ) → Assigns z → HoldsSigned w z x a
     → HoldsSigned w z y b → HasRowBits w z row → IsRowSignedProduct w z row a b

@@ -3,24 +3,25 @@ use Rattle.std.proofs.Common.{◌≡◌, ℕ, ◌+◌, ◌-◌, ◌*◌, ◌/◌
 use Rattle.std.specs.Prelude.{slice_index}
 use Rattle.tv_core.proofs.CombinationLaws.{value-append, value-cons}
 use Rattle.tv_core.proofs.FieldLaws.{InField-append}
-use Rattle.tv_core.proofs.Meeting.{Meets-split, Meets-join, HasFrom-split}
+use Rattle.tv_core.proofs.MeetsLaws.{Meets-split, Meets-join, HasFrom-split}
 use Rattle.tv_core.specs.Circuits.{fresh, put, pure, ◌>>=◌}
 use Rattle.tv_core.specs.Constraints.{value}
 use Rattle.tv_core.specs.Laws.{Assigns, Meets}
 use Rattle.tv_core.specs.declared.field.TheConstants.{P}
-use Rattle.tv_bits.proofs.NewBitsLaws.{bits_spell, bits_met}
+use Rattle.tv_bits.proofs.NewBitsLaws.{bits_are, bits_met}
 use Rattle.tv_bits.proofs.BitNumbers.{HasBits-below, HasBits-bit_at, HasBits-low, HasBits-high, value-bits_below}
 use Rattle.tv_bits.proofs.BitsLaws.{new_bits_answer, new_bits_next}
 use Rattle.tv_bits.specs.Bits.{HasBits, binary_value, bits_combination, new_bits_of}
 use Rattle.tv_bits.specs.declared.bit_wires.Bits.{Bits}
-use Rattle.tv_muldiv.proofs.HalvesLaws.{length-halves, halves_spell, halves_in_field}
+use Rattle.tv_muldiv.proofs.HalvesLaws.{length-halves, halves_are, halves_in_field}
 use Rattle.tv_bits.proofs.NonzeroLaws.{nonzero_answer, nonzero_sound, nonzero_complete, nonzero_sizes}
 use Rattle.tv_muldiv.proofs.SignedNumbers.{signed_value, most_product, Stands, Stands-product, Stands-signed, Stands-exact, Stands-meets, twos-below, over_flag}
 use Rattle.tv_bits.specs.Nonzero.{nonzero_of, nonzero_flag, nonzero_values}
-use Rattle.tv_muldiv.specs.SignedHigh.{signed_product, product_twos, signed_bits_of, excess, excess_in, signed_high_of, SignedHighIsSound}
+use Rattle.tv_muldiv.specs.SignedHigh.{signed_bits_of, excess, excess_in, signed_high_of, SignedHighIsSound}
 use Rattle.tv_muldiv.specs.SignedHigh.{SignedHighIsComplete, SignedHighSizes}
 use Rattle.tv_muldiv.specs.Weighed.{signed_combination, halves_values}
 use Rattle.tv_word.proofs.WidthLaws.{width_short}
+use Rattle.tv_word.specs.Operations.{signed_product, product_twos}
 use Rattle.tv_word.specs.Widths.{IsWidth}
 use Rattle.tv_word.specs.Word.{signed}
 
@@ -78,7 +79,7 @@ module _ (w : ℕ) (width : IsWidth w) (z : List ℕ) (assigns : Assigns z) (nex
   signed_bits_sound meets =
       let short = width_short w width in
       let both = rw new_bits_answer at (Meets-split z (new_bits_of (2 * w) next).list _ meets) in
-      let s = bits_spell z (2 * w) next assigns both.0 in
+      let s = bits_are z (2 * w) next assigns both.0 in
       let product = value (signed_combination x.first w) z * value (signed_combination y.first w) z in
       let same = Stands-exact w width product (binary_value z next (2 * w)) (signed_product w a b) (product_stands z w width x y a b p q) (HasBits-below s)
       (both.1.0 ∙ value-signed z next (2 * w) (binary_value z next (2 * w)) (omega arith) (omega arith) s) in
@@ -134,7 +135,7 @@ signed_high_sound w width z next x y a b assigns p q meets =
 pub signed_high_complete : SignedHighIsComplete
 signed_high_complete w width z next x y a b assigns p q has =
     let both = rw length-halves at (HasFrom-split z next (halves_values w (product_twos w a b)) (nonzero_values (excess_in w (product_twos w a b))) has) in
-    let s = halves_spell w width z next (product_twos w a b) (twos-below w width (signed_product w a b)) both.0 in
+    let s = halves_are w width z next (product_twos w a b) (twos-below w width (signed_product w a b)) both.0 in
     let flag = value-excess z w width next (product_twos w a b) s in
     high_whole w z x y next (signed_bits_complete w width z assigns next x y a b p q s)
     (nonzero_complete z (next + 2 * w) (excess next w) assigns (rw (← flag) at both.1))

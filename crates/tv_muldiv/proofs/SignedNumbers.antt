@@ -10,7 +10,8 @@ use Rattle.tv_core.proofs.Residues.{mul-mod_same, mul-mod_zero}
 use Rattle.tv_core.specs.declared.field.TheConstants.{P}
 use Rattle.tv_bits.proofs.NonzeroLaws.{nonzero_flag-zero, nonzero_flag-other}
 use Rattle.tv_bits.specs.Nonzero.{nonzero_flag}
-use Rattle.tv_muldiv.specs.SignedHigh.{product_twos, excess_in}
+use Rattle.tv_muldiv.specs.SignedHigh.{excess_in}
+use Rattle.tv_word.specs.Operations.{product_twos}
 use Rattle.tv_word.specs.Twos.{twos, fits}
 use Rattle.tv_word.specs.Widths.{IsWidth}
 use Rattle.tv_word.specs.Word.{signed}

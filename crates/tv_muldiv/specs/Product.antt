@@ -6,6 +6,7 @@ use Rattle.tv_core.specs.Circuits.{Circuit, fresh, put, pure, ◌>>=◌}
 use Rattle.tv_core.specs.Combinations.{wire}
 use Rattle.tv_core.specs.Laws.{Assigns, Meets, HasFrom, Fills, InField}
 use Rattle.tv_bits.specs.Nonzero.{nonzero_flag, nonzero_of, nonzero_values}
+use Rattle.tv_word.specs.Operations.{mull_result, umulh_result}
 use Rattle.tv_word.specs.Widths.{IsWidth}
 use Rattle.tv_muldiv.specs.Weighed.{halves_values}
 use Rattle.tv_muldiv.specs.declared.records.Product.{Product}
@@ -13,9 +14,9 @@ use Rattle.tv_muldiv.specs.declared.records.Product.{Product}
 -- a and b being words of w bits, the wires represent the low and the high word of their product, and one holds 1
 -- exactly where the high word is another than 0
 pub record IsProduct (w : ℕ) (z : List ℕ) (made : Product) (a b : ℕ) : Type 0 where
-  pub low : HasBits z made.low.first w (a * b % 2 ^ w)
-  pub high : HasBits z made.high.first w (a * b / 2 ^ w)
-  pub over : slice_index z made.over ≡ nonzero_flag (a * b / 2 ^ w)
+  pub low : HasBits z made.low.first w (mull_result w a b)
+  pub high : HasBits z made.high.first w (umulh_result w a b)
+  pub over : slice_index z made.over ≡ nonzero_flag (umulh_result w a b)
 
 -- 2 w new wires that represent the product of words of w bits: their number is the product modulo P, and the lowest is
 -- the product of the lowest bits, which the product and the product plus P don't share, P being odd
@@ -36,7 +37,7 @@ product_of w x y = do
 
 -- the values of the wires that are made for words a and b
 abbrev pub product_values : ℕ → ℕ → ℕ → List ℕ
-product_values w a b = halves_values w (a * b) ++ nonzero_values (a * b / 2 ^ w)
+product_values w a b = halves_values w (a * b) ++ nonzero_values (umulh_result w a b)
 
 -- where x and y represent words, an assignment that satisfies the constraints has their product at the returned wires
 abbrev pub ProductIsSound : Type 0

@@ -10,20 +10,14 @@ use Rattle.tv_core.specs.Circuits.{Circuit, fresh, put, pure, ◌>>=◌}
 use Rattle.tv_core.specs.Combinations.{wire, constant, scaled, less}
 use Rattle.tv_core.specs.Laws.{Assigns, Meets, HasFrom, Fills, InField}
 use Rattle.tv_muldiv.specs.declared.records.Quot.{Quot}
+use Rattle.tv_word.specs.Operations.{udiv_result, umod_result}
 use Rattle.tv_word.specs.Widths.{IsWidth}
-
--- the quotient, rounded down, and the remainder; both are 0 where the divisor is
-abbrev pub quotient_in : ℕ → ℕ → ℕ
-quotient_in a b = if b == 0 then 0 else a / b
-
-abbrev pub remainder_in : ℕ → ℕ → ℕ
-remainder_in a b = if b == 0 then 0 else a % b
 
 -- a and b being words of w bits, the wires represent the quotient and the remainder of a by b, and one holds 1
 -- exactly where b is 0
 pub record IsQuotient (w : ℕ) (z : List ℕ) (made : Quot) (a b : ℕ) : Type 0 where
-  pub quot : HasBits z made.quot.first w (quotient_in a b)
-  pub rem : HasBits z made.rem.first w (remainder_in a b)
+  pub quot : HasBits z made.quot.first w (udiv_result a b)
+  pub rem : HasBits z made.rem.first w (umod_result a b)
   pub by_zero : slice_index z made.by_zero ≡ zero_flag b
 
 -- the words have w bits each, and the wires are below a number
@@ -82,14 +76,14 @@ abbrev pub gate_in : ℕ → ℕ → ℕ
 gate_in a b = if b == 0 then a else 0
 
 abbrev pub above_in : ℕ → ℕ → ℕ → ℕ
-above_in w a b = first_difference (w / 4) 4 b (remainder_in a b)
+above_in w a b = first_difference (w / 4) 4 b (umod_result a b)
 
 -- the values of the wires that are made for words a and b
 abbrev pub words_values : ℕ → ℕ → ℕ → List ℕ
-words_values w a b = bits_values (quotient_in a b) w ++ bits_values (remainder_in a b) w
+words_values w a b = bits_values (udiv_result a b) w ++ bits_values (umod_result a b) w
 
 abbrev pub above_values : ℕ → ℕ → ℕ → List ℕ
-above_values w a b = bits_values (above_in w a b - 1) (w / 4) ++ prefix_difference_values b (remainder_in a b) (above_in w a b) (w / 4) 4
+above_values w a b = bits_values (above_in w a b - 1) (w / 4) ++ prefix_difference_values b (umod_result a b) (above_in w a b) (w / 4) 4
 
 abbrev pub quotient_values : ℕ → ℕ → ℕ → List ℕ
 quotient_values w a b = words_values w a b ++ (zero_flag b ∷ gate_in a b ∷ above_values w a b)

@@ -14,18 +14,18 @@ use Rattle.tv_core.specs.Constraints.{Combination, value}
 use Rattle.tv_core.specs.Laws.{Assigns, Meets, HasFrom, Fills, InField}
 use Rattle.tv_core.specs.Meanings.{terms_in}
 use Rattle.tv_core.specs.declared.field.TheConstants.{P}
-use Rattle.tv_muldiv.specs.Quotient.{quotient_in, remainder_in}
+use Rattle.tv_word.specs.Operations.{udiv_result, umod_result}
 use Rattle.tv_word.specs.Widths.{IsWidth}
 
 -- the row's low half is the remainder of a by b, its high half the quotient, and the wire is 1 exactly where b is 0
 pub record IsRowDivision (z : List ℕ) (row : DoubleRow) (by_zero a b : ℕ) : Type 0 where
-  pub rem : slice_index z row.low ≡ remainder_in a b
-  pub quot : slice_index z row.high ≡ quotient_in a b
+  pub rem : slice_index z row.low ≡ umod_result a b
+  pub quot : slice_index z row.high ≡ udiv_result a b
   pub zero : slice_index z by_zero ≡ zero_flag b
 
 -- by how much more than 1 the divisor, or 2 ^ w in place of 0, is above the remainder
 abbrev pub below_divisor : ℕ → ℕ → ℕ → ℕ
-below_divisor w a b = b + 2 ^ w * zero_flag b - 1 - remainder_in a b
+below_divisor w a b = b + 2 ^ w * zero_flag b - 1 - umod_result a b
 
 -- that number as a combination less x, and the number of some bits less x
 abbrev pub room_below : ℕ → ℕ → ℕ → ℕ → DoubleRow → Combination
@@ -74,7 +74,7 @@ pub record RowDivisionIsSound : Type 0 where
 -- the division of words is a row, and the bits' number a word; with the values of the wires that were made, a row that holds
 -- the division satisfies the constraints, and where the gate is 0 any row does if the bits represent x
 pub record RowDivisionIsComplete : Type 0 where
-  pub row : (w : ℕ) → IsWidth w → (a b : ℕ) → a < 2 ^ w → b < 2 ^ w → IsRow w (remainder_in a b) (quotient_in a b)
+  pub row : (w : ℕ) → IsWidth w → (a b : ℕ) → a < 2 ^ w → b < 2 ^ w → IsRow w (umod_result a b) (udiv_result a b)
   pub bits : (w : ℕ) → IsWidth w → (a b : ℕ) → a < 2 ^ w → b < 2 ^ w → below_divisor w a b < 2 ^ w
   pub on : (w : ℕ) → IsWidth w → (z : List ℕ) (next : ℕ) (gate : Combination) (x y by_zero : ℕ) (bits : Bits) (row : DoubleRow) → Assigns z
       → value gate z ≡ 1 → slice_index z x < 2 ^ w → slice_index z y < 2 ^ w → IsRowDivision z row by_zero (slice_index z x) (slice_index z y)

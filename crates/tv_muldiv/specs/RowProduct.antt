@@ -9,12 +9,13 @@ use Rattle.tv_core.specs.Combinations.{wire}
 use Rattle.tv_core.specs.Constraints.{Combination, value}
 use Rattle.tv_core.specs.Laws.{Assigns, Meets, HasFrom, Fills, InField}
 use Rattle.tv_core.specs.Meanings.{terms_in}
+use Rattle.tv_word.specs.Operations.{mull_result, umulh_result}
 use Rattle.tv_word.specs.Widths.{IsWidth}
 
 -- the row's halves are those of the product of two words
 pub record IsRowProduct (w : ℕ) (z : List ℕ) (row : DoubleRow) (a b : ℕ) : Type 0 where
-  pub low : slice_index z row.low ≡ a * b % 2 ^ w
-  pub high : slice_index z row.high ≡ a * b / 2 ^ w
+  pub low : slice_index z row.low ≡ mull_result w a b
+  pub high : slice_index z row.high ≡ umulh_result w a b
 
 -- a new wire that is the product of two wires; under the gate, it is the number of a row
 unfoldable pub row_product_of : ℕ → Combination → ℕ → ℕ → DoubleRow → Circuit (Unit {0})
@@ -35,7 +36,7 @@ RowProductIsSound = (w : ℕ) → IsWidth w → (z : List ℕ) (next : ℕ) (gat
 -- the product of two words is a row; with the value of the wire that was made, a row that holds it satisfies the constraints,
 -- and where the gate is 0 any row does
 pub record RowProductIsComplete : Type 0 where
-  pub row : (w : ℕ) → IsWidth w → (a b : ℕ) → a < 2 ^ w → b < 2 ^ w → IsRow w (a * b % 2 ^ w) (a * b / 2 ^ w)
+  pub row : (w : ℕ) → IsWidth w → (a b : ℕ) → a < 2 ^ w → b < 2 ^ w → IsRow w (mull_result w a b) (umulh_result w a b)
   pub on : (w : ℕ) (z : List ℕ) (next : ℕ) (gate : Combination) (x y : ℕ) (row : DoubleRow) → Assigns z
       → IsRowProduct w z row (slice_index z x) (slice_index z y) → HasFrom z next (row_product_values (slice_index z x) (slice_index z y))
       → Meets z (row_product_of w gate x y row next).list

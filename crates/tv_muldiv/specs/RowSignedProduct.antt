@@ -14,14 +14,14 @@ use Rattle.tv_core.specs.Constraints.{Combination, value}
 use Rattle.tv_core.specs.Laws.{Assigns, Meets, HasFrom, Fills, InField}
 use Rattle.tv_core.specs.Meanings.{terms_in}
 use Rattle.tv_core.specs.declared.field.TheConstants.{P}
-use Rattle.tv_muldiv.specs.SignedHigh.{signed_product, product_twos}
+use Rattle.tv_word.specs.Operations.{signed_product, product_twos, smulh_result}
 use Rattle.tv_word.specs.Twos.{fits}
 use Rattle.tv_word.specs.Widths.{IsWidth}
 
 -- the row's halves are those of the signed product of two words
 pub record IsRowSignedProduct (w : ℕ) (z : List ℕ) (row : DoubleRow) (a b : ℕ) : Type 0 where
   pub low : slice_index z row.low ≡ product_twos w a b % 2 ^ w
-  pub high : slice_index z row.high ≡ product_twos w a b / 2 ^ w
+  pub high : slice_index z row.high ≡ smulh_result w a b
 
 -- the weight of a sign beside n bits: 2 ^ n, negated
 abbrev pub sign_weight : ℕ → ℕ
@@ -58,13 +58,13 @@ RowSignedProductIsSound = (w : ℕ) → IsWidth w → (z : List ℕ) (next : ℕ
 -- the product is a signed word exactly where the high half is 2 ^ w - 1 times the highest bit of the low half
 abbrev pub RowSignedProductFits : Type 0
 RowSignedProductFits = (w : ℕ) → IsWidth w → (a b : ℕ) → a < 2 ^ w → b < 2 ^ w
-    → nonzero_flag ((product_twos w a b / 2 ^ w + (P - (2 ^ w - 1)) * bit_at (product_twos w a b % 2 ^ w) (w - 1)) % P)
+    → nonzero_flag ((smulh_result w a b + (P - (2 ^ w - 1)) * bit_at (product_twos w a b % 2 ^ w) (w - 1)) % P)
     ≡ (if fits w (signed_product w a b) then 0 else 1)
 
 -- the halves of a signed product are words; with the value of the wire that was made, a row that holds them satisfies the
 -- constraints, and where the gate is 0 any row does
 pub record RowSignedProductIsComplete : Type 0 where
-  pub words : (w : ℕ) → IsWidth w → (a b : ℕ) → (product_twos w a b % 2 ^ w < 2 ^ w) × (product_twos w a b / 2 ^ w < 2 ^ w)
+  pub words : (w : ℕ) → IsWidth w → (a b : ℕ) → (product_twos w a b % 2 ^ w < 2 ^ w) × (smulh_result w a b < 2 ^ w)
   pub on : (w : ℕ) → IsWidth w → (z : List ℕ) (next : ℕ) (gate : Combination) (x y : SignedWord) (row : DoubleRow) (a b : ℕ) → Assigns z
       → HoldsSigned w z x a → HoldsSigned w z y b → HasRowBits w z row → IsRowSignedProduct w z row a b
       → HasFrom z next (row_signed_product_values w a (bit_at a (w - 1)) b (bit_at b (w - 1))) → Meets z (row_signed_product_of w gate x y row next).list

@@ -10,21 +10,14 @@ use Rattle.tv_core.specs.declared.field.TheConstants.{P}
 use Rattle.tv_bits.specs.Nonzero.{nonzero_of, nonzero_values}
 use Rattle.tv_muldiv.specs.Weighed.{signed_combination, halves_values}
 use Rattle.tv_muldiv.specs.declared.records.High.{High}
-use Rattle.tv_word.specs.Twos.{twos, fits}
+use Rattle.tv_word.specs.Operations.{signed_product, product_twos, smulh_result}
+use Rattle.tv_word.specs.Twos.{fits}
 use Rattle.tv_word.specs.Widths.{IsWidth}
-use Rattle.tv_word.specs.Word.{signed}
-
--- the product of two words of w bits as signed numbers, and its 2 w bits in two's complement
-abbrev pub signed_product : ℕ → ℕ → ℕ → ℤ
-signed_product w a b = signed w a *ℤ signed w b
-
-abbrev pub product_twos : ℕ → ℕ → ℕ → ℕ
-product_twos w a b = twos (2 * w) (signed_product w a b)
 
 -- a and b being words of w bits, the wires represent the high word of their signed product, and one holds 1
 -- exactly where that product is no signed number of w bits
 pub record IsSignedHigh (w : ℕ) (z : List ℕ) (made : High) (a b : ℕ) : Type 0 where
-  pub high : HasBits z made.high.first w (product_twos w a b / 2 ^ w)
+  pub high : HasBits z made.high.first w (smulh_result w a b)
   pub over : slice_index z made.over ≡ (if fits w (signed_product w a b) then 0 else 1)
 
 -- 2 w new bits that represent the product of words of w bits, each in two's complement: both sides are too

@@ -1,8 +1,8 @@
 //! Gadgets that multiply and divide words of `W` bits, 16 or 32: the product of two words, the high
 //! word of their signed product, and their quotient and remainder. Contracts above cite
-//! `IsProduct`, `IsSignedHigh` and `IsQuotient`, which say what wires hold in whole numbers, a word
-//! being the binary expansion in `W` wires. `row_product`, `row_signed_product` and `row_division`
-//! hold a row of twice the width to these, under a gate.
+//! `IsProduct`, `IsSignedHigh` and `IsQuotient`, which say in whole numbers what the wires' values
+//! are, a word being the binary expansion in `W` wires. `row_product`, `row_signed_product` and
+//! `row_division` constrain a row of twice the width to these, under a gate.
 #![tactic(auto)]
 
 mod numbers;

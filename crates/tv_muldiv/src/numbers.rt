@@ -22,8 +22,8 @@ fn set_weighed(lc: &mut Lc, first: Wire, n: u32, weight: F)
     lc.plus(weight, first.offset(last));
 }
 
-/// Makes `lc` the number that `n` wires from a first one on represent in two's complement, `n` from
-/// 1 to 64.
+/// Sets `lc` to the number that `n` wires from a first one on represent in two's complement, `n`
+/// from 1 to 64.
 pub(crate) fn set_signed_number(lc: &mut Lc, first: Wire, n: u32)
     requires some { 1 ≤ n }
     requires short { n ≤ 64 }
@@ -34,7 +34,7 @@ pub(crate) fn set_signed_number(lc: &mut Lc, first: Wire, n: u32)
     set_weighed(lc, first, n, -F::of(1 << (n - 1)));
 }
 
-/// Makes `lc` the number that `2 W` wires from a first one on represent.
+/// Sets `lc` to the number that `2 W` wires from a first one on represent.
 pub(crate) fn set_long_number<const W: u32>(lc: &mut Lc, first: Wire)
     requires width { IsWidth W }
     requires within { first + 2 * W < 2 ^ 32 }

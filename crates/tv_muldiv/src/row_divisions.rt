@@ -19,8 +19,8 @@ use tv_core::{F, Lc, Put, Scratch, Sink, Values, Wire, give_values};
 /// Constrains a row to the division of two words of `W` bits where `gate` is 1: its low half is the
 /// remainder and its high half the quotient, both 0 where `y` is, and `by_zero`, a bit, is 1
 /// exactly there. The number of `bits` is then by how much more than 1 the divisor, or 2^`W` in
-/// place of 0, is above the remainder. Where `gate` is 0, the bits represent `x`, and nothing is
-/// asked of the row. It returns a wire that is `by_zero` times `x`. It makes 2 wires and 4
+/// place of 0, is above the remainder. Where `gate` is 0, the bits represent `x`, and the row is
+/// free. It returns a wire that is `by_zero` times `x`. It makes 2 wires and 4
 /// constraints, of `W + 17` terms beside twice those of `gate`.
 pub fn row_division<const W: u32, S: Sink>(
     s: &mut S,
@@ -134,7 +134,7 @@ pub fn below_divisor<const W: u32>(x: u32, y: u32) -> u32
     }
 }
 
-/// Where the gate is 1, the wires hold words and an assignment satisfies the constraints of
+/// Where the gate is 1, the wires represent words and an assignment satisfies the constraints of
 /// `row_division`, the row is their division; where the gate is 0, the bits represent `x`.
 #[tactic(auto, using(crate::proofs::RowDivisionLaws::row_division_sound))]
 pub fn row_division_is_sound()
@@ -156,7 +156,7 @@ pub fn row_division_fills()
     ensures { RowDivisionSizes }
 {}
 
-/// Says how many constraints and terms `row_division` puts.
+/// Says how many constraints and terms `row_division` emits.
 #[tactic(auto, using(crate::proofs::RowDivisionLaws::row_division_cost_laws))]
 pub fn row_division_costs()
     ensures { RowDivisionCosts }

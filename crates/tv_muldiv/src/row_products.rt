@@ -65,14 +65,14 @@ pub fn fill_row_product<V: Values>(v: &mut V, x: u32, y: u32) -> Put<()>
     v.give(F::from(x) * F::from(y))
 }
 
-/// Where the gate is 1, the wires hold words and an assignment satisfies the constraints of
-/// `row_product`, the row holds their product.
+/// Where the gate is 1, the wires represent words and an assignment satisfies the constraints of
+/// `row_product`, the row is their product.
 #[tactic(auto, using(crate::proofs::RowProductLaws::row_product_sound))]
 pub fn row_product_is_sound()
     ensures { RowProductIsSound }
 {}
 
-/// Where the row holds the product of the words, or the gate is 0, an assignment that has the value
+/// Where the row is the product of the words, or the gate is 0, an assignment that has the value
 /// that `fill_row_product` assigns satisfies the constraints of `row_product`; and the product of
 /// two words is a row.
 #[tactic(auto, using(crate::proofs::RowProductLaws::row_product_complete))]
@@ -86,7 +86,7 @@ pub fn row_product_fills()
     ensures { RowProductSizes }
 {}
 
-/// Says how many constraints and terms `row_product` puts.
+/// Says how many constraints and terms `row_product` emits.
 #[tactic(auto, using(crate::proofs::RowProductLaws::row_product_cost_laws))]
 pub fn row_product_costs()
     ensures { RowProductCosts }

@@ -15,7 +15,7 @@ ghost use Rattle.tv_muldiv.specs.RowSignedProduct.{RowSignedProductIsSound};
 ghost use Rattle.tv_muldiv.specs.RowSignedProduct.{RowSignedProductIsComplete};
 ghost use Rattle.tv_muldiv.specs.RowSignedProduct.{RowSignedProductFits};
 ghost use Rattle.tv_muldiv.specs.RowSignedProduct.{RowSignedProductSizes, RowSignedProductCosts};
-ghost use Rattle.tv_muldiv.specs.SignedHigh.{product_twos};
+ghost use Rattle.tv_word.specs.Operations.{product_twos};
 ghost use Rattle.tv_word.specs.Widths.{IsWidth};
 
 use crate::signed_products::product_twos;
@@ -133,16 +133,15 @@ pub fn signed_product_halves<const W: u32>(x: u32, y: u32) -> (u32, u32)
     ((product % (1 << W)) as u32, (product >> W) as u32)
 }
 
-/// Where the gate is 1, the wires hold words and an assignment satisfies the constraints of
-/// `row_signed_product`, the row holds their signed product. Its high half is 2^`W` - 1 times the
+/// Where the gate is 1, the wires represent words and an assignment satisfies the constraints of
+/// `row_signed_product`, the row is their signed product. Its high half is 2^`W` - 1 times the
 /// highest bit of its low half exactly where the product is a signed word.
-#[tactic(auto, using(crate::proofs::RowSignedProductLaws::row_signed_product_laws))]
 pub fn row_signed_product_is_sound()
     ensures sound { RowSignedProductIsSound }
     ensures fits { RowSignedProductFits }
 {}
 
-/// Where the row holds the signed product of the words, or the gate is 0, an assignment that has
+/// Where the row is the signed product of the words, or the gate is 0, an assignment that has
 /// the value that `fill_row_signed_product` assigns satisfies the constraints of
 /// `row_signed_product`.
 #[tactic(auto, using(crate::proofs::RowSignedProductLaws::row_signed_product_complete))]
@@ -157,7 +156,7 @@ pub fn row_signed_product_fills()
     ensures { RowSignedProductSizes }
 {}
 
-/// Says how many constraints and terms `row_signed_product` puts.
+/// Says how many constraints and terms `row_signed_product` emits.
 #[tactic(auto, using(crate::proofs::RowSignedProductLaws::row_signed_product_cost_laws))]
 pub fn row_signed_product_costs()
     ensures { RowSignedProductCosts }

@@ -4,10 +4,11 @@ ghost use Rattle.tv_bits.specs.Bits.{AreBitsBelow};
 ghost use Rattle.tv_core.specs.Combinations.{top};
 ghost use Rattle.tv_core.specs.Values.{GivesIn};
 ghost use Rattle.tv_core.specs.Sinks.{PutsIn, Grows, Room};
-ghost use Rattle.tv_muldiv.specs.SignedHigh.{signed_product, product_twos, signed_bits_of, excess};
+ghost use Rattle.tv_muldiv.specs.SignedHigh.{signed_bits_of, excess};
 ghost use Rattle.tv_muldiv.specs.SignedHigh.{excess_in, signed_high_of, signed_high_values};
 ghost use Rattle.tv_muldiv.specs.SignedHigh.{SignedHighIsSound, SignedHighIsComplete};
 ghost use Rattle.tv_muldiv.specs.SignedHigh.{SignedHighSizes};
+ghost use Rattle.tv_word.specs.Operations.{signed_product, product_twos};
 ghost use Rattle.tv_word.specs.Widths.{IsWidth};
 
 use crate::numbers::{fill_halves, set_signed_number};

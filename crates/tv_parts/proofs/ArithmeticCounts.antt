@@ -24,11 +24,10 @@ use Rattle.tv_muldiv.proofs.RowSignedProductLaws.{row_signed_product_sizes, row_
 use Rattle.tv_muldiv.specs.RowDivision.{dividing, row_division_of, row_division_values}
 use Rattle.tv_muldiv.specs.RowProduct.{row_product_of, row_product_values}
 use Rattle.tv_muldiv.specs.RowSignedProduct.{row_signed_product_values}
-use Rattle.tv_numbers.specs.Views.{flag_of}
 use Rattle.tv_shift.proofs.PowerLaws.{shift_power_sizes, shift_power_cost_laws}
-use Rattle.tv_shift.proofs.RowShiftLaws.{left_shift_sizes, left_shift_cost_laws, right_shift_sizes, right_shift_cost_laws}
+use Rattle.tv_shift.proofs.RowShiftLaws.{right_shift_sizes, right_shift_cost_laws}
 use Rattle.tv_shift.specs.Power.{shift_power_of, shift_power_values}
-use Rattle.tv_shift.specs.RowShift.{left_shift_of, left_shift_values, right_shift_of, right_shift_values}
+use Rattle.tv_shift.specs.RowShift.{right_shift_of, right_shift_values}
 use Rattle.tv_shift.specs.declared.powers.ShiftPower.{ShiftPower}
 use Rattle.tv_word.specs.Widths.{IsWidth}
 use Rattle.tv_parts.proofs.Sized.{Sized, sized_then, sized_pure, sized_as}
@@ -40,6 +39,7 @@ use Rattle.tv_parts.specs.OpcodeSums.{opcode_sum}
 use Rattle.tv_parts.specs.declared.records.ArithmeticWires.{ArithmeticWires}
 use Rattle.tv_parts.specs.declared.records.OperandWires.{OperandWires}
 use Rattle.tv_parts.specs.declared.records.RowWires.{RowWires}
+use Rattle.tv_word.specs.Word.{flag_of}
 
 none_more : (next : ℕ) → next ≡ next + 0
 none_more next = omega arith
@@ -107,15 +107,15 @@ module _ (w : ℕ) (width : IsWidth w) (op other f : ℕ) (operand : OperandWire
           size = row_signed_product_cost_laws.terms w signed left right r.row;
         })
 
-    shift_sized : (kept power : ℕ) → Sized (left_shift_of w (opcode_sum op (11 ∷ [])) kept power r.row) 1 2 7 × Sized
+    shift_sized : (kept power : ℕ) → Sized (row_product_of w (opcode_sum op (11 ∷ [])) kept power r.row) 1 2 7 × Sized
         (right_shift_of w (opcode_sum op (12 ∷ [])) kept power r.row) 1 2 7
     shift_sized kept power =
         let to_left = opcode_sum op (11 ∷ []) in
         let to_right = opcode_sum op (12 ∷ []) in (
           record {
-            end = left_shift_sizes.end w to_left kept power r.row;
-            count = left_shift_cost_laws.constraints w to_left kept power r.row;
-            size = left_shift_cost_laws.terms w to_left kept power r.row;
+            end = row_product_sizes.end w to_left kept power r.row;
+            count = row_product_cost_laws.constraints w to_left kept power r.row;
+            size = row_product_cost_laws.terms w to_left kept power r.row;
           },
           record {
             end = right_shift_sizes.end w to_right kept power r.row;
@@ -144,7 +144,7 @@ module _ (w : ℕ) (width : IsWidth w) (op other f : ℕ) (operand : OperandWire
           count = shift_power_cost_laws.constraints w width operand.bits;
           size = shift_power_cost_laws.terms w width operand.bits;
         })
-        (λ at. sized_then (left_shift_of w (opcode_sum op (11 ∷ [])) _ _ r.row) _ 1 2 7 (1 + 0) (2 + 0) (7 + 0) (shift_sized _ _).0
+        (λ at. sized_then (row_product_of w (opcode_sum op (11 ∷ [])) _ _ r.row) _ 1 2 7 (1 + 0) (2 + 0) (7 + 0) (shift_sized _ _).0
         (λ here. sized_then (right_shift_of w (opcode_sum op (12 ∷ [])) _ _ r.row) _ 1 2 7 0 0 0 (shift_sized _ _).1
         (λ last. sized_pure _)))))
         (omega arith) (omega arith) (omega arith)
@@ -224,7 +224,7 @@ rows_length w k x a low high =
 
 shifts_length : (w : ℕ) → IsWidth w → (x a f low high : ℕ) → length (shifts_values w x a f low high) ≡ w / 16 + 6
 shifts_length w width x a f low high =
-    let last = left_shift_values (f * x % P) (2 ^ (a % w)) ++ right_shift_values w low high (2 ^ (a % w)) in
+    let last = row_product_values (f * x % P) (2 ^ (a % w)) ++ right_shift_values w low high (2 ^ (a % w)) in
     length-append (row_division_values f x high a) (shift_power_values w a ++ last)
     ∙ ap (λ n. 2 + n) (length-append (shift_power_values w a) last ∙ ap (λ n. n + 2) (power_length w width a))
     ∙ (let e : 2 + (w / 16 + 2 + 2) ≡ w / 16 + 6 = omega arith in e)
@@ -244,7 +244,7 @@ arithmetic_in_field : (w : ℕ) → IsWidth w → (k x a g low high : ℕ) → l
 arithmetic_in_field w width k x a g low high l h =
     let v = decomposed_word w k x a in
     let shifts = shifts_values w x a g low high in
-    let lefts = left_shift_values (g * x % P) (2 ^ (a % w)) in
+    let lefts = row_product_values (g * x % P) (2 ^ (a % w)) in
     let rights = right_shift_values w low high (2 ^ (a % w)) in
     let signed = row_signed_product_values w x (bit_at v (w - 1)) a (bit_at a (w - 1)) in
     InField-append (rows_values w k x a low high) (sums_values w k x a ++ (products_values w k x a ++ shifts))
@@ -256,7 +256,7 @@ arithmetic_in_field w width k x a g low high l h =
     (row_signed_product_sizes.in_field w x (bit_at v (w - 1)) a (bit_at a (w - 1))))
     (InField-append (row_division_values g x high a) (shift_power_values w a ++ (lefts ++ rights)) (row_division_sizes.in_field g x high a)
     (InField-append (shift_power_values w a) (lefts ++ rights) (shift_power_sizes.in_field w width a)
-    (InField-append lefts rights (left_shift_sizes.in_field (g * x % P) (2 ^ (a % w))) (right_shift_sizes.in_field w low high (2 ^ (a % w))))))))
+    (InField-append lefts rights (row_product_sizes.in_field (g * x % P) (2 ^ (a % w))) (right_shift_sizes.in_field w low high (2 ^ (a % w))))))))
 
 pub arithmetic_sizes : ArithmeticSizes
 arithmetic_sizes = record {

@@ -12,7 +12,7 @@ use Rattle.tv_bits.specs.DoubleRow.{HasRowBits, above_edge_in, double_row_of, do
 use Rattle.tv_bits.specs.Ratio.{ratio_values}
 use Rattle.tv_bits.specs.declared.bit_wires.Bits.{Bits}
 use Rattle.tv_bits.specs.declared.double_rows.DoubleRow.{DoubleRow}
-use Rattle.tv_core.proofs.Meeting.{Meets-split, Meets-join, HasFrom-split}
+use Rattle.tv_core.proofs.MeetsLaws.{Meets-split, Meets-join, HasFrom-split}
 use Rattle.tv_core.specs.Circuits.{pure, ◌>>=◌}
 use Rattle.tv_core.specs.Constraints.{value}
 use Rattle.tv_core.specs.Laws.{Meets, HasFrom}
@@ -30,11 +30,10 @@ use Rattle.tv_muldiv.proofs.RowSignedProductLaws.{row_signed_product_complete}
 use Rattle.tv_muldiv.specs.RowDivision.{dividing, IsRowDivision, below_divisor, row_division_of, row_division_values}
 use Rattle.tv_muldiv.specs.RowProduct.{IsRowProduct, row_product_of, row_product_values}
 use Rattle.tv_muldiv.specs.RowSignedProduct.{signed_in, row_signed_product_of}
-use Rattle.tv_numbers.specs.Views.{flag_of}
 use Rattle.tv_shift.proofs.PowerLaws.{shift_power_sound, shift_power_complete, shift_power_sizes}
-use Rattle.tv_shift.proofs.RowShiftLaws.{left_shift_complete, left_shift_sizes, right_shift_complete}
+use Rattle.tv_shift.proofs.RowShiftLaws.{right_shift_complete}
 use Rattle.tv_shift.specs.Power.{shift_power_of, shift_power_values}
-use Rattle.tv_shift.specs.RowShift.{IsLeftShift, IsRightShift, left_shift_of, left_shift_values, right_shift_of, right_shift_values}
+use Rattle.tv_shift.specs.RowShift.{IsRightShift, right_shift_of, right_shift_values, shifted_word}
 use Rattle.tv_word.proofs.WidthLaws.{width_short}
 use Rattle.tv_word.specs.Widths.{IsWidth}
 use Rattle.tv_parts.proofs.ArithmeticCounts.{rows_sized, sums_sized, products_sized, rows_length, power_length}
@@ -42,12 +41,13 @@ use Rattle.tv_parts.proofs.ArithmeticLaws.{gate, on, off, gate_bit, a_word, x_he
 use Rattle.tv_parts.proofs.ArithmeticNumbers.{apart_is, Operated, operated_by, FitsRow, numbers_fit, shifted_below, place_below}
 use Rattle.tv_parts.specs.Arithmetic.{bitwise_ops, difference_ops, strict_ops, signed_ops, product_ops, division_ops, shift_ops, with_sign, rows_of}
 use Rattle.tv_parts.specs.Arithmetic.{sums_of, products_of, shifts_of, arithmetic_of}
-use Rattle.tv_parts.specs.Arithmetic.{decomposed_word, shifted_word, low_number, high_number, rows_values, sums_values, products_values, shifts_values}
+use Rattle.tv_parts.specs.Arithmetic.{decomposed_word, low_number, high_number, rows_values, sums_values, products_values, shifts_values}
 use Rattle.tv_parts.specs.Arithmetic.{HasArithmetic, ArithmeticIsComplete}
 use Rattle.tv_parts.specs.Inputs.{operation_of}
 use Rattle.tv_parts.specs.OpcodeSums.{opcode_sum}
 use Rattle.tv_parts.specs.declared.records.OperandWires.{OperandWires}
 use Rattle.tv_parts.specs.declared.records.RowWires.{RowWires}
+use Rattle.tv_word.specs.Word.{flag_of}
 
 by_gate : {M : Type 0} (b : Bool) → (b ≡ true → M) → (b ≡ false → M) → M
 by_gate true met shut = met refl
@@ -57,15 +57,15 @@ closed : (b : Bool) → flag_of b ≡ 0 → b ≡ false
 closed true e = absurd (omega arith)
 closed false e = refl
 
-pub row_spelled : (w : ℕ) → IsWidth w → (k x a : ℕ) → x < 2 ^ w → a < 2 ^ w → decomposed_word w k x a < 2 ^ w
-row_spelled w width k x a h l = by_gate (among division_ops k)
+pub decomposed_below : (w : ℕ) → IsWidth w → (k x a : ℕ) → x < 2 ^ w → a < 2 ^ w → decomposed_word w k x a < 2 ^ w
+decomposed_below w width k x a h l = by_gate (among division_ops k)
     (λ t. subst (λ n. n < 2 ^ w) (sym (ap (λ b. if b then below_divisor w x a else x) t)) (row_division_complete.bits w width x a h l))
     (λ t. subst (λ n. n < 2 ^ w) (sym (ap (λ b. if b then below_divisor w x a else x) t)) h)
 
 -- what an assignment has at the two rows
 record RowsHave (w : ℕ) (z : List ℕ) (r : RowWires) (v low high : ℕ) : Type 0 where
   bits : HasBits z r.x.first w v
-  spells : HasRowBits w z r.row
+  decomposes : HasRowBits w z r.row
   low_wire : slice_index z r.row.low ≡ low
   high_wire : slice_index z r.row.high ≡ high
 
@@ -99,8 +99,8 @@ module _ (w : ℕ) (width : IsWidth w) (z : List ℕ) (op other f : ℕ) (operan
       let answer = double_row_answer w signed bits.next in
       record {
         bits = subst (λ (b : Bits). HasBits z b.first w v) (sym (new_bits_answer w next))
-            (HasBits-from_values z next w v (row_spelled w width k x a has.word (a_word w width z op other f operand k x a has)) parts.0);
-        spells = double_row_sound.spells w width z bits.next signed has.assigns (Meets-split z row.list _ (Meets-split z bits.list _ meets).1).0;
+            (HasBits-from_values z next w v (decomposed_below w width k x a has.word (a_word w width z op other f operand k x a has)) parts.0);
+        decomposes = double_row_sound.decomposes w width z bits.next signed has.assigns (Meets-split z row.list _ (Meets-split z bits.list _ meets).1).0;
         low_wire = ap (λ (d : DoubleRow). slice_index z d.low) answer ∙ ap (slice_index z) place ∙ highs.1.0;
         high_wire = ap (λ (d : DoubleRow). slice_index z d.high) answer ∙ ap (slice_index z) after ∙ highs.1.1.0;
       }
@@ -167,7 +167,7 @@ module _ (w : ℕ) (width : IsWidth w) (z : List ℕ) (op other f : ℕ) (operan
         (is_off difference_ops refl t) sign_is right_signed.sign there) in
         let m3 : Meets z (bitwise_of w bits r.x operand.bits r.row difference.next).list = by_gate (among bitwise_ops k)
         (λ t. bitwise_complete.on w width z difference.next bits r.x operand.bits r.row x a has.assigns
-        (x_bits (apart_is bitwise_ops division_ops k refl t)) has.taken.bits rows.spells (o.bitwise t).0 (o.bitwise t).1)
+        (x_bits (apart_is bitwise_ops division_ops k refl t)) has.taken.bits rows.decomposes (o.bitwise t).0 (o.bitwise t).1)
         (λ t. bitwise_complete.off w z difference.next bits r.x operand.bits r.row (is_off bitwise_ops refl t)) in
         Meets-join z sum.list _ m1 (Meets-join z difference.list _ m2 m3)
 
@@ -194,7 +194,7 @@ module _ (w : ℕ) (width : IsWidth w) (z : List ℕ) (op other f : ℕ) (operan
         (λ t.
         let plain = apart_is (8 ∷ []) division_ops k refl t in
         row_signed_product_complete.on w width z product.next signed left right r.row x a has.assigns
-        (left_word w width z op other f operand k x a has r.x.first (x_bits plain)) right_signed rows.spells (o.signed_product t)
+        (left_word w width z op other f operand k x a has r.x.first (x_bits plain)) right_signed rows.decomposes (o.signed_product t)
         (second ∙ ap (λ n. signed_in w x (bit_at n (w - 1)) * signed_in w a (bit_at a (w - 1)) % P) (v_is_x plain), tt))
         (λ t. row_signed_product_complete.off w z product.next signed left right r.row has.assigns (is_off (8 ∷ []) refl t)
         (second ∙ sym (ap₂ (λ m n. m * n % P) (ap₂ (signed_in w) has.held sign_is) (ap₂ (signed_in w) has.taken.word right_signed.sign)), tt)) in
@@ -233,10 +233,10 @@ module _ (w : ℕ) (width : IsWidth w) (z : List ℕ) (op other f : ℕ) (operan
         let to_right = opcode_sum op (12 ∷ []) in
         let division = row_division_of w divide (dividing other operand.word f) r.x r.row next in
         let power = shift_power_of w operand.bits division.next in
-        let left = left_shift_of w to_left division.answer power.answer.power r.row power.next in
+        let left = row_product_of w to_left division.answer power.answer.power r.row power.next in
         let right = right_shift_of w to_right division.answer power.answer.power r.row left.next in
         let is_off = off w width z op other f operand k x a has in
-        let kept_values = left_shift_values (slice_index z f * x % P) (2 ^ (a % w)) in
+        let kept_values = row_product_values (slice_index z f * x % P) (2 ^ (a % w)) in
         let row_values = right_shift_values w low high (2 ^ (a % w)) in
         let parts = HasFrom-split z next (row_division_values (slice_index z f) x high a) (shift_power_values w a ++ (kept_values ++ row_values)) values in
         let powers = HasFrom-split z (next + 2) (shift_power_values w a) (kept_values ++ row_values) parts.1 in
@@ -244,7 +244,7 @@ module _ (w : ℕ) (width : IsWidth w) (z : List ℕ) (op other f : ℕ) (operan
         let e2 : power.next ≡ next + 2 + length (shift_power_values w a) = omega
         (arith, e1, shift_power_sizes.end w width operand.bits division.next, power_length w width a) in
         let e3 : left.next ≡ next + 2 + length
-        (shift_power_values w a) + 1 = left_shift_sizes.end w to_left division.answer power.answer.power r.row power.next ∙ ap (λ n. n + 1) e2 in
+        (shift_power_values w a) + 1 = row_product_sizes.end w to_left division.answer power.answer.power r.row power.next ∙ ap (λ n. n + 1) e2 in
         let m1 = division_met parts.0 in
         let m2 = shift_power_complete w width z division.next operand.bits a has.assigns has.taken.bits
         (subst (λ n. HasFrom z n (shift_power_values w a)) (sym e1) powers.0) in
@@ -256,17 +256,17 @@ module _ (w : ℕ) (width : IsWidth w) (z : List ℕ) (op other f : ℕ) (operan
         (λ t. kept ∙ ap (λ n. n * x % P) (has.shifts t) ∙ kept_word w width x a has.word) in
         let kept_small : among shift_ops k ≡ true → slice_index z division.answer < 2 ^ w =
         (λ t. subst (λ n. n < 2 ^ w) (sym (kept_is t)) (shifted_below w x a has.word)) in
-        let first : HasFrom z power.next (left_shift_values (slice_index z division.answer) (slice_index z power.answer.power)) =
+        let first : HasFrom z power.next (row_product_values (slice_index z division.answer) (slice_index z power.answer.power)) =
         (ap (slice_index z) e2 ∙ powers.1.0 ∙ sym (ap₂ (λ m n. m * n % P) kept powered), tt) in
         let second : HasFrom z left.next (right_shift_values w (slice_index z r.row.low) (slice_index z r.row.high) (slice_index z power.answer.power)) =
         (ap (slice_index z) e3 ∙ powers.1.1.0 ∙ sym (ap₂ (λ m n. m * n % P) (ap₂ (λ m n. m + 2 ^ w * n) rows.low_wire rows.high_wire) powered), tt) in
         let m3 : Meets z left.list = by_gate (among (11 ∷ []) k)
         (λ t.
         let shift = left_is_shift k t in
-        left_shift_complete.on w width z power.next to_left division.answer power.answer.power r.row (a % w) has.assigns (kept_small shift)
-        (place_below w width a) powered
-        (subst (λ n. IsLeftShift w z r.row n (a % w)) (sym (kept_is shift)) (o.left t)) first)
-        (λ t. left_shift_complete.off w z power.next to_left division.answer power.answer.power r.row has.assigns (is_off (11 ∷ []) refl t) first) in
+        row_product_complete.on w z power.next to_left division.answer power.answer.power r.row has.assigns
+        (subst (λ n. IsRowProduct w z r.row n (slice_index z power.answer.power)) (sym (kept_is shift))
+        (subst (λ n. IsRowProduct w z r.row (shifted_word w x a) n) (sym powered) (o.left t))) first)
+        (λ t. row_product_complete.off w z power.next to_left division.answer power.answer.power r.row has.assigns (is_off (11 ∷ []) refl t) first) in
         let m4 : Meets z right.list = by_gate (among (12 ∷ []) k)
         (λ t.
         let shift = right_is_shift k t in

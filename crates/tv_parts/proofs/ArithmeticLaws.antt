@@ -11,7 +11,7 @@ use Rattle.tv_bits.specs.Bit.{IsBit}
 use Rattle.tv_bits.specs.Bits.{HasBits, binary_value, new_bits_of}
 use Rattle.tv_bits.specs.DoubleRow.{IsRow, HasRowBits, double_row_of}
 use Rattle.tv_bits.specs.SignedWords.{HoldsSigned}
-use Rattle.tv_core.proofs.Meeting.{Meets-split}
+use Rattle.tv_core.proofs.MeetsLaws.{Meets-split}
 use Rattle.tv_core.specs.Circuits.{pure, ◌>>=◌}
 use Rattle.tv_core.specs.Constraints.{value}
 use Rattle.tv_core.specs.Laws.{Meets}
@@ -28,22 +28,22 @@ use Rattle.tv_muldiv.proofs.RowSignedProductLaws.{row_signed_product_sound}
 use Rattle.tv_muldiv.specs.RowDivision.{dividing, IsRowDivision, row_division_of}
 use Rattle.tv_muldiv.specs.RowProduct.{IsRowProduct, row_product_of}
 use Rattle.tv_muldiv.specs.RowSignedProduct.{IsRowSignedProduct}
-use Rattle.tv_numbers.specs.Views.{flag_of}
 use Rattle.tv_shift.proofs.PowerLaws.{shift_power_sound}
-use Rattle.tv_shift.proofs.RowShiftLaws.{left_shift_sound, right_shift_sound}
+use Rattle.tv_shift.proofs.RowShiftLaws.{right_shift_sound}
 use Rattle.tv_shift.specs.Power.{shift_power_of}
-use Rattle.tv_shift.specs.RowShift.{IsLeftShift, IsRightShift, left_shift_of, right_shift_of}
+use Rattle.tv_shift.specs.RowShift.{IsRightShift, right_shift_of, shifted_word}
+use Rattle.tv_word.proofs.FlagLaws.{flag_small}
 use Rattle.tv_word.proofs.WidthLaws.{width_short}
 use Rattle.tv_word.specs.Widths.{IsWidth}
-use Rattle.tv_parts.proofs.ArithmeticNumbers.{apart_is, halves_by, shifted_below, place_below}
+use Rattle.tv_parts.proofs.ArithmeticNumbers.{apart_is, halves_by, shifted_below, place_below, power_below}
 use Rattle.tv_parts.proofs.OpcodeLaws.{opcode_sum_sound}
-use Rattle.tv_parts.proofs.TapeLaws.{flag_small}
 use Rattle.tv_parts.specs.Arithmetic.{bitwise_ops, difference_ops, strict_ops, signed_ops, product_ops, division_ops, shift_ops, with_sign, rows_of}
-use Rattle.tv_parts.specs.Arithmetic.{sums_of, products_of, shifts_of, arithmetic_of, shifted_word, HasArithmetic, ArithmeticIsSound}
+use Rattle.tv_parts.specs.Arithmetic.{sums_of, products_of, shifts_of, arithmetic_of, HasArithmetic, ArithmeticIsSound}
 use Rattle.tv_parts.specs.Inputs.{operation_of}
 use Rattle.tv_parts.specs.OpcodeSums.{opcode_sum, distinct}
 use Rattle.tv_parts.specs.declared.records.OperandWires.{OperandWires}
 use Rattle.tv_parts.specs.declared.records.RowWires.{RowWires}
+use Rattle.tv_word.specs.Word.{flag_of}
 
 pub word_small : (w : ℕ) → IsWidth w → (v : ℕ) → v < 2 ^ w → v < P
 word_small w width v h = grind arith
@@ -84,14 +84,14 @@ right_is_shift k t = ap (λ c. if 11 == k then true else c) t ∙ always (11 == 
 pub record RowsHold (w : ℕ) (z : List ℕ) (k : ℕ) (r : RowWires) : Type 0 where
   pub v : ℕ
   pub bits : HasBits z r.x.first w v
-  pub spells : HasRowBits w z r.row
+  pub decomposes : HasRowBits w z r.row
   pub row : among (8 ∷ []) k ≡ false → IsRow w (slice_index z r.row.low) (slice_index z r.row.high)
 
 -- what the constraints of a division and the shifts say
 pub record ShiftsHold (w : ℕ) (z : List ℕ) (r : RowWires) (f : ℕ) (operand : OperandWires) (both k x a : ℕ) : Type 0 where
   pub division : among division_ops k ≡ true → IsRowDivision z r.row f x a
   pub same : among division_ops k ≡ false → HasBits z r.x.first w x
-  pub left : among (11 ∷ []) k ≡ true → IsLeftShift w z r.row (shifted_word w x a) (a % w)
+  pub left : among (11 ∷ []) k ≡ true → IsRowProduct w z r.row (shifted_word w x a) (2 ^ (a % w))
   pub right : among (12 ∷ []) k ≡ true → IsRightShift w z r.row (shifted_word w x a) (a % w)
   pub product : slice_index z both ≡ slice_index z operand.bits.first * slice_index z (operand.bits.first + 1) % P
 
@@ -149,7 +149,7 @@ module _ (w : ℕ) (width : IsWidth w) (z : List ℕ) (op other f : ℕ) (operan
       record {
         v = binary_value z bits.answer.first w;
         bits = new_bits_sound z next w has.assigns m1.0;
-        spells = double_row_sound.spells w width z bits.next signed has.assigns m2.0;
+        decomposes = double_row_sound.decomposes w width z bits.next signed has.assigns m2.0;
         row = λ e. double_row_sound.row w width z bits.next signed has.assigns (off (8 ∷ []) refl e) m2.0;
       }
 
@@ -162,7 +162,7 @@ module _ (w : ℕ) (width : IsWidth w) (z : List ℕ) (op other f : ℕ) (operan
         let divide = opcode_sum op division_ops in
         let division = row_division_of w divide (dividing other operand.word f) r.x r.row next in
         let power = shift_power_of w operand.bits division.next in
-        let left = left_shift_of w (opcode_sum op (11 ∷ [])) division.answer power.answer.power r.row power.next in
+        let left = row_product_of w (opcode_sum op (11 ∷ [])) division.answer power.answer.power r.row power.next in
         let right = right_shift_of w (opcode_sum op (12 ∷ [])) division.answer power.answer.power r.row left.next in
         let m1 = Meets-split z division.list _ meets in
         let m2 = Meets-split z power.list _ m1.1 in
@@ -189,10 +189,11 @@ module _ (w : ℕ) (width : IsWidth w) (z : List ℕ) (op other f : ℕ) (operan
               subst (λ n. HasBits z r.x.first w n) (sym is ∙ has.held) rows.bits;
           left = λ t.
               let shift = left_is_shift k t in
-              subst (λ n. IsLeftShift w z r.row n (a % w)) (kept_is shift)
-              (left_shift_sound w width z power.next (opcode_sum op (11 ∷ [])) division.answer power.answer.power r.row (a % w) has.assigns
-              (on (11 ∷ []) refl t)
-              (kept_small shift) (place_below w width a) powered.power (rows.row (apart_is (11 ∷ []) (8 ∷ []) k refl t)) m3.0);
+              let is = row_product_sound w width z power.next (opcode_sum op (11 ∷ [])) division.answer power.answer.power r.row has.assigns
+              (on (11 ∷ []) refl t) (kept_small shift) (subst (λ n. n < 2 ^ w) (sym powered.power) (power_below w width a))
+              (rows.row (apart_is (11 ∷ []) (8 ∷ []) k refl t)) m3.0 in
+              subst (λ n. IsRowProduct w z r.row (shifted_word w x a) n) powered.power
+              (subst (λ n. IsRowProduct w z r.row n (slice_index z power.answer.power)) (kept_is shift) is);
           right = λ t.
               let shift = right_is_shift k t in
               subst (λ n. IsRightShift w z r.row n (a % w)) (kept_is shift)
@@ -229,7 +230,7 @@ module _ (w : ℕ) (width : IsWidth w) (z : List ℕ) (op other f : ℕ) (operan
             bitwise = λ t.
                 let is = bitwise_sound w width z difference.next (opcode_sum op bitwise_ops) r.x operand.bits r.row x a has.assigns
                 (same (apart_is bitwise_ops division_ops k refl t)) has.taken.bits
-                rows.spells (on bitwise_ops refl t) m2.1 in
+                rows.decomposes (on bitwise_ops refl t) m2.1 in
                 (is.and_word, is.xor_word);
           }
 
@@ -247,7 +248,7 @@ module _ (w : ℕ) (width : IsWidth w) (z : List ℕ) (op other f : ℕ) (operan
                 subst (λ n. IsRowProduct w z r.row x n) has.taken.word (subst (λ n. IsRowProduct w z r.row n (slice_index z operand.word)) has.held is);
             signed_product = λ t.
                 row_signed_product_sound w width z product.next (opcode_sum op (8 ∷ [])) left right r.row x a has.assigns (on (8 ∷ []) refl t)
-                (left_word r.x.first (same (apart_is (8 ∷ []) division_ops k refl t))) right_word rows.spells m1.1;
+                (left_word r.x.first (same (apart_is (8 ∷ []) division_ops k refl t))) right_word rows.decomposes m1.1;
           }
 
 pub arithmetic_sound : ArithmeticIsSound
@@ -267,7 +268,7 @@ arithmetic_sound w width z next op other f operand k x a has meets =
     let multiplied = products_sound w width z op other f operand k x a has r.answer sums.next rows shifted.same m3.0 in
     record {
       halves = halves_by w width z r.answer.row f x a has.word (HasBits-below has.taken.bits) k has.opcode.within has.opcode.used
-          (HasBits-below rows.spells.low) (HasBits-below rows.spells.high) (record {
+          (HasBits-below rows.decomposes.low) (HasBits-below rows.decomposes.high) (record {
             bitwise = summed.bitwise;
             sum = summed.sum;
             difference = summed.difference;
@@ -277,7 +278,7 @@ arithmetic_sound w width z next op other f operand k x a has meets =
             left = shifted.left;
             right = shifted.right;
           });
-      row = rows.spells;
+      row = rows.decomposes;
       bits = (rows.v, rows.bits);
       same = shifted.same;
       by_zero = λ t. (shifted.division t).zero;

@@ -1,13 +1,14 @@
 -- What the double row holds by the operation of an opcode, and the halves that this makes.
 use Rattle.std.proofs.Common.{◌≡◌, ℕ, ◌+◌, ◌-◌, ◌*◌, ◌/◌, ◌%◌, ◌^◌, ◌<◌, ◌==◌, nat_lt, not, Bool, true, false, if◌then◌else◌, List, [], ◌∷◌, refl, sym}
 use Rattle.std.proofs.Common.{◌∙◌, ap, subst, arith, mod-lt, mod-eq_of_lt, zero-mul, true≢false}
+use Rattle.std.proofs.Math.Pow.{pow-lt}
 use Rattle.std.proofs.Math.Nat.{zero-div}
 use Rattle.std.specs.Prelude.{◌&&◌, slice_index, bit_and, bit_xor}
 use Rattle.std.proofs.lemmas.Bool.{and_parts, ltb-true, eqb-true, not-true}
 use Rattle.std.proofs.lemmas.Bool.Decides.{nat_tests}
 use Rattle.tv_bits.specs.DoubleRow.{IsRow}
 use Rattle.tv_bits.specs.declared.double_rows.DoubleRow.{DoubleRow}
-use Rattle.tv_isa.specs.Opcodes.{among, chosen}
+use Rattle.tv_isa.specs.Opcodes.{among, chosen, unused_ops}
 use Rattle.tv_limb.proofs.RowDifferenceLaws.{row_difference_complete}
 use Rattle.tv_limb.proofs.RowSumLaws.{row_sum_complete}
 use Rattle.tv_limb.specs.RowDifference.{comparing, IsRowDifference}
@@ -20,15 +21,15 @@ use Rattle.tv_muldiv.proofs.RowSignedProductLaws.{row_signed_product_complete}
 use Rattle.tv_muldiv.specs.RowDivision.{IsRowDivision}
 use Rattle.tv_muldiv.specs.RowProduct.{IsRowProduct}
 use Rattle.tv_muldiv.specs.RowSignedProduct.{IsRowSignedProduct}
-use Rattle.tv_numbers.specs.Tables.{unused_ops}
-use Rattle.tv_numbers.specs.Views.{flag_of}
-use Rattle.tv_shift.proofs.RowShiftLaws.{left_shift_complete, right_shift_complete}
-use Rattle.tv_shift.specs.RowShift.{left_low, right_high, IsLeftShift, IsRightShift}
+use Rattle.tv_shift.proofs.AnyDistance.{any_distance}
+use Rattle.tv_shift.proofs.RowShiftLaws.{right_shift_complete}
+use Rattle.tv_shift.specs.RowShift.{right_high, IsRightShift, shifted_word}
 use Rattle.tv_word.proofs.WidthLaws.{width_short}
 use Rattle.tv_word.specs.Widths.{IsWidth}
 use Rattle.tv_parts.proofs.OpcodeCases.{for_opcode, unused}
-use Rattle.tv_parts.specs.Arithmetic.{bitwise_ops, difference_ops, strict_ops, signed_ops, product_ops, division_ops, shifted_word, low_number, high_number}
+use Rattle.tv_parts.specs.Arithmetic.{bitwise_ops, difference_ops, strict_ops, signed_ops, product_ops, division_ops, low_number, high_number}
 use Rattle.tv_parts.specs.Rows.{covers, low_halves, high_halves, AreHalves}
+use Rattle.tv_word.specs.Word.{flag_of}
 
 -- ---- groups of opcodes
 pub out : {A : Type 0} → false ≡ true → A
@@ -71,7 +72,7 @@ pub record Operated (w : ℕ) (z : List ℕ) (row : DoubleRow) (f k x a : ℕ) :
   pub product : among product_ops k ≡ true → IsRowProduct w z row x a
   pub signed_product : among (8 ∷ []) k ≡ true → IsRowSignedProduct w z row x a
   pub division : among division_ops k ≡ true → IsRowDivision z row f x a
-  pub left : among (11 ∷ []) k ≡ true → IsLeftShift w z row (shifted_word w x a) (a % w)
+  pub left : among (11 ∷ []) k ≡ true → IsRowProduct w z row (shifted_word w x a) (2 ^ (a % w))
   pub right : among (12 ∷ []) k ≡ true → IsRightShift w z row (shifted_word w x a) (a % w)
 
 minus_none : (n : ℕ) → n - 0 ≡ n
@@ -79,23 +80,6 @@ minus_none n = omega arith
 
 carried : (w : ℕ) → IsWidth w → (x a : ℕ) → x < 2 ^ w → a < 2 ^ w → carry w x a ≡ (x + a) / 2 ^ w
 carried w width x a h k = grind (arith, nat_tests)
-
-shifted_left_is : (w x a : ℕ) → x < 2 ^ w → left_low w (shifted_word w x a) (a % w) ≡ (if nat_lt a w then x * 2 ^ a % 2 ^ w else 0)
-shifted_left_is w x a h = by_test (nat_lt a w) refl
-  where
-    none : 0 % 2 ^ w ≡ 0
-    none = mod-eq_of_lt (let positive : 0 < 2 ^ w = omega arith in positive)
-
-    by_test : (b : Bool) → nat_lt a w ≡ b → (if b then x else 0) * 2 ^ (a % w) % 2 ^ w ≡ (if b then x * 2 ^ a % 2 ^ w else 0)
-    by_test true e = ap (λ n. x * 2 ^ n % 2 ^ w) (mod-eq_of_lt (ltb-true a w e))
-    by_test false e = ap (λ n. n % 2 ^ w) (zero-mul (2 ^ (a % w))) ∙ none
-
-shifted_right_is : (w x a : ℕ) → right_high (shifted_word w x a) (a % w) ≡ (if nat_lt a w then x / 2 ^ a else 0)
-shifted_right_is w x a = by_test (nat_lt a w) refl
-  where
-    by_test : (b : Bool) → nat_lt a w ≡ b → (if b then x else 0) / 2 ^ (a % w) ≡ (if b then x / 2 ^ a else 0)
-    by_test true e = ap (λ n. x / 2 ^ n) (mod-eq_of_lt (ltb-true a w e))
-    by_test false e = zero-div (2 ^ (a % w))
 
 module _ (w : ℕ) (width : IsWidth w) (z : List ℕ) (row : DoubleRow) (f x a : ℕ) (x_word : x < 2 ^ w) (a_word : a < 2 ^ w) where
   Low : ℕ → Type 0
@@ -152,7 +136,7 @@ module _ (w : ℕ) (width : IsWidth w) (z : List ℕ) (row : DoubleRow) (f x a :
                                         (
                                           (λ _ _. out),
                                           (
-                                            (λ _ o _. (o.left refl).low ∙ shifted_left_is w x a x_word),
+                                            (λ _ o _. (o.left refl).low ∙ any_distance.left w x a),
                                             (
                                               (λ _ o _. (o.division refl).rem),
                                               (
@@ -244,7 +228,7 @@ module _ (w : ℕ) (width : IsWidth w) (z : List ℕ) (row : DoubleRow) (f x a :
                                       (
                                         (λ _ o _. (o.difference refl).high),
                                         (
-                                          (λ _ o _. (o.right refl).high ∙ shifted_right_is w x a),
+                                          (λ _ o _. (o.right refl).high ∙ any_distance.right w x a),
                                           (
                                             (λ _ _. out),
                                             (
@@ -329,7 +313,7 @@ module _ (w : ℕ) (width : IsWidth w) (z : List ℕ) (row : DoubleRow) (f k x a
       signed_product = at (8 ∷ []) (λ _. IsRowSignedProduct w z row x a) ((λ l h. record { low = l; high = h }), tt);
       division = λ t. at division_ops (λ _. IsRowDivision z row f x a)
           ((λ l h. record { rem = l; quot = h; zero = by_zero t }), ((λ l h. record { rem = l; quot = h; zero = by_zero t }), tt)) t;
-      left = at (11 ∷ []) (λ _. IsLeftShift w z row (shifted_word w x a) (a % w)) ((λ l h. record { low = l; high = h }), tt);
+      left = at (11 ∷ []) (λ _. IsRowProduct w z row (shifted_word w x a) (2 ^ (a % w))) ((λ l h. record { low = l; high = h }), tt);
       right = at (12 ∷ []) (λ _. IsRightShift w z row (shifted_word w x a) (a % w)) ((λ l h. record { low = l; high = h }), tt);
     }
 
@@ -357,6 +341,9 @@ shifted_below w x a h = either (nat_lt a w)
 
 pub place_below : (w : ℕ) → IsWidth w → (a : ℕ) → a % w < w
 place_below w width a = mod-lt a (let most = width_short w width in let positive : 0 < w = omega arith in positive)
+
+pub power_below : (w : ℕ) → IsWidth w → (a : ℕ) → 2 ^ (a % w) < 2 ^ w
+power_below w width a = pow-lt (place_below w width a)
 
 module _ (w : ℕ) (width : IsWidth w) (x a o : ℕ) (x_word : x < 2 ^ w) (a_word : a < 2 ^ w) (o_word : o < 2 ^ w) where
   abbrev Fitting : ℕ → Type 0
@@ -415,7 +402,7 @@ module _ (w : ℕ) (width : IsWidth w) (x a o : ℕ) (x_word : x < 2 ^ w) (a_wor
                                             (
                                               (λ _. of_row w _ _ false (right_shift_complete.row w width v (a % w) v_word place)),
                                               (
-                                                (λ _. of_row w _ _ false (left_shift_complete.row w width v (a % w) v_word place)),
+                                                (λ _. of_row w _ _ false (row_product_complete.row w width v (2 ^ (a % w)) v_word (power_below w width a))),
                                                 (
                                                   (λ _. of_row w _ _ false (row_division_complete.row w width x a x_word a_word)),
                                                   (

@@ -9,19 +9,20 @@ use Rattle.tv_bits.specs.Times.{times_of}
 use Rattle.tv_bits.specs.declared.bit_wires.Bits.{Bits}
 use Rattle.tv_core.proofs.CombinationLaws.{value-wire, value-append, value-cons, wire-below}
 use Rattle.tv_core.proofs.FieldLaws.{InField-cons, InField-none}
-use Rattle.tv_core.proofs.Meeting.{Meets-split, Meets-join}
+use Rattle.tv_core.proofs.MeetsLaws.{Meets-split, Meets-join}
 use Rattle.tv_core.specs.Circuits.{fresh, put, pure, ◌>>=◌}
 use Rattle.tv_core.specs.Combinations.{wire}
 use Rattle.tv_core.specs.Constraints.{value}
 use Rattle.tv_core.specs.Laws.{InField}
 use Rattle.tv_core.specs.Meanings.{terms_in}
 use Rattle.tv_core.specs.declared.field.TheConstants.{P}
-use Rattle.tv_isa.specs.Opcodes.{among, chosen}
+use Rattle.tv_isa.specs.Opcodes.{among, chosen, keeper_ops}
 use Rattle.tv_isa.specs.declared.instr.Instr.{Instr}
 use Rattle.tv_numbers.specs.Numbers.{operand_word, other_word, takes_primary, asks, found}
-use Rattle.tv_numbers.specs.Tables.{keeper_ops, flags}
+use Rattle.tv_numbers.specs.Tables.{flags}
 use Rattle.tv_numbers.proofs.Cases.{chosen_in}
-use Rattle.tv_numbers.specs.Views.{View, flag_of}
+use Rattle.tv_numbers.specs.Views.{View}
+use Rattle.tv_word.proofs.FlagLaws.{flag_small}
 use Rattle.tv_word.specs.Widths.{IsWidth}
 use Rattle.tv_parts.proofs.AccumulationLaws.{accumulated_sound, accumulated_complete}
 use Rattle.tv_parts.proofs.FlagLaws.{raised_ops, flag_sum, FlagCase, flag_number}
@@ -36,6 +37,7 @@ use Rattle.tv_parts.specs.OpcodeSums.{opcode_sum}
 use Rattle.tv_parts.specs.Tapes.{took}
 use Rattle.tv_parts.specs.declared.records.StateWires.{StateWires}
 use Rattle.tv_parts.specs.declared.records.TapeWires.{TapeWires}
+use Rattle.tv_word.specs.Word.{flag_of}
 
 -- ---- what is taken of the tapes
 -- nothing but at a read
@@ -70,10 +72,6 @@ sum_of : (b g f t u l r k : ℕ) (p : Bool) → b < 2 ^ 29 → f < P → g < 2 �
     ≡ (g + f + (P - flag_of p) + (P - u) + l + r + k) % P
 sum_of b g f t u l r k true hb hf hg hu hl hr hk e = omega arith
 sum_of b g f t u l r k false hb hf hg hu hl hr hk e = omega arith
-
-flag_below : (b : Bool) → flag_of b < 2
-flag_below true = omega arith
-flag_below false = omega arith
 
 bit_below : (x i : ℕ) → bit_at x i < 2
 bit_below x i = omega arith
@@ -141,7 +139,7 @@ module _ (w : ℕ) (width : IsWidth w) (z : List ℕ) (n : ℕ) (state : StateWi
       ap₂ (λ m k. (m + k) % P) sum (ap₂ (λ m k. m * k) kept (value-wire has.assigns state.flag ∙ has.flag))
       ∙ sum_of v.taken (flag_of (among raised_ops i.op)) (slice_index z f) (slice_index z t.taken) (flag_of (took z t)) (slice_index z left)
       (slice_index z right) (flag_of (among keeper_ops i.op) * v.flag) primary
-      (omega (arith, has.within, has.short)) (wire-below has.assigns f) (flag_below (among raised_ops i.op)) (flag_below (took z t))
+      (omega (arith, has.within, has.short)) (wire-below has.assigns f) (flag_small (among raised_ops i.op)) (flag_small (took z t))
       (wire-below has.assigns left) (wire-below has.assigns right) (product_small (among keeper_ops i.op)) has.tapes.taken
       ∙ ap₂ (λ l r. flag_sum i.op (slice_index z f) (flag_of primary) (flag_of (took z t)) l r v.flag) is_left is_right
       ∙ flag_number w width (other_word v i) (operand_word v i) low high result y (slice_index z f) v.flag primary

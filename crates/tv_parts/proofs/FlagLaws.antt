@@ -9,15 +9,15 @@ use Rattle.tv_bits.proofs.BitLaws.{bit_cases}
 use Rattle.tv_bits.specs.Bit.{IsBit}
 use Rattle.tv_bits.specs.Nonzero.{nonzero_flag}
 use Rattle.tv_core.specs.declared.field.TheConstants.{P}
-use Rattle.tv_isa.specs.Opcodes.{among, chosen}
+use Rattle.tv_isa.specs.Opcodes.{among, chosen, unused_ops, keeper_ops}
 use Rattle.tv_muldiv.proofs.SignedNumbers.{Stands-product, Stands-signed, signed_value, over_flag}
 use Rattle.tv_muldiv.specs.SignedHigh.{excess_in}
-use Rattle.tv_numbers.specs.Tables.{unused_ops, flags, keeper_ops, results}
-use Rattle.tv_numbers.specs.Views.{flag_of}
+use Rattle.tv_numbers.specs.Tables.{flags, results}
+use Rattle.tv_word.proofs.FlagLaws.{flag_small}
 use Rattle.tv_word.proofs.WidthLaws.{for_widths}
 use Rattle.tv_word.specs.Twos.{twos, fits}
 use Rattle.tv_word.specs.Widths.{IsWidth}
-use Rattle.tv_word.specs.Word.{has_bit, signed}
+use Rattle.tv_word.specs.Word.{has_bit, signed, flag_of}
 use Rattle.tv_parts.proofs.OpcodeCases.{for_opcode, unused}
 use Rattle.tv_parts.specs.Flag.{sign_at}
 use Rattle.tv_parts.specs.Results.{zero_ops, place_bits, tested_numbers}
@@ -121,10 +121,6 @@ lefts f p t b flag e h q r = rw (q, r) (omega arith)
 
 rights : (f p t b flag : ℕ) → f < 2 → b < 2 → p ≡ 0 → t ≡ 0 → (0 + f + (P - p) + (P - t) + 0 + (b + (P - f)) % P + 0 * flag) % P ≡ b
 rights f p t b flag e h q r = rw (q, r) (omega arith)
-
-flag_small : (b : Bool) → flag_of b < 2
-flag_small true = omega arith
-flag_small false = omega arith
 
 same_choice : (b : Bool) (n : ℕ) → (if b then n else n) ≡ n
 same_choice true n = refl

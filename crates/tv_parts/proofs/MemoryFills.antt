@@ -9,7 +9,7 @@ use Rattle.tv_bits.specs.Bits.{HasBits, bits_combination}
 use Rattle.tv_bits.specs.Times.{times_of}
 use Rattle.tv_core.proofs.CombinationLaws.{value-wire, value-append, value-cons, wire-below}
 use Rattle.tv_core.proofs.FieldLaws.{InField-cons, InField-none, InField-append}
-use Rattle.tv_core.proofs.Meeting.{Meets-split, Meets-join, HasFrom-split}
+use Rattle.tv_core.proofs.MeetsLaws.{Meets-split, Meets-join, HasFrom-split}
 use Rattle.tv_core.specs.Below.{weighted}
 use Rattle.tv_core.specs.Circuits.{fresh, put, pure, ◌>>=◌}
 use Rattle.tv_core.specs.Combinations.{wire, constant}
@@ -18,12 +18,11 @@ use Rattle.tv_core.specs.Laws.{Meets, HasFrom, InField}
 use Rattle.tv_core.specs.Meanings.{terms_in}
 use Rattle.tv_core.specs.declared.field.TheConstants.{P}
 use Rattle.tv_core.specs.declared.limits.TheConstants.{TAPE_CELLS, NULL_CELL}
-use Rattle.tv_isa.specs.Opcodes.{among}
+use Rattle.tv_isa.specs.Opcodes.{among, memory_ops}
 use Rattle.tv_isa.specs.declared.instr.Instr.{Instr}
 use Rattle.tv_mem.specs.Bytes.{byte_of}
 use Rattle.tv_numbers.specs.Numbers.{operand_word, other_word, touches, takes_primary, old_in, with_byte_in, data_line}
-use Rattle.tv_numbers.specs.Tables.{memory_ops}
-use Rattle.tv_numbers.specs.Views.{View, flag_of}
+use Rattle.tv_numbers.specs.Views.{View}
 use Rattle.tv_step.specs.Rows.{word_size}
 use Rattle.tv_step.specs.Trace.{tape_cell}
 use Rattle.tv_word.proofs.WidthLaws.{for_widths, word_small}
@@ -37,7 +36,7 @@ use Rattle.tv_parts.proofs.TapeGates.{value-two, value-four}
 use Rattle.tv_parts.proofs.TapeLaws.{among_one}
 use Rattle.tv_parts.specs.Accumulation.{closed_of, accumulated_of}
 use Rattle.tv_parts.specs.Inputs.{input_of}
-use Rattle.tv_parts.specs.Memory.{line_of, byte_of_pair, byte_of_four, byte_at_of, power_in, new_of, memory_of, line_values, byte_values, gained, new_values}
+use Rattle.tv_parts.specs.Memory.{located_line, byte_of_pair, byte_of_four, byte_at_of, power_in, new_of, memory_of, line_values, byte_values, gained, new_values}
 use Rattle.tv_parts.specs.Memory.{memory_values, HasMemory, MemoryIsSound, MemoryIsComplete, MemorySizes, MemoryCosts}
 use Rattle.tv_parts.specs.OpcodeSums.{opcode_sum}
 use Rattle.tv_parts.specs.Operand.{upper_of}
@@ -48,6 +47,7 @@ use Rattle.tv_parts.specs.declared.records.OperandWires.{OperandWires}
 use Rattle.tv_parts.specs.declared.records.StateWires.{StateWires}
 use Rattle.tv_parts.specs.declared.records.StoreWires.{StoreWires}
 use Rattle.tv_parts.specs.declared.records.TapeWires.{TapeWires}
+use Rattle.tv_word.specs.Word.{flag_of}
 
 power_is : (z : List ℕ) (a both at : ℕ) → slice_index z 0 ≡ 1 → slice_index z both ≡ slice_index z a * slice_index z (a + 1) % P → (w : ℕ) → IsWidth w
     → HasBits z a w at → value (power_in w a both) z ≡ 256 ^ (at % (w / 8))
@@ -85,7 +85,7 @@ module _ (w : ℕ) (width : IsWidth w) (z : List ℕ) (n : ℕ) (state : StateWi
   change_is byte is =
       ap₂ (λ m k. m * k % P) (power_is z a.bits.first d.both at has.assigns.one has.both w width has.operand.bits)
       (value-append (bits_combination d.x.first 8) ((P - 1, byte) ∷ []) z
-      ∙ ap₂ (λ m k. (m + k) % P) (byte_value z w d.x.first d.x.first x 0 (w - 8) (omega arith) (omega (arith, width)) has.spelled
+      ∙ ap₂ (λ m k. (m + k) % P) (byte_value z w d.x.first d.x.first x 0 (w - 8) (omega arith) (omega (arith, width)) has.decomposed
       ∙ (let e : x / 2 ^ (8 * 0) % 2 ^ 8 ≡ x % 256 = omega arith in e))
       (value-cons (P - 1) byte [] z ∙ ap (λ k. ((P - 1) * k + 0) % P) is)
       ∙ less (x % 256) (byte_of o j) (byte_small o j))
@@ -125,13 +125,13 @@ module _ (w : ℕ) (width : IsWidth w) (z : List ℕ) (n : ℕ) (state : StateWi
       kept k e f = ap (λ b. if b || takes_primary v i n then o else 0) (ap (among memory_ops) e ∙ f)
 
 -- ---- where the parts end
-line_next : (w : ℕ) (state : StateWires) (op : ℕ) (a : OperandWires) (word : ℕ) (t : TapeWires) (next : ℕ) → (line_of w state op a word t next).next ≡ next + 3
-unfolding line_of times_of closed_of fresh put pure ◌>>=◌
+line_next : (w : ℕ) (state : StateWires) (op : ℕ) (a : OperandWires) (word : ℕ) (t : TapeWires) (next : ℕ) → (located_line w state op a word t next).next ≡ next + 3
+unfolding located_line times_of closed_of fresh put pure ◌>>=◌
 line_next w state op a word t next = omega arith
 
 line_answer : (w : ℕ) (state : StateWires) (op : ℕ) (a : OperandWires) (word : ℕ) (t : TapeWires) (next : ℕ)
-    → (line_of w state op a word t next).answer ≡ record { cell = next + 1; old = next + 1 + 1 }
-unfolding line_of times_of closed_of fresh put pure ◌>>=◌
+    → (located_line w state op a word t next).answer ≡ record { cell = next + 1; old = next + 1 + 1 }
+unfolding located_line times_of closed_of fresh put pure ◌>>=◌
 line_answer w state op a word t next = refl
 
 two_next : (bits a next : ℕ) → (byte_at_of 16 bits a next).next ≡ next + 1
@@ -161,8 +161,8 @@ record AreLine (w : ℕ) (z : List ℕ) (line : LineWires) (n : ℕ) (v : View) 
 line_sound : (w : ℕ) (width : IsWidth w) (z : List ℕ) (next n : ℕ) (state : StateWires) (op : ℕ) (a : OperandWires) (d : DataWires) (t : TapeWires) (v : View)
     (i : Instr) (x o : ℕ)
     → HasMemory w z (record { state = state; op = op; operand = a; tapes = t }) d (input_of n v i o) x
-    → Meets z (line_of w state op a d.word t next).list → AreLine w z (line_of w state op a d.word t next).answer n v i o (took z t)
-unfolding line_of pure ◌>>=◌
+    → Meets z (located_line w state op a d.word t next).list → AreLine w z (located_line w state op a d.word t next).answer n v i o (took z t)
+unfolding located_line pure ◌>>=◌
 line_sound w width z next n state op a d t v i x o has meets =
     let assigns = has.assigns in
     let cells = (P - NULL_CELL, 0) ∷ upper_of 1 a (w / 16) in
@@ -184,8 +184,8 @@ line_sound w width z next n state op a d t v i x o has meets =
 line_complete : (w : ℕ) (width : IsWidth w) (z : List ℕ) (next n : ℕ) (state : StateWires) (op : ℕ) (a : OperandWires) (d : DataWires) (t : TapeWires)
     (v : View) (i : Instr) (x o : ℕ)
     → HasMemory w z (record { state = state; op = op; operand = a; tapes = t }) d (input_of n v i o) x
-    → HasFrom z next (line_values w n v i o (took z t)) → Meets z (line_of w state op a d.word t next).list
-unfolding line_of pure ◌>>=◌
+    → HasFrom z next (line_values w n v i o (took z t)) → Meets z (located_line w state op a d.word t next).list
+unfolding located_line pure ◌>>=◌
 line_complete w width z next n state op a d t v i x o has values =
     let assigns = has.assigns in
     let cells = (P - NULL_CELL, 0) ∷ upper_of 1 a (w / 16) in
@@ -252,7 +252,7 @@ new_complete w width z next n state op a d t v i x o has line byte is_old is_byt
 pub memory_sound : MemoryIsSound
 unfolding memory_of pure ◌>>=◌
 memory_sound w width z next n state op a d t v i x o has meets =
-    let line = line_of w state op a d.word t next in
+    let line = located_line w state op a d.word t next in
     let byte = byte_at_of w d.bits a.bits.first line.next in
     let new = new_of w op d a line.answer byte.answer byte.next in
     let m1 = Meets-split z line.list _ meets in
@@ -274,7 +274,7 @@ pub memory_complete : MemoryIsComplete
 unfolding memory_of pure ◌>>=◌
 memory_complete w width z next n state op a d t v i x o has values =
     let at = operand_word v i in
-    let line = line_of w state op a d.word t next in
+    let line = located_line w state op a d.word t next in
     let byte = byte_at_of w d.bits a.bits.first line.next in
     let new = new_of w op d a line.answer byte.answer byte.next in
     let e1 : line.next ≡ next + 3 = line_next w state op a d.word t next in
@@ -303,11 +303,11 @@ MadeAt w = (state : StateWires) (op : ℕ) (a : OperandWires) (d : DataWires) (t
     ≡ record { line = record { cell = next + 1; old = next + 2 }; byte = next + (w / 8 + 1); new = next + (w / 8 + 4) }
 
 made_two : MadeAt 16
-unfolding memory_of line_of byte_at_of byte_of_pair new_of times_of closed_of fresh put pure ◌>>=◌
+unfolding memory_of located_line byte_at_of byte_of_pair new_of times_of closed_of fresh put pure ◌>>=◌
 made_two state op a d t next = same_wires _ _ _ _ _ _ _ _ (omega arith) (omega arith) (omega arith) (omega arith)
 
 made_four : MadeAt 32
-unfolding memory_of line_of byte_at_of byte_of_four byte_of_pair new_of times_of closed_of fresh put pure ◌>>=◌
+unfolding memory_of located_line byte_at_of byte_of_four byte_of_pair new_of times_of closed_of fresh put pure ◌>>=◌
 made_four state op a d t next = same_wires _ _ _ _ _ _ _ _ (omega arith) (omega arith) (omega arith) (omega arith)
 
 abbrev EndsAt : ℕ → Type 0
@@ -315,11 +315,11 @@ EndsAt w = (state : StateWires) (op : ℕ) (a : OperandWires) (d : DataWires) (t
     → (memory_of w state op a d t next).next ≡ next + (w / 8 + 5)
 
 ends_two : EndsAt 16
-unfolding memory_of line_of byte_at_of byte_of_pair new_of times_of closed_of fresh put pure ◌>>=◌
+unfolding memory_of located_line byte_at_of byte_of_pair new_of times_of closed_of fresh put pure ◌>>=◌
 ends_two state op a d t next = omega arith
 
 ends_four : EndsAt 32
-unfolding memory_of line_of byte_at_of byte_of_four byte_of_pair new_of times_of closed_of fresh put pure ◌>>=◌
+unfolding memory_of located_line byte_at_of byte_of_four byte_of_pair new_of times_of closed_of fresh put pure ◌>>=◌
 ends_four state op a d t next = omega arith
 
 memory_next : (w : ℕ) → IsWidth w → EndsAt w
@@ -392,11 +392,11 @@ CountsAt w = (state : StateWires) (op : ℕ) (a : OperandWires) (d : DataWires) 
     → length (memory_of w state op a d t next).list ≡ w / 8 + 5
 
 counts_two : CountsAt 16
-unfolding memory_of line_of byte_at_of byte_of_pair new_of times_of closed_of fresh put pure ◌>>=◌
+unfolding memory_of located_line byte_at_of byte_of_pair new_of times_of closed_of fresh put pure ◌>>=◌
 counts_two state op a d t next = refl
 
 counts_four : CountsAt 32
-unfolding memory_of line_of byte_at_of byte_of_four byte_of_pair new_of times_of closed_of fresh put pure ◌>>=◌
+unfolding memory_of located_line byte_at_of byte_of_four byte_of_pair new_of times_of closed_of fresh put pure ◌>>=◌
 counts_four state op a d t next = refl
 
 abbrev TermsAt : ℕ → Type 0
@@ -404,11 +404,11 @@ TermsAt w = (state : StateWires) (op : ℕ) (a : OperandWires) (d : DataWires) (
     → terms_in (memory_of w state op a d t next).list ≡ 2 * w + w / 8 + 37
 
 terms_two : TermsAt 16
-unfolding memory_of line_of byte_at_of byte_of_pair new_of times_of closed_of fresh put pure ◌>>=◌ weighted
+unfolding memory_of located_line byte_at_of byte_of_pair new_of times_of closed_of fresh put pure ◌>>=◌ weighted
 terms_two state op a d t next = refl
 
 terms_four : TermsAt 32
-unfolding memory_of line_of byte_at_of byte_of_four byte_of_pair new_of times_of closed_of fresh put pure ◌>>=◌ weighted
+unfolding memory_of located_line byte_at_of byte_of_four byte_of_pair new_of times_of closed_of fresh put pure ◌>>=◌ weighted
 terms_four state op a d t next = refl
 
 pub memory_costs : MemoryCosts

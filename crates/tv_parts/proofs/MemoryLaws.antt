@@ -9,19 +9,18 @@ use Rattle.tv_bits.proofs.BitNumbers.{value-bits_below, HasBits-below, HasBits-h
 use Rattle.tv_bits.specs.Bit.{IsBit}
 use Rattle.tv_bits.specs.Bits.{HasBits, bits_combination}
 use Rattle.tv_core.proofs.CombinationLaws.{value-wire, value-append, value-cons, value-scaled, value-constant, value-below}
-use Rattle.tv_core.proofs.Meeting.{Meets-split, Meets-join}
+use Rattle.tv_core.proofs.MeetsLaws.{Meets-split, Meets-join}
 use Rattle.tv_core.specs.Circuits.{put, ◌>>=◌}
 use Rattle.tv_core.specs.Combinations.{wire, constant, scaled}
 use Rattle.tv_core.specs.Constraints.{Combination, value}
 use Rattle.tv_core.specs.Laws.{Assigns, Meets, HasFrom}
 use Rattle.tv_core.specs.declared.field.TheConstants.{P}
 use Rattle.tv_core.specs.declared.limits.TheConstants.{TAPE_CELLS, NULL_CELL}
-use Rattle.tv_isa.specs.Opcodes.{among}
+use Rattle.tv_isa.specs.Opcodes.{among, memory_ops}
 use Rattle.tv_isa.specs.declared.instr.Instr.{Instr}
 use Rattle.tv_mem.specs.Bytes.{byte_of}
 use Rattle.tv_numbers.specs.Numbers.{operand_word, touches, takes_primary, old_in, with_byte_in, data_line}
-use Rattle.tv_numbers.specs.Tables.{memory_ops}
-use Rattle.tv_numbers.specs.Views.{View, flag_of}
+use Rattle.tv_numbers.specs.Views.{View}
 use Rattle.tv_step.specs.Rows.{word_size}
 use Rattle.tv_step.specs.Trace.{tape_cell}
 use Rattle.tv_word.proofs.WidthLaws.{width_short, for_widths}
@@ -42,6 +41,7 @@ use Rattle.tv_parts.specs.declared.records.DataWires.{DataWires}
 use Rattle.tv_parts.specs.declared.records.OperandWires.{OperandWires}
 use Rattle.tv_parts.specs.declared.records.StateWires.{StateWires}
 use Rattle.tv_parts.specs.declared.records.TapeWires.{TapeWires}
+use Rattle.tv_word.specs.Word.{flag_of}
 
 -- ---- numbers of the line
 -- y and a flag times x less y

@@ -22,11 +22,10 @@ use Rattle.tv_muldiv.proofs.RowDivisionLaws.{row_division_sizes}
 use Rattle.tv_muldiv.proofs.RowProductLaws.{row_product_sizes}
 use Rattle.tv_muldiv.specs.RowDivision.{dividing, row_division_of}
 use Rattle.tv_muldiv.specs.RowProduct.{row_product_of}
-use Rattle.tv_shift.proofs.NormalLaws.{shift_power_normal, left_shift_normal, right_shift_normal}
+use Rattle.tv_shift.proofs.NormalLaws.{shift_power_normal, right_shift_normal}
 use Rattle.tv_shift.proofs.PowerLaws.{shift_power_sizes}
-use Rattle.tv_shift.proofs.RowShiftLaws.{left_shift_sizes}
 use Rattle.tv_shift.specs.Power.{shift_power_of}
-use Rattle.tv_shift.specs.RowShift.{left_shift_of, right_shift_of}
+use Rattle.tv_shift.specs.RowShift.{right_shift_of}
 use Rattle.tv_word.specs.Widths.{IsWidth}
 use Rattle.tv_parts.proofs.ArithmeticCounts.{rows_sized, sums_sized, products_sized, rows_answer}
 use Rattle.tv_parts.proofs.NormalOpcodes.{rises_from, places_below, opcodes_normal, opcodes_top}
@@ -109,13 +108,13 @@ module _ (w : ℕ) (width : IsWidth w) (op other f : ℕ) (operand : OperandWire
         let at = row_division_sizes.end w divide other operand.word f r.x r.row next in
         let power = shift_power_of w operand.bits division.next in
         let here = shift_power_sizes.end w width operand.bits division.next in
-        let lefts = left_shift_of w to_left division.answer power.answer.power r.row power.next in
-        let end = left_shift_sizes.end w to_left division.answer power.answer.power r.row power.next in
+        let lefts = row_product_of w to_left division.answer power.answer.power r.row power.next in
+        let end = row_product_sizes.end w to_left division.answer power.answer.power r.row power.next in
         let rights = right_shift_of w to_right division.answer power.answer.power r.row lefts.next in
         let first = row_division_normal w width divide other operand.word f r.x r.row next (gate_normal op division_ops some refl) (omega arith) word
         (omega arith) (omega arith) (omega arith) (omega arith) in
         let second = shift_power_normal w width operand.bits division.next (omega arith) (omega (arith, at)) in
-        let third = left_shift_normal w width to_left division.answer power.answer.power r.row power.next (gate_normal op (SHL ∷ []) some refl) rises
+        let third = row_product_normal w width to_left division.answer power.answer.power r.row power.next (gate_normal op (SHL ∷ []) some refl) rises
         (omega (arith, at, here)) in
         let fourth = right_shift_normal w width to_right division.answer power.answer.power r.row lefts.next (gate_normal op (SHR ∷ []) some refl) rises
         (omega (arith, kept, at, here, end)) in

@@ -10,8 +10,8 @@ use Rattle.tv_core.specs.Combinations.{wire, top}
 use Rattle.tv_core.specs.Constraints.{Combination}
 use Rattle.tv_core.specs.Normal.{IsNormal, IsNormalFrom, AreNormal}
 use Rattle.tv_core.specs.declared.field.TheConstants.{P}
+use Rattle.tv_isa.specs.Opcodes.{keeper_ops}
 use Rattle.tv_isa.specs.declared.opcode.TheConstants.{ADD, MULL, UMULH, SMULH, SHL, SHR, CMPA, CMPAE, CMPG, CMPGE, READ}
-use Rattle.tv_numbers.specs.Tables.{keeper_ops}
 use Rattle.tv_word.specs.Widths.{IsWidth}
 use Rattle.tv_parts.proofs.NormalAccumulation.{accumulated_normal}
 use Rattle.tv_parts.proofs.NormalOpcodes.{opcode_sum_normal, opcodes_then, opcodes_top}
@@ -66,11 +66,11 @@ bit_normal f bit h = (omega arith, omega arith, omega arith, (omega arith, omega
 pub flag_normal : (w : ℕ) (state : StateWires) (op : ℕ) (x : Bits) (f : ℕ) (t : TapeWires) (next : ℕ) → state.taken_of_primary < op → op + 29 ≤ f
     → f < x.first → f < t.taken → t.taken < t.takes → t.takes < next → AreNormal (next_flag_of w state op x f t next).list
 unfolding next_flag_of times_of closed_of fresh put pure ◌>>=◌
-flag_normal w state op x f t next before row spelled taken takes within =
+flag_normal w state op x f t next before row decomposed taken takes within =
     let tested = tested_in state.taken_of_primary op f t next (next + 1) in
     let highest = bit_normal f (x.first + (w - 1)) (omega arith) in
     let left = times_normal (opcode_sum op (SHL ∷ [])) ((P - 1, f) ∷ (1, x.first + (w - 1)) ∷ []) next (opcode_sum_normal op (SHL ∷ []) refl) highest in
-    let lowest = bit_normal f x.first spelled in
+    let lowest = bit_normal f x.first decomposed in
     let right = times_normal (opcode_sum op (SHR ∷ [])) ((P - 1, f) ∷ (1, x.first) ∷ []) (next + 1) (opcode_sum_normal op (SHR ∷ []) refl) lowest in
     let tested_is = tested_normal state.taken_of_primary op f t next (next + 1) before row taken takes within (omega arith) in
     let below : top tested ≤ next + 1 + 1 = tested_top state.taken_of_primary op f t next (next + 1) before row taken takes within (omega arith) in

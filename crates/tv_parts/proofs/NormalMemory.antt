@@ -10,15 +10,15 @@ use Rattle.tv_core.specs.Combinations.{wire, constant, scaled, top}
 use Rattle.tv_core.specs.Normal.{IsNormal, IsNormalFrom, AreNormal}
 use Rattle.tv_core.specs.declared.field.TheConstants.{P}
 use Rattle.tv_core.specs.declared.limits.TheConstants.{TAPE_CELLS, NULL_CELL}
+use Rattle.tv_isa.specs.Opcodes.{memory_ops}
 use Rattle.tv_isa.specs.declared.opcode.TheConstants.{STORE_B, STORE_W}
-use Rattle.tv_numbers.specs.Tables.{memory_ops}
 use Rattle.tv_word.proofs.WidthLaws.{for_widths}
 use Rattle.tv_word.specs.Widths.{IsWidth}
 use Rattle.tv_parts.proofs.NormalAccumulation.{accumulated_normal}
 use Rattle.tv_parts.proofs.NormalOpcodes.{opcode_sum_normal, opcodes_then}
 use Rattle.tv_parts.proofs.UpperLaws.{upper_normal}
 use Rattle.tv_parts.specs.Accumulation.{closed_of}
-use Rattle.tv_parts.specs.Memory.{line_of, byte_of_pair, byte_of_four, byte_at_of, power_in, new_of, memory_of}
+use Rattle.tv_parts.specs.Memory.{located_line, byte_of_pair, byte_of_four, byte_at_of, power_in, new_of, memory_of}
 use Rattle.tv_parts.specs.OpcodeSums.{opcode_sum}
 use Rattle.tv_parts.specs.Operand.{upper_of}
 use Rattle.tv_parts.specs.Tapes.{primary_in}
@@ -57,8 +57,8 @@ held_normal before op after h k =
     (omega arith, omega arith, omega arith, IsNormalFrom-lower (before + 1) (op + 0) (opcode_sum op memory_ops ++ wire after) (omega arith) rest)
 
 line_normal : (w : ℕ) → IsWidth w → (state : StateWires) (op : ℕ) (a : OperandWires) (word : ℕ) (t : TapeWires) (next : ℕ) → 0 < state.taken_of_primary
-    → state.taken_of_primary < op → op + 29 ≤ t.taken → t.taken < next → 0 < a.word → a.word < a.bits.first → AreNormal (line_of w state op a word t next).list
-unfolding line_of times_of closed_of fresh put pure ◌>>=◌
+    → state.taken_of_primary < op → op + 29 ≤ t.taken → t.taken < next → 0 < a.word → a.word < a.bits.first → AreNormal (located_line w state op a word t next).list
+unfolding located_line times_of closed_of fresh put pure ◌>>=◌
 line_normal w width state op a word t next some before row within operand rise =
     let cells = (P - NULL_CELL, 0) ∷ upper_of 1 a (w / 16) in
     let tape = (TAPE_CELLS, 0) ∷ (1, state.taken_of_primary) ∷ (P - 1, next) ∷ [] in
@@ -173,9 +173,9 @@ pub memory_normal : (w : ℕ) → IsWidth w → (state : StateWires) (op : ℕ) 
     → 0 < state.taken_of_primary → state.taken_of_primary < op → op + 29 ≤ t.taken → t.taken < next → 0 < a.word
     → a.word < a.bits.first → a.bits.first + 1 < d.both
     → d.bits + w ≤ next → d.x.first + 8 ≤ next → d.other < d.word → AreNormal (memory_of w state op a d t next).list
-unfolding memory_of line_of times_of closed_of fresh put pure ◌>>=◌
-memory_normal w width state op a d t next some before row within operand rise both bits spelled other =
-    let line = line_of w state op a d.word t next in
+unfolding memory_of located_line times_of closed_of fresh put pure ◌>>=◌
+memory_normal w width state op a d t next some before row within operand rise both bits decomposed other =
+    let line = located_line w state op a d.word t next in
     let byte = byte_at_of w d.bits a.bits.first line.next in
     let new = new_of w op d a line.answer byte.answer byte.next in
     let places = byte_after w width d.bits a.bits.first line.next in

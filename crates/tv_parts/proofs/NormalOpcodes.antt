@@ -7,7 +7,8 @@ use Rattle.tv_core.specs.Combinations.{top}
 use Rattle.tv_core.specs.Constraints.{Combination}
 use Rattle.tv_core.specs.Normal.{IsNormal, IsNormalFrom}
 use Rattle.tv_core.specs.declared.field.TheConstants.{P}
-use Rattle.tv_parts.specs.OpcodeSums.{place_of, opcode_terms, opcode_sum}
+use Rattle.tv_isa.specs.Opcodes.{place_of}
+use Rattle.tv_parts.specs.OpcodeSums.{opcode_terms, opcode_sum}
 
 -- the places of opcodes rise from one on, and end below another
 abbrev pub rises_from : ℕ → List ℕ → Bool

@@ -7,6 +7,7 @@ use Rattle.tv_core.specs.Circuits.{fresh, put, pure, ◌>>=◌}
 use Rattle.tv_core.specs.Combinations.{wire}
 use Rattle.tv_core.specs.Normal.{IsNormal, IsNormalFrom, AreNormal}
 use Rattle.tv_core.specs.declared.field.TheConstants.{P}
+use Rattle.tv_isa.specs.Opcodes.{place_of}
 use Rattle.tv_isa.specs.declared.opcode.TheConstants.{JMP, CJMP, CNJMP, ANSWER}
 use Rattle.tv_word.proofs.WidthLaws.{for_widths}
 use Rattle.tv_word.specs.Widths.{IsWidth}
@@ -14,7 +15,6 @@ use Rattle.tv_parts.proofs.NormalAccumulation.{accumulated_normal}
 use Rattle.tv_parts.proofs.NormalTapes.{if_zero_normal}
 use Rattle.tv_parts.proofs.UpperLaws.{upper_normal, upper_top}
 use Rattle.tv_parts.specs.Accumulation.{closed_of}
-use Rattle.tv_parts.specs.OpcodeSums.{place_of}
 use Rattle.tv_parts.specs.Operand.{upper_of}
 use Rattle.tv_parts.specs.Pc.{from_last, goes_in, after_in, jump_in, pc_of}
 use Rattle.tv_parts.specs.Tapes.{if_zero_of}

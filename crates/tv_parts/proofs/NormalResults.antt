@@ -8,6 +8,7 @@ use Rattle.tv_core.specs.Combinations.{wire, top}
 use Rattle.tv_core.specs.Constraints.{Combination}
 use Rattle.tv_core.specs.Normal.{IsNormal, IsNormalFrom, IsNormalConstraint, AreNormal}
 use Rattle.tv_core.specs.declared.field.TheConstants.{P}
+use Rattle.tv_isa.specs.Opcodes.{place_of}
 use Rattle.tv_isa.specs.declared.opcode.TheConstants.{AND, OR, XOR, NOT, ADD, SUB, MULL, UMULH, SMULH, UDIV, UMOD, SHL, SHR, CMPE, CMPA, CMPAE, CMPG, CMPGE}
 use Rattle.tv_isa.specs.declared.opcode.TheConstants.{MOV, CMOV, LOAD_B}
 use Rattle.tv_word.proofs.WidthLaws.{width_short, for_widths}
@@ -16,7 +17,7 @@ use Rattle.tv_parts.proofs.NormalAccumulation.{accumulated_normal}
 use Rattle.tv_parts.proofs.NormalOpcodes.{opcodes_normal, opcodes_then, opcode_sum_normal}
 use Rattle.tv_parts.proofs.ResultFills.{result_answer, result_next}
 use Rattle.tv_parts.proofs.UpperLaws.{upper_normal, upper_top}
-use Rattle.tv_parts.specs.OpcodeSums.{place_of, opcode_terms, opcode_sum}
+use Rattle.tv_parts.specs.OpcodeSums.{opcode_terms, opcode_sum}
 use Rattle.tv_parts.specs.Operand.{upper_of}
 use Rattle.tv_parts.specs.Results.{low_ops, high_ops, zero_ops, carry_ops, place_bits, parts_in, signs_in, result_of, tested_of, results_of, sign_of}
 use Rattle.tv_parts.specs.declared.records.OperandWires.{OperandWires}

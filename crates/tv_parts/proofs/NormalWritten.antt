@@ -5,8 +5,8 @@ use Rattle.tv_core.proofs.NormalCircuits.{normal_both}
 use Rattle.tv_core.specs.Circuits.{◌>>=◌}
 use Rattle.tv_core.specs.Combinations.{wire, top}
 use Rattle.tv_core.specs.Normal.{IsNormal, AreNormal}
+use Rattle.tv_isa.specs.Opcodes.{writer_ops}
 use Rattle.tv_isa.specs.declared.opcode.TheConstants.{CMOV}
-use Rattle.tv_numbers.specs.Tables.{writer_ops}
 use Rattle.tv_regs.proofs.NormalLaws.{reg_below, update_normal}
 use Rattle.tv_regs.specs.declared.triple.Triple.{Triple}
 use Rattle.tv_parts.proofs.AccumulationLaws.{accumulated_answer, accumulated_next}

@@ -6,10 +6,9 @@ use Rattle.std.proofs.lemmas.Bool.{and_parts, ltb-true, eqb-true, not-true, case
 use Rattle.tv_core.proofs.CombinationLaws.{value-below, value-cons}
 use Rattle.tv_core.specs.Constraints.{value}
 use Rattle.tv_core.specs.declared.field.TheConstants.{P}
-use Rattle.tv_isa.specs.Opcodes.{among}
-use Rattle.tv_numbers.specs.Tables.{unused_ops}
-use Rattle.tv_numbers.specs.Views.{flag_of}
-use Rattle.tv_parts.specs.OpcodeSums.{place_of, opcode_terms, distinct, IsOpcode, OpcodeSumIsSound}
+use Rattle.tv_isa.specs.Opcodes.{among, unused_ops, place_of}
+use Rattle.tv_parts.specs.OpcodeSums.{opcode_terms, distinct, IsOpcode, OpcodeSumIsSound}
+use Rattle.tv_word.specs.Word.{flag_of}
 
 cold_sum : (c n v : ℕ) → n ≡ 0 → v < P → (c * n + v) % P ≡ v
 cold_sum c n v e h = rw e (omega arith)

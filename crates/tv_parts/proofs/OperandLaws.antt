@@ -10,13 +10,12 @@ use Rattle.tv_bits.specs.declared.bit_wires.Bits.{Bits}
 use Rattle.tv_core.proofs.BelowLaws.{length-weighted}
 use Rattle.tv_core.proofs.CombinationLaws.{value-wire}
 use Rattle.tv_core.proofs.FieldLaws.{InField-cons}
-use Rattle.tv_core.proofs.Meeting.{Meets-split, Meets-join}
+use Rattle.tv_core.proofs.MeetsLaws.{Meets-split, Meets-join}
 use Rattle.tv_core.specs.Circuits.{fresh, put, pure, ◌>>=◌}
 use Rattle.tv_core.specs.Combinations.{wire, constant, scaled}
 use Rattle.tv_core.specs.Constraints.{Combination, value}
 use Rattle.tv_core.specs.Laws.{HasFrom}
 use Rattle.tv_core.specs.declared.field.TheConstants.{P}
-use Rattle.tv_numbers.specs.Views.{flag_of}
 use Rattle.tv_word.proofs.WidthLaws.{width_short}
 use Rattle.tv_word.specs.Widths.{IsWidth}
 use Rattle.tv_parts.proofs.AccumulationLaws.{accumulated_sound, accumulated_complete, accumulated_next}
@@ -25,6 +24,7 @@ use Rattle.tv_parts.proofs.TapeGates.{value-two}
 use Rattle.tv_parts.specs.Accumulation.{closed_of, accumulated_of}
 use Rattle.tv_parts.specs.Operand.{operand_of, HasOperand, OperandIsSound, OperandIsComplete, OperandSizes, OperandCosts}
 use Rattle.tv_parts.specs.declared.records.OperandWires.{OperandWires}
+use Rattle.tv_word.specs.Word.{flag_of}
 
 word_small : (w : ℕ) → IsWidth w → (v : ℕ) → v < 2 ^ w → v < P
 word_small w width v h = grind arith

@@ -7,7 +7,7 @@ use Rattle.tv_bits.proofs.TimesLaws.{times_sound, times_complete, times_next, re
 use Rattle.tv_bits.specs.Times.{times_of}
 use Rattle.tv_core.proofs.CombinationLaws.{value-wire, value-append, value-cons, value-below}
 use Rattle.tv_core.proofs.FieldLaws.{InField-cons, InField-none}
-use Rattle.tv_core.proofs.Meeting.{Meets-split, Meets-join}
+use Rattle.tv_core.proofs.MeetsLaws.{Meets-split, Meets-join}
 use Rattle.tv_core.specs.Circuits.{fresh, put, pure, ◌>>=◌}
 use Rattle.tv_core.specs.Combinations.{wire}
 use Rattle.tv_core.specs.Constraints.{Combination, value}
@@ -15,11 +15,12 @@ use Rattle.tv_core.specs.Inverse.{inverse_of}
 use Rattle.tv_core.specs.Laws.{InField}
 use Rattle.tv_core.specs.Meanings.{terms_in}
 use Rattle.tv_core.specs.declared.field.TheConstants.{P}
-use Rattle.tv_isa.specs.Opcodes.{chosen}
+use Rattle.tv_isa.specs.Opcodes.{chosen, place_of}
 use Rattle.tv_isa.specs.declared.instr.Instr.{Instr}
 use Rattle.tv_numbers.specs.Numbers.{operand_word}
 use Rattle.tv_numbers.specs.Tables.{target, pcs}
-use Rattle.tv_numbers.specs.Views.{View, flag_of}
+use Rattle.tv_numbers.specs.Views.{View}
+use Rattle.tv_word.proofs.FlagLaws.{flag_small}
 use Rattle.tv_word.proofs.WidthLaws.{for_widths}
 use Rattle.tv_word.specs.Widths.{IsWidth}
 use Rattle.tv_parts.proofs.AccumulationLaws.{accumulated_sound, accumulated_complete}
@@ -28,15 +29,14 @@ use Rattle.tv_numbers.proofs.Cases.{chosen_in}
 use Rattle.tv_parts.proofs.PcLaws.{distance, wrap_of, after_of, flag_jump, jump_gate, target_by, jump_number, pc_number}
 use Rattle.tv_parts.proofs.TapeFills.{flag_in_field, either}
 use Rattle.tv_parts.proofs.TapeGates.{value-two, value-three, value-four, if_zero_sound, if_zero_complete}
-use Rattle.tv_parts.proofs.TapeLaws.{flag_small}
 use Rattle.tv_parts.proofs.UpperLaws.{upper_is, length-upper}
 use Rattle.tv_parts.specs.Accumulation.{closed_of}
-use Rattle.tv_parts.specs.OpcodeSums.{place_of}
 use Rattle.tv_parts.specs.Operand.{upper_of}
 use Rattle.tv_parts.specs.Pc.{from_last, goes_in, after_in, jump_in, pc_of, pc_values, HasPc, PcIsSound, PcIsComplete, PcSizes, PcCosts}
 use Rattle.tv_parts.specs.Tapes.{if_zero_of}
 use Rattle.tv_parts.specs.declared.records.OperandWires.{OperandWires}
 use Rattle.tv_parts.specs.declared.records.StateWires.{StateWires}
+use Rattle.tv_word.specs.Word.{flag_of}
 
 -- ---- the combinations' values
 folded_four : (k l m n : ℕ) → (k + (l + (m + n % P) % P) % P) % P ≡ (k + l + m + n % P) % P

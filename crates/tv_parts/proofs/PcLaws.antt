@@ -5,12 +5,12 @@ use Rattle.std.proofs.lemmas.Bool.{cases_eq, ne_eqb}
 use Rattle.tv_bits.proofs.BitLaws.{bit_cases}
 use Rattle.tv_bits.specs.Bit.{IsBit}
 use Rattle.tv_core.specs.declared.field.TheConstants.{P}
-use Rattle.tv_isa.specs.Opcodes.{among, chosen}
-use Rattle.tv_numbers.specs.Tables.{unused_ops, next_pc, target, pcs}
-use Rattle.tv_numbers.specs.Views.{flag_of}
+use Rattle.tv_isa.specs.Opcodes.{among, chosen, unused_ops}
+use Rattle.tv_numbers.specs.Tables.{next_pc, target, pcs}
 use Rattle.tv_word.proofs.WidthLaws.{for_widths}
 use Rattle.tv_word.specs.Widths.{IsWidth}
 use Rattle.tv_parts.proofs.OpcodeCases.{for_opcode, unused}
+use Rattle.tv_word.specs.Word.{flag_of}
 
 -- ---- the place after the instruction
 -- how far the counter is from the last instruction's, and whether it wraps

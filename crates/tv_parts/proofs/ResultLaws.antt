@@ -4,9 +4,9 @@ use Rattle.std.proofs.Common.{bit_and, bit_or, bit_xor}
 use Rattle.std.specs.Int.{bit_at}
 use Rattle.std.specs.Int.Bits.{or_add_and, xor_add_and}
 use Rattle.tv_core.specs.declared.field.TheConstants.{P}
-use Rattle.tv_isa.specs.Opcodes.{among, chosen}
+use Rattle.tv_isa.specs.Opcodes.{among, chosen, unused_ops, writer_ops}
 use Rattle.tv_mem.specs.Bytes.{byte_of}
-use Rattle.tv_numbers.specs.Tables.{unused_ops, results, writer_ops}
+use Rattle.tv_numbers.specs.Tables.{results}
 use Rattle.tv_step.specs.Rows.{word_size}
 use Rattle.tv_word.proofs.WidthLaws.{for_widths}
 use Rattle.tv_word.specs.Widths.{IsWidth}

@@ -6,12 +6,11 @@ use Rattle.std.proofs.lemmas.Bool.{cases_lt, eq-eqb, ne_eqb, lt-ltb, le-ltb}
 use Rattle.std.specs.Prelude.{slice_index}
 use Rattle.tv_bits.proofs.BitNumbers.{HasBits-small}
 use Rattle.tv_core.proofs.CombinationLaws.{value-append, value-wire, wire-below}
-use Rattle.tv_core.proofs.Meeting.{Meets-split}
+use Rattle.tv_core.proofs.MeetsLaws.{Meets-split}
 use Rattle.tv_core.specs.Circuits.{fresh, put, pure, ◌>>=◌}
 use Rattle.tv_core.specs.Combinations.{wire}
 use Rattle.tv_core.specs.Constraints.{value}
 use Rattle.tv_core.specs.declared.field.TheConstants.{P}
-use Rattle.tv_numbers.specs.Views.{flag_of}
 use Rattle.tv_word.proofs.WidthLaws.{width_short, for_widths}
 use Rattle.tv_word.specs.Widths.{IsWidth}
 use Rattle.tv_parts.proofs.OpcodeLaws.{opcode_sum_sound}
@@ -20,6 +19,7 @@ use Rattle.tv_parts.specs.Arithmetic.{shift_ops, ShiftTestIsSound}
 use Rattle.tv_parts.specs.OpcodeSums.{opcode_sum}
 use Rattle.tv_parts.specs.Operand.{upper_of}
 use Rattle.tv_parts.specs.Results.{place_bits, result_of, tested_of, results_of}
+use Rattle.tv_word.specs.Word.{flag_of}
 
 no_quotient : (n a : ℕ) → 0 < n → n ≤ a → a / n ≡ 0 → ⊥
 no_quotient n a positive large e =

@@ -9,7 +9,7 @@ use Rattle.tv_bits.specs.Bit.{IsBit}
 use Rattle.tv_bits.specs.Times.{times_of}
 use Rattle.tv_core.proofs.CombinationLaws.{value-wire}
 use Rattle.tv_core.proofs.FieldLaws.{InField-cons, InField-none}
-use Rattle.tv_core.proofs.Meeting.{Meets-join}
+use Rattle.tv_core.proofs.MeetsLaws.{Meets-join}
 use Rattle.tv_core.specs.Circuits.{fresh, put, pure, ◌>>=◌}
 use Rattle.tv_core.specs.Combinations.{wire}
 use Rattle.tv_core.specs.Constraints.{Combination, value}
@@ -19,12 +19,13 @@ use Rattle.tv_core.specs.Meanings.{terms_in}
 use Rattle.tv_core.specs.declared.field.TheConstants.{P}
 use Rattle.tv_isa.specs.declared.instr.Instr.{Instr}
 use Rattle.tv_numbers.specs.Numbers.{operand_word, asks, takes_primary, stepped}
-use Rattle.tv_numbers.specs.Views.{View, flag_of}
+use Rattle.tv_numbers.specs.Views.{View}
+use Rattle.tv_word.proofs.FlagLaws.{flag_small}
 use Rattle.tv_word.proofs.WidthLaws.{width_short}
 use Rattle.tv_word.specs.Widths.{IsWidth}
 use Rattle.tv_parts.proofs.OpcodeLaws.{opcode_sum_sound}
 use Rattle.tv_parts.proofs.TapeGates.{if_zero_sound, if_zero_complete, primary_complete, auxiliary_complete}
-use Rattle.tv_parts.proofs.TapeLaws.{among_one, reading_by, more_by, flag_small}
+use Rattle.tv_parts.proofs.TapeLaws.{among_one, reading_by, more_by}
 use Rattle.tv_parts.proofs.UpperLaws.{upper_once, length-upper}
 use Rattle.tv_parts.specs.OpcodeSums.{opcode_sum}
 use Rattle.tv_parts.specs.Operand.{upper_of}
@@ -32,6 +33,7 @@ use Rattle.tv_parts.specs.Tapes.{if_zero_of, primary_of, auxiliary_of, tapes_of,
 use Rattle.tv_parts.specs.declared.records.OperandWires.{OperandWires}
 use Rattle.tv_parts.specs.declared.records.StateWires.{StateWires}
 use Rattle.tv_parts.specs.declared.records.TapeWires.{TapeWires}
+use Rattle.tv_word.specs.Word.{flag_of}
 
 pub flag_test : (b : Bool) → (flag_of b == 1) ≡ b
 flag_test true = refl

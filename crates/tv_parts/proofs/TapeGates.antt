@@ -17,8 +17,8 @@ use Rattle.tv_core.specs.Constraints.{Combination, value}
 use Rattle.tv_core.specs.Inverse.{inverse_of}
 use Rattle.tv_core.specs.Laws.{Assigns, Meets}
 use Rattle.tv_core.specs.declared.field.TheConstants.{P}
-use Rattle.tv_numbers.specs.Views.{flag_of}
 use Rattle.tv_parts.specs.Tapes.{if_zero_of, left_in, primary_of, auxiliary_of}
+use Rattle.tv_word.specs.Word.{flag_of}
 
 -- ---- values of short combinations
 pub value-two : (z : List ℕ) (b c v w : ℕ) → value ((b, v) ∷ (c, w) ∷ []) z ≡ (b * slice_index z v + c * slice_index z w) % P

@@ -9,14 +9,14 @@ use Rattle.tv_bits.proofs.TimesLaws.{times_sound}
 use Rattle.tv_bits.specs.Bit.{IsBit}
 use Rattle.tv_bits.specs.Times.{times_of}
 use Rattle.tv_core.proofs.CombinationLaws.{value-wire}
-use Rattle.tv_core.proofs.Meeting.{Meets-split}
+use Rattle.tv_core.proofs.MeetsLaws.{Meets-split}
 use Rattle.tv_core.specs.Circuits.{fresh, put, pure, ◌>>=◌}
 use Rattle.tv_core.specs.Combinations.{wire}
 use Rattle.tv_core.specs.Constraints.{Combination, value}
 use Rattle.tv_core.specs.declared.field.TheConstants.{P}
 use Rattle.tv_isa.specs.Opcodes.{among}
 use Rattle.tv_numbers.specs.Numbers.{operand_word, asks, takes_primary}
-use Rattle.tv_numbers.specs.Views.{flag_of}
+use Rattle.tv_word.proofs.FlagLaws.{flag_small}
 use Rattle.tv_word.proofs.WidthLaws.{width_short}
 use Rattle.tv_parts.proofs.OpcodeLaws.{opcode_sum_sound}
 use Rattle.tv_parts.proofs.TapeGates.{if_zero_sound, primary_sound, auxiliary_sound}
@@ -24,6 +24,7 @@ use Rattle.tv_parts.proofs.UpperLaws.{upper_once}
 use Rattle.tv_parts.specs.OpcodeSums.{opcode_sum}
 use Rattle.tv_parts.specs.Operand.{upper_of}
 use Rattle.tv_parts.specs.Tapes.{if_zero_of, primary_of, auxiliary_of, tapes_of, TapesAreSound}
+use Rattle.tv_word.specs.Word.{flag_of}
 
 -- ---- tests
 pub among_one : (j k : ℕ) → among (j ∷ []) k ≡ (k == j)
@@ -95,10 +96,6 @@ more_by b n t within = elim (cases_lt t n) [
     neither : (b : Bool) → nat_lt t n ≡ false → t + 0 ≡ (if b && nat_lt t n then t + 1 else t)
     neither true e = (let same : t + 0 ≡ t = omega arith in same) ∙ sym (ap (λ c. if c then t + 1 else t) e)
     neither false e = omega arith
-
-pub flag_small : (b : Bool) → flag_of b < 2
-flag_small true = omega arith
-flag_small false = omega arith
 
 ends_by : (q t : Bool) (before ended : ℕ) → ended ≡ (if q then (if t then before else 1) else before) → ended ≡ (if q && not t then 1 else before)
 ends_by true true before ended e = e

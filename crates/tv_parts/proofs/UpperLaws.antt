@@ -58,13 +58,13 @@ upper_is w width z a v m k assigns is within =
     let short = width_short w width in
     let size : w ≡ k + (w - k) = omega arith in
     let low = bits_combination a.bits.first k in
-    let spelled = HasBits-low z a.bits.first k (w - k) v (subst (λ n. HasBits z a.bits.first n v) size is.bits) in
+    let decomposed = HasBits-low z a.bits.first k (w - k) v (subst (λ n. HasBits z a.bits.first n v) size is.bits) in
     let small : v < P = HasBits-small is.bits (omega arith) in
     let upper : v / 2 ^ k < P = omega (arith, div-le_self v (2 ^ k)) in
     value-scaled (m * power_inverse k % P) (less (wire a.word) low) z
     ∙ ap (λ n. m * power_inverse k % P * n % P)
     (value-less (wire a.word) low z
-    ∙ ap₂ (λ x y. (x + (P - y)) % P) (value-wire assigns a.word ∙ is.word) (value-bits_below spelled (omega arith))
+    ∙ ap₂ (λ x y. (x + (P - y)) % P) (value-wire assigns a.word ∙ is.word) (value-bits_below decomposed (omega arith))
     ∙ low_less v (2 ^ k) (v / 2 ^ k) small (div-add-mod v (2 ^ k)))
     ∙ times_upper m k (v / 2 ^ k) (omega arith) upper
 

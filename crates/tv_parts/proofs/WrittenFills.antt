@@ -8,17 +8,15 @@ use Rattle.std.proofs.lemmas.List.{length-set}
 use Rattle.tv_bits.proofs.GateLaws.{terms-append}
 use Rattle.tv_bits.specs.Bit.{IsBit}
 use Rattle.tv_core.proofs.CombinationLaws.{value-wire}
-use Rattle.tv_core.proofs.Meeting.{Meets-join}
+use Rattle.tv_core.proofs.MeetsLaws.{Meets-join}
 use Rattle.tv_core.specs.Circuits.{fresh, put, pure, ◌>>=◌}
 use Rattle.tv_core.specs.Combinations.{wire}
 use Rattle.tv_core.specs.Constraints.{value}
 use Rattle.tv_core.specs.Laws.{HasFrom}
 use Rattle.tv_core.specs.Meanings.{terms_in}
 use Rattle.tv_core.specs.declared.field.TheConstants.{P}
-use Rattle.tv_isa.specs.Opcodes.{among}
+use Rattle.tv_isa.specs.Opcodes.{among, writer_ops}
 use Rattle.tv_numbers.specs.Numbers.{writes, stepped, result_in}
-use Rattle.tv_numbers.specs.Tables.{writer_ops}
-use Rattle.tv_numbers.specs.Views.{flag_of}
 use Rattle.tv_regs.proofs.UpdateLaws.{update_complete, update_sizes, update_costs}
 use Rattle.tv_regs.specs.Reads.{words_at}
 use Rattle.tv_regs.specs.Update.{update_of}
@@ -27,12 +25,14 @@ use Rattle.tv_regs.specs.declared.triple.Triple.{Triple}
 use Rattle.tv_parts.proofs.AccumulationLaws.{accumulated_complete, accumulated_answer, accumulated_next}
 use Rattle.tv_parts.proofs.OpcodeLaws.{opcode_sum_sound}
 use Rattle.tv_parts.proofs.TapeFills.{flag_test}
-use Rattle.tv_parts.proofs.TapeLaws.{among_one, flag_small}
+use Rattle.tv_parts.proofs.TapeLaws.{among_one}
 use Rattle.tv_parts.specs.Accumulation.{accumulated_of, closed_of}
 use Rattle.tv_parts.specs.Written.{written_of}
 use Rattle.tv_parts.specs.OpcodeSums.{opcode_sum}
 use Rattle.tv_parts.specs.Written.{WrittenIsComplete, WrittenSizes, WrittenCosts}
 use Rattle.tv_parts.specs.declared.records.StateWires.{StateWires}
+use Rattle.tv_word.proofs.FlagLaws.{flag_small}
+use Rattle.tv_word.specs.Word.{flag_of}
 
 bit_test : (f : ℕ) → f < 2 → (0 + 1 * f) % P ≡ flag_of (f == 1)
 bit_test zero small = refl

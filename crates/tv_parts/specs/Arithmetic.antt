@@ -16,14 +16,12 @@ use Rattle.tv_limb.specs.RowDifference.{comparing, difference_low, difference_hi
 use Rattle.tv_limb.specs.RowSum.{row_sum_of}
 use Rattle.tv_limb.specs.Sum.{carry}
 use Rattle.tv_logic.specs.Digits.{bitwise_of}
-use Rattle.tv_muldiv.specs.Quotient.{quotient_in, remainder_in}
 use Rattle.tv_muldiv.specs.RowDivision.{dividing, below_divisor, row_division_of, row_division_values}
 use Rattle.tv_muldiv.specs.RowProduct.{row_product_of, row_product_values}
 use Rattle.tv_muldiv.specs.RowSignedProduct.{row_signed_product_of, row_signed_product_values}
-use Rattle.tv_muldiv.specs.SignedHigh.{product_twos}
-use Rattle.tv_numbers.specs.Views.{flag_of}
 use Rattle.tv_shift.specs.Power.{shift_power_of, shift_power_values}
-use Rattle.tv_shift.specs.RowShift.{left_low, left_high, right_low, right_high, left_shift_of, left_shift_values, right_shift_of, right_shift_values}
+use Rattle.tv_shift.specs.RowShift.{right_low, right_high, right_shift_of, right_shift_values, shifted_word}
+use Rattle.tv_word.specs.Operations.{and_result, xor_result, add_result, mull_result, umulh_result, smulh_result, product_twos, udiv_result, umod_result}
 use Rattle.tv_word.specs.Widths.{IsWidth}
 use Rattle.tv_parts.specs.Inputs.{OperationNumbers, operation_of}
 use Rattle.tv_parts.specs.OpcodeSums.{opcode_sum, IsOpcode}
@@ -36,6 +34,7 @@ use Rattle.tv_parts.specs.declared.records.RowWires.{RowWires}
 use Rattle.tv_parts.specs.declared.records.Sources.{Sources}
 use Rattle.tv_parts.specs.declared.records.StateWires.{StateWires}
 use Rattle.tv_parts.specs.declared.records.TapeWires.{TapeWires}
+use Rattle.tv_word.specs.Word.{flag_of}
 
 -- ---- the opcodes of each operation
 abbrev pub bitwise_ops : List ℕ
@@ -95,7 +94,7 @@ unfoldable pub shifts_of : ℕ → ℕ → ℕ → ℕ → OperandWires → RowW
 shifts_of w op other f a r = do
   kept ← row_division_of w (opcode_sum op division_ops) (dividing other a.word f) r.x r.row
   power ← shift_power_of w a.bits
-  _ ← left_shift_of w (opcode_sum op (SHL ∷ [])) kept power.power r.row
+  _ ← row_product_of w (opcode_sum op (SHL ∷ [])) kept power.power r.row
   _ ← right_shift_of w (opcode_sum op (SHR ∷ [])) kept power.power r.row
   pure power.both
 
@@ -112,37 +111,33 @@ arithmetic_of w op other f a = do
 abbrev pub decomposed_word : ℕ → ℕ → ℕ → ℕ → ℕ
 decomposed_word w k x a = if among division_ops k then below_divisor w x a else x
 
--- the word that is shifted, which is 0 where all its bits are shifted out
-abbrev pub shifted_word : ℕ → ℕ → ℕ → ℕ
-shifted_word w x a = if nat_lt a w then x else 0
-
 -- the whole row by the operation: its low half, also where no result is made of it
 abbrev pub low_numbers : ℕ → ℕ → ℕ → List (Entry ℕ)
 low_numbers w x a =
-    (record { ops = bitwise_ops; gives = bit_and x a })
-    ∷ (record { ops = ADD ∷ []; gives = (x + a) % 2 ^ w })
+    (record { ops = bitwise_ops; gives = and_result x a })
+    ∷ (record { ops = ADD ∷ []; gives = add_result w x a })
     ∷ (record { ops = strict_ops; gives = difference_low w 1 x a })
     ∷ (record { ops = difference_ops; gives = difference_low w 0 x a })
-    ∷ (record { ops = product_ops; gives = x * a % 2 ^ w })
+    ∷ (record { ops = product_ops; gives = mull_result w x a })
     ∷ (record { ops = SMULH ∷ []; gives = product_twos w x a % 2 ^ w })
-    ∷ (record { ops = division_ops; gives = remainder_in x a })
-    ∷ (record { ops = SHL ∷ []; gives = left_low w (shifted_word w x a) (a % w) })
+    ∷ (record { ops = division_ops; gives = umod_result x a })
+    ∷ (record { ops = SHL ∷ []; gives = mull_result w (shifted_word w x a) (2 ^ (a % w)) })
     ∷ (record { ops = SHR ∷ []; gives = right_low w (shifted_word w x a) (a % w) })
     ∷ []
 
 -- and its high half
 abbrev pub high_numbers : ℕ → ℕ → ℕ → List (Entry ℕ)
 high_numbers w x a =
-    (record { ops = bitwise_ops; gives = bit_xor x a })
+    (record { ops = bitwise_ops; gives = xor_result x a })
     ∷ (record { ops = ADD ∷ []; gives = carry w x a })
     ∷ (record { ops = CMPG ∷ []; gives = difference_high w 1 1 x a })
     ∷ (record { ops = CMPGE ∷ []; gives = difference_high w 1 0 x a })
     ∷ (record { ops = CMPA ∷ []; gives = difference_high w 0 1 x a })
     ∷ (record { ops = difference_ops; gives = difference_high w 0 0 x a })
-    ∷ (record { ops = product_ops; gives = x * a / 2 ^ w })
-    ∷ (record { ops = SMULH ∷ []; gives = product_twos w x a / 2 ^ w })
-    ∷ (record { ops = division_ops; gives = quotient_in x a })
-    ∷ (record { ops = SHL ∷ []; gives = left_high w (shifted_word w x a) (a % w) })
+    ∷ (record { ops = product_ops; gives = umulh_result w x a })
+    ∷ (record { ops = SMULH ∷ []; gives = smulh_result w x a })
+    ∷ (record { ops = division_ops; gives = udiv_result x a })
+    ∷ (record { ops = SHL ∷ []; gives = umulh_result w (shifted_word w x a) (2 ^ (a % w)) })
     ∷ (record { ops = SHR ∷ []; gives = right_high (shifted_word w x a) (a % w) })
     ∷ []
 
@@ -168,7 +163,7 @@ products_values w k x a =
 abbrev pub shifts_values : ℕ → ℕ → ℕ → ℕ → ℕ → ℕ → List ℕ
 shifts_values w x a f low high =
     row_division_values f x high a
-    ++ (shift_power_values w a ++ (left_shift_values (f * x % P) (2 ^ (a % w)) ++ right_shift_values w low high (2 ^ (a % w))))
+    ++ (shift_power_values w a ++ (row_product_values (f * x % P) (2 ^ (a % w)) ++ right_shift_values w low high (2 ^ (a % w))))
 
 abbrev pub arithmetic_values : ℕ → OperationNumbers → ℕ → ℕ → ℕ → List ℕ
 arithmetic_values w by f low high =

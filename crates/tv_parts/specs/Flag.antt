@@ -10,12 +10,12 @@ use Rattle.tv_core.specs.Constraints.{Combination}
 use Rattle.tv_core.specs.Laws.{Assigns, Meets, HasFrom, Fills, InField}
 use Rattle.tv_core.specs.Meanings.{terms_in}
 use Rattle.tv_core.specs.declared.field.TheConstants.{P}
-use Rattle.tv_isa.specs.Opcodes.{among, chosen}
+use Rattle.tv_isa.specs.Opcodes.{among, chosen, keeper_ops}
 use Rattle.tv_isa.specs.declared.instr.Instr.{Instr}
 use Rattle.tv_isa.specs.declared.opcode.TheConstants.{ADD, MULL, UMULH, SMULH, UDIV, UMOD, SHL, SHR, CMPE, CMPA, CMPAE, CMPG, CMPGE, READ}
 use Rattle.tv_numbers.specs.Numbers.{operand_word, other_word, found, result_in}
-use Rattle.tv_numbers.specs.Tables.{flags, keeper_ops}
-use Rattle.tv_numbers.specs.Views.{View, flag_of}
+use Rattle.tv_numbers.specs.Tables.{flags}
+use Rattle.tv_numbers.specs.Views.{View}
 use Rattle.tv_word.specs.Widths.{IsWidth}
 use Rattle.tv_parts.specs.Accumulation.{accumulated_of}
 use Rattle.tv_parts.specs.Inputs.{FlagWires, StepInput, input_of, ResultNumbers}
@@ -25,6 +25,7 @@ use Rattle.tv_parts.specs.Rows.{covers, AreHalves}
 use Rattle.tv_parts.specs.Tapes.{took, AreTapes}
 use Rattle.tv_parts.specs.declared.records.StateWires.{StateWires}
 use Rattle.tv_parts.specs.declared.records.TapeWires.{TapeWires}
+use Rattle.tv_word.specs.Word.{flag_of}
 
 -- the flag where it isn't kept, without the shifts' bits: the test f, 1 more where its sign is negative, and 1 less what
 -- is taken of a tape at read

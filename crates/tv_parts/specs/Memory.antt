@@ -9,11 +9,11 @@ use Rattle.tv_core.specs.Laws.{Assigns, Meets, HasFrom, Fills, InField}
 use Rattle.tv_core.specs.Meanings.{terms_in}
 use Rattle.tv_core.specs.declared.field.TheConstants.{P}
 use Rattle.tv_core.specs.declared.limits.TheConstants.{TAPE_CELLS, NULL_CELL}
+use Rattle.tv_isa.specs.Opcodes.{memory_ops}
 use Rattle.tv_isa.specs.declared.instr.Instr.{Instr}
 use Rattle.tv_isa.specs.declared.opcode.TheConstants.{STORE_B, STORE_W}
 use Rattle.tv_mem.specs.Bytes.{byte_of}
 use Rattle.tv_numbers.specs.Numbers.{operand_word, other_word, touches, old_in, data_line}
-use Rattle.tv_numbers.specs.Tables.{memory_ops}
 use Rattle.tv_numbers.specs.Views.{View}
 use Rattle.tv_step.specs.Rows.{word_size}
 use Rattle.tv_word.specs.Widths.{IsWidth}
@@ -33,8 +33,8 @@ use Rattle.tv_parts.specs.declared.records.TapeWires.{TapeWires}
 -- the cell of the data line, and the word that it holds before the step: at a load or store that of the operand's
 -- address, all bits but those that select a byte of a word; where a word of tape 0 is taken, its cell; else the null
 -- cell, which holds 0. The wire `word` is the data word
-unfoldable pub line_of : ℕ → StateWires → ℕ → OperandWires → ℕ → TapeWires → Circuit LineWires
-line_of w state op a word t = do
+unfoldable pub located_line : ℕ → StateWires → ℕ → OperandWires → ℕ → TapeWires → Circuit LineWires
+located_line w state op a word t = do
   located ← accumulated_of (constant NULL_CELL) (opcode_sum op memory_ops) ((P - NULL_CELL, 0) ∷ upper_of 1 a (w / 16))
   cell ← accumulated_of (wire located) (primary_in state t) ((TAPE_CELLS, 0) ∷ (1, state.taken_of_primary) ∷ (P - 1, located) ∷ [])
   old ← times_of ((P - 1, state.taken_of_primary) ∷ (opcode_sum op memory_ops ++ wire t.taken)) (wire word)
@@ -71,7 +71,7 @@ new_of w op d a line byte = do
 -- ---- all of it
 unfoldable pub memory_of : ℕ → StateWires → ℕ → OperandWires → DataWires → TapeWires → Circuit StoreWires
 memory_of w state op a d t = do
-  line ← line_of w state op a d.word t
+  line ← located_line w state op a d.word t
   byte ← byte_at_of w d.bits a.bits.first
   new ← new_of w op d a line byte
   pure (record { line = line; byte = byte; new = new })
@@ -112,7 +112,7 @@ pub record HasMemory (w : ℕ) (z : List ℕ) (wires : TapedWires) (d : DataWire
   pub operand : IsOperand w z wires.operand (operand_word step.view step.instr)
   pub bits : HasBits z d.bits w step.low
   pub word : slice_index z d.word ≡ step.low
-  pub spelled : HasBits z d.x.first w x
+  pub decomposed : HasBits z d.x.first w x
   pub stored : step.instr.op ≡ STORE_B → x ≡ other_word step.view step.instr
   pub other : slice_index z d.other ≡ other_word step.view step.instr
   pub both : slice_index z d.both ≡ slice_index z wires.operand.bits.first * slice_index z (wires.operand.bits.first + 1) % P

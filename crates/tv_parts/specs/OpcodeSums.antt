@@ -1,13 +1,8 @@
 -- Sums over the one-hot row of the 29 opcodes that are used.
-use Rattle.std.specs.Prelude.{◌≡◌, ℕ, ◌+◌, ◌-◌, ◌<◌, ◌==◌, ◌&&◌, not, nat_lt, Bool, true, false, if◌then◌else◌, List, [], ◌∷◌, map, slice_index}
+use Rattle.std.specs.Prelude.{◌≡◌, ℕ, ◌+◌, ◌<◌, ◌==◌, ◌&&◌, not, nat_lt, Bool, true, false, List, [], ◌∷◌, map, slice_index}
 use Rattle.tv_core.specs.Constraints.{Combination, value}
-use Rattle.tv_isa.specs.Opcodes.{among}
-use Rattle.tv_numbers.specs.Tables.{unused_ops}
-use Rattle.tv_numbers.specs.Views.{flag_of}
-
--- the place of an opcode in the row, which skips 23, 24 and 25
-abbrev pub place_of : ℕ → ℕ
-place_of k = if nat_lt k 23 then k else k - 3
+use Rattle.tv_isa.specs.Opcodes.{among, unused_ops, place_of}
+use Rattle.tv_word.specs.Word.{flag_of}
 
 -- c times the sum of the wires of these opcodes in the row from `op` on, and that sum
 abbrev pub opcode_terms : ℕ → ℕ → List ℕ → Combination

@@ -7,10 +7,10 @@ use Rattle.tv_core.specs.Constraints.{Combination}
 use Rattle.tv_core.specs.Laws.{Assigns, Meets, HasFrom, Fills, InField}
 use Rattle.tv_core.specs.Meanings.{terms_in}
 use Rattle.tv_core.specs.declared.field.TheConstants.{P}
-use Rattle.tv_numbers.specs.Views.{flag_of}
 use Rattle.tv_word.specs.Widths.{IsWidth}
 use Rattle.tv_parts.specs.Accumulation.{accumulated_of}
 use Rattle.tv_parts.specs.declared.records.OperandWires.{OperandWires}
+use Rattle.tv_word.specs.Word.{flag_of}
 
 -- a new wire that is the second word `tail` where the immediate bit is 1, and else the register; and its bits
 unfoldable pub operand_of : ℕ → ℕ → ℕ → ℕ → Circuit OperandWires

@@ -9,20 +9,21 @@ use Rattle.tv_core.specs.Inverse.{inverse_of}
 use Rattle.tv_core.specs.Laws.{Assigns, Meets, HasFrom, Fills, InField}
 use Rattle.tv_core.specs.Meanings.{terms_in}
 use Rattle.tv_core.specs.declared.field.TheConstants.{P}
-use Rattle.tv_isa.specs.Opcodes.{chosen}
+use Rattle.tv_isa.specs.Opcodes.{chosen, place_of}
 use Rattle.tv_isa.specs.declared.instr.Instr.{Instr}
 use Rattle.tv_isa.specs.declared.opcode.TheConstants.{JMP, CJMP, CNJMP, ANSWER}
 use Rattle.tv_numbers.specs.Numbers.{operand_word}
 use Rattle.tv_numbers.specs.Tables.{pcs}
-use Rattle.tv_numbers.specs.Views.{View, flag_of}
+use Rattle.tv_numbers.specs.Views.{View}
 use Rattle.tv_word.specs.Widths.{IsWidth}
 use Rattle.tv_parts.specs.Accumulation.{accumulated_of}
 use Rattle.tv_parts.specs.Inputs.{StepWires}
-use Rattle.tv_parts.specs.OpcodeSums.{place_of, IsOpcode}
+use Rattle.tv_parts.specs.OpcodeSums.{IsOpcode}
 use Rattle.tv_parts.specs.Operand.{upper_of, IsOperand}
 use Rattle.tv_parts.specs.Tapes.{if_zero_of}
 use Rattle.tv_parts.specs.declared.records.OperandWires.{OperandWires}
 use Rattle.tv_parts.specs.declared.records.StateWires.{StateWires}
+use Rattle.tv_word.specs.Word.{flag_of}
 
 -- 0 where the counter is that of the last instruction
 abbrev pub from_last : ℕ → ℕ → Combination

@@ -8,18 +8,17 @@ use Rattle.tv_core.specs.Constraints.{Combination}
 use Rattle.tv_core.specs.Laws.{Assigns, Meets, HasFrom, Fills, InField}
 use Rattle.tv_core.specs.Meanings.{terms_in}
 use Rattle.tv_core.specs.declared.field.TheConstants.{P}
-use Rattle.tv_isa.specs.Opcodes.{among, Entry, chosen}
+use Rattle.tv_isa.specs.Opcodes.{among, Entry, chosen, writer_ops, place_of}
 use Rattle.tv_isa.specs.declared.instr.Instr.{Instr}
 use Rattle.tv_isa.specs.declared.opcode.TheConstants.{AND, OR, XOR, NOT, ADD, SUB, MULL, UMULH, SMULH, UDIV, UMOD, SHL, SHR, CMPE, CMPA, CMPAE, CMPG, CMPGE, MOV, CMOV, LOAD_B, LOAD_W}
 use Rattle.tv_mem.specs.Bytes.{byte_of}
 use Rattle.tv_numbers.specs.Numbers.{operand_word, other_word, found, result_in}
-use Rattle.tv_numbers.specs.Tables.{writer_ops}
 use Rattle.tv_numbers.specs.Views.{View}
 use Rattle.tv_step.specs.Rows.{word_size}
 use Rattle.tv_word.specs.Widths.{IsWidth}
 use Rattle.tv_parts.specs.Accumulation.{accumulated_of}
 use Rattle.tv_parts.specs.Inputs.{TapedWires, StepInput, input_of}
-use Rattle.tv_parts.specs.OpcodeSums.{place_of, opcode_terms, opcode_sum, IsOpcode}
+use Rattle.tv_parts.specs.OpcodeSums.{opcode_terms, opcode_sum, IsOpcode}
 use Rattle.tv_parts.specs.Operand.{upper_of, IsOperand}
 use Rattle.tv_parts.specs.Rows.{covers, AreHalves}
 use Rattle.tv_parts.specs.Tapes.{took, AreTapes}

@@ -12,7 +12,7 @@ use Rattle.tv_core.specs.declared.field.TheConstants.{P}
 use Rattle.tv_isa.specs.declared.instr.Instr.{Instr}
 use Rattle.tv_isa.specs.declared.opcode.TheConstants.{READ}
 use Rattle.tv_numbers.specs.Numbers.{operand_word, asks, takes_primary, stepped}
-use Rattle.tv_numbers.specs.Views.{flag_of, View}
+use Rattle.tv_numbers.specs.Views.{View}
 use Rattle.tv_word.specs.Widths.{IsWidth}
 use Rattle.tv_parts.specs.Inputs.{StepWires}
 use Rattle.tv_parts.specs.OpcodeSums.{opcode_sum, IsOpcode}
@@ -20,6 +20,7 @@ use Rattle.tv_parts.specs.Operand.{upper_of, IsOperand}
 use Rattle.tv_parts.specs.declared.records.OperandWires.{OperandWires}
 use Rattle.tv_parts.specs.declared.records.StateWires.{StateWires}
 use Rattle.tv_parts.specs.declared.records.TapeWires.{TapeWires}
+use Rattle.tv_word.specs.Word.{flag_of}
 
 -- a new wire that is g where x is 0, and 0 where it isn't
 unfoldable pub if_zero_of : Combination → Combination → Circuit ℕ

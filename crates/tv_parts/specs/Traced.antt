@@ -2,10 +2,11 @@
 use Rattle.std.specs.Prelude.{◌≡◌, ℕ, ◌^◌, ◌<◌}
 use Rattle.tv_isa.specs.Instruction.{IsInstruction}
 use Rattle.tv_numbers.specs.Numbers.{operand_word, other_word, takes_primary, found, old_in}
-use Rattle.tv_numbers.specs.Views.{View, flag_of}
+use Rattle.tv_numbers.specs.Views.{View}
 use Rattle.tv_step.specs.declared.lines.TraceState.{TraceState}
 use Rattle.tv_parts.specs.Inputs.{StepInput, input_of}
 use Rattle.tv_parts.specs.declared.step_numbers.StepNumbers.{StepNumbers}
+use Rattle.tv_word.specs.Word.{flag_of}
 
 -- the view of a trace's state
 abbrev pub traced_view : TraceState → View

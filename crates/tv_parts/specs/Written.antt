@@ -6,12 +6,11 @@ use Rattle.tv_core.specs.Circuits.{Circuit, ◌>>=◌}
 use Rattle.tv_core.specs.Combinations.{wire}
 use Rattle.tv_core.specs.Laws.{Assigns, Meets, HasFrom, Fills}
 use Rattle.tv_core.specs.Meanings.{terms_in}
-use Rattle.tv_isa.specs.Opcodes.{among}
+use Rattle.tv_isa.specs.Opcodes.{among, writer_ops}
 use Rattle.tv_isa.specs.declared.instr.Instr.{Instr}
 use Rattle.tv_isa.specs.declared.opcode.TheConstants.{CMOV}
 use Rattle.tv_numbers.specs.Numbers.{writes, stepped, result_in}
-use Rattle.tv_numbers.specs.Tables.{writer_ops}
-use Rattle.tv_numbers.specs.Views.{View, flag_of}
+use Rattle.tv_numbers.specs.Views.{View}
 use Rattle.tv_regs.specs.Reads.{words_at}
 use Rattle.tv_regs.specs.Update.{update_of}
 use Rattle.tv_regs.specs.declared.triple.Triple.{Triple}
@@ -19,6 +18,7 @@ use Rattle.tv_parts.specs.Accumulation.{accumulated_of}
 use Rattle.tv_parts.specs.Inputs.{StepInput, input_of}
 use Rattle.tv_parts.specs.OpcodeSums.{opcode_sum, IsOpcode}
 use Rattle.tv_parts.specs.declared.records.StateWires.{StateWires}
+use Rattle.tv_word.specs.Word.{flag_of}
 
 -- whether the destination is written, and the registers after it
 unfoldable pub written_of : ℕ → StateWires → Triple → ℕ → Circuit (List ℕ)

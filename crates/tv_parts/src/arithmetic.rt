@@ -3,7 +3,7 @@ ghost use Rattle.std.specs.Prelude.{◌≡◌, ◌+◌, ◌-◌, ◌*◌, ◌/�
 ghost use Rattle.std.specs.Prelude.{false, max, IfOk, OnOk};
 ghost use Rattle.tv_core.specs.Values.{GivesIn};
 ghost use Rattle.tv_core.specs.Sinks.{PutsIn, Grows, Room};
-ghost use Rattle.tv_parts.specs.Arithmetic.{signed_ops, decomposed_word, shifted_word};
+ghost use Rattle.tv_parts.specs.Arithmetic.{signed_ops, decomposed_word};
 ghost use Rattle.tv_parts.specs.Arithmetic.{low_number, high_number, rows_values};
 ghost use Rattle.tv_parts.specs.Arithmetic.{shifts_values, arithmetic_values};
 ghost use Rattle.tv_parts.specs.Arithmetic.{with_sign, rows_of, sums_of, products_of};
@@ -14,7 +14,8 @@ ghost use Rattle.tv_parts.specs.Inputs.{operation_of};
 ghost use Rattle.tv_parts.specs.States.{OperandUnder, OperationUnder, RowUnder, ArithmeticUnder};
 ghost use Rattle.tv_isa.specs.Opcodes.{among};
 ghost use Rattle.tv_isa.specs.declared.opcode.TheConstants.{SMULH};
-ghost use Rattle.tv_shift.specs.RowShift.{left_low, left_high, right_low, right_high};
+ghost use Rattle.tv_shift.specs.RowShift.{right_low, right_high, shifted_word};
+ghost use Rattle.tv_word.specs.Operations.{mull_result, umulh_result};
 ghost use Rattle.tv_word.specs.Widths.{IsWidth};
 
 use crate::opcode_sums::{opcode_wire, set_opcodes};
@@ -31,7 +32,7 @@ use tv_muldiv::{
     below_divisor, fill_row_division, fill_row_product, fill_row_signed_product, row_division,
     row_product, row_signed_product, signed_product_halves,
 };
-use tv_shift::{fill_right_shift, fill_shift_power, left_shift, right_shift, shift_power};
+use tv_shift::{fill_right_shift, fill_shift_power, right_shift, shift_power};
 use tv_word::arithmetic::{
     both, carries, differing, high_product, low_product, power, quotient, remainder, shifted_right,
     sum,
@@ -183,7 +184,7 @@ fn put_shifts<const W: u32, S: Sink>(
     let kept = row_division::<W, S>(s, scratch, &gates.a, other, a.word, f, &rows.x, &rows.row)?;
     let power = shift_power::<W, S>(s, scratch, &a.bits)?;
     set_opcodes(&mut gates.a, op, &[SHL]);
-    left_shift::<W, S>(s, scratch, &gates.a, kept, power.power, &rows.row)?;
+    row_product::<W, S>(s, scratch, &gates.a, kept, power.power, &rows.row)?;
     set_opcodes(&mut gates.a, op, &[SHR]);
     right_shift::<W, S>(s, scratch, &gates.a, kept, power.power, &rows.row)?;
     Ok(power.both)
@@ -209,10 +210,10 @@ pub fn fill_arithmetic<const W: u32, V: Values>(
     ensures whole { OnOk result (V.giving.broken v.new ≡ false) }
 {
     fill_rows::<W, V>(v, k, x, a, low, high)?;
-    let spelled = decomposed_word::<W>(k, x, a);
-    fill_row_difference::<W, V>(v, is_signed_order(k), spelled, a)?;
+    let decomposed = decomposed_word::<W>(k, x, a);
+    fill_row_difference::<W, V>(v, is_signed_order(k), decomposed, a)?;
     fill_row_product(v, x, a)?;
-    fill_row_signed_product::<W, V>(v, x, spelled, a)?;
+    fill_row_signed_product::<W, V>(v, x, decomposed, a)?;
     fill_shifts::<W, V>(v, x, a, f, low, high)
 }
 
@@ -311,8 +312,8 @@ pub fn row_halves<const W: u32>(k: u8, x: u32, a: u32, o: u32) -> (u32, u32)
 fn left_halves<const W: u32>(x: u32, a: u32) -> (u32, u32)
     requires width { IsWidth W }
     requires x_word { x < 2 ^ W }
-    ensures low { result.0 ≡ left_low W (shifted_word W x a) (a % W) }
-    ensures high { result.1 ≡ left_high W (shifted_word W x a) (a % W) }
+    ensures low { result.0 ≡ mull_result W (shifted_word W x a) (2 ^ (a % W)) }
+    ensures high { result.1 ≡ umulh_result W (shifted_word W x a) (2 ^ (a % W)) }
 {
     let word = shifted_word::<W>(x, a);
     let power = power(a % W);

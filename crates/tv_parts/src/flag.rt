@@ -12,8 +12,8 @@ ghost use Rattle.tv_parts.specs.States.{FlagUnder};
 ghost use Rattle.tv_parts.specs.Traced.{traced_view, traced_input, AreNumbers};
 ghost use Rattle.tv_isa.specs.Opcodes.{chosen};
 ghost use Rattle.tv_numbers.specs.Tables.{flags};
-ghost use Rattle.tv_numbers.specs.Views.{flag_of};
 ghost use Rattle.tv_word.specs.Widths.{IsWidth};
+ghost use Rattle.tv_word.specs.Word.{flag_of};
 
 use crate::accumulation::accumulated;
 use crate::opcode_sums::{opcode_wire, plus_opcodes, set_opcodes};

@@ -4,17 +4,16 @@ ghost use Rattle.std.specs.Prelude.{length, max, IfOk, OnOk};
 ghost use Rattle.tv_core.specs.Combinations.{wire, scaled, top};
 ghost use Rattle.tv_core.specs.Values.{GivesIn};
 ghost use Rattle.tv_core.specs.Sinks.{PutsIn, Grows, Room};
-ghost use Rattle.tv_parts.specs.Memory.{line_of, byte_of_pair, byte_of_four, byte_at_of};
+ghost use Rattle.tv_parts.specs.Memory.{located_line, byte_of_pair, byte_of_four, byte_at_of};
 ghost use Rattle.tv_parts.specs.Memory.{power_in, new_of, memory_of};
 ghost use Rattle.tv_parts.specs.Memory.{MemoryIsSound, MemoryIsComplete, MemorySizes, MemoryCosts};
 ghost use Rattle.tv_parts.specs.States.{TapedUnder, DataUnder, LineUnder, StoreUnder};
 ghost use Rattle.tv_parts.specs.Memory.{line_values, byte_values, gained, new_values};
 ghost use Rattle.tv_parts.specs.Memory.{memory_values};
 ghost use Rattle.tv_parts.specs.Traced.{traced_view, traced_input, AreNumbers};
-ghost use Rattle.tv_isa.specs.Opcodes.{among};
+ghost use Rattle.tv_isa.specs.Opcodes.{among, memory_ops};
 ghost use Rattle.tv_mem.specs.Bytes.{byte_of};
 ghost use Rattle.tv_numbers.specs.Numbers.{with_byte_in};
-ghost use Rattle.tv_numbers.specs.Tables.{memory_ops};
 ghost use Rattle.tv_step.specs.Rows.{word_size};
 ghost use Rattle.tv_word.specs.Widths.{IsWidth};
 
@@ -81,7 +80,7 @@ fn put_line<const W: u32, S: Sink>(
       tapes = tapes.now;
     }) }
     requires word_made { word < S.meaning.wires s.old }
-    ensures puts { PutsIn S.meaning s.old s.new (line_of W state.now op a.now word tapes.now)
+    ensures puts { PutsIn S.meaning s.old s.new (located_line W state.now op a.now word tapes.now)
         result }
     ensures grows { IfOk result (λ _. Grows S.meaning s.old s.new 3 3) }
     ensures below { IfOk result (λ made. LineUnder (S.meaning.wires s.new) made) }
@@ -252,7 +251,7 @@ pub fn fill_memory<const W: u32, V: Values>(
     requires taken { state.now.primary ≤ step.now.n }
     requires whole { V.giving.broken v.old ≡ false }
     ensures gives { GivesIn V.giving v.old v.new
-        (memory_values W (traced_input state.now step.now) step.now.spelled step.now.aux) result }
+        (memory_values W (traced_input state.now step.now) step.now.decomposed step.now.aux) result }
     ensures whole { OnOk result (V.giving.broken v.new ≡ false) }
 {
     give_values(v, &line_values::<W>(state, step))?;
@@ -313,10 +312,10 @@ fn fill_bytes<const W: u32, V: Values>(v: &mut V, word: u32, at: u32) -> Put<()>
 fn new_values<const W: u32>(state: &TraceState, step: &StepNumbers) -> [F; 3]
     requires width { IsWidth W }
     requires step { AreNumbers W (traced_view state.now) step.now }
-    ensures { result ≡ new_values W (traced_input state.now step.now) step.now.spelled
+    ensures { result ≡ new_values W (traced_input state.now step.now) step.now.decomposed
         step.now.aux }
 {
-    let change = gained(step.low, step.operand % (W / 8), step.spelled % 256);
+    let change = gained(step.low, step.operand % (W / 8), step.decomposed % 256);
     let changed = if step.instr.op == STORE_B {
         change
     } else {

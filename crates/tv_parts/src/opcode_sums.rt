@@ -1,18 +1,20 @@
 //! Sums over the row of the opcodes that are used.
 ghost use Rattle.std.specs.Prelude.{◌≡◌, ◌+◌, ◌≤◌, ◌<◌, ◌^◌, ◌++◌, All, length, max};
 ghost use Rattle.tv_core.specs.Combinations.{top};
-ghost use Rattle.tv_parts.specs.OpcodeSums.{place_of, opcode_terms, opcode_sum};
+ghost use Rattle.tv_isa.specs.Opcodes.{place_of};
+ghost use Rattle.tv_parts.specs.OpcodeSums.{opcode_terms, opcode_sum};
 ghost use Rattle.tv_parts.specs.OpcodeSums.{OpcodeSumIsSound};
 
 use tv_core::{F, Lc, Wire};
+use tv_isa::opcode::place;
 
-/// Returns the wire of an opcode in the row of 29 wires from `op` on, which skips 23, 24 and 25.
+/// Returns the wire of an opcode in the row of the used ones from `op` on.
 pub fn opcode_wire(op: Wire, k: u8) -> Wire
     requires within { op + 29 ≤ 2 ^ 32 }
     requires opcode { k < 32 }
     ensures { result ≡ op + place_of k }
 {
-    op.offset(u32::from(if k < 23 { k } else { k - 3 }))
+    op.offset(place(k))
 }
 
 /// Appends `factor` times the sum of the wires of these opcodes in the row from `op` on.

@@ -9,11 +9,11 @@ ghost use Rattle.tv_parts.specs.Pc.{PcIsComplete, PcSizes, PcCosts, pc_values};
 ghost use Rattle.tv_parts.specs.Traced.{traced_view, AreNumbers};
 ghost use Rattle.tv_isa.specs.Opcodes.{chosen};
 ghost use Rattle.tv_numbers.specs.Tables.{next_pc, target, pcs};
-ghost use Rattle.tv_numbers.specs.Views.{flag_of};
 ghost use Rattle.tv_core.specs.Inverse.{inverse_of};
 ghost use Rattle.tv_core.specs.Values.{GivesIn};
 ghost use Rattle.tv_parts.specs.States.{StateUnder, OperandUnder};
 ghost use Rattle.tv_word.specs.Widths.{IsWidth};
+ghost use Rattle.tv_word.specs.Word.{flag_of};
 
 use crate::accumulation::accumulated;
 use crate::opcode_sums::opcode_wire;

@@ -14,7 +14,7 @@ pub struct StepNumbers {
     /// The other word: what is stored, or else the one in the source register.
     pub other: u32,
     /// The word whose bits stand beside the row: the other word, except at a division.
-    pub spelled: u32,
+    pub decomposed: u32,
     /// The low half of the row, which is the data word where the step has one.
     pub low: u32,
     /// The high half of the row.

@@ -13,8 +13,8 @@ ghost use Rattle.tv_parts.specs.Tapes.{TapesAreSound, TapesAreComplete, TapesSiz
 ghost use Rattle.tv_parts.specs.Tapes.{tapes_values};
 ghost use Rattle.tv_parts.specs.Traced.{traced_view, AreNumbers};
 ghost use Rattle.tv_numbers.specs.Numbers.{stepped};
-ghost use Rattle.tv_numbers.specs.Views.{flag_of};
 ghost use Rattle.tv_word.specs.Widths.{IsWidth};
+ghost use Rattle.tv_word.specs.Word.{flag_of};
 
 use crate::opcode_sums::opcode_wire;
 use crate::operand::plus_upper;

@@ -8,13 +8,13 @@ ghost use Rattle.tv_parts.specs.States.{StateUnder, TripleUnder};
 ghost use Rattle.tv_parts.specs.Traced.{traced_view, AreNumbers};
 ghost use Rattle.tv_parts.specs.Written.{written_values, WrittenIsComplete, WrittenSizes};
 ghost use Rattle.tv_parts.specs.Written.{WrittenCosts};
-ghost use Rattle.tv_isa.specs.Opcodes.{among, chosen};
+ghost use Rattle.tv_isa.specs.Opcodes.{among, chosen, writer_ops};
 ghost use Rattle.tv_isa.specs.declared.opcode.TheConstants.{CMOV};
 ghost use Rattle.tv_numbers.specs.Numbers.{result_in};
-ghost use Rattle.tv_numbers.specs.Tables.{results, writer_ops};
-ghost use Rattle.tv_numbers.specs.Views.{flag_of};
+ghost use Rattle.tv_numbers.specs.Tables.{results};
 ghost use Rattle.tv_regs.specs.Reads.{wires_top};
 ghost use Rattle.tv_word.specs.Widths.{IsWidth};
+ghost use Rattle.tv_word.specs.Word.{flag_of};
 
 use crate::accumulation::accumulated;
 use crate::memory::byte_of;

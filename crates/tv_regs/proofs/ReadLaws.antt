@@ -6,7 +6,7 @@ use Rattle.tv_core.proofs.CombinationLaws.{wire-below}
 use Rattle.tv_core.proofs.DifferenceLaws.{same_of_minus}
 use Rattle.tv_core.proofs.FieldLaws.{InField-none, InField-cons}
 use Rattle.tv_core.proofs.LoopLaws.{turn_met, turns_met, turns-next}
-use Rattle.tv_core.proofs.Meeting.{Meets-split, Meets-join}
+use Rattle.tv_core.proofs.MeetsLaws.{Meets-split, Meets-join}
 use Rattle.tv_core.specs.Circuits.{fresh, put, pure, ◌>>=◌}
 use Rattle.tv_core.specs.Laws.{InField}
 use Rattle.tv_core.specs.Loops.{sequence}

@@ -17,7 +17,7 @@ use Rattle.tv_core.proofs.CombinationLaws.{value-below, value-append, value-cons
 use Rattle.tv_core.proofs.DifferenceLaws.{same_of_minus}
 use Rattle.tv_core.proofs.FieldLaws.{InField-none, InField-cons, InField-append, InField-each_below}
 use Rattle.tv_core.proofs.LoopLaws.{turn_met, turns_met, turns-next}
-use Rattle.tv_core.proofs.Meeting.{Meets-split, Meets-join, HasFrom-split}
+use Rattle.tv_core.proofs.MeetsLaws.{Meets-split, Meets-join, HasFrom-split}
 use Rattle.tv_core.proofs.NormalCircuits.{normal_append, normal_negated}
 use Rattle.tv_core.proofs.NormalLaws.{value-normal, IsNormalFrom-normal}
 use Rattle.tv_core.proofs.Unique.{same_values}

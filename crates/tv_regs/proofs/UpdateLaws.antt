@@ -14,7 +14,7 @@ use Rattle.tv_core.proofs.BelowLaws.{value-weighted}
 use Rattle.tv_core.proofs.CombinationLaws.{value-append, value-scaled, value-wire, value-cons, wire-below}
 use Rattle.tv_core.proofs.DifferenceLaws.{same_of_minus, cancel_minus}
 use Rattle.tv_core.proofs.LoopLaws.{turn_met, turns_met, turns-next}
-use Rattle.tv_core.proofs.Meeting.{Meets-split, Meets-join}
+use Rattle.tv_core.proofs.MeetsLaws.{Meets-split, Meets-join}
 use Rattle.tv_core.proofs.PrimeLaws.{p_zero_product_below}
 use Rattle.tv_core.specs.Below.{sum_below, each_below, weighted}
 use Rattle.tv_core.specs.Circuits.{here, fresh, put, pure, turns, ◌>>=◌}

@@ -17,7 +17,7 @@ use Rattle.tv_core.proofs.CombinationLaws.{top-append, value-below, value-less, 
 use Rattle.tv_core.proofs.DifferenceLaws.{same_of_minus, cancel_minus}
 use Rattle.tv_core.proofs.FieldLaws.{InField-cons}
 use Rattle.tv_core.proofs.LoopLaws.{turn_met, turns_met, turns-next}
-use Rattle.tv_core.proofs.Meeting.{Meets-split, Meets-join}
+use Rattle.tv_core.proofs.MeetsLaws.{Meets-split, Meets-join}
 use Rattle.tv_core.proofs.NormalLaws.{value-normal}
 use Rattle.tv_core.proofs.Residues.{sum_by-map}
 use Rattle.tv_core.specs.Below.{sum_below, each_below}

@@ -4,6 +4,7 @@
 use Rattle.std.specs.Prelude.{◌≡◌, ℕ, ◌+◌, ◌-◌, ◌*◌, ◌%◌, ◌<◌, ◌≤◌, ◌==◌, if◌then◌else◌, List, [], ◌∷◌, ◌++◌, length, slice_index}
 use Rattle.tv_bits.specs.Bit.{IsBit}
 use Rattle.tv_bits.specs.Bits.{bits_combination}
+use Rattle.tv_bits.specs.Number.{number_of}
 use Rattle.tv_bits.specs.Pairs.{negative}
 use Rattle.tv_bits.specs.Ratio.{ratio, ratio_of}
 use Rattle.tv_bits.specs.Select.{selected, pick_of}
@@ -95,10 +96,6 @@ triple_of stores target source named regs = do
   named_word ← point_of named curve
   dest_word ← point_of (wire roots.dest) curve
   pure (record { dest = roots.dest; other = roots.other; other_word = other_word; named_word = named_word; dest_word = dest_word })
-
--- the number that bits represent
-abbrev pub number_of : Bits → Combination
-number_of bits = bits_combination bits.first bits.n
 
 -- three numbers of registers, of four bits each, whose wires are below a number
 pub record AreNames (wires : ℕ) (names : Names) : Type 0 where

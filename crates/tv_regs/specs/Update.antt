@@ -45,7 +45,7 @@ update_of on dest word result regs = do
   pure (range_with_len first 16)
 
 -- the four wires of a write are below a number
-pub record AreMade (wires : ℕ) (write : Write) : Type 0 where
+pub record IsWriteMade (wires : ℕ) (write : Write) : Type 0 where
   pub on : write.on < wires
   pub dest : write.dest < wires
   pub word : write.word < wires

@@ -50,8 +50,8 @@ pub fn fill_read_reg<V: Values>(v: &mut V, sel: u32, regs: &[u32; 16]) -> Put<()
     v.give(F::from(regs[sel as usize]))
 }
 
-/// Where an assignment has a one-hot row and satisfies the constraints of `read_reg`, its wire
-/// holds the register that the row has.
+/// Where an assignment has a one-hot row and satisfies the constraints of `read_reg`, the returned
+/// wire has the value of the register that the row selects.
 pub fn read_reg_is_sound()
     ensures { ReadRegIsSound }
 {}

@@ -1,19 +1,20 @@
 //! Three registers, read at once: a curve of degree two goes through their words.
 //!
-//! The sixteen constraints on the curve hold each register to it times the product of three
-//! differences, which is 0 at the numbers of the three registers; so the curve has their words
-//! there, and three times two constraints take them from it. They take 26 constraints where three
-//! trees of choices take 45. Where numbers are equal the words are, and the divided differences
-//! of the curve are 0, so one formula assigns its values.
+//! Sixteen constraints say that each register is the curve's value plus a multiple of the product
+//! of three differences, which is 0 at the numbers of the three registers; so the curve passes
+//! through their words, and three times two constraints evaluate it. These are 26 constraints, where
+//! three trees of choices take 45. Where numbers are equal the words are, and the divided
+//! differences of the curve are 0, so one formula assigns its values.
 ghost use Rattle.std.specs.Prelude.{◌≡◌, ◌+◌, ◌*◌, ◌%◌, ◌≤◌, ◌<◌, ◌^◌, false, IfOk};
 ghost use Rattle.std.specs.Prelude.{OnOk};
+ghost use Rattle.tv_bits.specs.Number.{number_of};
 ghost use Rattle.tv_core.specs.Combinations.{top};
 ghost use Rattle.tv_core.specs.Values.{GivesIn};
 ghost use Rattle.tv_core.specs.Inverse.{inverse_of};
 ghost use Rattle.tv_core.specs.Sinks.{PutsIn, Grows, Room};
 ghost use Rattle.tv_core.specs.declared.field.TheConstants.{P};
 ghost use Rattle.tv_regs.specs.Reads.{wires_top};
-ghost use Rattle.tv_regs.specs.Triple.{number_of, roots_of, sums_of, pairs_of, cubic, departure};
+ghost use Rattle.tv_regs.specs.Triple.{roots_of, sums_of, pairs_of, cubic, departure};
 ghost use Rattle.tv_regs.specs.Triple.{passes_of, curve_of, point_of, triple_of, triple_wires};
 ghost use Rattle.tv_regs.specs.Triple.{AreNames};
 ghost use Rattle.tv_regs.specs.Triple.{AreRoots, curve_through, minus, passing, roots_values};
@@ -465,13 +466,13 @@ fn passing(curve: &Curve, o: u32, b: u32, d: u32, regs: &[u32; 16], i: u32) -> F
 }
 
 /// Where an assignment has a bit and three numbers of registers and satisfies the constraints of
-/// `read_triple`, the returned wires hold the numbers and the words of these registers.
+/// `read_triple`, the returned wires have the numbers and the words of these registers.
 #[tactic(auto, using(crate::proofs::TripleLaws::triple_sound))]
 pub fn triple_is_sound()
     ensures { TripleIsSound }
 {}
 
-/// Where an assignment has so, and the values that `fill_triple` assigns, it satisfies the
+/// Where an assignment has such inputs, and the values that `fill_triple` assigns, it satisfies the
 /// constraints of `read_triple`.
 #[tactic(auto, using(crate::proofs::TripleLaws::triple_complete))]
 pub fn triple_is_complete()
@@ -485,7 +486,7 @@ pub fn triple_fills()
     ensures { TripleSizes }
 {}
 
-/// Says how many constraints and terms `read_triple` puts.
+/// Says how many constraints and terms `read_triple` emits.
 #[tactic(auto, using(crate::proofs::TripleLaws::triple_costs))]
 pub fn triple_costs()
     ensures { TripleCosts }

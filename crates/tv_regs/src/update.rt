@@ -7,7 +7,7 @@ ghost use Rattle.tv_core.specs.Values.{GivesIn};
 ghost use Rattle.tv_core.specs.Sinks.{PutsIn, Grows, Room};
 ghost use Rattle.tv_core.specs.declared.field.TheConstants.{P};
 ghost use Rattle.tv_regs.specs.Reads.{wires_top};
-ghost use Rattle.tv_regs.specs.Update.{number_less, rise, stays_of, update_of, AreMade};
+ghost use Rattle.tv_regs.specs.Update.{number_less, rise, stays_of, update_of, IsWriteMade};
 ghost use Rattle.tv_regs.specs.Update.{UpdateIsSound, UpdateIsComplete, UpdateSizes};
 ghost use Rattle.tv_regs.specs.Update.{UpdateCosts};
 ghost use Rattle.tv_regs.specs.Writes.{written_regs};
@@ -29,7 +29,7 @@ pub struct Write {
     pub value: Wire,
 }
 
-/// Constrains new registers: where `on` is 1, the register whose number `dest` holds becomes
+/// Constrains new registers: where `on` is 1, the register whose number `dest` has becomes
 /// `value`, and where it is 0 none changes. It makes 16 wires and 17 constraints, of 98 terms.
 pub fn update_register<S: Sink>(
     s: &mut S,
@@ -38,7 +38,7 @@ pub fn update_register<S: Sink>(
     regs: &[Wire; 16],
 ) -> Put<[Wire; 16]>
     requires room { Room S.meaning s.old 16 17 }
-    requires made { AreMade (S.meaning.wires s.old) write.now }
+    requires made { IsWriteMade (S.meaning.wires s.old) write.now }
     requires regs_made { wires_top regs.now ≤ S.meaning.wires s.old }
     ensures puts { PutsIn S.meaning s.old s.new
         (update_of write.now.on write.now.dest write.now.word write.now.value regs.now) result }
@@ -120,14 +120,14 @@ pub fn fill_update<V: Values>(v: &mut V, dest: u32, on: bool, x: u32, regs: &[u3
 }
 
 /// Where an assignment has a bit at `on`, the number of a register at `dest` and its word at
-/// `word`, and satisfies the constraints of `update_register`, the returned wires hold the
+/// `word`, and satisfies the constraints of `update_register`, the returned wires are the
 /// registers after the write.
 #[tactic(auto, using(crate::proofs::UpdateLaws::update_sound))]
 pub fn update_is_sound()
     ensures { UpdateIsSound }
 {}
 
-/// Where an assignment has so, and the values that `fill_update` assigns, it satisfies the
+/// Where an assignment has such inputs, and the values that `fill_update` assigns, it satisfies the
 /// constraints of `update_register`.
 #[tactic(auto, using(crate::proofs::UpdateLaws::update_complete))]
 pub fn update_is_complete()
@@ -141,7 +141,7 @@ pub fn update_fills()
     ensures { UpdateSizes }
 {}
 
-/// Says how many constraints and terms `update_register` puts.
+/// Says how many constraints and terms `update_register` emits.
 #[tactic(auto, using(crate::proofs::UpdateLaws::update_costs))]
 pub fn update_costs()
     ensures { UpdateCosts }

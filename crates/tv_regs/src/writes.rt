@@ -13,7 +13,7 @@ ghost use Rattle.tv_regs.specs.Writes.{WriteRegSizes};
 use tv_bits::{plus_row, select_wires};
 use tv_core::{F, Lc, Put, Scratch, Sink, Values, Wire, give_words};
 
-/// Registers of new wires: where the bit `on` is 1, the register whose number the one-hot row of
+/// Constrains new registers: where the bit `on` is 1, the register whose number the one-hot row of
 /// 16 wires from `sel` on has becomes `x`, and where it is 0 none changes. It makes 17 wires and
 /// 17 constraints, of 146 terms and those of `x`, at most 64.
 pub fn write_reg<S: Sink>(
@@ -125,7 +125,7 @@ pub(crate) fn written_regs(on: bool, x: u32, sel: u32, regs: &[u32; 16]) -> [u32
 }
 
 /// Where an assignment has a one-hot row and a bit and satisfies the constraints of `write_reg`,
-/// the returned wires hold the registers after the write.
+/// the returned wires are the registers after the write.
 pub fn write_reg_is_sound()
     ensures { WriteRegIsSound }
 {}

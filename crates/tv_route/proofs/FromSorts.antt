@@ -7,7 +7,7 @@ use Rattle.std.proofs.lemmas.Bool.{cases_lt, cases_eq, eqb-true, eqb-false, ne_e
 use Rattle.std.proofs.lemmas.List.{get_or_default}
 use Rattle.std.proofs.lemmas.List.Sorted.{All-permutation, Contains-permutation, length_permutation}
 use Rattle.std.proofs.lemmas.Map.Keys.{apart_from_distinct, IsDistinct-from_apart, IsDistinct-IsPermutation}
-use Rattle.tv_benes.proofs.Permuting.{places-length, places-at}
+use Rattle.tv_benes.proofs.Permutations.{places-length, places-at}
 use Rattle.tv_benes.specs.Through.{places}
 use Rattle.tv_route.specs.Permutations.{Permutes}
 

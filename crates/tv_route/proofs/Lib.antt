@@ -1,7 +1,7 @@
 pub mod FromSorts
-pub mod Halving
-pub mod Pairing
+pub mod Halves
+pub mod PairLaws
 pub mod RouteLaws
 pub mod Seen
 pub mod Steps
-pub mod Walking
+pub mod Walks

@@ -7,12 +7,12 @@ use Rattle.std.proofs.lemmas.Bool.Decides.{nat_tests}
 use Rattle.std.proofs.lemmas.List.{get_or_append_left, get_or-append_right}
 use Rattle.std.proofs.Math.Pow.{pow_mono, pow-lt}
 use Rattle.std.proofs.lemmas.Nat.{pow_pos}
-use Rattle.tv_benes.proofs.Permuting.{places-length, places-at, alternating-even, alternating-odd}
+use Rattle.tv_benes.proofs.Permutations.{places-length, places-at, alternating-even, alternating-odd}
 use Rattle.tv_benes.proofs.ThroughLaws.{twice, switches-suc, missing_small, joined-same, through-same}
 use Rattle.tv_benes.specs.Through.{switches, from, passed, to_upper, to_lower, alternating, joined, last_bit, missing, through, places}
-use Rattle.tv_route.proofs.Halving.{sides_apart, pairs_apart, first_up}
+use Rattle.tv_route.proofs.Halves.{sides_apart, pairs_apart, first_up}
 use Rattle.tv_route.specs.Permutations.{Permutes, IsRoutable}
-use Rattle.tv_route.specs.Route.{Mark, halves, down, up_input, down_input, route, level_within, level_of, route_of, RouteIsRight}
+use Rattle.tv_route.specs.Route.{Mark, halves, down, up_input, down_input, route, level_within, route_level_of, route_of, RouteIsRight}
 use Rattle.tv_benes.specs.Items.{bit_at}
 use Rattle.tv_benes.specs.declared.shape.Net.{Net}
 use Rattle.tv_benes.specs.declared.shape.Net.TheVariants.{Benes, Waksman}
@@ -382,7 +382,7 @@ level_by (suc fuel) (suc h) few =
     ap (λ (c : Bool). if c then suc (level_within fuel (2 ^ suc (suc h) / 2)) else 0) big ∙ ap (λ n. suc (level_within fuel n)) half
     ∙ ap suc (level_by fuel h (omega arith))
 
-pub level_is : (p : List ℕ) (h : ℕ) → length p ≡ 2 ^ suc h → level_of p ≡ h
+pub level_is : (p : List ℕ) (h : ℕ) → length p ≡ 2 ^ suc h → route_level_of p ≡ h
 level_is p h long = ap (λ n. level_within n n) long ∙ level_by (2 ^ suc h) h (omega (arith, below-power h, twice h))
 
 pub route_of_is : (net : Net) (p : List ℕ) (h : ℕ) → length p ≡ 2 ^ suc h → route_of net p ≡ route net h p

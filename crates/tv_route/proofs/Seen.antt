@@ -6,9 +6,7 @@ use Rattle.std.proofs.lemmas.Bool.{cases_eq, cases_lt}
 use Rattle.std.proofs.lemmas.List.{get_or-replicate, length-replicate}
 use Rattle.std.proofs.lemmas.List.Sums.{sum_by-set, sum_by-cons}
 use Rattle.tv_route.specs.Permutations.{Permutes}
-
-abbrev pub one_if : Bool → ℕ
-one_if b = if b then 1 else 0
+use Rattle.tv_word.specs.Word.{flag_of}
 
 -- the first i numbers are different ones below the length, and these were seen
 pub record IsSeen (p : List ℕ) (i : ℕ) (seen : List Bool) : Type 0 where
@@ -17,11 +15,11 @@ pub record IsSeen (p : List ℕ) (i : ℕ) (seen : List Bool) : Type 0 where
   pub marked : (k : ℕ) → k < i → get_or seen (slice_index p k) false ≡ true
   pub only : (x : ℕ) → x < length p → get_or seen x false ≡ true → (k : ℕ) × (k < i) × (slice_index p k ≡ x)
   pub once : (j k : ℕ) → j < k → k < i → slice_index p j ≢ slice_index p k
-  pub count : sum_by one_if seen ≡ i
+  pub count : sum_by flag_of seen ≡ i
 
-none_count : (n : ℕ) → sum_by one_if (replicate n false) ≡ 0
+none_count : (n : ℕ) → sum_by flag_of (replicate n false) ≡ 0
 none_count zero = refl
-none_count (suc n) = omega (arith, sum_by-cons one_if false (replicate n false), none_count n)
+none_count (suc n) = omega (arith, sum_by-cons flag_of false (replicate n false), none_count n)
 
 pub seen_none : (p : List ℕ) (seen : List Bool) → seen ≡ replicate (length p) false → IsSeen p 0 seen
 seen_none p seen is = record {
@@ -30,7 +28,7 @@ seen_none p seen is = record {
   marked = λ k h. absurd (omega arith);
   only = λ x h e. absurd (apart (sym (ap (λ l. get_or l x false) is ∙ get_or-replicate (length p) x false false h) ∙ e));
   once = λ j k h l. absurd (omega arith);
-  count = ap (λ l. sum_by one_if l) is ∙ none_count (length p);
+  count = ap (λ l. sum_by flag_of l) is ∙ none_count (length p);
 }
   where
     apart : false ≡ true → ⊥
@@ -57,7 +55,7 @@ seen_more p i seen s small new =
             (sym (ap (λ y. get_or seen y false) (e ∙ ap (λ m. slice_index p m) last)) ∙ s.marked j (omega arith)) new
         | inr apart ↦ s.once j k h (omega arith) e
       ];
-      count = let changed = sum_by-set one_if seen x true false x_in in let was : one_if (get_or seen x false) ≡ 0 = ap one_if new in
+      count = let changed = sum_by-set flag_of seen x true false x_in in let was : flag_of (get_or seen x false) ≡ 0 = ap flag_of new in
           omega (arith, changed, was, s.count);
     }
   where
@@ -67,17 +65,17 @@ seen_more p i seen s small new =
     earlier : (k : ℕ) → k < i + 1 → slice_index p k ≢ slice_index p i → k < i
     earlier k h apart = elim (cases_eq k i) [ inl same ↦ absurd (apart (ap (λ j. slice_index p j) same)) | inr other ↦ omega arith ]
 
-seen_le : (l : List Bool) → sum_by one_if l ≤ length l
+seen_le : (l : List Bool) → sum_by flag_of l ≤ length l
 seen_le [] = omega arith
-seen_le (true ∷ l) = omega (arith, sum_by-cons one_if true l, seen_le l)
-seen_le (false ∷ l) = omega (arith, sum_by-cons one_if false l, seen_le l)
+seen_le (true ∷ l) = omega (arith, sum_by-cons flag_of true l, seen_le l)
+seen_le (false ∷ l) = omega (arith, sum_by-cons flag_of false l, seen_le l)
 
 -- where as many are seen as there are, all are
-all_seen : (seen : List Bool) → sum_by one_if seen ≡ length seen → (x : ℕ) → x < length seen → get_or seen x false ≡ true
+all_seen : (seen : List Bool) → sum_by flag_of seen ≡ length seen → (x : ℕ) → x < length seen → get_or seen x false ≡ true
 all_seen [] e x h = absurd (omega arith)
 all_seen (true ∷ seen) e zero h = refl
-all_seen (true ∷ seen) e (suc x) h = all_seen seen (omega (arith, sum_by-cons one_if true seen, e)) x (omega arith)
-all_seen (false ∷ seen) e x h = absurd (omega (arith, sum_by-cons one_if false seen, e, seen_le seen))
+all_seen (true ∷ seen) e (suc x) h = all_seen seen (omega (arith, sum_by-cons flag_of true seen, e)) x (omega arith)
+all_seen (false ∷ seen) e x h = absurd (omega (arith, sum_by-cons flag_of false seen, e, seen_le seen))
 
 record IsFound (p : List ℕ) (x : ℕ) : Type 0 where
   place : ℕ

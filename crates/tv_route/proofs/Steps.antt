@@ -2,10 +2,10 @@
 use Rattle.std.proofs.Common.{◌≡◌, ◌≢◌, ℕ, zero, suc, ◌+◌, ◌-◌, ◌*◌, ◌/◌, ◌^◌, ◌<◌, ◌==◌, Bool, true, false, if◌then◌else◌, List, [], ◌∷◌, ◌++◌, get_or, set}
 use Rattle.std.proofs.Common.{Some, None, is_none, refl, sym, ◌∙◌, ap, ap₂, arith, append_assoc, append-nil, add-one}
 use Rattle.std.specs.Prelude.{slice_index}
-use Rattle.tv_benes.proofs.Permuting.{places-suc}
+use Rattle.tv_benes.proofs.Permutations.{places-suc}
 use Rattle.tv_benes.specs.Through.{missing, places}
 use Rattle.tv_benes.specs.declared.shape.Net.{Net}
-use Rattle.tv_route.proofs.Walking.{if_same}
+use Rattle.tv_route.proofs.Walks.{if_same}
 use Rattle.tv_route.specs.Route.{Mark, other, partners, walk, walks, halves, down, up_input, down_input, route}
 use Rattle.tv_benes.proofs.Ends.{if_apart}
 

@@ -72,12 +72,12 @@ abbrev pub level_within : ℕ → ℕ → ℕ
 level_within zero n = 0
 level_within (suc fuel) n = if nat_lt 2 n then suc (level_within fuel (n / 2)) else 0
 
-abbrev pub level_of : List ℕ → ℕ
-level_of p = level_within (length p) (length p)
+abbrev pub route_level_of : List ℕ → ℕ
+route_level_of p = level_within (length p) (length p)
 
 -- the settings for p
 abbrev pub route_of : Net → List ℕ → List Bool
-route_of net p = route net (level_of p) p
+route_of net p = route net (route_level_of p) p
 
 -- for every permutation p of 2 ^ k places: there is a bit for each switch, and through these settings output i is the
 -- input at place p i, for numbers and for pairs of numbers

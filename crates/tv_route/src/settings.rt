@@ -4,7 +4,7 @@ ghost use Rattle.std.specs.Prelude.{if◌then◌else◌, length, slice_index, If
 ghost use Rattle.tv_benes.specs.Through.{missing, places};
 ghost use Rattle.tv_benes.specs.declared.shape.Net.TheVariants.{Benes, Waksman};
 ghost use Rattle.tv_route.specs.Permutations.{Permutes, IsRoutable};
-ghost use Rattle.tv_route.specs.Route.{down, up_input, down_input, route, level_of, route_of};
+ghost use Rattle.tv_route.specs.Route.{down, up_input, down_input, route, route_level_of, route_of};
 
 use crate::marks::halves;
 use std::alloc::{AllocError, Global};
@@ -68,7 +68,7 @@ pub fn routing_settings(alloc: Global, net: Net, p: &[u32]) -> Result<Settings, 
 // The level of a network on as many items.
 fn level(p: &[u32]) -> u32
     requires { IsRoutable p.now }
-    ensures is { result ≡ level_of p.now }
+    ensures is { result ≡ route_level_of p.now }
     ensures small { result < 31 }
     ensures long { length p.now ≡ 2 ^ suc result }
 {

@@ -1,3 +1,3 @@
-pub mod Looking
+pub mod Looks
 pub mod ScanChain
 pub mod ScanLaws

@@ -14,8 +14,8 @@ use Rattle.tv_core.specs.declared.field.TheConstants.{P}
 use Rattle.tv_core.specs.declared.lines.LineLc.{LineLc}
 use Rattle.tv_core.specs.declared.lines.LineNum.{LineNum}
 use Rattle.tv_core.specs.declared.sink.SinkFault.{SinkFault}
-use Rattle.tv_lines.specs.PackedLines.{line_of}
-use Rattle.tv_scan.proofs.Looking.{word_after-suc}
+use Rattle.tv_lines.specs.PackedLines.{line_of_numbers}
+use Rattle.tv_scan.proofs.Looks.{word_after-suc}
 use Rattle.tv_lines.specs.Placed.{no_line, zero_line}
 use Rattle.tv_scan.specs.Scan.{look_of, turn_of, scan_of, word_after, look_values}
 
@@ -56,19 +56,19 @@ pub given_as : {V : Type 0} (m : ValuesMeaning V) (xs ys : List ℕ) (old new : 
 given_as m xs ys old new fault same p = subst (λ vs. GivesSome m old new vs fault) same p
 
 -- ---- numbers
-pub number_at : (ls : List LineNum) (i : ℕ) (d : LineNum) (e : Line) → i < length ls → get_or (map line_of ls) i e ≡ line_of (get_or ls i d)
+pub number_at : (ls : List LineNum) (i : ℕ) (d : LineNum) (e : Line) → i < length ls → get_or (map line_of_numbers ls) i e ≡ line_of_numbers (get_or ls i d)
 number_at [] i d e h = absurd (omega arith)
 number_at (l ∷ ls) zero d e h = refl
 number_at (l ∷ ls) (suc i) d e h = number_at ls i d e (omega arith)
 
-module _ (ls : List LineNum) (line item : LineNum) (i word : ℕ) (h : i < length (map line_of ls)) (there : get_or (map line_of ls) i zero_line ≡ line_of item)
-    (is : word ≡ word_after (map line_of ls) (line_of line) i) where
-  pub next_word : (if item.cell == line.cell then item.new else word) ≡ word_after (map line_of ls) (line_of line) (i + 1)
+module _ (ls : List LineNum) (line item : LineNum) (i word : ℕ) (h : i < length (map line_of_numbers ls)) (there : get_or (map line_of_numbers ls) i zero_line ≡ line_of_numbers item)
+    (is : word ≡ word_after (map line_of_numbers ls) (line_of_numbers line) i) where
+  pub next_word : (if item.cell == line.cell then item.new else word) ≡ word_after (map line_of_numbers ls) (line_of_numbers line) (i + 1)
   next_word =
       ap₂ (λ (l : Line) w. if l.cell == line.cell then l.new else w) (sym there) is
-      ∙ sym (word_after-suc (map line_of ls) (line_of line) i h)
+      ∙ sym (word_after-suc (map line_of_numbers ls) (line_of_numbers line) i h)
 
-  pub values_of_turn : (x next : ℕ) → x ≡ (line.cell + (P - item.cell)) % P → next ≡ word_after (map line_of ls) (line_of line) (i + 1)
-      → zero_values x ++ next ∷ [] ≡ look_values (map line_of ls) (line_of line) i
+  pub values_of_turn : (x next : ℕ) → x ≡ (line.cell + (P - item.cell)) % P → next ≡ word_after (map line_of_numbers ls) (line_of_numbers line) (i + 1)
+      → zero_values x ++ next ∷ [] ≡ look_values (map line_of_numbers ls) (line_of_numbers line) i
   values_of_turn x next apart e =
       ap₂ (λ v w. zero_values v ++ w ∷ []) (apart ∙ ap (λ (l : Line). (line.cell + (P - l.cell)) % P) (sym there)) e

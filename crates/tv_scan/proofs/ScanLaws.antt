@@ -12,7 +12,7 @@ use Rattle.tv_core.proofs.CombinationLaws.{value-less, value-below, value-wire, 
 use Rattle.tv_core.proofs.FieldLaws.{InField-none, InField-cons, InField-append, InField-joined_below}
 use Rattle.tv_core.proofs.JoinedLaws.{length-joined_below, has_each_list}
 use Rattle.tv_core.proofs.LoopLaws.{turns-next}
-use Rattle.tv_core.proofs.Meeting.{Meets-split, Meets-join, HasFrom-split, parts, whole}
+use Rattle.tv_core.proofs.MeetsLaws.{Meets-split, Meets-join, HasFrom-split, parts, whole}
 use Rattle.tv_core.specs.Circuits.{put, pure, turns, ◌>>=◌}
 use Rattle.tv_core.specs.Combinations.{constant, less}
 use Rattle.tv_core.specs.Constraints.{Combination, value}
@@ -21,7 +21,7 @@ use Rattle.tv_core.specs.Lines.{Line, memory_after}
 use Rattle.tv_core.specs.declared.field.TheConstants.{P}
 use Rattle.tv_core.specs.declared.lines.LineLc.{LineLc}
 use Rattle.tv_lines.specs.PackedLines.{line_value}
-use Rattle.tv_scan.proofs.Looking.{word_after-suc, choice, flag_bit, word_small}
+use Rattle.tv_scan.proofs.Looks.{word_after-suc, choice, flag_bit, word_small}
 use Rattle.tv_lines.specs.Placed.{no_line, zero_line}
 use Rattle.tv_scan.specs.Scan.{look_of, turn_of, scan_of, word_after, cell_gap, look_values, ScanIsSound, ScanIsComplete, ScanSizes}
 

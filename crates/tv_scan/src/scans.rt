@@ -5,7 +5,7 @@ ghost use Rattle.tv_bits.specs.Zero.{zero_values};
 ghost use Rattle.tv_core.specs.Combinations.{top};
 ghost use Rattle.tv_core.specs.Values.{GivesIn};
 ghost use Rattle.tv_core.specs.Sinks.{PutsIn, Grows, Room};
-ghost use Rattle.tv_lines.specs.PackedLines.{line_of};
+ghost use Rattle.tv_lines.specs.PackedLines.{line_of_numbers};
 ghost use Rattle.tv_scan.specs.Scan.{IsMade, look_of, scan_of, scan_values, ScanIsSound};
 ghost use Rattle.tv_scan.specs.Scan.{ScanIsComplete, ScanSizes};
 
@@ -52,7 +52,7 @@ fn look<S: Sink>(s: &mut S, before: &LineLc, line: &LineLc, word: &Lc) -> Put<Wi
 pub fn fill_scan<V: Values>(v: &mut V, earlier: &[LineNum], line: &LineNum) -> Put<()>
     requires { V.giving.broken v.old ≡ false }
     ensures gives { GivesIn V.giving v.old v.new
-        (scan_values (map line_of earlier.now) (line_of line.now)) result }
+        (scan_values (map line_of_numbers earlier.now) (line_of_numbers line.now)) result }
     ensures whole { OnOk result (V.giving.broken v.new ≡ false) }
 {
     let mut word = F::ZERO;

@@ -7,29 +7,29 @@ use Rattle.std.proofs.lemmas.Bool.{cases_lt, lt-ltb, le-ltb}
 use Rattle.std.proofs.lemmas.Bool.Decides.{nat_tests}
 use Rattle.tv_bits.specs.ZeroSign.{sign_at_zero}
 use Rattle.tv_core.specs.declared.field.TheConstants.{P}
-use Rattle.tv_shift.specs.RowShift.{left_low, right_high, word_in_range, ShiftsByAnyDistance}
-use Rattle.tv_shift.specs.Shift.{shifted_left, shifted_right}
+use Rattle.tv_shift.specs.RowShift.{right_high, shifted_word, ShiftsByAnyDistance}
+use Rattle.tv_word.specs.Operations.{mull_result, shl_result, shr_result}
 use Rattle.tv_word.specs.Widths.{IsWidth}
 
 module _ (w s a : ℕ) where
-  within : a < w → word_in_range w s a ≡ s
+  within : a < w → shifted_word w s a ≡ s
   within less = ap (λ b. if b then s else 0) (lt-ltb a w less)
 
-  past : w ≤ a → word_in_range w s a ≡ 0
+  past : w ≤ a → shifted_word w s a ≡ 0
   past more = ap (λ b. if b then s else 0) (le-ltb a w more)
 
-  left_any : left_low w (word_in_range w s a) (a % w) ≡ (if nat_lt a w then shifted_left w s a else 0)
+  left_any : mull_result w (shifted_word w s a) (2 ^ (a % w)) ≡ shl_result w s a
   left_any = elim (cases_lt a w) [
-    | inl less ↦ ap₂ (λ m n. m * 2 ^ n % 2 ^ w) (within less) (mod-eq_of_lt less) ∙ sym (ap (λ b. if b then shifted_left w s a else 0) (lt-ltb a w less))
+    | inl less ↦ ap₂ (λ m n. m * 2 ^ n % 2 ^ w) (within less) (mod-eq_of_lt less) ∙ sym (ap (λ b. if b then s * 2 ^ a % 2 ^ w else 0) (lt-ltb a w less))
     | inr more ↦
         ap (λ m. m * 2 ^ (a % w) % 2 ^ w) (past more) ∙ ap (λ n. n % 2 ^ w) (zero-mul (2 ^ (a % w))) ∙ zero-mod (2 ^ w)
-        ∙ sym (ap (λ b. if b then shifted_left w s a else 0) (le-ltb a w more))
+        ∙ sym (ap (λ b. if b then s * 2 ^ a % 2 ^ w else 0) (le-ltb a w more))
   ]
 
-  right_any : right_high (word_in_range w s a) (a % w) ≡ (if nat_lt a w then shifted_right s a else 0)
+  right_any : right_high (shifted_word w s a) (a % w) ≡ shr_result w s a
   right_any = elim (cases_lt a w) [
-    | inl less ↦ ap₂ (λ m n. m / 2 ^ n) (within less) (mod-eq_of_lt less) ∙ sym (ap (λ b. if b then shifted_right s a else 0) (lt-ltb a w less))
-    | inr more ↦ ap (λ m. m / 2 ^ (a % w)) (past more) ∙ zero-div (2 ^ (a % w)) ∙ sym (ap (λ b. if b then shifted_right s a else 0) (le-ltb a w more))
+    | inl less ↦ ap₂ (λ m n. m / 2 ^ n) (within less) (mod-eq_of_lt less) ∙ sym (ap (λ b. if b then s / 2 ^ a else 0) (lt-ltb a w less))
+    | inr more ↦ ap (λ m. m / 2 ^ (a % w)) (past more) ∙ zero-div (2 ^ (a % w)) ∙ sym (ap (λ b. if b then s / 2 ^ a else 0) (le-ltb a w more))
   ]
 
   module _ (width : IsWidth w) (word : s < 2 ^ w) where
@@ -42,7 +42,7 @@ module _ (w s a : ℕ) where
     sign_past : w ≤ a → sign_at_zero (a / w) 1 ≡ 0
     sign_past more = let some : 1 ≤ a / w = grind arith in grind (arith, nat_tests)
 
-    word_any : sign_at_zero (a / w) 1 * s % P ≡ word_in_range w s a
+    word_any : sign_at_zero (a / w) 1 * s % P ≡ shifted_word w s a
     word_any = elim (cases_lt a w) [
       | inl less ↦ ap (λ n. n * s % P) (sign_within less) ∙ ap (λ n. n % P) (one-mul s) ∙ mod-eq_of_lt small ∙ sym (within less)
       | inr more ↦ ap (λ n. n * s % P) (sign_past more) ∙ ap (λ n. n % P) (zero-mul s) ∙ zero-mod P ∙ sym (past more)

@@ -11,7 +11,7 @@ use Rattle.tv_bits.specs.Select.{selected, pick_of}
 use Rattle.tv_core.proofs.BelowLaws.{has_each}
 use Rattle.tv_core.proofs.CombinationLaws.{value-wire}
 use Rattle.tv_core.proofs.LoopLaws.{turn_met, turns_met, turns-next}
-use Rattle.tv_core.proofs.Meeting.{Meets-split, Meets-join}
+use Rattle.tv_core.proofs.MeetsLaws.{Meets-split, Meets-join}
 use Rattle.tv_core.specs.Circuits.{here, fresh, put, pure, ◌>>=◌}
 use Rattle.tv_core.specs.Combinations.{wire}
 use Rattle.tv_core.specs.Laws.{Assigns, Meets, HasFrom}

@@ -16,7 +16,7 @@ use Rattle.tv_bits.specs.Select.{selected}
 use Rattle.tv_core.proofs.BelowLaws.{sum_below-same, sum_below-mod_same, sum_below-zeros, sum_below-add, value-weighted, has_each}
 use Rattle.tv_core.proofs.CombinationLaws.{value-append, value-less, value-wire}
 use Rattle.tv_core.proofs.LoopLaws.{turn_met, turns_met, turns-next}
-use Rattle.tv_core.proofs.Meeting.{Meets-split, Meets-join}
+use Rattle.tv_core.proofs.MeetsLaws.{Meets-split, Meets-join}
 use Rattle.tv_core.specs.Below.{sum_below}
 use Rattle.tv_core.specs.Circuits.{here, fresh, put, pure, ◌>>=◌}
 use Rattle.tv_core.specs.Combinations.{wire}

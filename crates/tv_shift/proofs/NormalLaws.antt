@@ -12,7 +12,7 @@ use Rattle.tv_core.specs.Constraints.{Combination}
 use Rattle.tv_core.specs.Normal.{IsNormal, IsNormalConstraint, AreNormal}
 use Rattle.tv_core.specs.declared.field.TheConstants.{P}
 use Rattle.tv_shift.specs.Power.{factor_by, pair_power, low_power_of, wide_power_of, shift_power_of}
-use Rattle.tv_shift.specs.RowShift.{raised, left_shift_of, right_shift_of}
+use Rattle.tv_shift.specs.RowShift.{raised, right_shift_of}
 use Rattle.tv_word.proofs.WidthLaws.{for_widths}
 use Rattle.tv_word.specs.Widths.{IsWidth}
 
@@ -78,20 +78,6 @@ shift_power_normal = for_widths power_at power_16 power_32
 -- ---- the row
 raise_some : (w : ℕ) → IsWidth w → 0 < 2 ^ w % P
 raise_some w width = grind arith
-
-pub left_shift_normal : (w : ℕ) → IsWidth w → (gate : Combination) (v power : ℕ) (row : DoubleRow) (next : ℕ) → IsNormal gate
-    → row.low < row.high → row.high < next → AreNormal (left_shift_of w gate v power row next).list
-unfolding left_shift_of gated_of times_of fresh put pure ◌>>=◌
-left_shift_normal w width gate v power row next g rises before =
-    let difference : IsNormal (less (row_number w row) (wire next)) = (
-      omega arith,
-      omega arith,
-      omega arith,
-      (omega arith, raise_some w width, omega arith, (omega arith, omega arith, omega arith, tt)),
-    ) in (
-      record { a = wire_normal 0 v (omega arith); b = wire_normal 0 power (omega arith); c = wire_normal 0 next (omega arith) },
-      (record { a = g; b = difference; c = tt }, tt),
-    )
 
 pub right_shift_normal : (w : ℕ) → IsWidth w → (gate : Combination) (v power : ℕ) (row : DoubleRow) (next : ℕ) → IsNormal gate
     → row.low < row.high → v < next → AreNormal (right_shift_of w gate v power row next).list

@@ -16,10 +16,8 @@ use Rattle.tv_core.specs.Constraints.{Combination, value}
 use Rattle.tv_core.specs.Laws.{Assigns, Meets, HasFrom}
 use Rattle.tv_core.specs.Meanings.{terms_in}
 use Rattle.tv_core.specs.declared.field.TheConstants.{P}
-use Rattle.tv_shift.proofs.RowShiftNumbers.{left_row, left_whole, left_number, left_low_is, left_high_is}
 use Rattle.tv_shift.proofs.RowShiftNumbers.{right_row, right_times, right_number, right_low_is, right_high_is}
-use Rattle.tv_shift.specs.RowShift.{raised, left_shift_of, right_shift_of, left_shift_values, right_shift_values}
-use Rattle.tv_shift.specs.RowShift.{LeftShiftIsSound, LeftShiftIsComplete, LeftShiftSizes, LeftShiftCosts}
+use Rattle.tv_shift.specs.RowShift.{raised, right_shift_of, right_shift_values}
 use Rattle.tv_shift.specs.RowShift.{RightShiftIsSound, RightShiftIsComplete, RightShiftSizes, RightShiftCosts}
 
 -- a wire times 2 ^ w
@@ -29,74 +27,13 @@ value-raised z assigns w v = value-cons (2 ^ w % P) v [] z ∙ ap (λ n. (2 ^ w 
     flat : (b n : ℕ) → (b % P * n + 0) % P ≡ b * n % P
     flat b n = ap (λ m. m % P) (add-zero (b % P * n)) ∙ mul-mod_first b n P
 
--- the products, where the power is 2 ^ m
-left_product : (z : List ℕ) → Assigns z → (v power m : ℕ) → slice_index z power ≡ 2 ^ m
-    → value (wire v) z * value (wire power) z % P ≡ slice_index z v * 2 ^ m % P
-left_product z assigns v power m e = ap₂ (λ n k. n * k % P) (value-wire assigns v) (value-wire assigns power ∙ e)
-
+-- the product, where the power is 2 ^ m
 right_product : (w : ℕ) (z : List ℕ) → Assigns z → (power m : ℕ) (row : DoubleRow) → slice_index z power ≡ 2 ^ m
     → value (row_number w row) z * value (wire power) z % P ≡ whole w (slice_index z row.low) (slice_index z row.high) * 2 ^ m % P
 right_product w z assigns power m row e =
     ap₂ (λ n k. n * k % P) (value-row_number w z row assigns) (value-wire assigns power ∙ e)
     ∙ mul-mod_first (whole w (slice_index z row.low) (slice_index z row.high)) (2 ^ m) P
 
--- ---- to the left
-pub left_shift_sound : LeftShiftIsSound
-unfolding left_shift_of times_of fresh put pure ◌>>=◌
-left_shift_sound w width z next gate v power row m assigns one word less e r meets =
-    let product = times_sound z next (wire v) (wire power) assigns (meets.0, tt) ∙ left_product z assigns v power m e in
-    let same = gated_sound z (next + 1) gate (row_number w row) (wire next) one meets.1 in
-    let whole_is = left_number w width (slice_index z v) m word less (slice_index z row.low) (slice_index z row.high) r
-    (sym (value-row_number w z row assigns) ∙ same ∙ value-wire assigns next ∙ product) in
-    record {
-      low = left_low_is w width (slice_index z v) m word less (slice_index z row.low) (slice_index z row.high) r whole_is;
-      high = left_high_is w width (slice_index z v) m word less (slice_index z row.low) (slice_index z row.high) r whole_is;
-    }
-
-left_met : (z : List ℕ) (next v power : ℕ) → Assigns z → HasFrom z next (left_shift_values (slice_index z v) (slice_index z power))
-    → Meets z (times_of (wire v) (wire power) next).list
-left_met z next v power assigns has =
-    times_complete z next (wire v) (wire power) assigns (has.0 ∙ sym (ap₂ (λ n k. n * k % P) (value-wire assigns v) (value-wire assigns power)), tt)
-
-pub left_shift_complete : LeftShiftIsComplete
-unfolding left_shift_of times_of fresh put pure ◌>>=◌
-left_shift_complete = record {
-  row = left_row;
-  on = λ w width z next gate v power row m assigns word less e is has.
-      let halves = ap₂ (whole w) is.low is.high ∙ left_whole w width (slice_index z v) m word less in
-      let number = value-row_number w z row assigns ∙ ap (λ n. n % P) halves in
-      let product = value-wire assigns next ∙ has.0 ∙ ap (λ n. slice_index z v * n % P) e in
-      ((left_met z next v power assigns has).0, gated_complete.same z (next + 1) gate (row_number w row) (wire next) (number ∙ sym product));
-  off = λ w z next gate v power row assigns none has.
-      ((left_met z next v power assigns has).0, gated_complete.off z (next + 1) gate (row_number w row) (wire next) none);
-}
-
-left_shift_next : (w : ℕ) (gate : Combination) (v power : ℕ) (row : DoubleRow) (next : ℕ) → (left_shift_of w gate v power row next).next ≡ next + 1
-unfolding left_shift_of times_of fresh put pure ◌>>=◌
-left_shift_next w gate v power row next = gated_next gate (row_number w row) (wire next) (next + 1)
-
-pub left_shift_sizes : LeftShiftSizes
-left_shift_sizes = record {
-  end = left_shift_next;
-  fills = λ w gate v power row n k next. left_shift_next w gate v power row next;
-  in_field = λ n k. times_sizes.in_field n k;
-}
-
-left_shift_count : (w : ℕ) (gate : Combination) (v power : ℕ) (row : DoubleRow) (next : ℕ) → length (left_shift_of w gate v power row next).list ≡ 2
-unfolding left_shift_of times_of fresh put pure ◌>>=◌
-left_shift_count w gate v power row next = omega (arith, gated_constraints gate (row_number w row) (wire next) (next + 1))
-
-left_shift_terms : (w : ℕ) (gate : Combination) (v power : ℕ) (row : DoubleRow) (next : ℕ)
-    → terms_in (left_shift_of w gate v power row next).list ≡ length gate + 6
-unfolding left_shift_of times_of fresh put pure ◌>>=◌
-left_shift_terms w gate v power row next =
-    let gated = (gated_of gate (row_number w row) (wire next) (next + 1)).list in
-    omega (arith, terms-append (times_of (wire v) (wire power) next).list gated, gated_terms gate (row_number w row) (wire next) (next + 1))
-
-pub left_shift_cost_laws : LeftShiftCosts
-left_shift_cost_laws = record { constraints = left_shift_count; terms = left_shift_terms }
-
--- ---- to the right
 pub right_shift_sound : RightShiftIsSound
 unfolding right_shift_of times_of fresh put pure ◌>>=◌
 right_shift_sound w width z next gate v power row m assigns one word less e r meets =

@@ -7,7 +7,7 @@ use Rattle.tv_bits.specs.DoubleRow.{IsRow, whole}
 use Rattle.tv_core.proofs.BelowLaws.{below-power}
 use Rattle.tv_core.proofs.PrimeLaws.{p_cancels}
 use Rattle.tv_core.specs.declared.field.TheConstants.{P}
-use Rattle.tv_shift.specs.RowShift.{left_low, left_high, right_low, right_high}
+use Rattle.tv_shift.specs.RowShift.{right_low, right_high}
 use Rattle.tv_word.specs.Widths.{IsWidth}
 
 -- 2 ^ w is the power times that of what is left
@@ -21,22 +21,6 @@ module _ (w : ℕ) (width : IsWidth w) (v m : ℕ) (word : v < 2 ^ w) (less : m 
   power_most : 2 ^ m ≤ 2 ^ (w - 1)
   power_most = pow-le-pow_right (omega arith) (omega arith)
 
-  -- ---- to the left
-  left_most : v * 2 ^ m ≤ 2 ^ w * (2 ^ w - 1)
-  left_most = let most = mul-le v (2 ^ m) (2 ^ w - 1) (2 ^ (w - 1)) (omega arith) power_most in grind arith
-
-  pub left_row : IsRow w (left_low w v m) (left_high w v m)
-  left_row = row_of w width (v * 2 ^ m) left_most
-
-  pub left_whole : whole w (left_low w v m) (left_high w v m) ≡ v * 2 ^ m
-  left_whole = row_whole w (v * 2 ^ m)
-
-  pub left_number : (low high : ℕ) → IsRow w low high → whole w low high % P ≡ v * 2 ^ m % P → whole w low high ≡ v * 2 ^ m
-  left_number low high r e =
-      let small : v * 2 ^ m < P = (let most = left_most in grind arith) in
-      row_is (whole w low high) (v * 2 ^ m) (row_below w width low high r) small e
-
-  -- ---- to the right
   moved : v * 2 ^ (w - m) * 2 ^ m ≡ 2 ^ w * v
   moved = mul_assoc v (2 ^ (w - m)) (2 ^ m) ∙ ap (λ n. v * n) (sym (power_parts w m less)) ∙ mul_comm v (2 ^ w)
 
@@ -72,12 +56,6 @@ module _ (w : ℕ) (width : IsWidth w) (v m : ℕ) (word : v < 2 ^ w) (less : m 
       row_is (whole w low high) (v * 2 ^ (w - m)) (row_below w width low high r) small (p_cancels (2 ^ m) (whole w low high) (v * 2 ^ (w - m)) turned apart)
 
   -- the halves
-  pub left_low_is : (low high : ℕ) → IsRow w low high → whole w low high ≡ v * 2 ^ m → low ≡ left_low w v m
-  left_low_is low high r e = row_low w width low high (v * 2 ^ m) r.low_word e
-
-  pub left_high_is : (low high : ℕ) → IsRow w low high → whole w low high ≡ v * 2 ^ m → high ≡ left_high w v m
-  left_high_is low high r e = row_high w width low high (v * 2 ^ m) r.low_word e
-
   pub right_low_is : (low high : ℕ) → IsRow w low high → whole w low high ≡ v * 2 ^ (w - m) → low ≡ right_low w v m
   right_low_is low high r e = row_low w width low high (v * 2 ^ (w - m)) r.low_word e
 

@@ -16,7 +16,7 @@ use Rattle.tv_bits.specs.Select.{selected, select_of, pick_of}
 use Rattle.tv_bits.specs.Zero.{zero_flag, zero_of, zero_values}
 use Rattle.tv_core.proofs.BelowLaws.{length-each_below}
 use Rattle.tv_core.proofs.CombinationLaws.{value-less, value-scaled, value-wire, wire-below}
-use Rattle.tv_core.proofs.Meeting.{Meets-split, Meets-join, HasFrom-split}
+use Rattle.tv_core.proofs.MeetsLaws.{Meets-split, Meets-join, HasFrom-split}
 use Rattle.tv_core.specs.Circuits.{here, fresh, put, pure, ◌>>=◌}
 use Rattle.tv_core.specs.Combinations.{wire, scaled, less}
 use Rattle.tv_core.specs.Constraints.{Combination, value}

@@ -11,7 +11,7 @@ use Rattle.tv_bits.specs.Bits.{HasBits}
 use Rattle.tv_core.proofs.BelowLaws.{has_each}
 use Rattle.tv_core.proofs.CombinationLaws.{value-append, value-cons, value-scaled, value-wire, value-constant, wire-below}
 use Rattle.tv_core.proofs.LoopLaws.{turn_met, turns_met, turns-next}
-use Rattle.tv_core.proofs.Meeting.{Meets-split, Meets-join, HasFrom-split, parts, whole}
+use Rattle.tv_core.proofs.MeetsLaws.{Meets-split, Meets-join, HasFrom-split, parts, whole}
 use Rattle.tv_core.specs.Circuits.{here, fresh, put, pure, turns, ◌>>=◌}
 use Rattle.tv_core.specs.Combinations.{scaled}
 use Rattle.tv_core.specs.Constraints.{Combination, value}
@@ -22,7 +22,7 @@ use Rattle.tv_bits.proofs.BitLaws.{bit_cases}
 use Rattle.tv_shift.proofs.LevelValues.{values-more, length-values}
 use Rattle.tv_shift.proofs.MarkTerms.{products-more, both-in, both-last, mark-none, mark-low, mark-high}
 use Rattle.tv_bits.specs.Times.{times_of}
-use Rattle.tv_shift.specs.Thermometer.{below, products_below, both, mark, level_product_of, level_of, thermometer_of, level_value, level_values}
+use Rattle.tv_shift.specs.Thermometer.{below, products_below, both, mark, level_product_of, bit_level_of, thermometer_of, level_value, level_values}
 use Rattle.tv_shift.specs.Thermometer.{thermometer_values, power_of}
 
 -- ---- marks as numbers
@@ -69,16 +69,16 @@ row-next : (bits products k at j : ℕ) → (sequence j (level_product_of bits p
 row-next bits products k at j = turns-next (λ j _. level_product_of bits products k j) tt at 1 j (λ j a at. level_product-next bits products k j at)
     ∙ ap (λ n. at + n) (mul-one j)
 
-level-next : (bits products k at : ℕ) → (level_of bits products k at).next ≡ at + (2 ^ k - 1)
-unfolding level_of
+level-next : (bits products k at : ℕ) → (bit_level_of bits products k at).next ≡ at + (2 ^ k - 1)
+unfolding bit_level_of
 level-next bits products k at = row-next bits products k at (2 ^ k - 1)
 
-levels-next : (bits products next k : ℕ) → (sequence k (level_of bits products) next).next ≡ next + products_below k
+levels-next : (bits products next k : ℕ) → (sequence k (bit_level_of bits products) next).next ≡ next + products_below k
 unfolding turns pure ◌>>=◌
 levels-next bits products next zero = omega arith
 levels-next bits products next (suc k) =
     let more : products_below k + (2 ^ k - 1) ≡ products_below (suc k) = (let same : k + 1 ≡ suc k = omega arith in products-more k ∙ ap products_below same) in
-    level-next bits products k (sequence k (level_of bits products) next).next ∙ omega (arith, levels-next bits products next k, more)
+    level-next bits products k (sequence k (bit_level_of bits products) next).next ∙ omega (arith, levels-next bits products next k, more)
 
 pub thermometer_next : (k bits next : ℕ) → (thermometer_of k bits next).next ≡ next + products_below k
 unfolding thermometer_of here pure ◌>>=◌
@@ -102,16 +102,16 @@ module _ (z : List ℕ) (assigns : Assigns z) (bits : ℕ) where
   level_product_complete products k j at is =
       (ap (λ n. n * value (mark bits products k j) z % P) (value-wire assigns (bits + k)) ∙ sym is ∙ sym (value-wire assigns at), tt)
 
-  level_sound : (products k at : ℕ) → Meets z (level_of bits products k at).list → (j : ℕ) → j < 2 ^ k - 1
+  level_sound : (products k at : ℕ) → Meets z (bit_level_of bits products k at).list → (j : ℕ) → j < 2 ^ k - 1
       → slice_index z (at + j) ≡ slice_index z (bits + k) * value (mark bits products k j) z % P
-  unfolding level_of
+  unfolding bit_level_of
   level_sound products k at meets j h =
       rw (row-next bits products k at j) at (level_product_sound products k j _
       (turn_met z (λ j _. level_product_of bits products k j) tt at (2 ^ k - 1) j h meets))
 
   level_complete : (products k at : ℕ) → ((j : ℕ) → j < 2 ^ k - 1 → slice_index z (at + j) ≡ slice_index z (bits + k) * value (mark bits products k j) z % P)
-      → Meets z (level_of bits products k at).list
-  unfolding level_of
+      → Meets z (bit_level_of bits products k at).list
+  unfolding bit_level_of
   level_complete products k at each =
       turns_met z (λ j _. level_product_of bits products k j) tt at (2 ^ k - 1)
       (λ j h. level_product_complete products k j _ (rw (row-next bits products k at j) (each j h)))
@@ -152,11 +152,11 @@ module _ (z : List ℕ) (assigns : Assigns z) (bits : ℕ) where
 
   -- all levels
   module _ (n v : ℕ) (s : HasBits z bits n v) (next : ℕ) where
-    pub levels_sound : (k : ℕ) → k ≤ n → Meets z (sequence k (level_of bits next) next).list → Marks z bits next k (v % 2 ^ k)
+    pub levels_sound : (k : ℕ) → k ≤ n → Meets z (sequence k (bit_level_of bits next) next).list → Marks z bits next k (v % 2 ^ k)
     unfolding turns
     levels_sound zero short meets = λ j h. ap (λ l. value l z) (mark-none bits next j) ∙ sym (below-out j (v % 2 ^ 0) (omega (arith, mod-one v)))
     levels_sound (suc k) short meets =
-        let both = parts z (sequence k (level_of bits next)) (λ _. level_of bits next k) next meets in
+        let both = parts z (sequence k (bit_level_of bits next)) (λ _. bit_level_of bits next k) next meets in
         let marks = levels_sound k (omega arith) both.0 in
         let bit = HasBits-bit_at s k (omega arith) in
         let at = levels-next bits next next k in
@@ -170,7 +170,7 @@ module _ (z : List ℕ) (assigns : Assigns z) (bits : ℕ) where
         let all = more_marks next k (v % 2 ^ k) (s.bits k (omega arith)) (mod-lt v (pow_pos k)) marks made in
         subst (λ m. Marks z bits next (suc k) m) number all
 
-    pub levels_complete : (k : ℕ) → k ≤ n → HasFrom z next (thermometer_values k v) → Meets z (sequence k (level_of bits next) next).list
+    pub levels_complete : (k : ℕ) → k ≤ n → HasFrom z next (thermometer_values k v) → Meets z (sequence k (bit_level_of bits next) next).list
     unfolding turns pure
     levels_complete zero short has = tt
     levels_complete (suc k) short has =
@@ -180,11 +180,11 @@ module _ (z : List ℕ) (assigns : Assigns z) (bits : ℕ) where
         let row = has_each z _ (2 ^ k - 1) (level_value v k) (rw (length-values k v) at two.1) in
         let bit = HasBits-bit_at s k (omega arith) in
         let at = levels-next bits next next k in
-        let each : (j : ℕ) → j < 2 ^ k - 1 → slice_index z ((sequence k (level_of bits next) next).next + j)
+        let each : (j : ℕ) → j < 2 ^ k - 1 → slice_index z ((sequence k (bit_level_of bits next) next).next + j)
         ≡ slice_index z (bits + k) * value (mark bits next k j) z % P = λ j h.
         ap (λ w. slice_index z (w + j)) at ∙ row j h ∙ ap₂ (λ b m. b * m) (sym bit) refl ∙ sym (product_small j k)
         ∙ ap (λ m. slice_index z (bits + k) * m % P) (sym (marks j (omega arith))) in
-        whole z (sequence k (level_of bits next)) (λ _. level_of bits next k) next before (level_complete next k _ each)
+        whole z (sequence k (bit_level_of bits next)) (λ _. bit_level_of bits next k) next before (level_complete next k _ each)
       where
         product_small : (j k : ℕ) → slice_index z (bits + k) * below j (v % 2 ^ k) % P ≡ slice_index z (bits + k) * below j (v % 2 ^ k)
         product_small j k = elim (bit_cases (below j (v % 2 ^ k)) (below-bit j (v % 2 ^ k))) [
@@ -195,11 +195,11 @@ module _ (z : List ℕ) (assigns : Assigns z) (bits : ℕ) where
 
     pub thermometer_sound : (k : ℕ) → k ≤ n → Meets z (thermometer_of k bits next).list → Marks z bits next k (v % 2 ^ k)
     unfolding thermometer_of here pure ◌>>=◌
-    thermometer_sound k short meets = levels_sound k short (Meets-split z (sequence k (level_of bits next) next).list [] meets).0
+    thermometer_sound k short meets = levels_sound k short (Meets-split z (sequence k (bit_level_of bits next) next).list [] meets).0
 
     pub thermometer_complete : (k : ℕ) → k ≤ n → HasFrom z next (thermometer_values k v) → Meets z (thermometer_of k bits next).list
     unfolding thermometer_of here pure ◌>>=◌
-    thermometer_complete k short has = Meets-join z (sequence k (level_of bits next) next).list [] (levels_complete k short has) tt
+    thermometer_complete k short has = Meets-join z (sequence k (bit_level_of bits next) next).list [] (levels_complete k short has) tt
 
   -- the power of 2 that the marks add up to
   pub value-power : (marks : ℕ → Combination) (s n : ℕ) → ((i : ℕ) → i < n → value (marks i) z ≡ below i s) → value (power_of marks n) z ≡ 2 ^ min n s % P

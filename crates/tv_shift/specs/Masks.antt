@@ -52,7 +52,7 @@ digit_at w p Low i = wire (p.chosen + i)
 digit_at w p High i = less (wire (p.word + i) ++ wire (p.word + (w / 2 + i))) (wire (p.chosen + i))
 
 -- the wires of the places are below a number
-pub record AreMade (w : ℕ) (p : Places) (wires : ℕ) : Type 0 where
+pub record ArePlacesMade (w : ℕ) (p : Places) (wires : ℕ) : Type 0 where
   pub word : p.word + w ≤ wires
   pub distance : p.distance + w ≤ wires
   pub chosen : p.chosen + w / 2 ≤ wires

@@ -39,14 +39,14 @@ level_product_of bits products k j = do
   pure tt
 
 -- the products of bit k with each of these marks but the last
-unfoldable pub level_of : ℕ → ℕ → ℕ → Circuit (Unit {0})
-level_of bits products k = sequence (2 ^ k - 1) (level_product_of bits products k)
+unfoldable pub bit_level_of : ℕ → ℕ → ℕ → Circuit (Unit {0})
+bit_level_of bits products k = sequence (2 ^ k - 1) (level_product_of bits products k)
 
 -- the products for k bits; the first is returned
 unfoldable pub thermometer_of : ℕ → ℕ → Circuit ℕ
 thermometer_of k bits = do
   products ← here
-  _ ← sequence k (level_of bits products)
+  _ ← sequence k (bit_level_of bits products)
   pure products
 
 -- the values of the wires that are made for the k lowest bits of y

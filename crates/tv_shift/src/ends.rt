@@ -4,7 +4,7 @@ ghost use Rattle.tv_bits.specs.Bits.{bits_combination};
 ghost use Rattle.tv_core.specs.Combinations.{top, scaled};
 ghost use Rattle.tv_core.specs.Sinks.{PutsIn, Grows, Room};
 ghost use Rattle.tv_core.specs.declared.field.TheConstants.{P};
-ghost use Rattle.tv_shift.specs.Masks.{AreMade};
+ghost use Rattle.tv_shift.specs.Masks.{ArePlacesMade};
 ghost use Rattle.tv_shift.specs.Shift.{by_half_of, by_rest_of, ends_of};
 ghost use Rattle.tv_word.specs.Widths.{IsWidth};
 
@@ -72,7 +72,7 @@ pub(crate) fn by_rest<const W: u32, S: Sink>(
 ) -> Put<Shift>
     requires width { IsWidth W }
     requires room { Room S.meaning s.old 2 2 }
-    requires places_made { AreMade W parts.now.places (S.meaning.wires s.old) }
+    requires places_made { ArePlacesMade W parts.now.places (S.meaning.wires s.old) }
     requires parts_made { max parts.now.low parts.now.high + W / 4 ≤ S.meaning.wires s.old }
     requires half_made { max half.left half.right < S.meaning.wires s.old }
     ensures puts { PutsIn S.meaning s.old s.new (by_rest_of W parts.now half) result }

@@ -1,7 +1,8 @@
 //! Shifts of a word of 16 or of 32 bits by a word as long. Contracts above cite `IsShifted`, which
 //! says that two wires hold the word shifted to the left and to the right, as whole numbers, and
-//! `ShiftSizes` for the wires. `left_shift` and `right_shift` hold a row of twice a word's width to
-//! a shifted word, under a gate, by the power of the distance, which `shift_power` makes.
+//! `ShiftSizes` for the wires. `right_shift` holds a row of twice a word's width to a shifted
+//! word, under a gate, by the power of the distance, which `shift_power` makes. A shift to the left
+//! is a product by that power, `row_product` of tv_muldiv.
 #![tactic(auto)]
 
 mod ends;
@@ -20,9 +21,8 @@ pub use powers::{
     shift_power_is_complete, shift_power_is_sound,
 };
 pub use row_shifts::{
-    fill_left_shift, fill_right_shift, left_shift, left_shift_costs, left_shift_fills,
-    left_shift_is_complete, left_shift_is_sound, right_shift, right_shift_costs, right_shift_fills,
-    right_shift_is_complete, right_shift_is_sound, shifts_by_any_distance,
+    fill_right_shift, right_shift, right_shift_costs, right_shift_fills, right_shift_is_complete,
+    right_shift_is_sound, shifts_by_any_distance,
 };
 pub use shifts::{shift, shift_fills, shift_is_complete, shift_is_sound};
 pub use values::fill_shift;

@@ -7,7 +7,7 @@ ghost use Rattle.tv_core.specs.Values.{GivesIn};
 ghost use Rattle.tv_core.specs.Sinks.{PutsIn, Grows, Room};
 ghost use Rattle.tv_shift.specs.declared.masks.Part.TheVariants.{Low, High};
 ghost use Rattle.tv_shift.specs.Masks.{half_log, mask_at, mask_value, digit_at, masked_pair_of};
-ghost use Rattle.tv_shift.specs.Masks.{masked_of, masked_value, masked_values, AreMade};
+ghost use Rattle.tv_shift.specs.Masks.{masked_of, masked_value, masked_values, ArePlacesMade};
 ghost use Rattle.tv_shift.specs.Thermometer.{products_below};
 ghost use Rattle.tv_word.specs.Widths.{IsWidth};
 
@@ -113,7 +113,7 @@ pub(crate) fn masked<const W: u32, S: Sink>(
 ) -> Put<Wire>
     requires width { IsWidth W }
     requires room { Room S.meaning s.old (W / 4) (W / 4) }
-    requires made { AreMade W places.now (S.meaning.wires s.old) }
+    requires made { ArePlacesMade W places.now (S.meaning.wires s.old) }
     ensures puts { PutsIn S.meaning s.old s.new
         (masked_of (mask_at W places.now part) (digit_at W places.now part) (W / 4)) result }
     ensures grows { IfOk result (λ _. Grows S.meaning s.old s.new (W / 4) (W / 4)) }
@@ -142,7 +142,7 @@ fn pair<const W: u32, S: Sink>(
     requires width { IsWidth W }
     requires room { Room S.meaning s.old 1 1 }
     requires there { i < W / 4 }
-    requires made { AreMade W places.now (S.meaning.wires s.old) }
+    requires made { ArePlacesMade W places.now (S.meaning.wires s.old) }
     ensures puts { PutsIn S.meaning s.old s.new
         (masked_pair_of (mask_at W places.now part) (digit_at W places.now part) (W / 4) i) result }
     ensures grows { IfOk result (λ _. Grows S.meaning s.old s.new 1 1) }

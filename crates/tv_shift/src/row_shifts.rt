@@ -1,12 +1,10 @@
-//! Shifts of a word in a row of twice its width.
+//! The shift of a word to the right in a row of twice its width.
 ghost use Rattle.std.specs.Prelude.{◌≡◌, ◌+◌, ◌*◌, ◌^◌, ◌≤◌, ◌<◌, false, IfOk, OnOk};
 ghost use Rattle.tv_bits.specs.DoubleRow.{row_number};
 ghost use Rattle.tv_core.specs.Combinations.{top};
 ghost use Rattle.tv_core.specs.Values.{GivesIn};
 ghost use Rattle.tv_core.specs.Sinks.{PutsIn, Grows, Room};
-ghost use Rattle.tv_shift.specs.RowShift.{left_shift_of, right_shift_of, left_shift_values};
-ghost use Rattle.tv_shift.specs.RowShift.{right_shift_values, LeftShiftIsSound};
-ghost use Rattle.tv_shift.specs.RowShift.{LeftShiftIsComplete, LeftShiftSizes, LeftShiftCosts};
+ghost use Rattle.tv_shift.specs.RowShift.{right_shift_of, right_shift_values};
 ghost use Rattle.tv_shift.specs.RowShift.{RightShiftIsSound, RightShiftIsComplete};
 ghost use Rattle.tv_shift.specs.RowShift.{RightShiftSizes, RightShiftCosts};
 ghost use Rattle.tv_shift.specs.RowShift.{ShiftsByAnyDistance};
@@ -14,33 +12,6 @@ ghost use Rattle.tv_word.specs.Widths.{IsWidth};
 
 use tv_bits::{DoubleRow, gated, times_by};
 use tv_core::{F, Lc, Put, Scratch, Sink, Values, Wire};
-
-/// Constrains a row, where `gate` is 1, to the word `v` of `W` bits shifted to the left by m, with
-/// `power` a wire that holds 2^m and m below `W`: its low half is the shifted word, and its high
-/// half the bits that leave it. Where `gate` is 0, nothing is asked of the row. It makes 1 wire,
-/// the product of `v` and `power`, and 2 constraints, of 6 terms beside those of `gate`.
-pub fn left_shift<const W: u32, S: Sink>(
-    s: &mut S,
-    scratch: &mut Scratch,
-    gate: &Lc,
-    v: Wire,
-    power: Wire,
-    row: &DoubleRow,
-) -> Put<()>
-    requires width { IsWidth W }
-    requires room { Room S.meaning s.old 1 2 }
-    requires gate_made { top gate.now ≤ S.meaning.wires s.old }
-    requires v_made { v < S.meaning.wires s.old }
-    requires power_made { power < S.meaning.wires s.old }
-    requires row_made { top (row_number W row.now) ≤ S.meaning.wires s.old }
-    ensures puts { PutsIn S.meaning s.old s.new (left_shift_of W gate.now v power row.now) result }
-    ensures grows { IfOk result (λ _. Grows S.meaning s.old s.new 1 2) }
-{
-    scratch.a.set_wire(v);
-    scratch.b.set_wire(power);
-    let product = times_by(s, &mut scratch.c, &scratch.a, &scratch.b)?;
-    gated(s, scratch, gate, &row.number::<W>(), &[(F::ONE, product)])
-}
 
 /// Constrains a row, where `gate` is 1, to the word `v` of `W` bits shifted to the right by m, with
 /// `power` a wire that holds 2^m and m below `W`: its high half is the shifted word, and its low
@@ -77,15 +48,6 @@ pub fn right_shift<const W: u32, S: Sink>(
     )
 }
 
-/// Assigns the value of the wire that `left_shift` makes for a word and a power.
-pub fn fill_left_shift<V: Values>(v: &mut V, word: u32, power: u32) -> Put<()>
-    requires { V.giving.broken v.old ≡ false }
-    ensures gives { GivesIn V.giving v.old v.new (left_shift_values word power) result }
-    ensures whole { OnOk result (V.giving.broken v.new ≡ false) }
-{
-    v.give(F::from(word) * F::from(power))
-}
-
 /// Assigns the value of the wire that `right_shift` makes for a row's halves and a power.
 pub fn fill_right_shift<const W: u32, V: Values>(
     v: &mut V,
@@ -101,32 +63,6 @@ pub fn fill_right_shift<const W: u32, V: Values>(
     let number = F::from(low) + F::of(1 << W) * F::from(high);
     v.give(number * F::from(power))
 }
-
-/// Where the gate is 1 and an assignment satisfies the constraints of `left_shift`, a row holds the
-/// word shifted to the left.
-pub fn left_shift_is_sound()
-    ensures { LeftShiftIsSound }
-{}
-
-/// Where the row holds the word shifted to the left, or the gate is 0, an assignment that has the
-/// value that `fill_left_shift` assigns satisfies the constraints of `left_shift`; and such halves
-/// are a row.
-pub fn left_shift_is_complete()
-    ensures { LeftShiftIsComplete }
-{}
-
-/// Says that `fill_left_shift` assigns one number of the field for each wire that `left_shift`
-/// makes.
-#[tactic(auto, using(crate::proofs::RowShiftLaws::left_shift_sizes))]
-pub fn left_shift_fills()
-    ensures { LeftShiftSizes }
-{}
-
-/// Says how many constraints and terms `left_shift` puts.
-#[tactic(auto, using(crate::proofs::RowShiftLaws::left_shift_cost_laws))]
-pub fn left_shift_costs()
-    ensures { LeftShiftCosts }
-{}
 
 /// Where the gate is 1 and an assignment satisfies the constraints of `right_shift`, a row holds
 /// the word shifted to the right.

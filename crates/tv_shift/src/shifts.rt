@@ -2,7 +2,7 @@
 ghost use Rattle.std.specs.Prelude.{◌≡◌, ◌+◌, ◌/◌, ◌≤◌, ◌<◌, max, IfOk};
 ghost use Rattle.tv_bits.specs.Bits.{AreBitsBelow};
 ghost use Rattle.tv_core.specs.Sinks.{PutsIn, Grows, Room};
-ghost use Rattle.tv_shift.specs.Masks.{AreMade};
+ghost use Rattle.tv_shift.specs.Masks.{ArePlacesMade};
 ghost use Rattle.tv_shift.specs.Shift.{places_of, parts_of, shift_of, places_made, parts_made};
 ghost use Rattle.tv_shift.specs.Shift.{shift_made, ShiftIsSound, ShiftIsComplete, ShiftSizes};
 ghost use Rattle.tv_word.specs.Widths.{IsWidth};
@@ -49,7 +49,7 @@ fn places<const W: u32, S: Sink>(
     requires distance_made { distance + W ≤ S.meaning.wires s.old }
     ensures puts { PutsIn S.meaning s.old s.new (places_of W word distance) result }
     ensures grows { IfOk result (λ _. Grows S.meaning s.old s.new (places_made W) (places_made W)) }
-    ensures made { IfOk result (λ places. AreMade W places (S.meaning.wires s.new)) }
+    ensures made { IfOk result (λ places. ArePlacesMade W places (S.meaning.wires s.new)) }
 {
     let k = half_log::<W>();
     let chosen = halves(s, scratch, W / 2, distance.offset(k), word)?;
@@ -75,7 +75,7 @@ fn parts<const W: u32, S: Sink>(
     requires distance_made { distance + W ≤ S.meaning.wires s.old }
     ensures puts { PutsIn S.meaning s.old s.new (parts_of W word distance) result }
     ensures grows { IfOk result (λ _. Grows S.meaning s.old s.new (parts_made W) (parts_made W)) }
-    ensures made { IfOk result (λ parts. AreMade W parts.places (S.meaning.wires s.new)) }
+    ensures made { IfOk result (λ parts. ArePlacesMade W parts.places (S.meaning.wires s.new)) }
     ensures below { IfOk result (λ parts. max parts.low parts.high + W / 4
         ≤ S.meaning.wires s.new) }
 {

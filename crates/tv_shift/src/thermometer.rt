@@ -4,7 +4,7 @@ ghost use Rattle.std.specs.Prelude.{false, IfOk, OnOk};
 ghost use Rattle.tv_core.specs.Combinations.{top};
 ghost use Rattle.tv_core.specs.Values.{GivesIn};
 ghost use Rattle.tv_core.specs.Sinks.{PutsIn, Grows, Room};
-ghost use Rattle.tv_shift.specs.Thermometer.{products_below, both, mark, level_of, thermometer_of};
+ghost use Rattle.tv_shift.specs.Thermometer.{products_below, both, mark, bit_level_of, thermometer_of};
 ghost use Rattle.tv_shift.specs.Thermometer.{level_value, level_values, thermometer_values};
 ghost use Rattle.tv_shift.specs.Thermometer.{power_of};
 
@@ -126,7 +126,7 @@ fn level<S: Sink>(s: &mut S, scratch: &mut Scratch, marks: &Marks, k: u32) -> Pu
     requires few { k ≤ 4 }
     requires bits_made { marks.now.bits + k < S.meaning.wires s.old }
     requires products_made { marks.now.products + products_below k ≤ S.meaning.wires s.old }
-    ensures puts { PutsIn S.meaning s.old s.new (level_of marks.now.bits marks.now.products k)
+    ensures puts { PutsIn S.meaning s.old s.new (bit_level_of marks.now.bits marks.now.products k)
         result }
     ensures grows { IfOk result (λ _. Grows S.meaning s.old s.new (2 ^ k - 1) (2 ^ k - 1)) }
 {

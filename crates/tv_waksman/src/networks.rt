@@ -3,7 +3,7 @@ ghost use Rattle.std.specs.Prelude.{◌≡◌, ◌-◌, ◌*◌, ◌^◌, ◌≤
 ghost use Rattle.tv_benes.specs.Items.{bit_at, pair_at};
 ghost use Rattle.tv_benes.specs.Levels.{network_wires};
 ghost use Rattle.tv_benes.specs.Network.{network_of, network_values};
-ghost use Rattle.tv_benes.specs.Places.{AreMade, AreBelow};
+ghost use Rattle.tv_benes.specs.Places.{ArePairsMade, AreBelow};
 ghost use Rattle.tv_benes.specs.Through.{switches};
 ghost use Rattle.tv_benes.specs.declared.shape.Net.TheVariants.{Waksman};
 ghost use Rattle.tv_core.specs.Values.{GivesIn};
@@ -30,7 +30,7 @@ pub fn network_w<S: Sink, I: Inputs>(s: &mut S, k: u32, inputs: &I) -> Put<Outpu
     requires room { Room S.meaning s.old (network_wires Waksman (k - 1))
         (network_wires Waksman (k - 1)) }
     requires count { I.count inputs.now ≡ 2 ^ k }
-    requires made { AreMade (I.pair inputs.now) (2 ^ k) (S.meaning.wires s.old) }
+    requires made { ArePairsMade (I.pair inputs.now) (2 ^ k) (S.meaning.wires s.old) }
     ensures puts { PutsIn S.meaning s.old s.new (network_of Waksman (k - 1) (I.pair inputs.now))
         result }
     ensures grows { IfOk result (λ _. Grows S.meaning s.old s.new (network_wires Waksman (k - 1))

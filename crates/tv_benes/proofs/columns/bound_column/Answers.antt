@@ -49,7 +49,7 @@ returns-in_err-bound_switch-clause-puts g c =
     let pair = g.T.Pairs.pair c.args.items.now in
     let piece : ℕ → Unit {0} → Circuit (Unit {0}) = λ j _. switch_of Bound (pair (2 * j)) (pair (2 * j + 1)) in
     let switch = rw (c.set_item.ensures, c.set_item-in-loop-j.ensures) at c.in_err-bound_switch.ensures.puts in
-    refused m _ _ _ c.from_residual.result c.from_residual.ensures.1
+    refused _ _ _ _ _ c.from_residual.ensures.1
     (turn_refused m c.args.n c.loop-j.j piece tt tt c.args.s.now c.loop-j.s c.bound_switch.new.s c.in_err-bound_switch.field-0.0 c.loop-j-test.true
     c.loop-j.invariant.puts switch)
 

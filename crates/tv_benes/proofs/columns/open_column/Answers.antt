@@ -32,7 +32,7 @@ returns-in_err-open_switch-clause-puts g c =
     let place = g.P.Places.place c.args.items.now in
     let piece : ℕ → Unit {0} → Circuit (Unit {0}) = λ j _. switch_of Open (wires_at (place (2 * j))) (wires_at (place (2 * j + 1))) in
     let switch = rw (c.at-x.ensures, c.at-y.ensures) at c.in_err-open_switch.ensures.puts in
-    refused m _ _ _ c.from_residual.result c.from_residual.ensures.1
+    refused _ _ _ _ _ c.from_residual.ensures.1
     (turn_refused m c.args.n c.loop-j.j piece tt tt c.args.s.now c.loop-j.s c.open_switch.new.s c.in_err-open_switch.field-0.0 c.loop-j-test.true
     c.loop-j.invariant.puts switch)
 

@@ -4,7 +4,7 @@ use Rattle.tv_benes.proofs.NetworkChain.{first_column_refused, network_put, noth
 use Rattle.tv_benes.proofs.Sizes.{passed_made, below_later, made_later}
 use Rattle.tv_benes.proofs.ThroughLaws.{missing_small}
 use Rattle.tv_benes.specs.Levels.{level_wires}
-use Rattle.tv_benes.specs.Places.{column_outputs, passed_to, two_ends, sum_at, AreMade, AreBelow}
+use Rattle.tv_benes.specs.Places.{column_outputs, passed_to, two_ends, sum_at, ArePairsMade, AreBelow}
 use Rattle.tv_benes.specs.Through.{missing}
 use Rattle.tv_benes.specs.declared.shape.Form.TheVariants.{Bound, Open}
 use Rattle.tv_core.proofs.Chain.{refused}
@@ -27,8 +27,7 @@ bound_network-bound_column-requires-clause-made g t c =
 
 pub bound_network-returns-in_err-bound_column-clause-puts : goal.bound_network-returns-in_err-bound_column-clause-puts
 bound_network-returns-in_err-bound_column-clause-puts g t c =
-    refused g.S.Sink.meaning _ _ _ c.from_residual.result c.from_residual.ensures.1
-    (first_column_refused g.S.Sink.meaning c.args.net Bound c.args.h (λ e. bound_innermost c.args.net)
+    refused _ _ _ _ _ c.from_residual.ensures.1 (first_column_refused g.S.Sink.meaning c.args.net Bound c.args.h (λ e. bound_innermost c.args.net)
     (passed_to c.args.items.now.lower c.args.items.now.first c.args.items.now.from) c.power.result c.power.ensures _ _ _
     c.in_err-bound_column.ensures.puts)
 
@@ -93,7 +92,7 @@ bound_inner-open_network-requires g t c κs within =
 pub bound_inner-returns-in_err-upper-clause-puts : goal.bound_inner-returns-in_err-upper-clause-puts
 bound_inner-returns-in_err-upper-clause-puts g t c =
     let below = above_wires c.args.net Bound c.args.h c.if-h-eq0.false in
-    refused g.S.Sink.meaning _ _ _ c.from_residual.result c.from_residual.ensures.1
+    refused _ _ _ _ _ c.from_residual.ensures.1
     (upper_refused g.S.Sink.meaning c.args.net Bound c.args.h (c.args.first + 1) (c.args.first + 3) (column_outputs c.args.first)
     (c.args.h - 1) below.level _ _ _ (rw c.offset.ensures at c.in_err-upper.ensures.puts))
 
@@ -119,7 +118,7 @@ bound_inner-open_network-requires-2 g t c κs within =
 pub bound_inner-returns-in_err-lower-clause-puts : goal.bound_inner-returns-in_err-lower-clause-puts
 bound_inner-returns-in_err-lower-clause-puts g t c =
     let below = above_wires c.args.net Bound c.args.h c.if-h-eq0.false in
-    refused g.S.Sink.meaning _ _ _ c.from_residual-in_err-lower.result c.from_residual-in_err-lower.ensures.1
+    refused _ _ _ _ _ c.from_residual-in_err-lower.ensures.1
     (lower_refused g.S.Sink.meaning c.args.net Bound c.args.h (c.args.first + 1) (c.args.first + 3) (column_outputs c.args.first)
     (c.args.h - 1) below.level _ _ _ (rw c.offset.ensures at c.in_ok-upper.ensures.puts) _ _
     (rw c.offset-2.ensures at c.in_err-lower.ensures.puts))
@@ -139,7 +138,7 @@ bound_inner-bound_last-requires-clause-upper g t c =
     let below = above_wires c.args.net Bound c.args.h c.if-h-eq0.false in
     let ends = put_ends m c.args.net Open (c.args.h - 1) (c.args.first + 1) _ _ c.in_ok-upper.upper (omega (arith, c.requires.made, below.size))
     (rw c.offset.ensures at c.in_ok-upper.ensures.puts) in
-    subst (λ k. AreMade (sum_at c.args.net c.in_ok-upper.upper) (2 ^ k) (m.wires c.open_network-2.new.s)) (sym below.level)
+    subst (λ k. ArePairsMade (sum_at c.args.net c.in_ok-upper.upper) (2 ^ k) (m.wires c.open_network-2.new.s)) (sym below.level)
     (made_later (sum_at c.args.net c.in_ok-upper.upper) (2 ^ suc (c.args.h - 1)) _ _ (omega (arith, c.in_ok-lower.ensures.grows.wires)) ends)
 
 pub bound_inner-bound_last-requires-clause-lower : goal.bound_inner-bound_last-requires-clause-lower
@@ -148,7 +147,7 @@ bound_inner-bound_last-requires-clause-lower g t c =
     let below = above_wires c.args.net Bound c.args.h c.if-h-eq0.false in
     let ends = put_ends m c.args.net Open (c.args.h - 1) (c.args.first + 3) _ _ c.in_ok-lower.lower
     (omega (arith, c.requires.made, c.in_ok-upper.ensures.grows.wires, below.size)) (rw c.offset-2.ensures at c.in_ok-lower.ensures.puts) in
-    subst (λ k. AreMade (sum_at c.args.net c.in_ok-lower.lower) (2 ^ k) (m.wires c.open_network-2.new.s)) (sym below.level) ends
+    subst (λ k. ArePairsMade (sum_at c.args.net c.in_ok-lower.lower) (2 ^ k) (m.wires c.open_network-2.new.s)) (sym below.level) ends
 
 pub bound_inner-returns-clause-puts : goal.bound_inner-returns-clause-puts
 bound_inner-returns-clause-puts g t c =
@@ -170,8 +169,7 @@ bound_inner-returns-clause-grows g t c =
 -- ---- an open network
 pub open_network-returns-in_err-open_column-clause-puts : goal.open_network-returns-in_err-open_column-clause-puts
 open_network-returns-in_err-open_column-clause-puts g t c =
-    refused g.S.Sink.meaning _ _ _ c.from_residual.result c.from_residual.ensures.1
-    (first_column_refused g.S.Sink.meaning c.args.net Open c.args.h
+    refused _ _ _ _ _ c.from_residual.ensures.1 (first_column_refused g.S.Sink.meaning c.args.net Open c.args.h
     (λ e. absurd (c.if-h-eq0.false e)) c.args.from c.power.result c.power.ensures _ _ _ c.in_err-open_column.ensures.puts)
 
 pub open_network-returns-clause-puts : goal.open_network-returns-clause-puts
@@ -203,7 +201,7 @@ open_inner-bound_network-requires g t c κs within =
 pub open_inner-returns-in_err-upper-clause-puts : goal.open_inner-returns-in_err-upper-clause-puts
 open_inner-returns-in_err-upper-clause-puts g t c =
     let below = above_wires c.args.net Open c.args.h (λ e. let none : c.args.h ≡ 0 = e in omega (arith, c.requires.some)) in
-    refused g.S.Sink.meaning _ _ _ c.from_residual.result c.from_residual.ensures.1
+    refused _ _ _ _ _ c.from_residual.ensures.1
     (upper_refused g.S.Sink.meaning c.args.net Open c.args.h (passed_to false c.args.first c.args.from) (passed_to true c.args.first c.args.from)
     (two_ends c.args.net Open c.args.first c.args.from) (c.args.h - 1) below.level _ _ _
     c.in_err-upper.ensures.puts)
@@ -230,7 +228,7 @@ open_inner-bound_network-requires-2 g t c κs within =
 pub open_inner-returns-in_err-lower-clause-puts : goal.open_inner-returns-in_err-lower-clause-puts
 open_inner-returns-in_err-lower-clause-puts g t c =
     let below = above_wires c.args.net Open c.args.h (λ e. let none : c.args.h ≡ 0 = e in omega (arith, c.requires.some)) in
-    refused g.S.Sink.meaning _ _ _ c.from_residual-in_err-lower.result c.from_residual-in_err-lower.ensures.1
+    refused _ _ _ _ _ c.from_residual-in_err-lower.ensures.1
     (lower_refused g.S.Sink.meaning c.args.net Open c.args.h (passed_to false c.args.first c.args.from) (passed_to true c.args.first c.args.from)
     (two_ends c.args.net Open c.args.first c.args.from) (c.args.h - 1) below.level _ _ _
     c.in_ok-upper.ensures.puts _ _ c.in_err-lower.ensures.puts)

@@ -23,7 +23,7 @@ pub returns-in_err-bound_column-clause-puts : goal.returns-in_err-bound_column-c
 returns-in_err-bound_column-clause-puts g c =
     let m = g.S.Sink.meaning in
     let count : c.power.result - c.missing.result ≡ 2 ^ c.args.h - missing c.args.net = ap₂ (λ a b. a - b) c.power.ensures c.missing.ensures in
-    refused m _ _ _ c.from_residual.result c.from_residual.ensures.1
+    refused _ _ _ _ _ c.from_residual.ensures.1
     (last_column_refused m c.args.net Bound c.args.h c.args.upper.now c.args.lower.now _ _ _ (rw count at c.in_err-bound_column.ensures.puts))
 
 pub last_outputs-requires : goal.last_outputs-requires

@@ -18,8 +18,7 @@ returns-in_err-open_column-clause-puts g c =
     let m = g.S.Sink.meaning in
     let count : c.power.result - c.missing.result ≡ 2 ^ c.args.h - missing c.args.net = ap₂ (λ a b. a - b) c.power.ensures c.missing.ensures in
     let column = rw (count, items_are c.args.net c.args.upper.now c.args.lower.now) at c.in_err-open_column.ensures.puts in
-    refused m _ _ _ c.from_residual.result c.from_residual.ensures.1
-    (last_column_refused m c.args.net Open c.args.h c.args.upper.now c.args.lower.now _ _ _ column)
+    refused _ _ _ _ _ c.from_residual.ensures.1 (last_column_refused m c.args.net Open c.args.h c.args.upper.now c.args.lower.now _ _ _ column)
 
 pub returns-clause-puts : goal.returns-clause-puts
 returns-clause-puts g c =

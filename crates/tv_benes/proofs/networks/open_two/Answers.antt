@@ -22,7 +22,7 @@ returns-in_err-open_column-in-Benes-clause-puts g c =
     let form : innermost c.args.net Open ≡ Open = ap (λ n. innermost n Open) c.in-Benes.is in
     let column = subst (λ (f : Form). PutsSome m c.args.s.now c.open_column.new.s (column_of f 1 (row c.args.from)) c.in_err-open_column-in-Benes.field-0.0)
     (sym form) c.in_err-open_column-in-Benes.ensures.puts in
-    refused m _ _ _ c.from_residual.result c.from_residual.ensures.1 (two_refused m c.args.net Open c.args.from _ _ _ column)
+    refused _ _ _ _ _ c.from_residual.ensures.1 (two_refused m c.args.net Open c.args.from _ _ _ column)
 
 pub returns-in_ok-open_column-in-Benes-clause-puts : goal.returns-in_ok-open_column-in-Benes-clause-puts
 unfolding sums
@@ -55,7 +55,7 @@ returns-in_err-bound_column-in-Waksman-clause-puts g c =
     let form : innermost c.args.net Open ≡ Bound = ap (λ n. innermost n Open) c.in-Waksman.is in
     let column = subst (λ (f : Form). PutsSome m c.args.s.now c.bound_column.new.s (column_of f 1 (row c.args.from)) c.in_err-bound_column-in-Waksman.field-0.0)
     (sym form) c.in_err-bound_column-in-Waksman.ensures.puts in
-    refused m _ _ _ c.from_residual-in_err-bound_column-in-Waksman.result c.from_residual-in_err-bound_column-in-Waksman.ensures.1
+    refused _ _ _ _ _ c.from_residual-in_err-bound_column-in-Waksman.ensures.1
     (two_refused m c.args.net Open c.args.from _ _ _ column)
 
 pub returns-in_ok-bound_column-in-Waksman-clause-puts : goal.returns-in_ok-bound_column-in-Waksman-clause-puts

@@ -14,8 +14,7 @@ bound_column-requires-clause-room g c =
 
 pub returns-in_err-bound_column-clause-puts : goal.returns-in_err-bound_column-clause-puts
 returns-in_err-bound_column-clause-puts g c =
-    refused g.S.Sink.meaning _ _ _ c.from_residual.result c.from_residual.ensures.1
-    (first_column_refused g.S.Sink.meaning c.args.net Bound (c.args.k - 1) (λ e. bound_innermost c.args.net)
+    refused _ _ _ _ _ c.from_residual.ensures.1 (first_column_refused g.S.Sink.meaning c.args.net Bound (c.args.k - 1) (λ e. bound_innermost c.args.net)
     (g.I.Inputs.pair c.args.inputs.now) c.power.result c.power.ensures _ _ _ c.in_err-bound_column.ensures.puts)
 
 pub bound_inner-requires-clause-room : goal.bound_inner-requires-clause-room

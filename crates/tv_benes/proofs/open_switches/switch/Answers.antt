@@ -5,18 +5,18 @@ use Rattle.tv_benes.proofs.open_switches.switch.Goals as goal
 pub returns-in_err-bit_by-clause-puts : goal.returns-in_err-bit_by-clause-puts
 unfolding switch_of
 returns-in_err-bit_by-clause-puts g c =
-    refused g.S.Sink.meaning _ _ _ c.from_residual.result c.from_residual.ensures.1 (search (chain, c.fresh-b.ensures.puts, c.in_err-bit_by.ensures.puts))
+    refused _ _ _ _ _ c.from_residual.ensures.1 (search (chain, c.fresh-b.ensures.puts, c.in_err-bit_by.ensures.puts))
 
 pub returns-in_err-product-clause-puts : goal.returns-in_err-product-clause-puts
 unfolding switch_of
 returns-in_err-product-clause-puts g c =
-    refused g.S.Sink.meaning _ _ _ c.from_residual-in_err-product.result c.from_residual-in_err-product.ensures.1
+    refused _ _ _ _ _ c.from_residual-in_err-product.ensures.1
     (search (chain, c.fresh-b.ensures.puts, c.in_ok-bit_by.ensures.puts, c.in_err-product.ensures.puts))
 
 pub returns-in_err-product-2-clause-puts : goal.returns-in_err-product-2-clause-puts
 unfolding switch_of
 returns-in_err-product-2-clause-puts g c =
-    refused g.S.Sink.meaning _ _ _ c.from_residual-in_err-product-2.result c.from_residual-in_err-product-2.ensures.1
+    refused _ _ _ _ _ c.from_residual-in_err-product-2.ensures.1
     (search (chain, c.fresh-b.ensures.puts, c.in_ok-bit_by.ensures.puts, c.in_ok-product.ensures.puts, c.in_err-product-2.ensures.puts))
 
 pub returns-clause-puts : goal.returns-clause-puts

@@ -36,7 +36,7 @@ returns-in_err-first_column-clause-gives g t c =
     let m = g.V.Values.giving in
     let long : length c.split_at_mut-upper.result.0.now ≡ 2 ^ c.args.h = c.split_at_mut-upper.ensures.front_len ∙ c.long_power-n.ensures in
     let column = rw long at c.in_err-first_column.ensures.gives in
-    gives_refused m _ _ _ c.from_residual.result c.from_residual.ensures.1
+    gives_refused _ _ _ _ _ c.from_residual.ensures.1
     (column_refused m c.args.net c.args.form c.args.h (c.args.h - 1) (from c.args.at (bit_at c.args.bits.now)) (pair_at c.args.items.now)
     (above c.args.net c.args.h c.if-h-eq0.false).level _ _ _ column)
 
@@ -104,8 +104,7 @@ returns-in_err-route_level-clause-gives g t c =
     c.first_column.new.upper to_u in
     let upper = subst (λ (l : List ℕ). GivesSome m c.first_column.new.v c.route_level.new.v l c.in_err-route_level.field-0.0) up.values
     (rw c.other-inner.ensures at c.in_err-route_level.ensures.gives) in
-    gives_refused m _ _ _ c.from_residual-in_err-route_level.result c.from_residual-in_err-route_level.ensures.1
-    (upper_refused m net c.args.form h (h - 1) bit item below.level _ _ column _ _ upper)
+    gives_refused _ _ _ _ _ c.from_residual-in_err-route_level.ensures.1 (upper_refused m net c.args.form h (h - 1) bit item below.level _ _ column _ _ upper)
 
 pub returns-in_err-route_level-2-clause-gives : goal.returns-in_err-route_level-2-clause-gives
 returns-in_err-route_level-2-clause-gives g t c =
@@ -130,7 +129,7 @@ returns-in_err-route_level-2-clause-gives g t c =
     (rw c.other-inner.ensures at c.in_ok-route_level.ensures.gives) in
     let lower = subst (λ (l : List ℕ). GivesSome m c.route_level.new.v c.route_level-2.new.v l c.in_err-route_level-2.field-0.0) low.values
     (rw c.other-inner.ensures at c.in_err-route_level-2.ensures.gives) in
-    gives_refused m _ _ _ c.from_residual-in_err-route_level-2.result c.from_residual-in_err-route_level-2.ensures.1
+    gives_refused _ _ _ _ _ c.from_residual-in_err-route_level-2.ensures.1
     (lower_refused m net c.args.form h (h - 1) bit item below.level _ _ column _ upper _ _ lower)
 
 -- ---- the last column

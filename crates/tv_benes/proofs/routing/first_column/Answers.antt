@@ -45,7 +45,7 @@ returns-in_err-fill_switch-clause-gives g c =
     let y = read_item c.args.items.now (2 * j + 1) c.index-items-j-in-loop-j.result (omega arith) c.index-items-j-in-loop-j.is in
     let switch = subst (λ l. GivesSome m c.loop-j.v c.fill_switch.new.v l c.in_err-fill_switch.field-0.0)
     (values_as c.args.form _ _ _ _ _ _ c.bit-b.ensures x y) c.in_err-fill_switch.ensures.gives in
-    gives_refused m _ _ _ c.from_residual.result c.from_residual.ensures.1
+    gives_refused _ _ _ _ _ c.from_residual.ensures.1
     (switch_refused m c.args.form bit item (length c.args.upper.now) j _ _ _ _ c.loop-j-test.true c.loop-j.invariant.gives switch)
 
 pub returns-clause-gives : goal.returns-clause-gives

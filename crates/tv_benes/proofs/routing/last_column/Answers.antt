@@ -54,8 +54,7 @@ returns-in_err-fill_unless-clause-gives g c =
     let values = ap₂ (λ n l. if nat_lt j n then [] else l) c.missing-skipped.ensures (values_as c.args.form _ _ _ _ _ _ c.last_bit-b.ensures x y) in
     let switch = subst
     (λ (l : List ℕ). GivesSome m c.loop-j.v c.fill_unless.new.v l c.in_err-fill_unless.field-0.0) values c.in_err-fill_unless.ensures.gives in
-    gives_refused m _ _ _ c.from_residual.result c.from_residual.ensures.1
-    (last_refused m net c.args.form bit (pair_at c.args.upper.now) (pair_at c.args.lower.now)
+    gives_refused _ _ _ _ _ c.from_residual.ensures.1 (last_refused m net c.args.form bit (pair_at c.args.upper.now) (pair_at c.args.lower.now)
     (length c.args.upper.now) j _ _ _ _ c.loop-j-test.true c.loop-j.invariant.gives switch)
 
 pub returns-clause-gives : goal.returns-clause-gives

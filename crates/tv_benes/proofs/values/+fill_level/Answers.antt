@@ -31,8 +31,7 @@ returns-in_err-fill_column-clause-gives g t c =
     let m = g.V.Values.giving in
     let below = above c.args.net c.args.h c.if-h-eq0.false in
     let column = rw c.long_power-n.ensures at c.in_err-fill_column.ensures.gives in
-    gives_refused m _ _ _ c.from_residual.result c.from_residual.ensures.1
-    (column_refused m c.args.net c.args.form c.args.h (c.args.h - 1) (from c.args.at (bit_at c.args.bits.now))
+    gives_refused _ _ _ _ _ c.from_residual.ensures.1 (column_refused m c.args.net c.args.form c.args.h (c.args.h - 1) (from c.args.at (bit_at c.args.bits.now))
     (item_of c.args.bits.now c.args.items.now) below.level _ _ _ column)
 
 pub fill_level-requires : goal.fill_level-requires
@@ -75,8 +74,7 @@ returns-in_err-fill_level-clause-gives g t c =
     let upper = subst (λ (f : ℕ → Bool). GivesSome m c.fill_column-2.new.v c.fill_level.new.v
     (level_values net (other c.args.form) k f (to_upper bit item)) c.in_err-fill_level.field-0.0) upper_bit
     (rw c.other-inner.ensures at c.in_err-fill_level.ensures.gives) in
-    gives_refused m _ _ _ c.from_residual-in_err-fill_level.result c.from_residual-in_err-fill_level.ensures.1
-    (upper_refused m net c.args.form c.args.h k bit item below.level _ _ column _ _ upper)
+    gives_refused _ _ _ _ _ c.from_residual-in_err-fill_level.ensures.1 (upper_refused m net c.args.form c.args.h k bit item below.level _ _ column _ _ upper)
 
 pub fill_level-requires-2 : goal.fill_level-requires-2
 fill_level-requires-2 g t c κs within =
@@ -123,7 +121,7 @@ returns-in_err-fill_level-2-clause-gives g t c =
     let lower = subst (λ (f : ℕ → Bool). GivesSome m c.fill_level.new.v c.fill_level-2.new.v
     (level_values net (other c.args.form) k f (to_lower bit item)) c.in_err-fill_level-2.field-0.0) lower_bit
     (rw c.other-inner.ensures at c.in_err-fill_level-2.ensures.gives) in
-    gives_refused m _ _ _ c.from_residual-in_err-fill_level-2.result c.from_residual-in_err-fill_level-2.ensures.1
+    gives_refused _ _ _ _ _ c.from_residual-in_err-fill_level-2.ensures.1
     (lower_refused m net c.args.form c.args.h k bit item below.level _ _ column _ upper _ _ lower)
 
 pub returns-clause-gives : goal.returns-clause-gives

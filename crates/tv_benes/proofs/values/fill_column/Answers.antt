@@ -29,7 +29,7 @@ returns-in_err-fill_switch-clause-gives g c =
     let m = g.V.Values.giving in
     let switch = subst (λ l. GivesSome m c.loop-j.v c.fill_switch.new.v l c.in_err-fill_switch.field-0.0)
     (values_as c.args.form _ _ _ _ _ _ c.bit.ensures c.read-x.ensures c.read-y.ensures) c.in_err-fill_switch.ensures.gives in
-    gives_refused m _ _ _ c.from_residual.result c.from_residual.ensures.1
+    gives_refused _ _ _ _ _ c.from_residual.ensures.1
     (switch_refused m c.args.form (from c.args.at (bit_at c.args.bits.now))
     (item_of c.args.bits.now c.args.items.now) c.args.n c.loop-j.j _ _ _ _ c.loop-j-test.true c.loop-j.invariant.gives switch)
 

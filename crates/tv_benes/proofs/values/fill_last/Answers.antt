@@ -32,7 +32,7 @@ returns-in_err-fill_last_switch-clause-gives g c =
     let count : c.long_power.result - c.long_missing.result
     ≡ 2 ^ suc h - missing c.args.net = ap₂ (λ a b. a - b) (c.long_power.ensures ∙ ap (λ k. 2 ^ k) (add-one h)) c.long_missing.ensures in
     let within : c.loop-j.j < 2 ^ suc h - missing c.args.net = omega (arith, c.loop-j-test.true, count) in
-    gives_refused m _ _ _ c.from_residual.result c.from_residual.ensures.1
+    gives_refused _ _ _ _ _ c.from_residual.ensures.1
     (switch_refused m c.args.form (from (2 ^ suc h + 2 * switches c.args.net h) bit) (last_item c.args.net h bit (item_of c.args.bits.now c.args.items.now))
     (2 ^ suc h - missing c.args.net) c.loop-j.j _ _ _ _ within c.loop-j.invariant.gives c.in_err-fill_last_switch.ensures.gives)
 

@@ -34,6 +34,10 @@ returns-clause-gives g c =
     let is = values_as c.args.form _ _ _ _ _ _ (c.bit.ensures ∙ ap b at_d) x y in
     subst (λ (list : List ℕ). GivesIn m c.args.v.now c.fill_switch.new.v list c.fill_switch.result) is c.fill_switch.ensures.gives
 
+pub source-from_upper-requires-clause-place : goal.source-from_upper-requires-clause-place
+source-from_upper-requires-clause-place g c =
+    omega (arith, c.requires.place, switches-suc c.args.net c.args.h, c.long_power-n.ensures, ap (λ k. 2 ^ k) (add-one c.args.h))
+
 pub source-from_lower-requires-clause-place : goal.source-from_lower-requires-clause-place
 source-from_lower-requires-clause-place g c =
     omega (

@@ -1,4 +1,4 @@
-use Rattle.tv_core.proofs.Chain.{chain, refused}
+use Rattle.tv_core.proofs.Chain.{refused, puts_then, puts_then_refused, refused_then, puts_nothing}
 use Rattle.tv_bits.specs.Nonzero.{nonzero_of}
 use Rattle.tv_bits.proofs.nonzeros.nonzero_by.Goals as goal
 
@@ -7,19 +7,20 @@ unfolding nonzero_of
 returns-clause-puts g c =
     let first = rw (c.set_wire.ensures.terms, c.set_wire-2.ensures.terms) at c.in_ok-put.ensures.puts in
     let second = rw (c.set_difference.ensures.terms, c.clear.ensures) at c.in_ok-put-2.ensures.puts in
-    search (chain, c.fresh-flag.ensures.puts, c.fresh-hint.ensures.puts, first, second)
+    puts_then _ _ _ _ _ _ _ _ c.fresh-flag.ensures.puts (puts_then _ _ _ _ _ _ _ _ c.fresh-hint.ensures.puts (puts_then _ _ _ _ _ _ _ _ first
+    (puts_then _ _ _ _ _ _ _ _ second (puts_nothing _ _ _))))
 
 pub returns-in_err-put-clause-puts : goal.returns-in_err-put-clause-puts
 unfolding nonzero_of
 returns-in_err-put-clause-puts g c =
     let first = rw (c.set_wire.ensures.terms, c.set_wire-2.ensures.terms) at c.in_err-put.ensures.puts in
-    refused g.S.Sink.meaning _ _ _ c.from_residual.result c.from_residual.ensures.1
-    (search (chain, c.fresh-flag.ensures.puts, c.fresh-hint.ensures.puts, first))
+    refused _ _ _ _ _ c.from_residual.ensures.1 (puts_then_refused _ _ _ _ _ _ _ _ c.fresh-flag.ensures.puts
+    (puts_then_refused _ _ _ _ _ _ _ _ c.fresh-hint.ensures.puts (refused_then _ _ _ _ _ _ first)))
 
 pub returns-in_err-put-2-clause-puts : goal.returns-in_err-put-2-clause-puts
 unfolding nonzero_of
 returns-in_err-put-2-clause-puts g c =
     let first = rw (c.set_wire.ensures.terms, c.set_wire-2.ensures.terms) at c.in_ok-put.ensures.puts in
     let second = rw (c.set_difference.ensures.terms, c.clear.ensures) at c.in_err-put-2.ensures.puts in
-    refused g.S.Sink.meaning _ _ _ c.from_residual-in_err-put-2.result c.from_residual-in_err-put-2.ensures.1
-    (search (chain, c.fresh-flag.ensures.puts, c.fresh-hint.ensures.puts, first, second))
+    refused _ _ _ _ _ c.from_residual-in_err-put-2.ensures.1 (puts_then_refused _ _ _ _ _ _ _ _ c.fresh-flag.ensures.puts
+    (puts_then_refused _ _ _ _ _ _ _ _ c.fresh-hint.ensures.puts (puts_then_refused _ _ _ _ _ _ _ _ first (refused_then _ _ _ _ _ _ second))))

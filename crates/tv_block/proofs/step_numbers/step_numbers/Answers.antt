@@ -1,6 +1,5 @@
 use Rattle.std.proofs.Common.{Bool, ◌||◌, if◌then◌else◌, sym, ◌∙◌, ap}
-use Rattle.tv_isa.specs.Opcodes.{among}
-use Rattle.tv_numbers.specs.Tables.{memory_ops}
+use Rattle.tv_isa.specs.Opcodes.{among, memory_ops}
 use Rattle.tv_parts.proofs.ArithmeticNumbers.{numbers_are_words}
 use Rattle.tv_block.proofs.step_numbers.step_numbers.Goals as goal
 use Rattle.tv_block.proofs.step_numbers.step_numbers.Goals.{then-primary, else-primary}
@@ -15,7 +14,7 @@ returns-clause-numbers g c =
     let a = c.operand-operand.result in
     let words = numbers_are_words g.row.W c.requires.width x a c.args.word other.word operand.word c.requires.data_word c.decode-instr.result.op instr.op in
     record {
-      spelled = c.decomposed_word.ensures;
+      decomposed = c.decomposed_word.ensures;
       numbers = record {
         fields = instr;
         operand = operand.operand;

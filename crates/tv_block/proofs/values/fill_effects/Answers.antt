@@ -53,7 +53,7 @@ returns-in_err-fill_memory-clause-gives g c =
     let r2 = results_values w i.op (operand_word v i) low high (found w n v i low takes) ++ r3 in
     let r1 = memory_values w (input_of n v i low) (decomposed_word w i.op (other_word v i) (operand_word v i)) takes ++ r2 in
     let p0 = c.in_ok-fill_tapes.ensures.gives in
-    let p1 = rw (c.requires.numbers.spelled, c.requires.numbers.numbers.other, c.requires.numbers.numbers.operand) at c.in_err-fill_memory.ensures.gives in
+    let p1 = rw (c.requires.numbers.decomposed, c.requires.numbers.numbers.other, c.requires.numbers.numbers.operand) at c.in_err-fill_memory.ensures.gives in
     gives_refused m _ _ _ c.from_residual-in_err-fill_memory.result c.from_residual-in_err-fill_memory.ensures.1
     (gives_then_refused m _ r1 _ _ _ _ p0 (gives_refused_then m _ r2 _ _ _ p1))
 
@@ -74,7 +74,7 @@ returns-in_err-give_values-clause-gives g c =
     let r2 = results_values w i.op (operand_word v i) low high (found w n v i low takes) ++ r3 in
     let r1 = memory_values w (input_of n v i low) (decomposed_word w i.op (other_word v i) (operand_word v i)) takes ++ r2 in
     let p0 = c.in_ok-fill_tapes.ensures.gives in
-    let p1 = rw (c.requires.numbers.spelled, c.requires.numbers.numbers.other, c.requires.numbers.numbers.operand) at c.in_ok-fill_memory.ensures.gives in
+    let p1 = rw (c.requires.numbers.decomposed, c.requires.numbers.numbers.other, c.requires.numbers.numbers.operand) at c.in_ok-fill_memory.ensures.gives in
     let p2 = rw (c.requires.results, c.requires.numbers.numbers.operand, c.requires.numbers.numbers.finds) at c.in_err-give_values.ensures.gives in
     gives_refused m _ _ _ c.from_residual-in_err-give_values.result c.from_residual-in_err-give_values.ensures.1
     (gives_then_refused m _ r1 _ _ _ _ p0 (gives_then_refused m _ r2 _ _ _ _ p1 (gives_refused_then m _ r3 _ _ _ p2)))
@@ -96,7 +96,7 @@ returns-in_err-fill_zero_sign-clause-gives g c =
     let r2 = results_values w i.op (operand_word v i) low high (found w n v i low takes) ++ r3 in
     let r1 = memory_values w (input_of n v i low) (decomposed_word w i.op (other_word v i) (operand_word v i)) takes ++ r2 in
     let p0 = c.in_ok-fill_tapes.ensures.gives in
-    let p1 = rw (c.requires.numbers.spelled, c.requires.numbers.numbers.other, c.requires.numbers.numbers.operand) at c.in_ok-fill_memory.ensures.gives in
+    let p1 = rw (c.requires.numbers.decomposed, c.requires.numbers.numbers.other, c.requires.numbers.numbers.operand) at c.in_ok-fill_memory.ensures.gives in
     let p2 = rw (c.requires.results, c.requires.numbers.numbers.operand, c.requires.numbers.numbers.finds) at c.in_ok-give_values.ensures.gives in
     let p3 = rw (c.index-results-4.is, c.sign.ensures, c.requires.results, c.requires.numbers.numbers.operand, c.requires.numbers.numbers.finds)
     at c.in_err-fill_zero_sign.ensures.gives in
@@ -121,7 +121,7 @@ returns-in_err-fill_written-clause-gives g c =
     let r2 = results_values w i.op (operand_word v i) low high (found w n v i low takes) ++ r3 in
     let r1 = memory_values w (input_of n v i low) (decomposed_word w i.op (other_word v i) (operand_word v i)) takes ++ r2 in
     let p0 = c.in_ok-fill_tapes.ensures.gives in
-    let p1 = rw (c.requires.numbers.spelled, c.requires.numbers.numbers.other, c.requires.numbers.numbers.operand) at c.in_ok-fill_memory.ensures.gives in
+    let p1 = rw (c.requires.numbers.decomposed, c.requires.numbers.numbers.other, c.requires.numbers.numbers.operand) at c.in_ok-fill_memory.ensures.gives in
     let p2 = rw (c.requires.results, c.requires.numbers.numbers.operand, c.requires.numbers.numbers.finds) at c.in_ok-give_values.ensures.gives in
     let p3 = rw (c.index-results-4.is, c.sign.ensures, c.requires.results, c.requires.numbers.numbers.operand, c.requires.numbers.numbers.finds)
     at c.in_ok-fill_zero_sign.ensures.gives in
@@ -147,7 +147,7 @@ returns-in_err-fill_flag-clause-gives g c =
     let r2 = results_values w i.op (operand_word v i) low high (found w n v i low takes) ++ r3 in
     let r1 = memory_values w (input_of n v i low) (decomposed_word w i.op (other_word v i) (operand_word v i)) takes ++ r2 in
     let p0 = c.in_ok-fill_tapes.ensures.gives in
-    let p1 = rw (c.requires.numbers.spelled, c.requires.numbers.numbers.other, c.requires.numbers.numbers.operand) at c.in_ok-fill_memory.ensures.gives in
+    let p1 = rw (c.requires.numbers.decomposed, c.requires.numbers.numbers.other, c.requires.numbers.numbers.operand) at c.in_ok-fill_memory.ensures.gives in
     let p2 = rw (c.requires.results, c.requires.numbers.numbers.operand, c.requires.numbers.numbers.finds) at c.in_ok-give_values.ensures.gives in
     let p3 = rw (c.index-results-4.is, c.sign.ensures, c.requires.results, c.requires.numbers.numbers.operand, c.requires.numbers.numbers.finds)
     at c.in_ok-fill_zero_sign.ensures.gives in
@@ -174,7 +174,7 @@ returns-clause-gives g c =
     let r2 = results_values w i.op (operand_word v i) low high (found w n v i low takes) ++ r3 in
     let r1 = memory_values w (input_of n v i low) (decomposed_word w i.op (other_word v i) (operand_word v i)) takes ++ r2 in
     let p0 = c.in_ok-fill_tapes.ensures.gives in
-    let p1 = rw (c.requires.numbers.spelled, c.requires.numbers.numbers.other, c.requires.numbers.numbers.operand) at c.in_ok-fill_memory.ensures.gives in
+    let p1 = rw (c.requires.numbers.decomposed, c.requires.numbers.numbers.other, c.requires.numbers.numbers.operand) at c.in_ok-fill_memory.ensures.gives in
     let p2 = rw (c.requires.results, c.requires.numbers.numbers.operand, c.requires.numbers.numbers.finds) at c.in_ok-give_values.ensures.gives in
     let p3 = rw (c.index-results-4.is, c.sign.ensures, c.requires.results, c.requires.numbers.numbers.operand, c.requires.numbers.numbers.finds)
     at c.in_ok-fill_zero_sign.ensures.gives in

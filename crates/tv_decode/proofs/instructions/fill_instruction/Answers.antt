@@ -12,7 +12,7 @@ pub returns-in_err-fill_row-clause-gives : goal.returns-in_err-fill_row-clause-g
 returns-in_err-fill_row-clause-gives g c =
     let m = g.V.Values.giving in
     let low = rw (c.from.ensures, c.below_opcode.ensures) at c.in_ok-fill_bits.ensures.gives in
-    let row = rw (c.from-2.ensures, c.decode.ensures.fields) at c.in_err-fill_row.ensures.gives in
+    let row = rw c.decode.ensures.fields at c.in_err-fill_row.ensures.gives in
     gives_refused m _ _ _ c.from_residual-in_err-fill_row.result c.from_residual-in_err-fill_row.ensures.1
     (gives_then_refused m _ _ _ _ _ _ low (gives_refused_then m _ _ _ _ _ row))
 
@@ -20,8 +20,8 @@ pub returns-in_err-fill_bits-2-clause-gives : goal.returns-in_err-fill_bits-2-cl
 returns-in_err-fill_bits-2-clause-gives g c =
     let m = g.V.Values.giving in
     let low = rw (c.from.ensures, c.below_opcode.ensures) at c.in_ok-fill_bits.ensures.gives in
-    let row = rw (c.from-2.ensures, c.decode.ensures.fields) at c.in_ok-fill_row.ensures.gives in
-    let second = rw c.from-3.ensures at c.in_err-fill_bits-2.ensures.gives in
+    let row = rw c.decode.ensures.fields at c.in_ok-fill_row.ensures.gives in
+    let second = rw c.from-2.ensures at c.in_err-fill_bits-2.ensures.gives in
     gives_refused m _ _ _ c.from_residual-in_err-fill_bits-2.result c.from_residual-in_err-fill_bits-2.ensures.1
     (gives_then_refused m _ _ _ _ _ _ low (gives_then_refused m _ _ _ _ _ _ row (gives_refused_then m _ _ _ _ _ second)))
 
@@ -29,6 +29,6 @@ pub returns-clause-gives : goal.returns-clause-gives
 returns-clause-gives g c =
     let m = g.V.Values.giving in
     let low = rw (c.from.ensures, c.below_opcode.ensures) at c.in_ok-fill_bits.ensures.gives in
-    let row = rw (c.from-2.ensures, c.decode.ensures.fields) at c.in_ok-fill_row.ensures.gives in
-    let second = rw c.from-3.ensures at c.in_ok-fill_bits-2.ensures.gives in
+    let row = rw c.decode.ensures.fields at c.in_ok-fill_row.ensures.gives in
+    let second = rw c.from-2.ensures at c.in_ok-fill_bits-2.ensures.gives in
     gives_in_then m _ _ _ _ _ _ low (gives_in_then m _ _ _ _ _ _ row (gives_in_then m _ _ _ _ _ _ second c.give_words.ensures.gives))

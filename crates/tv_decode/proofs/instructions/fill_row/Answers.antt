@@ -2,20 +2,20 @@ use Rattle.std.proofs.Common.{◌<◌, arith}
 use Rattle.tv_core.proofs.ValuesChain.{gives_refused}
 use Rattle.tv_core.proofs.LoopLaws.{gives_no_turn, gives_turn, gives_turn_refused}
 use Rattle.tv_bits.specs.OneHot.{one_at}
-use Rattle.tv_decode.specs.Instructions.{place}
+use Rattle.tv_isa.specs.Opcodes.{place_of}
 use Rattle.tv_decode.proofs.instructions.fill_row.Goals as goal
 
 pub loop-i-init : goal.loop-i-init
-loop-i-init g c = (gives_no_turn g.V.Values.giving (one_at (place c.args.k)) _, c.requires.whole)
+loop-i-init g c = (gives_no_turn g.V.Values.giving (one_at (place_of c.args.k)) _, c.requires.whole)
 
 pub loop-i-preserved : goal.loop-i-preserved
 loop-i-preserved g c =
     let one = rw (c.from.ensures, c.place-hot.ensures.place) at c.in_ok-give.ensures.gives in
-    (gives_turn g.V.Values.giving (one_at (place c.args.k)) _ _ _ _ c.loop-i.invariant.0 one, c.in_ok-give.ensures.whole)
+    (gives_turn g.V.Values.giving (one_at (place_of c.args.k)) _ _ _ _ c.loop-i.invariant.0 one, c.in_ok-give.ensures.whole)
 
 pub returns-in_err-give-clause-gives : goal.returns-in_err-give-clause-gives
 returns-in_err-give-clause-gives g c =
     let within : c.loop-i.i < 29 = omega arith in
     let one = rw (c.from.ensures, c.place-hot.ensures.place) at c.in_err-give.ensures.gives in
     gives_refused g.V.Values.giving _ _ _ c.from_residual.result c.from_residual.ensures.1
-    (gives_turn_refused g.V.Values.giving (one_at (place c.args.k)) 29 c.loop-i.i _ _ _ _ within c.loop-i.invariant.0 one)
+    (gives_turn_refused g.V.Values.giving (one_at (place_of c.args.k)) 29 c.loop-i.i _ _ _ _ within c.loop-i.invariant.0 one)

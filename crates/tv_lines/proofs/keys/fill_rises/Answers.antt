@@ -4,7 +4,7 @@ use Rattle.tv_bits.specs.Prefixes.{product_below}
 use Rattle.tv_core.proofs.ValuesChain.{gives_refused}
 use Rattle.tv_core.proofs.LoopLaws.{gives_no_turn, gives_turn, gives_turn_refused}
 use Rattle.tv_core.specs.declared.field.TheConstants.{P}
-use Rattle.tv_lines.specs.PackedLines.{line_of}
+use Rattle.tv_lines.specs.PackedLines.{line_of_numbers}
 use Rattle.tv_lines.specs.SortedPair.{factor_in}
 use Rattle.tv_lines.proofs.keys.fill_rises.Goals as goal
 
@@ -14,7 +14,7 @@ first f small = sym (ap (λ n. n % P) (one-mul (f 0)) ∙ mod-eq_of_lt small)
 
 pub loop-i-init : goal.loop-i-init
 loop-i-init g c =
-    let factor : ℕ → ℕ = factor_in (line_of c.args.before.now) (line_of c.args.after.now) in
+    let factor : ℕ → ℕ = factor_in (line_of_numbers c.args.before.now) (line_of_numbers c.args.after.now) in
     record {
       gives = gives_no_turn g.V.Values.giving (λ i. product_below (i + 2) factor % P) _;
       whole = c.requires;
@@ -23,7 +23,7 @@ loop-i-init g c =
 
 pub loop-i-preserved : goal.loop-i-preserved
 loop-i-preserved g c =
-    let factor : ℕ → ℕ = factor_in (line_of c.args.before.now) (line_of c.args.after.now) in
+    let factor : ℕ → ℕ = factor_in (line_of_numbers c.args.before.now) (line_of_numbers c.args.after.now) in
     let one_more = c.sub.ensures ∙ ap₂ (λ x s. (x + (P - s)) % P) c.prefix_less_in-in-loop-i.ensures c.size-size.ensures in
     let product = c.mul-product.ensures ∙ next_factor c.loop-i.i factor _ _ c.loop-i.invariant.product one_more in
     let one = rw product at c.in_ok-give.ensures.gives in
@@ -35,7 +35,7 @@ loop-i-preserved g c =
 
 pub returns-in_err-give-clause-gives : goal.returns-in_err-give-clause-gives
 returns-in_err-give-clause-gives g c =
-    let factor : ℕ → ℕ = factor_in (line_of c.args.before.now) (line_of c.args.after.now) in
+    let factor : ℕ → ℕ = factor_in (line_of_numbers c.args.before.now) (line_of_numbers c.args.after.now) in
     let one_more = c.sub.ensures ∙ ap₂ (λ x s. (x + (P - s)) % P) c.prefix_less_in-in-loop-i.ensures c.size-size.ensures in
     let product = c.mul-product.ensures ∙ next_factor c.loop-i.i factor _ _ c.loop-i.invariant.product one_more in
     let one = rw product at c.in_err-give.ensures.gives in

@@ -3,13 +3,13 @@ use Rattle.tv_bits.specs.Prefixes.{product_below}
 use Rattle.tv_core.specs.Below.{each_below}
 use Rattle.tv_core.specs.Values.{GivesAll}
 use Rattle.tv_core.specs.declared.field.TheConstants.{P}
-use Rattle.tv_lines.specs.PackedLines.{line_of}
+use Rattle.tv_lines.specs.PackedLines.{line_of_numbers}
 use Rattle.tv_lines.specs.SortedPair.{factor_in}
 use Rattle.tv_lines.proofs.keys.fill_rises.Given as goal
 
 abbrev pub invariant-loop-i : goal.invariant-loop-i
 invariant-loop-i g l =
-    let factor : ℕ → ℕ = factor_in (line_of l.before) (line_of l.after) in
+    let factor : ℕ → ℕ = factor_in (line_of_numbers l.before) (line_of_numbers l.after) in
     record {
       gives : GivesAll g.V.Values.giving l.initial.v l.v (each_below l.i (λ i. product_below (i + 2) factor % P));
       whole : g.V.Values.giving.broken l.v ≡ false;

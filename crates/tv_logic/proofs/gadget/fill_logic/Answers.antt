@@ -2,7 +2,8 @@ use Rattle.std.proofs.Common.{bit_and, bit_or, bit_xor}
 use Rattle.tv_core.proofs.ValuesChain.{gives_refused_then, gives_refused}
 use Rattle.tv_core.proofs.ValuesTails.{gives_in_then}
 use Rattle.tv_logic.specs.Flags.{flag_values}
-use Rattle.tv_logic.specs.Words.{bits_turned, word_values}
+use Rattle.tv_logic.specs.Words.{word_values}
+use Rattle.tv_word.specs.Operations.{not_result}
 use Rattle.tv_logic.proofs.gadget.fill_logic.Goals as goal
 
 pub returns-in_err-fill_words-clause-gives : goal.returns-in_err-fill_words-clause-gives
@@ -12,7 +13,7 @@ returns-in_err-fill_words-clause-gives g c =
     let y = c.args.y in
     gives_refused m _ _ _ c.from_residual.result c.from_residual.ensures.1
     (gives_refused_then m (word_values g.row.W x y)
-    (flag_values (bit_and x y) (bit_or x y) (bit_xor x y) (bits_turned g.row.W y)) _ _ _ c.in_err-fill_words.ensures.gives)
+    (flag_values (bit_and x y) (bit_or x y) (bit_xor x y) (not_result g.row.W y)) _ _ _ c.in_err-fill_words.ensures.gives)
 
 pub returns-clause-gives : goal.returns-clause-gives
 returns-clause-gives g c =

@@ -5,13 +5,13 @@ use Rattle.tv_muldiv.proofs.products.product.Goals as goal
 pub returns-in_err-first-clause-puts : goal.returns-in_err-first-clause-puts
 unfolding product_of
 returns-in_err-first-clause-puts g c =
-    refused g.S.Sink.meaning _ _ _ c.from_residual.result c.from_residual.ensures.1 (search (chain, c.in_err-first.ensures.puts))
+    refused _ _ _ _ _ c.from_residual.ensures.1 (search (chain, c.in_err-first.ensures.puts))
 
 pub returns-in_err-over-clause-puts : goal.returns-in_err-over-clause-puts
 unfolding product_of
 returns-in_err-over-clause-puts g c =
     let over = rw (c.set_number.ensures.terms, c.offset.ensures) at c.in_err-over.ensures.puts in
-    refused g.S.Sink.meaning _ _ _ c.from_residual-in_err-over.result c.from_residual-in_err-over.ensures.1 (search (chain, c.in_ok-first.ensures.puts, over))
+    refused _ _ _ _ _ c.from_residual-in_err-over.ensures.1 (search (chain, c.in_ok-first.ensures.puts, over))
 
 pub returns-clause-puts : goal.returns-clause-puts
 unfolding product_of

@@ -6,7 +6,7 @@ use Rattle.tv_muldiv.proofs.quotients.division.Goals as goal
 pub returns-in_err-gate-clause-puts : goal.returns-in_err-gate-clause-puts
 unfolding division_of
 returns-in_err-gate-clause-puts g c =
-    refused g.S.Sink.meaning _ _ _ c.from_residual.result c.from_residual.ensures.1 (search (chain, c.in_err-gate.ensures.puts))
+    refused _ _ _ _ _ c.from_residual.ensures.1 (search (chain, c.in_err-gate.ensures.puts))
 
 pub returns-clause-puts : goal.returns-clause-puts
 unfolding division_of

@@ -3,23 +3,24 @@ use Rattle.tv_core.proofs.ValuesChain.{giving, gives_refused}
 use Rattle.tv_bits.specs.Order.{first_difference}
 use Rattle.tv_core.proofs.ValuesTails.{gives_in_then}
 use Rattle.tv_muldiv.proofs.QuotientNumbers.{above-below}
-use Rattle.tv_muldiv.specs.Quotient.{remainder_in, above_in}
+use Rattle.tv_muldiv.specs.Quotient.{above_in}
+use Rattle.tv_word.specs.Operations.{umod_result}
 use Rattle.tv_muldiv.proofs.quotients.fill_above.Goals as goal
 
 pub returns-in_err-fill_bits-clause-gives : goal.returns-in_err-fill_bits-clause-gives
 returns-in_err-fill_bits-clause-gives g c =
-    let rem : c.from-rem.result ≡ remainder_in c.args.x c.args.y = c.from-rem.ensures ∙ c.remainder.ensures.word in
+    let rem : c.from-rem.result ≡ umod_result c.args.x c.args.y = c.from-rem.ensures ∙ c.remainder.ensures.word in
     let above : c.first_difference-above.result ≡ above_in g.row.W c.args.x c.args.y = c.first_difference-above.ensures
     ∙ ap₂ (first_difference (g.row.W / 4) 4) c.from-y.ensures rem in
     let below = above-below g.row.W c.requires.width c.args.x c.args.y c.requires.y_word in
     let small : above_in g.row.W c.args.x c.args.y < 2 ^ 8 = grind arith in
     let one_less : c.of.result ≡ above_in g.row.W c.args.x c.args.y - 1 = omega (arith, c.of.ensures, c.saturating_sub.ensures) in
     let bits = rw one_less at c.in_err-fill_bits.ensures.gives in
-    gives_refused g.V.Values.giving _ _ _ c.from_residual.result c.from_residual.ensures.1 (search (giving, bits))
+    gives_refused _ _ _ _ _ c.from_residual.ensures.1 (search (giving, bits))
 
 pub returns-clause-gives : goal.returns-clause-gives
 returns-clause-gives g c =
-    let rem : c.from-rem.result ≡ remainder_in c.args.x c.args.y = c.from-rem.ensures ∙ c.remainder.ensures.word in
+    let rem : c.from-rem.result ≡ umod_result c.args.x c.args.y = c.from-rem.ensures ∙ c.remainder.ensures.word in
     let above : c.first_difference-above.result ≡ above_in g.row.W c.args.x c.args.y = c.first_difference-above.ensures
     ∙ ap₂ (first_difference (g.row.W / 4) 4) c.from-y.ensures rem in
     let below = above-below g.row.W c.requires.width c.args.x c.args.y c.requires.y_word in

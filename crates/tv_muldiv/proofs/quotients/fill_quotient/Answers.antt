@@ -5,13 +5,13 @@ use Rattle.tv_muldiv.proofs.quotients.fill_quotient.Goals as goal
 
 pub returns-in_err-fill_words-clause-gives : goal.returns-in_err-fill_words-clause-gives
 returns-in_err-fill_words-clause-gives g c =
-    gives_refused g.V.Values.giving _ _ _ c.from_residual.result c.from_residual.ensures.1 (search (giving, c.in_err-fill_words.ensures.gives))
+    gives_refused _ _ _ _ _ c.from_residual.ensures.1 (search (giving, c.in_err-fill_words.ensures.gives))
 
 pub returns-in_err-give_values-clause-gives : goal.returns-in_err-give_values-clause-gives
 returns-in_err-give_values-clause-gives g c =
     let m = g.V.Values.giving in
     let flags = rw c.flags.ensures at c.in_err-give_values.ensures.gives in
-    gives_refused m _ _ _ c.from_residual-in_err-give_values.result c.from_residual-in_err-give_values.ensures.1
+    gives_refused _ _ _ _ _ c.from_residual-in_err-give_values.ensures.1
     (gives_then_refused m _ _ _ _ _ _ c.in_ok-fill_words.ensures.gives (gives_refused_then m _ (above_values g.row.W c.args.x c.args.y) _ _ _ flags))
 
 pub returns-clause-gives : goal.returns-clause-gives

@@ -1,4 +1,4 @@
-use Rattle.tv_core.proofs.Chain.{chain, refused}
+use Rattle.tv_core.proofs.Chain.{refused, puts_then, puts_then_refused, refused_then, puts_nothing}
 use Rattle.tv_muldiv.specs.Quotient.{gate_of}
 use Rattle.tv_muldiv.proofs.quotients.gate.Goals as goal
 
@@ -13,7 +13,7 @@ returns-in_err-put-clause-puts g c =
       c.requires.x_word.size,
       c.requires.made.quot.size,
     ) at c.in_err-put.ensures.puts in
-    refused g.S.Sink.meaning _ _ _ c.from_residual.result c.from_residual.ensures.1 (search (chain, c.fresh-gate.ensures.puts, gate))
+    refused _ _ _ _ _ c.from_residual.ensures.1 (puts_then_refused _ _ _ _ _ _ _ _ c.fresh-gate.ensures.puts (refused_then _ _ _ _ _ _ gate))
 
 pub returns-clause-puts : goal.returns-clause-puts
 unfolding gate_of
@@ -26,4 +26,4 @@ returns-clause-puts g c =
       c.requires.x_word.size,
       c.requires.made.quot.size,
     ) at c.in_ok-put.ensures.puts in
-    search (chain, c.fresh-gate.ensures.puts, gate)
+    puts_then _ _ _ _ _ _ _ _ c.fresh-gate.ensures.puts (puts_then _ _ _ _ _ _ _ _ gate (puts_nothing _ _ _))

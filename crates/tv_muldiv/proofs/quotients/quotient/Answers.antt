@@ -5,18 +5,17 @@ use Rattle.tv_muldiv.proofs.quotients.quotient.Goals as goal
 pub returns-in_err-made-clause-puts : goal.returns-in_err-made-clause-puts
 unfolding quotient_of
 returns-in_err-made-clause-puts g c =
-    refused g.S.Sink.meaning _ _ _ c.from_residual.result c.from_residual.ensures.1 (search (chain, c.in_err-made.ensures.puts))
+    refused _ _ _ _ _ c.from_residual.ensures.1 (search (chain, c.in_err-made.ensures.puts))
 
 pub returns-in_err-division-clause-puts : goal.returns-in_err-division-clause-puts
 unfolding quotient_of
 returns-in_err-division-clause-puts g c =
-    refused g.S.Sink.meaning _ _ _ c.from_residual-in_err-division.result c.from_residual-in_err-division.ensures.1
-    (search (chain, c.in_ok-made.ensures.puts, c.in_err-division.ensures.puts))
+    refused _ _ _ _ _ c.from_residual-in_err-division.ensures.1 (search (chain, c.in_ok-made.ensures.puts, c.in_err-division.ensures.puts))
 
 pub returns-in_err-remainder_below-clause-puts : goal.returns-in_err-remainder_below-clause-puts
 unfolding quotient_of
 returns-in_err-remainder_below-clause-puts g c =
-    refused g.S.Sink.meaning _ _ _ c.from_residual-in_err-remainder_below.result c.from_residual-in_err-remainder_below.ensures.1
+    refused _ _ _ _ _ c.from_residual-in_err-remainder_below.ensures.1
     (search (chain, c.in_ok-made.ensures.puts, c.in_ok-division.ensures.puts, c.in_err-remainder_below.ensures.puts))
 
 pub returns-clause-puts : goal.returns-clause-puts

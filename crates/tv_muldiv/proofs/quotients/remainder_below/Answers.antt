@@ -7,7 +7,7 @@ use Rattle.tv_muldiv.proofs.quotients.remainder_below.Goals as goal
 pub returns-in_err-above-clause-puts : goal.returns-in_err-above-clause-puts
 unfolding remainder_below_of
 returns-in_err-above-clause-puts g c =
-    refused g.S.Sink.meaning _ _ _ c.from_residual.result c.from_residual.ensures.1 (search (chain, c.in_err-above.ensures.puts))
+    refused _ _ _ _ _ c.from_residual.ensures.1 (search (chain, c.in_err-above.ensures.puts))
 
 pub returns-clause-puts : goal.returns-clause-puts
 unfolding remainder_below_of

@@ -5,25 +5,24 @@ use Rattle.tv_muldiv.proofs.row_divisions.row_division.Goals as goal
 pub returns-in_err-kept-clause-puts : goal.returns-in_err-kept-clause-puts
 unfolding row_division_of
 returns-in_err-kept-clause-puts g c =
-    refused g.S.Sink.meaning _ _ _ c.from_residual.result c.from_residual.ensures.1 (search (chain, c.in_err-kept.ensures.puts))
+    refused _ _ _ _ _ c.from_residual.ensures.1 (search (chain, c.in_err-kept.ensures.puts))
 
 pub returns-in_err-product-clause-puts : goal.returns-in_err-product-clause-puts
 unfolding row_division_of
 returns-in_err-product-clause-puts g c =
-    refused g.S.Sink.meaning _ _ _ c.from_residual-in_err-product.result c.from_residual-in_err-product.ensures.1
-    (search (chain, c.in_ok-kept.ensures.puts, c.in_err-product.ensures.puts))
+    refused _ _ _ _ _ c.from_residual-in_err-product.ensures.1 (search (chain, c.in_ok-kept.ensures.puts, c.in_err-product.ensures.puts))
 
 pub returns-in_err-gated-clause-puts : goal.returns-in_err-gated-clause-puts
 unfolding row_division_of
 returns-in_err-gated-clause-puts g c =
-    refused g.S.Sink.meaning _ _ _ c.from_residual-in_err-gated.result c.from_residual-in_err-gated.ensures.1
+    refused _ _ _ _ _ c.from_residual-in_err-gated.ensures.1
     (search (chain, c.in_ok-kept.ensures.puts, c.in_ok-product.ensures.puts, c.in_err-gated.ensures.puts))
 
 pub returns-in_err-put-clause-puts : goal.returns-in_err-put-clause-puts
 unfolding row_division_of
 returns-in_err-put-clause-puts g c =
     let tie = rw (c.set_room_below.ensures.terms, c.set_bits_less.ensures.terms) at c.in_err-put.ensures.puts in
-    refused g.S.Sink.meaning _ _ _ c.from_residual-in_err-put.result c.from_residual-in_err-put.ensures.1
+    refused _ _ _ _ _ c.from_residual-in_err-put.ensures.1
     (search (chain, c.in_ok-kept.ensures.puts, c.in_ok-product.ensures.puts, c.in_ok-gated.ensures.puts, tie) depth 8)
 
 pub returns-clause-puts : goal.returns-clause-puts

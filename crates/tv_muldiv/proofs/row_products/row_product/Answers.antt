@@ -10,7 +10,7 @@ use Rattle.tv_muldiv.proofs.row_products.row_product.Goals as goal
 pub returns-in_err-product-clause-puts : goal.returns-in_err-product-clause-puts
 unfolding row_product_of
 returns-in_err-product-clause-puts g c =
-    refused g.S.Sink.meaning _ _ _ c.from_residual.result c.from_residual.ensures.1 (search (chain, c.in_err-product.ensures.puts))
+    refused _ _ _ _ _ c.from_residual.ensures.1 (search (chain, c.in_err-product.ensures.puts))
 
 pub returns-clause-puts : goal.returns-clause-puts
 unfolding row_product_of

@@ -7,13 +7,13 @@ use Rattle.tv_muldiv.proofs.signed_products.signed_high.Goals as goal
 pub returns-in_err-made-clause-puts : goal.returns-in_err-made-clause-puts
 unfolding signed_high_of
 returns-in_err-made-clause-puts g c =
-    refused g.S.Sink.meaning _ _ _ c.from_residual.result c.from_residual.ensures.1 (search (chain, c.in_err-made.ensures.puts))
+    refused _ _ _ _ _ c.from_residual.ensures.1 (search (chain, c.in_err-made.ensures.puts))
 
 pub returns-in_err-over-clause-puts : goal.returns-in_err-over-clause-puts
 unfolding signed_high_of
 returns-in_err-over-clause-puts g c =
     let over = rw (c.set_high_excess.ensures.terms) at c.in_err-over.ensures.puts in
-    refused g.S.Sink.meaning _ _ _ c.from_residual-in_err-over.result c.from_residual-in_err-over.ensures.1 (search (chain, c.in_ok-made.ensures.puts, over))
+    refused _ _ _ _ _ c.from_residual-in_err-over.ensures.1 (search (chain, c.in_ok-made.ensures.puts, over))
 
 row_is : (x : Bits) (f k : ℕ) → x.first ≡ f → x.n ≡ k → x ≡ record { first = f; n = k }
 row_is x f k first n = ap₂ (λ f k. record { first = f; n = k }) first n

@@ -1,7 +1,8 @@
 use Rattle.std.specs.Prelude.{◌*◌, ◌%◌, ◌^◌, ◌++◌}
 use Rattle.tv_core.specs.declared.field.TheConstants.{P}
+use Rattle.tv_muldiv.specs.RowProduct.{row_product_values}
 use Rattle.tv_shift.specs.Power.{shift_power_values}
-use Rattle.tv_shift.specs.RowShift.{left_shift_values, right_shift_values}
+use Rattle.tv_shift.specs.RowShift.{right_shift_values}
 use Rattle.tv_core.proofs.ValuesChain.{gives_then_refused, gives_refused_then, gives_refused}
 use Rattle.tv_core.proofs.ValuesTails.{gives_in_then}
 use Rattle.tv_parts.proofs.arithmetic.fill_shifts.Goals as goal
@@ -11,7 +12,7 @@ returns-in_err-fill_row_division-clause-gives g c =
     let m = g.V.Values.giving in
     let w = g.row.W in
     let r2 = right_shift_values w c.args.low c.args.high (2 ^ (c.args.a % w)) in
-    let r1 = left_shift_values (c.args.f * c.args.x % P) (2 ^ (c.args.a % w)) ++ r2 in
+    let r1 = row_product_values (c.args.f * c.args.x % P) (2 ^ (c.args.a % w)) ++ r2 in
     let r0 = shift_power_values w c.args.a ++ r1 in
     let p0 = c.in_err-fill_row_division.ensures.gives in
     gives_refused m _ _ _ c.from_residual.result c.from_residual.ensures.1 (gives_refused_then m _ r0 _ _ _ p0)
@@ -21,7 +22,7 @@ returns-in_err-fill_shift_power-clause-gives g c =
     let m = g.V.Values.giving in
     let w = g.row.W in
     let r2 = right_shift_values w c.args.low c.args.high (2 ^ (c.args.a % w)) in
-    let r1 = left_shift_values (c.args.f * c.args.x % P) (2 ^ (c.args.a % w)) ++ r2 in
+    let r1 = row_product_values (c.args.f * c.args.x % P) (2 ^ (c.args.a % w)) ++ r2 in
     let r0 = shift_power_values w c.args.a ++ r1 in
     let p0 = c.in_ok-fill_row_division.ensures.gives in
     let p1 = c.in_err-fill_shift_power.ensures.gives in
@@ -33,7 +34,7 @@ returns-in_err-give-clause-gives g c =
     let m = g.V.Values.giving in
     let w = g.row.W in
     let r2 = right_shift_values w c.args.low c.args.high (2 ^ (c.args.a % w)) in
-    let r1 = left_shift_values (c.args.f * c.args.x % P) (2 ^ (c.args.a % w)) ++ r2 in
+    let r1 = row_product_values (c.args.f * c.args.x % P) (2 ^ (c.args.a % w)) ++ r2 in
     let r0 = shift_power_values w c.args.a ++ r1 in
     let p0 = c.in_ok-fill_row_division.ensures.gives in
     let p1 = c.in_ok-fill_shift_power.ensures.gives in
@@ -46,7 +47,7 @@ returns-clause-gives g c =
     let m = g.V.Values.giving in
     let w = g.row.W in
     let r2 = right_shift_values w c.args.low c.args.high (2 ^ (c.args.a % w)) in
-    let r1 = left_shift_values (c.args.f * c.args.x % P) (2 ^ (c.args.a % w)) ++ r2 in
+    let r1 = row_product_values (c.args.f * c.args.x % P) (2 ^ (c.args.a % w)) ++ r2 in
     let r0 = shift_power_values w c.args.a ++ r1 in
     let p0 = c.in_ok-fill_row_division.ensures.gives in
     let p1 = c.in_ok-fill_shift_power.ensures.gives in

@@ -1,10 +1,10 @@
 use Rattle.std.proofs.Common.{◌+◌, ◌-◌, ◌/◌}
 use Rattle.tv_core.proofs.Chain.{puts_then, puts_then_refused, refused_then, puts_nothing, refused}
-use Rattle.tv_parts.specs.Memory.{line_of}
+use Rattle.tv_parts.specs.Memory.{located_line}
 use Rattle.tv_parts.proofs.memory.put_line.Goals as goal
 
 pub returns-in_err-located-clause-puts : goal.returns-in_err-located-clause-puts
-unfolding line_of
+unfolding located_line
 returns-in_err-located-clause-puts g c =
     let m = g.S.Sink.meaning in
     let p0 = rw (
@@ -21,7 +21,7 @@ returns-in_err-located-clause-puts g c =
     refused m _ _ _ c.from_residual.result c.from_residual.ensures.1 (refused_then m _ _ _ _ _ p0)
 
 pub returns-in_err-cell-clause-puts : goal.returns-in_err-cell-clause-puts
-unfolding line_of
+unfolding located_line
 returns-in_err-cell-clause-puts g c =
     let m = g.S.Sink.meaning in
     let p0 = rw (
@@ -47,7 +47,7 @@ returns-in_err-cell-clause-puts g c =
     (puts_then_refused m _ _ _ _ _ _ _ p0 (refused_then m _ _ _ _ _ p1))
 
 pub returns-in_err-old-clause-puts : goal.returns-in_err-old-clause-puts
-unfolding line_of
+unfolding located_line
 returns-in_err-old-clause-puts g c =
     let m = g.S.Sink.meaning in
     let p0 = rw (
@@ -80,7 +80,7 @@ returns-in_err-old-clause-puts g c =
     (puts_then_refused m _ _ _ _ _ _ _ p0 (puts_then_refused m _ _ _ _ _ _ _ p1 (refused_then m _ _ _ _ _ p2)))
 
 pub returns-clause-puts : goal.returns-clause-puts
-unfolding line_of
+unfolding located_line
 returns-clause-puts g c =
     let m = g.S.Sink.meaning in
     let p0 = rw (

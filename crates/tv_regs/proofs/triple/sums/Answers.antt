@@ -1,4 +1,4 @@
-use Rattle.tv_core.proofs.Chain.{chain, refused}
+use Rattle.tv_core.proofs.Chain.{puts_then, puts_then_refused, refused_then, puts_nothing, refused}
 use Rattle.tv_regs.specs.Triple.{sums_of}
 use Rattle.tv_regs.proofs.triple.sums.Goals as goal
 
@@ -6,14 +6,14 @@ pub returns-in_err-sum-clause-puts : goal.returns-in_err-sum-clause-puts
 unfolding sums_of
 returns-in_err-sum-clause-puts g c =
     let sum = rw (c.plus-2.ensures.terms, c.plus.ensures.terms, c.set_number.ensures.terms) at c.in_err-sum.ensures.puts in
-    refused g.S.Sink.meaning _ _ _ c.from_residual.result c.from_residual.ensures.1 (search (chain, sum) depth 4)
+    refused _ _ _ _ _ c.from_residual.ensures.1 (refused_then _ _ _ _ _ _ sum)
 
 pub returns-in_err-pair-clause-puts : goal.returns-in_err-pair-clause-puts
 unfolding sums_of
 returns-in_err-pair-clause-puts g c =
     let sum = rw (c.plus-2.ensures.terms, c.plus.ensures.terms, c.set_number.ensures.terms) at c.in_ok-sum.ensures.puts in
     let pair = rw (c.set_wire.ensures.terms, c.set_number-2.ensures.terms) at c.in_err-pair.ensures.puts in
-    refused g.S.Sink.meaning _ _ _ c.from_residual-in_err-pair.result c.from_residual-in_err-pair.ensures.1 (search (chain, sum, pair) depth 5)
+    refused _ _ _ _ _ c.from_residual-in_err-pair.ensures.1 (puts_then_refused _ _ _ _ _ _ _ _ sum (refused_then _ _ _ _ _ _ pair))
 
 pub returns-in_err-pairs-clause-puts : goal.returns-in_err-pairs-clause-puts
 unfolding sums_of
@@ -21,7 +21,8 @@ returns-in_err-pairs-clause-puts g c =
     let sum = rw (c.plus-2.ensures.terms, c.plus.ensures.terms, c.set_number.ensures.terms) at c.in_ok-sum.ensures.puts in
     let pair = rw (c.set_wire.ensures.terms, c.set_number-2.ensures.terms) at c.in_ok-pair.ensures.puts in
     let pairs = rw (c.plus-3.ensures.terms, c.set_number-2.ensures.terms) at c.in_err-pairs.ensures.puts in
-    refused g.S.Sink.meaning _ _ _ c.from_residual-in_err-pairs.result c.from_residual-in_err-pairs.ensures.1 (search (chain, sum, pair, pairs) depth 6)
+    refused _ _ _ _ _ c.from_residual-in_err-pairs.ensures.1 (puts_then_refused _ _ _ _ _ _ _ _ sum (puts_then_refused _ _ _ _ _ _ _ _ pair
+    (refused_then _ _ _ _ _ _ pairs)))
 
 pub returns-in_err-product-clause-puts : goal.returns-in_err-product-clause-puts
 unfolding sums_of
@@ -30,8 +31,8 @@ returns-in_err-product-clause-puts g c =
     let pair = rw (c.set_wire.ensures.terms, c.set_number-2.ensures.terms) at c.in_ok-pair.ensures.puts in
     let pairs = rw (c.plus-3.ensures.terms, c.set_number-2.ensures.terms) at c.in_ok-pairs.ensures.puts in
     let product = rw (c.set_wire-2.ensures.terms, c.set_wire-3.ensures.terms) at c.in_err-product.ensures.puts in
-    refused g.S.Sink.meaning _ _ _ c.from_residual-in_err-product.result c.from_residual-in_err-product.ensures.1
-    (search (chain, sum, pair, pairs, product) depth 7)
+    refused _ _ _ _ _ c.from_residual-in_err-product.ensures.1 (puts_then_refused _ _ _ _ _ _ _ _ sum (puts_then_refused _ _ _ _ _ _ _ _ pair
+    (puts_then_refused _ _ _ _ _ _ _ _ pairs (refused_then _ _ _ _ _ _ product))))
 
 pub returns-clause-puts : goal.returns-clause-puts
 unfolding sums_of
@@ -40,4 +41,4 @@ returns-clause-puts g c =
     let pair = rw (c.set_wire.ensures.terms, c.set_number-2.ensures.terms) at c.in_ok-pair.ensures.puts in
     let pairs = rw (c.plus-3.ensures.terms, c.set_number-2.ensures.terms) at c.in_ok-pairs.ensures.puts in
     let product = rw (c.set_wire-2.ensures.terms, c.set_wire-3.ensures.terms) at c.in_ok-product.ensures.puts in
-    search (chain, sum, pair, pairs, product) depth 8
+    puts_then _ _ _ _ _ _ _ _ sum (puts_then _ _ _ _ _ _ _ _ pair (puts_then _ _ _ _ _ _ _ _ pairs (puts_then _ _ _ _ _ _ _ _ product (puts_nothing _ _ _))))

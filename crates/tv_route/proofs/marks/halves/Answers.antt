@@ -2,8 +2,8 @@ use Rattle.std.proofs.Common.{◌≡◌, ℕ, ◌*◌, ◌<◌, Bool, List, leng
 use Rattle.std.proofs.Math.Seq.{take-append_seam}
 use Rattle.std.proofs.lemmas.List.{length-replicate}
 use Rattle.std.specs.Prelude.{slice_index}
-use Rattle.tv_route.proofs.Halving.{halves-long}
-use Rattle.tv_route.proofs.Pairing.{partners-long, partners_pair}
+use Rattle.tv_route.proofs.Halves.{halves-long}
+use Rattle.tv_route.proofs.PairLaws.{partners-long, partners_pair}
 use Rattle.tv_route.specs.Route.{Mark, walk, walks, halves}
 use Rattle.tv_route.proofs.marks.halves.Goals as goal
 

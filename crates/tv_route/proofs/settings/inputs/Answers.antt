@@ -1,5 +1,5 @@
 use Rattle.std.proofs.Common.{ℕ, ◌*◌, ◌/◌, if◌then◌else◌, sym, ◌∙◌, ap, arith}
-use Rattle.tv_benes.proofs.Permuting.{places-zero}
+use Rattle.tv_benes.proofs.Permutations.{places-zero}
 use Rattle.tv_route.proofs.Steps.{push_one}
 use Rattle.tv_route.specs.Route.{down_input, up_input}
 use Rattle.tv_route.proofs.settings.inputs.Goals as goal

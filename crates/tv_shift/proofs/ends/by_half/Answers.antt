@@ -7,7 +7,7 @@ unfolding by_half_of
 returns-in_err-left-clause-puts g c =
     let m = g.S.Sink.meaning in
     let left = rw (c.terms.ensures.terms, c.set_times_half.ensures.terms, c.terms-2.ensures.terms, c.lc-x.ensures.terms) at c.in_err-left.ensures.puts in
-    refused m _ _ _ c.from_residual.result c.from_residual.ensures.1 (refused_then m _ _ _ _ _ left)
+    refused _ _ _ _ _ c.from_residual.ensures.1 (refused_then m _ _ _ _ _ left)
 
 pub returns-in_err-right-clause-puts : goal.returns-in_err-right-clause-puts
 unfolding by_half_of
@@ -21,8 +21,7 @@ returns-in_err-right-clause-puts g c =
       c.lc-x.ensures.terms,
       c.offset.ensures,
     ) at c.in_err-right.ensures.puts in
-    refused m _ _ _ c.from_residual-in_err-right.result c.from_residual-in_err-right.ensures.1
-    (puts_then_refused m _ _ _ _ _ _ _ left (refused_then m _ _ _ _ _ right))
+    refused _ _ _ _ _ c.from_residual-in_err-right.ensures.1 (puts_then_refused m _ _ _ _ _ _ _ left (refused_then m _ _ _ _ _ right))
 
 pub returns-clause-puts : goal.returns-clause-puts
 unfolding by_half_of

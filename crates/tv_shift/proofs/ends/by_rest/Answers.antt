@@ -1,4 +1,4 @@
-use Rattle.tv_core.proofs.Chain.{chain, puts_then, puts_nothing, refused}
+use Rattle.tv_core.proofs.Chain.{puts_then, puts_nothing, refused, puts_then_refused, refused_then}
 use Rattle.tv_shift.proofs.ShiftNumbers.{half_power}
 use Rattle.tv_shift.specs.Shift.{by_rest_of}
 use Rattle.tv_shift.proofs.ends.by_rest.Goals as goal
@@ -16,7 +16,7 @@ returns-in_err-left-clause-puts g c =
       c.set_wire.ensures.terms,
       c.set_times_half.ensures.terms,
     ) at c.in_err-left.ensures.puts in
-    refused g.S.Sink.meaning _ _ _ c.from_residual.result c.from_residual.ensures.1 (search (chain, left))
+    refused _ _ _ _ _ c.from_residual.ensures.1 (refused_then _ _ _ _ _ _ left)
 
 pub returns-in_err-right-clause-puts : goal.returns-in_err-right-clause-puts
 unfolding by_rest_of
@@ -41,7 +41,7 @@ returns-in_err-right-clause-puts g c =
       c.neg.ensures,
       c.set_wire-2.ensures.terms,
     ) at c.in_err-right.ensures.puts in
-    refused g.S.Sink.meaning _ _ _ c.from_residual-in_err-right.result c.from_residual-in_err-right.ensures.1 (search (chain, left, right))
+    refused _ _ _ _ _ c.from_residual-in_err-right.ensures.1 (puts_then_refused _ _ _ _ _ _ _ _ left (refused_then _ _ _ _ _ _ right))
 
 pub returns-clause-puts : goal.returns-clause-puts
 unfolding by_rest_of

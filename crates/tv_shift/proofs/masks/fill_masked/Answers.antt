@@ -17,5 +17,5 @@ pub returns-in_err-give-clause-gives : goal.returns-in_err-give-clause-gives
 returns-in_err-give-clause-gives g c =
     let f = masked_value (mask_value g.row.W c.args.s c.args.part) c.args.x (g.row.W / 4) in
     let one = rw c.masked_value.ensures at c.in_err-give.ensures.gives in
-    gives_refused g.V.Values.giving _ _ _ c.from_residual.result c.from_residual.ensures.1
+    gives_refused _ _ _ _ _ c.from_residual.ensures.1
     (gives_turn_refused g.V.Values.giving f (g.row.W / 4) c.loop-i.i _ _ _ _ c.loop-i-test.true c.loop-i.invariant.0 one)

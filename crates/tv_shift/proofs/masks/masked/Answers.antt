@@ -32,7 +32,7 @@ returns-in_err-pair-clause-puts g c =
     (g.row.W / 4) c.loop-i.i piece tt tt c.args.s.now c.loop-i.s c.pair.new.s c.in_err-pair.field-0.0 c.loop-i-test.true c.loop-i.invariant.puts
     c.in_err-pair.ensures.puts in
     let first = puts_here_as m c.args.s.now c.wires.result c.wires.ensures in
-    refused m _ _ _ c.from_residual.result c.from_residual.ensures.1 (search (chain, first, turn))
+    refused _ _ _ _ _ c.from_residual.ensures.1 (search (chain, first, turn))
 
 pub returns-clause-puts : goal.returns-clause-puts
 unfolding masked_of

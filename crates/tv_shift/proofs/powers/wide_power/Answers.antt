@@ -6,14 +6,14 @@ pub returns-in_err-low-clause-puts : goal.returns-in_err-low-clause-puts
 unfolding wide_power_of
 returns-in_err-low-clause-puts g c =
     let p0 = c.in_err-low.ensures.puts in
-    refused g.S.Sink.meaning _ _ _ c.from_residual.result c.from_residual.ensures.1 (search (chain, p0) depth 4)
+    refused _ _ _ _ _ c.from_residual.ensures.1 (search (chain, p0) depth 4)
 
 pub returns-in_err-power-clause-puts : goal.returns-in_err-power-clause-puts
 unfolding wide_power_of
 returns-in_err-power-clause-puts g c =
     let p0 = c.in_ok-low.ensures.puts in
     let p1 = rw (c.set_wire.ensures.terms, c.set_factor.ensures.terms, c.offset.ensures) at c.in_err-power.ensures.puts in
-    refused g.S.Sink.meaning _ _ _ c.from_residual-in_err-power.result c.from_residual-in_err-power.ensures.1 (search (chain, p0, p1) depth 5)
+    refused _ _ _ _ _ c.from_residual-in_err-power.ensures.1 (search (chain, p0, p1) depth 5)
 
 pub returns-clause-puts : goal.returns-clause-puts
 unfolding wide_power_of

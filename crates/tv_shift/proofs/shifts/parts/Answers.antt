@@ -5,19 +5,17 @@ use Rattle.tv_shift.proofs.shifts.parts.Goals as goal
 pub returns-in_err-places-clause-puts : goal.returns-in_err-places-clause-puts
 unfolding parts_of
 returns-in_err-places-clause-puts g c =
-    refused g.S.Sink.meaning _ _ _ c.from_residual.result c.from_residual.ensures.1 (search (chain, c.in_err-places.ensures.puts))
+    refused _ _ _ _ _ c.from_residual.ensures.1 (search (chain, c.in_err-places.ensures.puts))
 
 pub returns-in_err-low-clause-puts : goal.returns-in_err-low-clause-puts
 unfolding parts_of
 returns-in_err-low-clause-puts g c =
-    refused g.S.Sink.meaning _ _ _ c.from_residual-in_err-low.result c.from_residual-in_err-low.ensures.1
-    (search (chain, c.in_ok-places.ensures.puts, c.in_err-low.ensures.puts))
+    refused _ _ _ _ _ c.from_residual-in_err-low.ensures.1 (search (chain, c.in_ok-places.ensures.puts, c.in_err-low.ensures.puts))
 
 pub returns-in_err-high-clause-puts : goal.returns-in_err-high-clause-puts
 unfolding parts_of
 returns-in_err-high-clause-puts g c =
-    refused g.S.Sink.meaning _ _ _ c.from_residual-in_err-high.result c.from_residual-in_err-high.ensures.1
-    (search (chain, c.in_ok-places.ensures.puts, c.in_ok-low.ensures.puts, c.in_err-high.ensures.puts))
+    refused _ _ _ _ _ c.from_residual-in_err-high.ensures.1 (search (chain, c.in_ok-places.ensures.puts, c.in_ok-low.ensures.puts, c.in_err-high.ensures.puts))
 
 pub returns-clause-puts : goal.returns-clause-puts
 unfolding parts_of

@@ -20,5 +20,5 @@ returns-in_err-give-clause-gives g c =
     let same : c.of.result ≡ f c.loop-j.j = omega (arith, c.of.ensures, c.level_value.ensures.value, c.level_value.ensures.bit) in
     let one = rw same at c.in_err-give.ensures.gives in
     let within : c.loop-j.j < 2 ^ c.args.k - 1 = omega arith in
-    gives_refused g.V.Values.giving _ _ _ c.from_residual.result c.from_residual.ensures.1
+    gives_refused _ _ _ _ _ c.from_residual.ensures.1
     (gives_turn_refused g.V.Values.giving f (2 ^ c.args.k - 1) c.loop-j.j _ _ _ _ within c.loop-j.invariant.0 one)

@@ -11,5 +11,5 @@ loop-i-preserved g c =
 
 pub returns-in_err-fill_level-clause-gives : goal.returns-in_err-fill_level-clause-gives
 returns-in_err-fill_level-clause-gives g c =
-    gives_refused g.V.Values.giving _ _ _ c.from_residual.result c.from_residual.ensures.1
+    gives_refused _ _ _ _ _ c.from_residual.ensures.1
     (gives_level_refused g.V.Values.giving c.args.y c.args.k c.loop-i.i _ _ _ _ c.loop-i-test.true c.loop-i.invariant.0 c.in_err-fill_level.ensures.gives)

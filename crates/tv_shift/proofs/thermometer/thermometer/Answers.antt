@@ -3,18 +3,18 @@ use Rattle.tv_core.proofs.Chain.{chain, puts_no_turn, puts_turn, turn_refused, r
 use Rattle.tv_core.proofs.LoopLaws.{puts_here_as}
 use Rattle.tv_core.specs.Circuits.{Circuit}
 use Rattle.tv_shift.proofs.MarkTerms.{products-more, products-up}
-use Rattle.tv_shift.specs.Thermometer.{level_of, thermometer_of}
+use Rattle.tv_shift.specs.Thermometer.{bit_level_of, thermometer_of}
 use Rattle.tv_shift.proofs.thermometer.thermometer.Goals as goal
 
 pub loop-i-init : goal.loop-i-init
 loop-i-init g c = record {
-  puts = puts_no_turn g.S.Sink.meaning _ (λ i _. level_of c.args.bits c.wires.result i) tt;
+  puts = puts_no_turn g.S.Sink.meaning _ (λ i _. bit_level_of c.args.bits c.wires.result i) tt;
   grows = record { wires = omega arith; constraints = omega arith; whole = c.requires.room.whole };
 }
 
 pub loop-i-preserved : goal.loop-i-preserved
 loop-i-preserved g c =
-    let piece : ℕ → Unit {0} → Circuit (Unit {0}) = λ i _. level_of c.args.bits c.wires.result i in
+    let piece : ℕ → Unit {0} → Circuit (Unit {0}) = λ i _. bit_level_of c.args.bits c.wires.result i in
     let grown = c.in_ok-level.ensures.grows in
     record {
       puts = puts_turn g.S.Sink.meaning _ piece tt _ _ _ _ _ c.loop-i.invariant.puts c.in_ok-level.ensures.puts;
@@ -29,11 +29,11 @@ pub returns-in_err-level-clause-puts : goal.returns-in_err-level-clause-puts
 unfolding thermometer_of
 returns-in_err-level-clause-puts g c =
     let m = g.S.Sink.meaning in
-    let piece : ℕ → Unit {0} → Circuit (Unit {0}) = λ i _. level_of c.args.bits c.wires.result i in
+    let piece : ℕ → Unit {0} → Circuit (Unit {0}) = λ i _. bit_level_of c.args.bits c.wires.result i in
     let turn = turn_refused m c.args.k c.loop-i.i piece tt tt c.args.s.now c.loop-i.s c.level.new.s c.in_err-level.field-0.0 c.loop-i-test.true
     c.loop-i.invariant.puts c.in_err-level.ensures.puts in
     let first = puts_here_as m c.args.s.now c.wires.result c.wires.ensures in
-    refused m _ _ _ c.from_residual.result c.from_residual.ensures.1 (search (chain, first, turn))
+    refused _ _ _ _ _ c.from_residual.ensures.1 (search (chain, first, turn))
 
 pub returns-clause-puts : goal.returns-clause-puts
 unfolding thermometer_of

@@ -4,21 +4,19 @@ use Rattle.tv_shift.proofs.values.fill_shift.Goals as goal
 
 pub returns-in_err-fill_parts-clause-gives : goal.returns-in_err-fill_parts-clause-gives
 returns-in_err-fill_parts-clause-gives g c =
-    gives_refused g.V.Values.giving _ _ _ c.from_residual.result c.from_residual.ensures.1
-    (gives_refused_then g.V.Values.giving _ _ _ _ _ c.in_err-fill_parts.ensures.gives)
+    gives_refused _ _ _ _ _ c.from_residual.ensures.1 (gives_refused_then g.V.Values.giving _ _ _ _ _ c.in_err-fill_parts.ensures.gives)
 
 pub returns-in_err-give_values-clause-gives : goal.returns-in_err-give_values-clause-gives
 returns-in_err-give_values-clause-gives g c =
     let near = rw c.ends_values.ensures at c.in_err-give_values.ensures.gives in
-    gives_refused g.V.Values.giving _ _ _ c.from_residual-in_err-give_values.result c.from_residual-in_err-give_values.ensures.1
+    gives_refused _ _ _ _ _ c.from_residual-in_err-give_values.ensures.1
     (gives_then_refused g.V.Values.giving _ _ _ _ _ _ c.in_ok-fill_parts.ensures.gives (gives_refused_then g.V.Values.giving _ _ _ _ _ near))
 
 pub returns-in_err-fill_zero-clause-gives : goal.returns-in_err-fill_zero-clause-gives
 returns-in_err-fill_zero-clause-gives g c =
     let near = rw c.ends_values.ensures at c.in_ok-give_values.ensures.gives in
     let zero = rw (c.from.ensures, c.half_log.ensures) at c.in_err-fill_zero.ensures.gives in
-    gives_refused g.V.Values.giving _ _ _ c.from_residual-in_err-fill_zero.result c.from_residual-in_err-fill_zero.ensures.1
-    (gives_then_refused g.V.Values.giving _ _ _ _ _ _ c.in_ok-fill_parts.ensures.gives
+    gives_refused _ _ _ _ _ c.from_residual-in_err-fill_zero.ensures.1 (gives_then_refused g.V.Values.giving _ _ _ _ _ _ c.in_ok-fill_parts.ensures.gives
     (gives_then_refused g.V.Values.giving _ _ _ _ _ _ near (gives_refused_then g.V.Values.giving _ _ _ _ _ zero)))
 
 pub returns-clause-gives : goal.returns-clause-gives

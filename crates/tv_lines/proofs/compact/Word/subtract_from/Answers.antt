@@ -1,4 +1,4 @@
-use Rattle.tv_core.proofs.Adding.{added_none}
+use Rattle.tv_core.proofs.Addition.{added_none}
 use Rattle.tv_lines.proofs.compact.Word.subtract_from.Goals as goal
 
 pub returns-in-Nothing-clause-terms : goal.returns-in-Nothing-clause-terms

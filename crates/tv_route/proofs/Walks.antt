@@ -5,7 +5,7 @@ use Rattle.std.proofs.Common.{set, Some, None, is_none, sum_by, refl, sym, â—Œâˆ
 use Rattle.std.specs.Prelude.{slice_index}
 use Rattle.std.proofs.lemmas.Bool.{cases_eq}
 use Rattle.std.proofs.lemmas.List.Sums.{sum_by-set, get_or-le-sum_by}
-use Rattle.tv_route.proofs.Pairing.{IsPairing}
+use Rattle.tv_route.proofs.PairLaws.{IsPairing}
 use Rattle.tv_route.specs.Route.{Mark, other, walk}
 use Rattle.tv_benes.proofs.Ends.{if_apart}
 

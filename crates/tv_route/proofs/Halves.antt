@@ -5,8 +5,8 @@ use Rattle.std.specs.Prelude.{slice_index, unwrap_or}
 use Rattle.std.proofs.lemmas.Bool.{cases_eq, cases_lt}
 use Rattle.std.proofs.lemmas.List.{get_or-replicate, length-replicate, get_or_past}
 use Rattle.std.proofs.lemmas.List.Sums.{count_by-le-length}
-use Rattle.tv_route.proofs.Pairing.{other_pairs, other-even, partners_pair, partner_of}
-use Rattle.tv_route.proofs.Walking.{IsClosed, IsUnderway, left, walk_closes, walk_still, walk_begins}
+use Rattle.tv_route.proofs.PairLaws.{other_pairs, other-even, partners_pair, partner_of}
+use Rattle.tv_route.proofs.Walks.{IsClosed, IsUnderway, left, walk_closes, walk_still, walk_begins}
 use Rattle.tv_route.specs.Permutations.{Permutes}
 use Rattle.tv_route.specs.Route.{Mark, other, partners, walk, walks, halves, down}
 
