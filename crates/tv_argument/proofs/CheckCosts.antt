@@ -3,19 +3,19 @@ use Rattle.std.proofs.Common.{◌≡◌, ℕ, zero, suc, ◌+◌, ◌*◌, ◌^�
 use Rattle.std.proofs.Math.Nat.{mul-le-mul_right}
 use Rattle.tv_core.proofs.BelowLaws.{sum_below-zero, sum_below-suc}
 use Rattle.tv_core.specs.Below.{sum_below}
-use Rattle.tv_argument.specs.Checks.{Checks, check_made, check_added, AreShort, IsShort}
+use Rattle.tv_argument.specs.Checks.{Checks, check_made, check_added, AreShort, IsShortKind}
 use Rattle.tv_argument.specs.Costs.{ChecksAreCheap}
 use Rattle.tv_argument.specs.declared.kinds.Kind.{Kind}
-use Rattle.tv_argument.specs.declared.kinds.Kind.TheVariants.{Fresh, Least, Boot, Within}
+use Rattle.tv_argument.specs.declared.kinds.Kind.TheVariants.{ZeroOld, Least, Boot, Within}
 
-made_few : (kind : Kind) → IsShort kind → check_made kind ≤ 2 ^ 6
-made_few Fresh h = omega arith
+made_few : (kind : Kind) → IsShortKind kind → check_made kind ≤ 2 ^ 6
+made_few ZeroOld h = omega arith
 made_few Least h = omega arith
 made_few (Boot c) h = omega arith
 made_few (Within m) h = omega arith
 
-added_few : (kind : Kind) → IsShort kind → check_added kind ≤ 2 ^ 6
-added_few Fresh h = omega arith
+added_few : (kind : Kind) → IsShortKind kind → check_added kind ≤ 2 ^ 6
+added_few ZeroOld h = omega arith
 added_few Least h = omega arith
 added_few (Boot c) h = omega arith
 added_few (Within m) h = omega arith
@@ -29,7 +29,7 @@ sum_few (suc n) b f each =
     let all : suc n * b ≡ n * b + b = omega arith in
     omega (arith, more, before, last, all)
 
-sums_few : (checks : Checks) (n : ℕ) → AreShort checks n → (f : Kind → ℕ) → ((kind : Kind) → IsShort kind → f kind ≤ 2 ^ 6)
+sums_few : (checks : Checks) (n : ℕ) → AreShort checks n → (f : Kind → ℕ) → ((kind : Kind) → IsShortKind kind → f kind ≤ 2 ^ 6)
     → sum_below checks.count (λ i. f (checks.kind i)) ≤ n * 2 ^ 6
 sums_few checks n short f each =
     let sum = sum_few checks.count (2 ^ 6) (λ i. f (checks.kind i)) (λ i h. each (checks.kind i) (short.kinds i h)) in

@@ -10,7 +10,7 @@ use Rattle.tv_benes.specs.Places.{output}
 use Rattle.tv_benes.specs.Through.{through}
 use Rattle.tv_benes.specs.declared.shape.Net.{Net}
 use Rattle.tv_core.proofs.JoinedLaws.{joined_below-zero, joined_below-suc}
-use Rattle.tv_core.proofs.Meeting.{whole, HasFrom-split}
+use Rattle.tv_core.proofs.MeetsLaws.{whole, HasFrom-split}
 use Rattle.tv_core.specs.Below.{joined_below}
 use Rattle.tv_core.specs.Circuits.{Circuit, pure, turns, ◌>>=◌}
 use Rattle.tv_core.specs.Laws.{Assigns, Meets, HasFrom}
@@ -31,10 +31,10 @@ use Rattle.tv_argument.proofs.Previous.{permutes, follows, begins, near, next}
 use Rattle.tv_argument.proofs.Sizes.{check_next, check_many, memory_next, memory_many, memory_small}
 use Rattle.tv_argument.specs.Argument.{ArgumentIsComplete}
 use Rattle.tv_argument.specs.Checks.{Checks, check_of, check_values, IsOfKind, AreOfKinds, IsNear, AreNear}
-use Rattle.tv_argument.specs.Memory.{items_of, level_of, argument_of, memory_made}
+use Rattle.tv_argument.specs.Memory.{items_of, checked_network_of, argument_of, argument_made}
 use Rattle.tv_argument.specs.Order.{line_before, argument_values, place_at, predecessors}
 use Rattle.tv_argument.specs.declared.kinds.Kind.{Kind}
-use Rattle.tv_argument.specs.declared.kinds.Kind.TheVariants.{Fresh, Least, Boot, Within}
+use Rattle.tv_argument.specs.declared.kinds.Kind.TheVariants.{ZeroOld, Least, Boot, Within}
 use Rattle.tv_route.proofs.RouteLaws.{route_right}
 use Rattle.tv_route.specs.Permutations.{Permutes}
 use Rattle.tv_route.specs.Route.{route_of}
@@ -57,7 +57,7 @@ module _ (z : List ℕ) (piece : ℕ → Circuit (Unit {0})) (f : ℕ → List �
       whole z (sequence n piece) (λ _. piece n) first (pieces_met n first (λ i at h. each i at (omega arith)) both.0)
       (each n (sequence n piece first).next (omega arith) (subst (λ w. HasFrom z w (f n)) (sym (pieces_next n first)) both.1))
 
-fresh_met : (z : List ℕ) (at : ℕ) (item : Pair) (line : LineLc) → Meets z (check_of Fresh item line at).list
+fresh_met : (z : List ℕ) (at : ℕ) (item : Pair) (line : LineLc) → Meets z (check_of ZeroOld item line at).list
 unfolding pure
 fresh_met z at item line = tt
 
@@ -116,7 +116,7 @@ module _ (z : List ℕ) (net : Net) (checks : Checks) (h : ℕ) (lines : List Li
   check_met : (kind : Kind) (i at : ℕ) (out : Pair) → i < checks.count → IsOfKind checks.least i (line i) kind → IsNear numbers i kind
       → pair_value z out ≡ packed_item (line_before numbers i) → HasFrom z at (check_values kind (line_before numbers i) (line i))
       → Meets z (check_of kind out (line_in lines i) at).list
-  check_met Fresh i at out k suits nearby is has = fresh_met z at out (line_in lines i)
+  check_met ZeroOld i at out k suits nearby is has = fresh_met z at out (line_in lines i)
   check_met Least i at out k suits nearby is has =
       least_line_complete z at (line_in lines i) assigns
       (ap (λ (m : Line). m.old) (sym (number_is z h lines few many from i)) ∙ ap (λ j. (line j).old) suits
@@ -140,8 +140,8 @@ module _ (z : List ℕ) (net : Net) (checks : Checks) (h : ℕ) (lines : List Li
   abbrev check : ℕ → List ℕ
   check i = check_values (checks.kind i) (line_before numbers i) (line i)
 
-  pub level_met : (at : ℕ) → HasFrom z at (argument_values net checks (suc h) numbers) → Meets z (level_of net checks h lines at).list
-  unfolding level_of
+  pub level_met : (at : ℕ) → HasFrom z at (argument_values net checks (suc h) numbers) → Meets z (checked_network_of net checks h lines at).list
+  unfolding checked_network_of
   level_met at has =
       let e : suc h - 1 ≡ h = omega arith in
       let wires : List ℕ = network_values net h settings number in
@@ -162,7 +162,7 @@ module _ (z : List ℕ) (net : Net) (checks : Checks) (h : ℕ) (lines : List Li
       (λ i w k there. check_met (checks.kind i) i w (output last i) k (kinds.kinds i k) (nears.kinds i k) (is i k) there)
       (subst (λ w. HasFrom z w rest) at_first one.1))
 
-pub memory_complete : (net : Net) → ArgumentIsComplete (argument_of net) (argument_values net) (memory_made net)
+pub memory_complete : (net : Net) → ArgumentIsComplete (argument_of net) (argument_values net) (argument_made net)
 memory_complete net = record {
   next = λ checks k lines at. memory_next net checks k lines at;
   many = λ checks k lines. memory_many net checks k lines;

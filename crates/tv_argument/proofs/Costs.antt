@@ -21,14 +21,14 @@ use Rattle.tv_lines.specs.Placed.{line_in}
 use Rattle.tv_argument.proofs.FewTerms.{terms_few}
 use Rattle.tv_argument.proofs.Made.{at}
 use Rattle.tv_argument.specs.Checks.{Checks, check_of, check_added, check_terms}
-use Rattle.tv_argument.specs.Memory.{IsMade, items_of, level_of, ArgumentCosts}
+use Rattle.tv_argument.specs.Memory.{IsMade, items_of, checked_network_of, ArgumentCosts}
 use Rattle.tv_argument.specs.declared.kinds.Kind.{Kind}
-use Rattle.tv_argument.specs.declared.kinds.Kind.TheVariants.{Fresh, Least, Boot, Within}
+use Rattle.tv_argument.specs.declared.kinds.Kind.TheVariants.{ZeroOld, Least, Boot, Within}
 
 -- ---- a check
 check_count : (kind : Kind) (last : Outputs) (i next : ℕ) (line : LineLc) → length (check_of kind (output last i) line next).list ≡ check_added kind
 unfolding pure
-check_count Fresh last i next line = refl
+check_count ZeroOld last i next line = refl
 check_count Least last i next line = least_line_sizes.constraints line next
 check_count (Boot c) last i next line = boot_line_sizes.constraints c (output last i) next
 check_count (Within m) last i next line = follows_cost.constraints m line (output last i) next
@@ -36,15 +36,15 @@ check_count (Within m) last i next line = follows_cost.constraints m line (outpu
 check_term : (kind : Kind) (u v next : ℕ) (line : LineLc) → 1 ≤ u → top line.cell ≤ u → top line.old ≤ u → top line.time ≤ v
     → terms_in (check_of kind (record { first = wire u; second = wire v }) line next).list ≡ check_terms kind line
 unfolding pure
-check_term Fresh u v next line some cell old time = refl
+check_term ZeroOld u v next line some cell old time = refl
 check_term Least u v next line some cell old time = least_line_sizes.terms line next
 check_term (Boot c) u v next line some cell old time = boot_line_sizes.terms c u v next some
 check_term (Within m) u v next line some cell old time = follows_cost.terms m line u v next some cell old time
 
 -- ---- the argument
 level_count : (net : Net) (checks : Checks) (h : ℕ) (lines : List LineLc) (next : ℕ)
-    → length (level_of net checks h lines next).list ≡ network_wires net h + sum_below checks.count (λ i. check_added (checks.kind i))
-unfolding level_of ◌>>=◌
+    → length (checked_network_of net checks h lines next).list ≡ network_wires net h + sum_below checks.count (λ i. check_added (checks.kind i))
+unfolding checked_network_of ◌>>=◌
 level_count net checks h lines next =
     let network = network_of net h (items_of lines) next in
     lengths.adds network.list _
@@ -54,9 +54,9 @@ level_count net checks h lines next =
     (λ i k a at. check_count (checks.kind i) network.answer i at (line_in lines i)))
 
 level_terms : (net : Net) (checks : Checks) (h : ℕ) (lines : List LineLc) (next : ℕ) → 1 ≤ next → length lines ≡ 2 ^ suc h → checks.count ≤ 2 ^ suc h
-    → All (IsMade next) lines → terms_in (level_of net checks h lines next).list
+    → All (IsMade next) lines → terms_in (checked_network_of net checks h lines next).list
     ≡ column_terms (2 ^ h) (items_of lines) + inner_terms net h + sum_below checks.count (λ i. check_terms (checks.kind i) (line_in lines i))
-unfolding level_of ◌>>=◌
+unfolding checked_network_of ◌>>=◌
 level_terms net checks h lines next some many few made =
     let network = network_of net h (items_of lines) next in
     let from = network_from net h next (items_of lines) in

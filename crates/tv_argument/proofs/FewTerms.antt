@@ -8,6 +8,7 @@ use Rattle.tv_benes.specs.Costs.{number_terms, switch_terms, column_terms, surpl
 use Rattle.tv_benes.specs.Through.{switches}
 use Rattle.tv_benes.specs.declared.shape.Net.{Net}
 use Rattle.tv_benes.specs.declared.shape.Net.TheVariants.{Benes, Waksman}
+use Rattle.tv_bits.proofs.GateLaws.{length-scaled}
 use Rattle.tv_core.proofs.NormalLaws.{length-normal}
 use Rattle.tv_core.specs.Below.{sum_below}
 use Rattle.tv_core.specs.Combinations.{constant, less, scaled}
@@ -15,15 +16,14 @@ use Rattle.tv_core.specs.Constraints.{Combination}
 use Rattle.tv_core.specs.declared.field.TheConstants.{P}
 use Rattle.tv_core.specs.declared.lines.LineLc.{LineLc}
 use Rattle.tv_core.specs.declared.lines.Pair.{Pair}
-use Rattle.tv_lines.proofs.CostLaws.{scaled_long}
 use Rattle.tv_lines.specs.Placed.{line_in}
 use Rattle.tv_lines.specs.Predecessor.{less_above, cell_excess}
 use Rattle.tv_argument.proofs.CheckCosts.{sum_few}
 use Rattle.tv_argument.proofs.Made.{at, are_made}
-use Rattle.tv_argument.specs.Checks.{Checks, check_terms, AreShort, IsShort}
-use Rattle.tv_argument.specs.Memory.{IsMade, items_of, memory_terms}
+use Rattle.tv_argument.specs.Checks.{Checks, check_terms, AreShort, IsShortKind}
+use Rattle.tv_argument.specs.Memory.{IsMade, items_of, argument_terms}
 use Rattle.tv_argument.specs.declared.kinds.Kind.{Kind}
-use Rattle.tv_argument.specs.declared.kinds.Kind.TheVariants.{Fresh, Least, Boot, Within}
+use Rattle.tv_argument.specs.declared.kinds.Kind.TheVariants.{ZeroOld, Least, Boot, Within}
 
 -- ---- the network
 number_few : (x y : Combination) → length x ≤ 64 → length y ≤ 64 → number_terms x y ≤ 325
@@ -32,7 +32,7 @@ number_few x y h k =
       arith,
       length-normal (less y x),
       length-append y (scaled (P - 1) x),
-      scaled_long (P - 1) x,
+      length-scaled (P - 1) x,
       length-normal (x ++ y),
       length-append x y,
     )
@@ -62,10 +62,10 @@ inner_few net h few =
 
 -- ---- the checks
 above_few : (x y : Combination) → length (less_above x y) ≤ length x + length y
-above_few x y = omega (arith, length-normal (x ++ scaled (P - 2 ^ 32) y), length-append x (scaled (P - 2 ^ 32) y), scaled_long (P - 2 ^ 32) y)
+above_few x y = omega (arith, length-normal (x ++ scaled (P - 2 ^ 32) y), length-append x (scaled (P - 2 ^ 32) y), length-scaled (P - 2 ^ 32) y)
 
-check_few : (kind : Kind) (line : LineLc) → IsShort kind → length line.cell ≤ 32 → length line.time ≤ 32 → length line.old ≤ 32 → check_terms kind line ≤ 265
-check_few Fresh line short cell time old = omega arith
+check_few : (kind : Kind) (line : LineLc) → IsShortKind kind → length line.cell ≤ 32 → length line.time ≤ 32 → length line.old ≤ 32 → check_terms kind line ≤ 265
+check_few ZeroOld line short cell time old = omega arith
 check_few Least line short cell time old = omega (arith, length-normal line.old)
 check_few (Boot c) line short cell time old = omega (arith, above_few [] (constant c))
 check_few (Within m) line short cell time old =
@@ -73,14 +73,14 @@ check_few (Within m) line short cell time old =
       arith,
       above_few ((constant (2 ^ 32) ++ []) ++ scaled (P - 1) line.old) line.cell,
       length-append (constant (2 ^ 32) ++ []) (scaled (P - 1) line.old),
-      scaled_long (P - 1) line.old,
+      length-scaled (P - 1) line.old,
       above_few [] line.cell,
       above_few [] line.time,
     )
 
 -- ---- all
 pub terms_few : (net : Net) (checks : Checks) (k : ℕ) (lines : List LineLc) (next : ℕ) → 1 ≤ k → k ≤ 20 → length lines ≡ 2 ^ k → AreShort checks (2 ^ k)
-    → All (IsMade next) lines → memory_terms net checks k lines ≤ 2 ^ k * 2 ^ 10
+    → All (IsMade next) lines → argument_terms net checks k lines ≤ 2 ^ k * 2 ^ 10
 terms_few net checks k lines next some few many short all =
     let same : suc (k - 1) ≡ k = omega arith in
     let double : 2 ^ k ≡ 2 * 2 ^ (k - 1) = ap (λ n. 2 ^ n) (sym same) ∙ omega arith in

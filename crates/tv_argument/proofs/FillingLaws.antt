@@ -1,6 +1,6 @@
 -- The values of a network over items, and of the checks.
 use Rattle.std.proofs.Common.{◌≡◌, ℕ, zero, suc, ◌<◌, ◌≤◌, List, ◌++◌, Result, refl, sym, ◌∙◌, ap, ap₂, arith}
-use Rattle.tv_benes.proofs.Permuting.{places-at}
+use Rattle.tv_benes.proofs.Permutations.{places-at}
 use Rattle.tv_benes.specs.Items.{pair_at}
 use Rattle.tv_benes.specs.Through.{places}
 use Rattle.tv_core.proofs.JoinedLaws.{joined_below-zero, joined_below-suc}
@@ -14,7 +14,7 @@ use Rattle.tv_lines.specs.Placed.{number_in}
 use Rattle.tv_argument.specs.Checks.{Checks, check_values}
 use Rattle.tv_argument.specs.Memory.{checks_values}
 use Rattle.tv_argument.specs.declared.kinds.Kind.{Kind}
-use Rattle.tv_argument.specs.declared.kinds.Kind.TheVariants.{Fresh, Least, Boot, Within}
+use Rattle.tv_argument.specs.declared.kinds.Kind.TheVariants.{ZeroOld, Least, Boot, Within}
 
 -- ---- values of the same
 pub joined_below-same : {A : Type 0} (n : ℕ) (f g : ℕ → List A) → ((i : ℕ) → i < n → f i ≡ g i) → joined_below n f ≡ joined_below n g
@@ -39,7 +39,7 @@ check_same kind p l m cell time old = ap₂ (λ (c t : ℕ). check_values kind p
     ∙ left_out kind p (record { cell = m.cell; time = m.time; old = m.old; new = l.new }) m.new
   where
     left_out : (kind : Kind) (p l : Line) (n : ℕ) → check_values kind p l ≡ check_values kind p (record { cell = l.cell; time = l.time; old = l.old; new = n })
-    left_out Fresh p l n = refl
+    left_out ZeroOld p l n = refl
     left_out Least p l n = refl
     left_out (Boot c) p l n = refl
     left_out (Within k) p l n = refl

@@ -1,10 +1,10 @@
--- Lines are honest where each follows the line at its place in a permutation.
+-- CompactLines are honest where each follows the line at its place in a permutation.
 use Rattle.std.proofs.Common.{◌≡◌, ◌≢◌, ◌⊎◌, ℕ, ◌^◌, ◌<◌, ◌≤◌, List, length, Contains, inl, inr, sym, ◌∙◌, ap, subst, arith}
 use Rattle.std.proofs.lemmas.Bool.{cases_order, cases_lt, cases_eq}
 use Rattle.tv_core.proofs.BelowLaws.{length-each_below}
 use Rattle.tv_core.specs.Below.{each_below}
 use Rattle.tv_core.specs.Lines.{Line, Honest}
-use Rattle.tv_argument.proofs.Counting.{PermutesPlaces, Falls, none_between, none_below, permuted_below}
+use Rattle.tv_argument.proofs.Counts.{PermutesPlaces, Falls, none_between, none_below, permuted_below}
 use Rattle.tv_lines.proofs.Neighbours.{each_below-at}
 use Rattle.tv_lines.proofs.OrderedLaws.{HonestByTimes}
 use Rattle.tv_lines.proofs.PredecessorReach.{follows_rises}

@@ -2,7 +2,7 @@
 use Rattle.std.proofs.Common.{◌≡◌, ℕ, ◌*◌, ◌%◌, ◌^◌, ◌<◌, ◌≤◌, List, [], length, All, ap, arith}
 use Rattle.std.proofs.lemmas.List.{length-append, length-map}
 use Rattle.std.proofs.lemmas.List.Elements.{All-get_or}
-use Rattle.tv_benes.specs.Places.{AreMade}
+use Rattle.tv_benes.specs.Places.{ArePairsMade}
 use Rattle.tv_core.proofs.CombinationLaws.{top-append, top-scaled}
 use Rattle.tv_core.proofs.NormalLaws.{length-normal, top-normal}
 use Rattle.tv_core.specs.Combinations.{scaled, top}
@@ -24,7 +24,7 @@ joined_short low high h k =
 pub at : (wires : ℕ) (lines : List LineLc) (i : ℕ) → i < length lines → All (IsMade wires) lines → IsMade wires (line_in lines i)
 at wires lines i h all = All-get_or (IsMade wires) lines i no_line (omega arith) all
 
-pub are_made : (wires n : ℕ) (lines : List LineLc) → length lines ≡ n → All (IsMade wires) lines → AreMade (items_of lines) n wires
+pub are_made : (wires n : ℕ) (lines : List LineLc) → length lines ≡ n → All (IsMade wires) lines → ArePairsMade (items_of lines) n wires
 are_made wires n lines many all = record {
   first = λ i h.
       let l = at wires lines i (omega arith) all in

@@ -21,10 +21,10 @@ use Rattle.tv_lines.specs.Placed.{line_in}
 use Rattle.tv_argument.proofs.Made.{at, are_made}
 use Rattle.tv_argument.proofs.Parts.{turns_end}
 use Rattle.tv_argument.proofs.Sizes.{check_next}
-use Rattle.tv_argument.specs.Checks.{Checks, check_of, check_made, AreShort, IsShort}
-use Rattle.tv_argument.specs.Memory.{IsMade, items_of, level_of, argument_of, MemoryIsNormal}
+use Rattle.tv_argument.specs.Checks.{Checks, check_of, check_made, AreShort, IsShortKind}
+use Rattle.tv_argument.specs.Memory.{IsMade, items_of, checked_network_of, argument_of, MemoryIsNormal}
 use Rattle.tv_argument.specs.declared.kinds.Kind.{Kind}
-use Rattle.tv_argument.specs.declared.kinds.Kind.TheVariants.{Fresh, Least, Boot, Within}
+use Rattle.tv_argument.specs.declared.kinds.Kind.TheVariants.{ZeroOld, Least, Boot, Within}
 
 -- an item
 item_normal : (next i : ℕ) (lines : List LineLc) → i < length lines → All (IsMade next) lines → IsNormalPair (items_of lines i) next
@@ -38,17 +38,17 @@ item_normal next i lines h all =
     }
 
 -- a check
-check_normal : (kind : Kind) (next : ℕ) (item : Pair) (line : LineLc) → IsShort kind → 1 ≤ next → top line.cell ≤ next → top line.time ≤ next
+check_normal : (kind : Kind) (next : ℕ) (item : Pair) (line : LineLc) → IsShortKind kind → 1 ≤ next → top line.cell ≤ next → top line.time ≤ next
     → top line.old ≤ next → top item.first ≤ next → top item.second ≤ next → AreNormal (check_of kind item line next).list
 unfolding pure
-check_normal Fresh next item line short some cell time old first second = tt
+check_normal ZeroOld next item line short some cell time old first second = tt
 check_normal Least next item line short some cell time old first second = least_line_sizes.is_normal line next
 check_normal (Boot c) next item line short some cell time old first second = boot_line_sizes.is_normal c item next
 check_normal (Within m) next item line short some cell time old first second = follows_normal m line item next some short cell time old first second
 
 level_normal : (net : Net) (checks : Checks) (h : ℕ) (lines : List LineLc) (next : ℕ) → 1 ≤ next → length lines ≡ 2 ^ suc h → AreShort checks (2 ^ suc h)
-    → All (IsMade next) lines → AreNormal (level_of net checks h lines next).list
-unfolding level_of
+    → All (IsMade next) lines → AreNormal (checked_network_of net checks h lines next).list
+unfolding checked_network_of
 level_normal net checks h lines next some many short made =
     let network = network_of net h (items_of lines) next in
     let piece : ℕ → Circuit (Unit {0}) = λ i. check_of (checks.kind i) (output network.answer i) (line_in lines i) in

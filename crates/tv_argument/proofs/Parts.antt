@@ -1,4 +1,4 @@
--- Lines by their places, and loops over them.
+-- CompactLines by their places, and loops over them.
 use Rattle.std.proofs.Common.{◌≡◌, ℕ, zero, suc, ◌+◌, ◌<◌, ◌≤◌, ◌^◌, List, [], ◌∷◌, ◌++◌, length, map, refl, sym, ap, ap₂, ◌∙◌, arith, subst, add-zero}
 use Rattle.std.proofs.Common.{get_or, inl, inr, append_assoc}
 use Rattle.std.specs.List.{range_with_len}
@@ -12,7 +12,7 @@ use Rattle.tv_core.specs.Lines.{Line, pair_value}
 use Rattle.tv_core.specs.declared.lines.LineLc.{LineLc}
 use Rattle.tv_core.specs.declared.lines.PairNum.{PairNum}
 use Rattle.tv_lines.proofs.PackingLaws.{item_right}
-use Rattle.tv_lines.specs.PackedLines.{packed_item, line_value, InRange}
+use Rattle.tv_lines.specs.PackedLines.{packed_item, line_value, LineInRange}
 use Rattle.tv_lines.specs.Placed.{no_line, line_in, zero_line, number_in, IsLine, LinesFrom}
 use Rattle.tv_argument.specs.Memory.{items_of}
 
@@ -55,22 +55,22 @@ module _ (z : List ℕ) (h : ℕ) (lines : List LineLc) (small : suc h ≤ 20) (
       let p = placed 0 (map (line_value z) lines) from i zero_line (omega (arith, length-map lines (line_value z), many)) in
       (ap (λ (l : Line). l.time) (sym (number_is i)) ∙ p.0 ∙ omega arith, subst IsLine (number_is i) p.1)
 
-  pub in_range : (i : ℕ) → InRange (line_value z (line_in lines i))
+  pub in_range : (i : ℕ) → LineInRange (line_value z (line_in lines i))
   in_range i = elim (cases_lt i (2 ^ suc h)) [
     | inl here ↦ let p = at_place i here in let f = few in record { cell = p.1.cell; time = omega (arith, p.0); old = p.1.old; new = p.1.new }
     | inr past ↦
         let none : line_in lines i ≡ no_line = get_or_past lines i no_line (omega arith) in
-        subst (λ l. InRange (line_value z l)) (sym none) (record { cell = omega arith; time = omega arith; old = omega arith; new = omega arith })
+        subst (λ l. LineInRange (line_value z l)) (sym none) (record { cell = omega arith; time = omega arith; old = omega arith; new = omega arith })
   ]
 
   pub packs : ◌≡◌ {A = ℕ → PairNum} (λ i. pair_value z (items_of lines i)) (λ i. packed_item (number_in (map (line_value z) lines) i))
   packs = λ j i. (item_right z (line_in lines i) (in_range i) ∙ ap packed_item (sym (number_is i))) j
 
 -- numbers of lines are in range, at each place
-pub ranged : (lines : List Line) → length lines ≤ 2 ^ 20 → LinesFrom 0 lines → (j : ℕ) → InRange (number_in lines j)
+pub ranged : (lines : List Line) → length lines ≤ 2 ^ 20 → LinesFrom 0 lines → (j : ℕ) → LineInRange (number_in lines j)
 ranged lines few from j = elim (cases_lt j (length lines)) [
   | inl here ↦ let p = placed 0 lines from j zero_line here in record { cell = p.1.cell; time = omega (arith, p.0); old = p.1.old; new = p.1.new }
-  | inr past ↦ subst InRange (sym (get_or_past lines j zero_line past))
+  | inr past ↦ subst LineInRange (sym (get_or_past lines j zero_line past))
       (record { cell = omega arith; time = omega arith; old = omega arith; new = omega arith })
 ]
 

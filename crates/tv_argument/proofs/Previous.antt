@@ -2,7 +2,7 @@
 use Rattle.std.proofs.Common.{◌≡◌, ◌≢◌, ◌⊎◌, ℕ, zero, suc, ◌+◌, ◌-◌, ◌^◌, ◌<◌, ◌≤◌, ◌==◌, if◌then◌else◌, List, [], ◌∷◌, length, get_or, inl, inr, refl, sym}
 use Rattle.std.proofs.Common.{◌∙◌, ap, subst, arith, eq-eqb, map, ◌%◌}
 use Rattle.std.proofs.lemmas.Bool.{cases_lt, cases_eq, ne_eqb}
-use Rattle.tv_benes.proofs.Permuting.{places-length, places-at}
+use Rattle.tv_benes.proofs.Permutations.{places-length, places-at}
 use Rattle.tv_core.proofs.BelowLaws.{length-each_below}
 use Rattle.tv_core.specs.Below.{each_below}
 use Rattle.tv_core.specs.Lines.{Line, Honest}
@@ -10,7 +10,7 @@ use Rattle.tv_lines.proofs.Neighbours.{each_below-at}
 use Rattle.tv_lines.proofs.PredecessorReach.{follows_rises}
 use Rattle.tv_lines.specs.Ordered.{Follows, Ordered, key}
 use Rattle.tv_lines.specs.Placed.{zero_line, number_in, LinesFrom}
-use Rattle.tv_argument.proofs.Ordering.{address_order_right, map_map}
+use Rattle.tv_argument.proofs.Order.{address_order_right, map_map}
 use Rattle.tv_argument.proofs.Parts.{placed}
 use Rattle.tv_lines.specs.PackedLines.{without_old}
 use Rattle.tv_argument.specs.Order.{rising, address_order, place_at, index_in, index_before, previous_in, previous_order, predecessors}

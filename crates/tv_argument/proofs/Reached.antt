@@ -9,7 +9,7 @@ use Rattle.tv_core.specs.Below.{joined_below}
 use Rattle.tv_core.specs.Lines.{Line}
 use Rattle.tv_core.specs.declared.lines.PairNum.{PairNum}
 use Rattle.tv_lines.proofs.PackingLaws.{unpack_packed}
-use Rattle.tv_lines.specs.PackedLines.{InRange, packed_item, unpacked, without_old}
+use Rattle.tv_lines.specs.PackedLines.{LineInRange, packed_item, unpacked, without_old}
 use Rattle.tv_lines.specs.Placed.{LinesFrom, number_in, zero_line}
 use Rattle.tv_argument.proofs.Complete.{brought}
 use Rattle.tv_argument.proofs.FillingLaws.{joined_below-same}
@@ -19,7 +19,7 @@ use Rattle.tv_argument.specs.Checks.{Checks, check_values}
 use Rattle.tv_argument.specs.Memory.{routed_values}
 use Rattle.tv_argument.specs.Order.{line_before, argument_values, place_at, predecessors, PredecessorsAreRight}
 use Rattle.tv_argument.specs.declared.kinds.Kind.{Kind}
-use Rattle.tv_argument.specs.declared.kinds.Kind.TheVariants.{Fresh, Least, Boot, Within}
+use Rattle.tv_argument.specs.declared.kinds.Kind.TheVariants.{ZeroOld, Least, Boot, Within}
 use Rattle.tv_route.specs.Route.{route_of}
 
 -- the items at places
@@ -27,13 +27,13 @@ items_are : (lines : List Line) → ◌≡◌ {A = ℕ → PairNum} (pair_at (ma
 items_are lines = λ d j. map_value packed_item lines j zero_line d
 
 -- a predecessor's old word is no part of the values
-check_same : (kind : Kind) (p l : Line) → InRange p → check_values kind (unpacked (packed_item p)) l ≡ check_values kind p l
+check_same : (kind : Kind) (p l : Line) → LineInRange p → check_values kind (unpacked (packed_item p)) l ≡ check_values kind p l
 check_same kind p l r =
     ap (λ m. check_values kind m l) (unpack_packed (without_old p) (record { cell = r.cell; time = r.time; old = omega arith; new = r.new }))
     ∙ left_out kind p l
   where
     left_out : (kind : Kind) (p l : Line) → check_values kind (without_old p) l ≡ check_values kind p l
-    left_out Fresh p l = λ i. check_values Fresh p l
+    left_out ZeroOld p l = λ i. check_values ZeroOld p l
     left_out Least p l = λ i. check_values Least p l
     left_out (Boot c) p l = λ i. check_values (Boot c) p l
     left_out (Within m) p l = λ i. check_values (Within m) p l

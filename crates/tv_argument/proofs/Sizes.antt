@@ -20,32 +20,32 @@ use Rattle.tv_core.specs.declared.lines.LineLc.{LineLc}
 use Rattle.tv_core.specs.declared.lines.Pair.{Pair}
 use Rattle.tv_lines.proofs.PredecessorSizes.{follows_many, follows_sizes}
 use Rattle.tv_lines.proofs.StartsLaws.{boot_line_sizes, least_line_sizes}
-use Rattle.tv_lines.specs.PackedLines.{InRange, packed_item}
+use Rattle.tv_lines.specs.PackedLines.{LineInRange, packed_item}
 use Rattle.tv_lines.specs.Placed.{LinesFrom, line_in, number_in}
 use Rattle.tv_argument.proofs.Parts.{ranged, turns_end}
 use Rattle.tv_argument.specs.Checks.{Checks, check_of, check_values, check_made}
-use Rattle.tv_argument.specs.Memory.{items_of, level_of, argument_of, memory_made}
+use Rattle.tv_argument.specs.Memory.{items_of, checked_network_of, argument_of, argument_made}
 use Rattle.tv_argument.specs.Order.{line_before, predecessors, argument_values}
 use Rattle.tv_argument.specs.declared.kinds.Kind.{Kind}
-use Rattle.tv_argument.specs.declared.kinds.Kind.TheVariants.{Fresh, Least, Boot, Within}
+use Rattle.tv_argument.specs.declared.kinds.Kind.TheVariants.{ZeroOld, Least, Boot, Within}
 use Rattle.tv_route.specs.Route.{route_of}
 
 -- ---- one check
 pub check_next : (kind : Kind) (next : ℕ) (item : Pair) (line : LineLc) → (check_of kind item line next).next ≡ next + check_made kind
 unfolding pure
-check_next Fresh next item line = omega arith
+check_next ZeroOld next item line = omega arith
 check_next Least next item line = least_line_sizes.end line next ∙ omega arith
 check_next (Boot c) next item line = boot_line_sizes.end c item next ∙ omega arith
 check_next (Within m) next item line = follows_sizes.end m line item next ∙ omega arith
 
 pub check_many : (kind : Kind) (before line : Line) → length (check_values kind before line) ≡ check_made kind
-check_many Fresh before line = refl
+check_many ZeroOld before line = refl
 check_many Least before line = refl
 check_many (Boot c) before line = refl
 check_many (Within m) before line = follows_many m before line
 
-check_small : (kind : Kind) (before line : Line) → InRange line → InField (check_values kind before line)
-check_small Fresh before line r = All-nil (λ v. v < P)
+check_small : (kind : Kind) (before line : Line) → LineInRange line → InField (check_values kind before line)
+check_small ZeroOld before line r = All-nil (λ v. v < P)
 check_small Least before line r = All-nil (λ v. v < P)
 check_small (Boot c) before line r = All-nil (λ v. v < P)
 check_small (Within m) before line r = follows_sizes.in_field m before line r
@@ -63,8 +63,8 @@ joined_small (suc n) f each = subst InField (sym (joined_below-suc n f)) (All-ap
 
 -- ---- the argument
 pub memory_next : (net : Net) (checks : Checks) (k : ℕ) (lines : List LineLc) (at : ℕ)
-    → (argument_of net checks k lines at).next ≡ at + memory_made net checks k
-unfolding level_of ◌>>=◌
+    → (argument_of net checks k lines at).next ≡ at + argument_made net checks k
+unfolding checked_network_of ◌>>=◌
 memory_next net checks k lines at =
     let n = network_of net (k - 1) (items_of lines) at in
     omega (
@@ -84,7 +84,7 @@ module _ (net : Net) (checks : Checks) (k : ℕ) (lines : List Line) where
   abbrev check : ℕ → List ℕ
   check i = check_values (checks.kind i) (line_before lines i) (number_in lines i)
 
-  pub memory_many : length (argument_values net checks k lines) ≡ memory_made net checks k
+  pub memory_many : length (argument_values net checks k lines) ≡ argument_made net checks k
   memory_many =
       length-append wires (joined_below checks.count check)
       ∙ omega (

@@ -3,14 +3,14 @@ use Rattle.std.proofs.Common.{◌≡◌, ◌≢◌, ℕ, suc, ◌-◌, ◌<◌, 
 use Rattle.std.proofs.Math.Nat.{pow-le-pow_right}
 use Rattle.std.proofs.lemmas.List.{length-map}
 use Rattle.tv_benes.proofs.NetworkLaws.{network_sound}
-use Rattle.tv_benes.proofs.Permuting.{through_permutes}
+use Rattle.tv_benes.proofs.Permutations.{through_permutes}
 use Rattle.tv_benes.proofs.ThroughLaws.{through_places}
 use Rattle.tv_benes.specs.Network.{network_of, bit_in}
 use Rattle.tv_benes.specs.Places.{output}
 use Rattle.tv_benes.specs.Through.{through}
 use Rattle.tv_benes.specs.declared.shape.Net.{Net}
 use Rattle.tv_core.proofs.LoopLaws.{turn_met}
-use Rattle.tv_core.proofs.Meeting.{parts}
+use Rattle.tv_core.proofs.MeetsLaws.{parts}
 use Rattle.tv_core.specs.Circuits.{Circuit, turns}
 use Rattle.tv_core.specs.Laws.{Assigns, Meets}
 use Rattle.tv_core.specs.Lines.{Line, Honest, pair_value}
@@ -20,24 +20,24 @@ use Rattle.tv_lines.proofs.PackingLaws.{item_right}
 use Rattle.tv_lines.proofs.PredecessorLaws.{follows_sound}
 use Rattle.tv_lines.proofs.StartsLaws.{boot_line_sound, least_line_sound}
 use Rattle.tv_lines.specs.Ordered.{Follows}
-use Rattle.tv_lines.specs.PackedLines.{InRange, packed_item, line_value}
+use Rattle.tv_lines.specs.PackedLines.{LineInRange, packed_item, line_value}
 use Rattle.tv_lines.specs.Placed.{LinesFrom, line_in, number_in}
-use Rattle.tv_argument.proofs.Counting.{PermutesPlaces}
+use Rattle.tv_argument.proofs.Counts.{PermutesPlaces}
 use Rattle.tv_argument.proofs.Honesty.{PaddedFrom, honest_places}
 use Rattle.tv_argument.proofs.Parts.{at_place, each_line, in_range, number_is}
 use Rattle.tv_argument.specs.Argument.{ArgumentIsSound}
 use Rattle.tv_argument.specs.Checks.{Checks, check_of, IsOfKind, IsPadded, AreOfKinds}
-use Rattle.tv_argument.specs.Memory.{items_of, level_of, argument_of}
+use Rattle.tv_argument.specs.Memory.{items_of, checked_network_of, argument_of}
 use Rattle.tv_argument.specs.declared.kinds.Kind.{Kind}
-use Rattle.tv_argument.specs.declared.kinds.Kind.TheVariants.{Fresh, Least, Boot, Within}
+use Rattle.tv_argument.specs.declared.kinds.Kind.TheVariants.{ZeroOld, Least, Boot, Within}
 
 -- ---- one check
 -- a checked line follows that of the item, but the least line
 pub follows_kind : (z : List ℕ) (kind : Kind) (least i next : ℕ) (item : Pair) (line : LineLc) (before : Line) → Assigns z
     → IsOfKind least i (line_value z line) kind → i ≢ least
-    → InRange before → InRange (line_value z line) → pair_value z item ≡ packed_item before → Meets z (check_of kind item line next).list → Follows before
+    → LineInRange before → LineInRange (line_value z line) → pair_value z item ≡ packed_item before → Meets z (check_of kind item line next).list → Follows before
     (line_value z line)
-follows_kind z Fresh least i next item line before assigns suits other r s is met = absurd (other suits.0)
+follows_kind z ZeroOld least i next item line before assigns suits other r s is met = absurd (other suits.0)
 follows_kind z Least least i next item line before assigns suits other r s is met = absurd (other suits)
 follows_kind z (Boot c) least i next item line before assigns suits other r s is met =
     boot_line_sound z next c item before (line_value z line) suits.1 assigns is r suits.2 suits.3 met
@@ -47,7 +47,7 @@ follows_kind z (Within m) least i next item line before assigns suits other r s 
 -- the least line begins at 0
 pub begins_kind : (z : List ℕ) (kind : Kind) (least next : ℕ) (item : Pair) (line : LineLc) → Assigns z → IsOfKind least least (line_value z line) kind
     → Meets z (check_of kind item line next).list → (line_value z line).old ≡ 0
-begins_kind z Fresh least next item line assigns suits met = suits.1
+begins_kind z ZeroOld least next item line assigns suits met = suits.1
 begins_kind z Least least next item line assigns suits met = least_line_sound z next line assigns met
 begins_kind z (Boot c) least next item line assigns suits met = absurd (suits.0 refl)
 begins_kind z (Within m) least next item line assigns suits met = absurd (suits.0 refl)
@@ -90,7 +90,7 @@ module _ (z : List ℕ) (net : Net) (checks : Checks) (h : ℕ) (lines : List Li
   is_of : (i : ℕ) → i < checks.count → IsOfKind checks.least i (line i) (checks.kind i)
   is_of i k = subst (λ l. IsOfKind checks.least i l (checks.kind i)) (number_is z h lines few many from i) (kinds.kinds i k)
 
-  ranged : (i : ℕ) → InRange (line i)
+  ranged : (i : ℕ) → LineInRange (line i)
   ranged i = in_range z h lines few many from i
 
   brings : Meets z (network_of net h item next).list → (i : ℕ) → i < 2 ^ suc h
@@ -100,8 +100,8 @@ module _ (z : List ℕ) (net : Net) (checks : Checks) (h : ℕ) (lines : List Li
       ∙ through_places net h (bit_in z net h next) (λ j. pair_value z (item j)) i
       ∙ item_right z (line_in lines (place i)) (ranged (place i))
 
-  pub level_sound : Meets z (level_of net checks h lines next).list → Honest (map (line_value z) lines)
-  unfolding level_of
+  pub level_sound : Meets z (checked_network_of net checks h lines next).list → Honest (map (line_value z) lines)
+  unfolding checked_network_of
   level_sound met =
       let n : ℕ = 2 ^ suc h in
       let w = kinds.within in

@@ -40,26 +40,26 @@ items_of lines i = pack_item (line_in lines i)
 
 -- the items of 2 ^ (h + 1) lines go through a network of level h, and each checked line is checked against what comes
 -- out at its place
-unfoldable pub level_of : Net → Checks → ℕ → List LineLc → Circuit (Unit {0})
-level_of net checks h lines = do
+unfoldable pub checked_network_of : Net → Checks → ℕ → List LineLc → Circuit (Unit {0})
+checked_network_of net checks h lines = do
   last ← network_of net h (items_of lines)
   sequence checks.count (λ i. check_of (checks.kind i) (output last i) (line_in lines i))
 
 -- the memory argument over 2 ^ k lines
 abbrev pub argument_of : Net → Checks → ℕ → List LineLc → Circuit (Unit {0})
-argument_of net checks k lines = level_of net checks (k - 1) lines
+argument_of net checks k lines = checked_network_of net checks (k - 1) lines
 
 -- how many wires it makes, and how many constraints
-abbrev pub memory_made : Net → Checks → ℕ → ℕ
-memory_made net checks k = network_wires net (k - 1) + sum_below checks.count (λ i. check_made (checks.kind i))
+abbrev pub argument_made : Net → Checks → ℕ → ℕ
+argument_made net checks k = network_wires net (k - 1) + sum_below checks.count (λ i. check_made (checks.kind i))
 
-abbrev pub memory_added : Net → Checks → ℕ → ℕ
-memory_added net checks k = network_wires net (k - 1) + sum_below checks.count (λ i. check_added (checks.kind i))
+abbrev pub argument_added : Net → Checks → ℕ → ℕ
+argument_added net checks k = network_wires net (k - 1) + sum_below checks.count (λ i. check_added (checks.kind i))
 
 -- ---- what it costs
 -- the terms of the network's first column, a switch for each two neighbours, of its other columns, and of all checks
-abbrev pub memory_terms : Net → Checks → ℕ → List LineLc → ℕ
-memory_terms net checks k lines =
+abbrev pub argument_terms : Net → Checks → ℕ → List LineLc → ℕ
+argument_terms net checks k lines =
     column_terms (2 ^ (k - 1)) (items_of lines) + inner_terms net (k - 1)
     + sum_below checks.count (λ i. check_terms (checks.kind i) (line_in lines i))
 
@@ -67,11 +67,11 @@ memory_terms net checks k lines =
 -- line
 pub record ArgumentCosts : Type 0 where
   pub constraints : (net : Net) (checks : Checks) (k : ℕ) (lines : List LineLc) (next : ℕ) → 1 ≤ k
-      → length (argument_of net checks k lines next).list ≡ memory_added net checks k
+      → length (argument_of net checks k lines next).list ≡ argument_added net checks k
   pub terms : (net : Net) (checks : Checks) (k : ℕ) (lines : List LineLc) (next : ℕ) → 1 ≤ next → 1 ≤ k → length lines ≡ 2 ^ k → checks.count ≤ 2 ^ k
-      → All (IsMade next) lines → terms_in (argument_of net checks k lines next).list ≡ memory_terms net checks k lines
+      → All (IsMade next) lines → terms_in (argument_of net checks k lines next).list ≡ argument_terms net checks k lines
   pub few : (net : Net) (checks : Checks) (k : ℕ) (lines : List LineLc) (next : ℕ) → 1 ≤ k → k ≤ 20 → length lines ≡ 2 ^ k → AreShort checks (2 ^ k)
-      → All (IsMade next) lines → memory_terms net checks k lines ≤ 2 ^ k * 2 ^ 10
+      → All (IsMade next) lines → argument_terms net checks k lines ≤ 2 ^ k * 2 ^ 10
 
 -- ---- its combinations are normal
 -- over lines of wires before the argument's own, whatever their combinations are

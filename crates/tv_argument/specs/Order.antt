@@ -1,4 +1,4 @@
--- Lines in address order, by a sort of their keys; the predecessor of each; and the values of the memory argument.
+-- CompactLines in address order, by a sort of their keys; the predecessor of each; and the values of the memory argument.
 use Rattle.std.specs.Prelude.{◌≡◌, ◌≢◌, ℕ, suc, ◌-◌, ◌%◌, ◌^◌, ◌<◌, ◌≤◌, ◌==◌, nat_le, if◌then◌else◌, List, [], ◌∷◌, ◌++◌, length, map, get_or, IsPermutation}
 use Rattle.tv_benes.specs.Items.{bit_at}
 use Rattle.tv_benes.specs.Network.{network_values}

@@ -9,13 +9,13 @@ ghost use Rattle.tv_lines.specs.Placed.{line_in};
 ghost use Rattle.tv_lines.specs.Predecessor.{IsLineMade, IsItemMade};
 ghost use Rattle.tv_lines.specs.Compact.{line_lc};
 ghost use Rattle.tv_argument.specs.Argument.{ArgumentIsSound, ArgumentIsComplete};
-ghost use Rattle.tv_argument.specs.Checks.{AreShort, IsShort, check_of, check_made, check_added};
-ghost use Rattle.tv_argument.specs.Memory.{IsMade, argument_of, memory_made, memory_added};
+ghost use Rattle.tv_argument.specs.Checks.{AreShort, IsShortKind, check_of, check_made, check_added};
+ghost use Rattle.tv_argument.specs.Memory.{IsMade, argument_of, argument_made, argument_added};
 ghost use Rattle.tv_argument.specs.Memory.{ArgumentCosts, MemoryIsNormal};
 ghost use Rattle.tv_argument.specs.Order.{argument_values};
 
 use crate::kinds::Kind;
-use crate::lines::{LineItems, Lines, no_terms};
+use crate::lines::{CompactLines, LineItems};
 use tv_benes::{Net, Outputs, routing_network};
 use tv_core::{Pair, Put, Scratch, Sink};
 use tv_lines::{CompactLine, boot_line, follows, least_line};
@@ -23,28 +23,28 @@ use tv_lines::{CompactLine, boot_line, follows, least_line};
 /// Constrains 2^`k` lines in time order, `k` from 1 to 20, to be honest: the old word of each is
 /// the new word of the latest earlier line of its cell, or 0. A permutation network brings to each
 /// line the item of its predecessor in address order, and the line is checked against it at its own
-/// place, as its kind says. Asks for each line twice, and allocates nothing. Makes the network's
+/// place, as its kind says. Asks for each line twice, and allocates nothing. It makes the network's
 /// wires, with a constraint for each, and those of the checks: `m + 1` wires and `m + 3`
 /// constraints for a line within `m` bits, 1 constraint for a boot line or the least line.
-pub fn memory<S: Sink, L: Lines>(s: &mut S, net: Net, k: u32, lines: &L) -> Put<()>
+pub fn memory<S: Sink, L: CompactLines>(s: &mut S, net: Net, k: u32, lines: &L) -> Put<()>
     requires some { 1 ≤ k }
     requires few { k ≤ 20 }
     requires many { length (L.lines lines.now) ≡ 2 ^ k }
     requires checks { AreShort (L.checks lines.now) (2 ^ k) }
-    requires room { Room S.meaning s.old (memory_made net (L.checks lines.now) k)
-        (memory_added net (L.checks lines.now) k) }
+    requires room { Room S.meaning s.old (argument_made net (L.checks lines.now) k)
+        (argument_added net (L.checks lines.now) k) }
     requires made { All (IsMade (S.meaning.wires s.old)) (L.lines lines.now) }
     ensures puts { PutsIn S.meaning s.old s.new
         (argument_of net (L.checks lines.now) k (L.lines lines.now)) result }
     ensures grows { IfOk result (λ _. Grows S.meaning s.old s.new
-        (memory_made net (L.checks lines.now) k) (memory_added net (L.checks lines.now) k)) }
+        (argument_made net (L.checks lines.now) k) (argument_added net (L.checks lines.now) k)) }
 {
     let last = routing_network(s, net, k, &LineItems { lines })?;
     check_all(s, lines, &last)
 }
 
 // Checks each line against what the network brings to its place.
-fn check_all<S: Sink, L: Lines>(s: &mut S, lines: &L, last: &Outputs) -> Put<()>
+fn check_all<S: Sink, L: CompactLines>(s: &mut S, lines: &L, last: &Outputs) -> Put<()>
     requires checks { AreShort (L.checks lines.now) (length (L.lines lines.now)) }
     requires room { Room S.meaning s.old
         (sum_below (L.checks lines.now).count (λ i. check_made ((L.checks lines.now).kind i)))
@@ -59,7 +59,7 @@ fn check_all<S: Sink, L: Lines>(s: &mut S, lines: &L, last: &Outputs) -> Put<()>
         (sum_below (L.checks lines.now).count (λ i. check_added ((L.checks lines.now).kind i)))) }
 {
     let mut scratch = Scratch::new();
-    let mut item = no_terms();
+    let mut item = Pair::empty();
     for i in 0..lines.checked() {
         last.set_item(i, &mut item);
         check(s, &mut scratch, lines.kind(i), &lines.line(i), &item)?;
@@ -75,7 +75,7 @@ fn check<S: Sink>(
     line: &CompactLine,
     item: &Pair,
 ) -> Put<()>
-    requires short { IsShort kind }
+    requires short { IsShortKind kind }
     requires room { Room S.meaning s.old (check_made kind) (check_added kind) }
     requires line { IsLineMade (S.meaning.wires s.old) line.now }
     requires item { IsItemMade (S.meaning.wires s.old) item.now }
@@ -84,14 +84,14 @@ fn check<S: Sink>(
         (λ _. Grows S.meaning s.old s.new (check_made kind) (check_added kind)) }
 {
     match kind {
-        Kind::Fresh => Ok(()),
+        Kind::ZeroOld => Ok(()),
         Kind::Least => least_line(s, scratch, line),
         Kind::Boot(cell) => boot_line(s, scratch, cell, item),
         Kind::Within(bits) => follows(s, scratch, bits, line, item),
     }
 }
 
-/// Lines at the times 0, 1, 2, .. that are of their kinds are honest in every assignment that
+/// CompactLines at the times 0, 1, 2, .. that are of their kinds are honest in every assignment that
 /// satisfies the constraints of `memory`, whatever it has at the wires of the network and of the
 /// checks.
 pub fn argument_is_sound()
@@ -103,7 +103,7 @@ pub fn argument_is_sound()
 /// constraints of `memory`.
 pub fn argument_is_complete()
     ensures { (net : Net) → ArgumentIsComplete (argument_of net) (argument_values net)
-        (memory_made net) }
+        (argument_made net) }
 {}
 
 /// The constraints of `memory`, by the kinds of the lines, and their terms, by the lines, at most

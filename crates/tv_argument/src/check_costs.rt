@@ -1,6 +1,6 @@
 //! What the parts of the argument cost.
 ghost use Rattle.std.specs.Prelude.{◌≡◌, ◌^◌, ◌≤◌};
-ghost use Rattle.tv_argument.specs.Checks.{IsShort, check_made, check_added};
+ghost use Rattle.tv_argument.specs.Checks.{IsShortKind, check_made, check_added};
 ghost use Rattle.tv_argument.specs.Costs.{ChecksAreCheap, network_made};
 
 use crate::kinds::Kind;
@@ -8,24 +8,24 @@ use tv_benes::{Net, network_wires};
 
 /// Returns how many wires the check of a line of a kind makes.
 pub fn check_made(kind: Kind) -> u32
-    requires { IsShort kind }
+    requires { IsShortKind kind }
     ensures is { result ≡ check_made kind }
     ensures most { result ≤ 2 ^ 6 }
 {
     match kind {
-        Kind::Fresh | Kind::Least | Kind::Boot(_) => 0,
+        Kind::ZeroOld | Kind::Least | Kind::Boot(_) => 0,
         Kind::Within(bits) => bits + 1,
     }
 }
 
 /// Returns how many constraints the check of a line of a kind has.
 pub fn check_added(kind: Kind) -> u32
-    requires { IsShort kind }
+    requires { IsShortKind kind }
     ensures is { result ≡ check_added kind }
     ensures most { result ≤ 2 ^ 6 }
 {
     match kind {
-        Kind::Fresh => 0,
+        Kind::ZeroOld => 0,
         Kind::Least | Kind::Boot(_) => 1,
         Kind::Within(bits) => bits + 3,
     }

@@ -1,9 +1,9 @@
-//! The memory argument: constraints that hold a list of lines, in time order, to be honest.
+//! The memory argument: constraints by which a list of lines, in time order, is honest.
 //!
 //! A permutation network brings to each line, at its own place, the item of its predecessor in
 //! address order, and the line is checked against it there: its cell is above, or its time in the
-//! same cell, and its old word is what the predecessor leaves, or 0. Nothing is unpacked after the
-//! network. How a line is checked is known from its place: its `Kind`.
+//! same cell, and its old word is the predecessor's new word, or 0 in another cell. Nothing is
+//! unpacked after the network. A line's index determines how it is checked: its `Kind`.
 //!
 //! `memory` keeps no list and allocates nothing. Contracts above cite the two definitions of
 //! `specs/Argument.antt`, soundness and completeness of any memory argument; both are proved of
@@ -24,6 +24,6 @@ pub use argument::{
 };
 pub use check_costs::{check_added, check_made, checks_are_cheap, network_made};
 pub use kinds::Kind;
-pub use lines::{LineNumbers, Lines};
-pub use terms::memory_terms;
+pub use lines::{CompactLines, LineNumbers};
+pub use terms::argument_terms;
 pub use values::fill_argument;

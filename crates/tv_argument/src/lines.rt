@@ -1,4 +1,4 @@
-//! Lines by their places: in compact form for the constraints, in numbers for their values.
+//! CompactLines by their indexes: in compact form for the constraints, in numbers for their values.
 ghost use Rattle.std.specs.Prelude.{◌≡◌, ◌<◌, List, length};
 ghost use Rattle.tv_core.specs.Lines.{Line};
 ghost use Rattle.tv_core.specs.declared.lines.LineLc.{LineLc};
@@ -9,49 +9,49 @@ ghost use Rattle.tv_argument.specs.Memory.{items_of};
 
 use crate::kinds::Kind;
 use tv_benes::Inputs;
-use tv_core::{Lc, Line, Pair};
+use tv_core::{Line, Pair};
 use tv_lines::CompactLine;
 
-/// Lines by their places, and how each is checked. Contracts see them as a list and as `Checks`.
-pub trait Lines {
+/// CompactLines by their indexes, and how each is checked. Contracts see them as a list and as `Checks`.
+pub trait CompactLines {
     ghost lines: { Self → List LineLc };
 
     ghost checks: { Self → Checks };
 
-    /// Returns the line at place `i`, in compact form.
+    /// Returns line `i`, in compact form.
     fn line(&self, i: u32) -> CompactLine
         requires { i < length (lines self.now) }
         ensures is { line_lc result ≡ line_in (lines self.now) i };
 
-    /// Returns how many lines are checked: those at places below this. The others are padding.
+    /// Returns how many lines are checked: those with an index below this. The others are padding.
     fn checked(&self) -> u32
         ensures { result ≡ (checks self.now).count };
 
-    /// Returns how the line at place `i` is checked.
+    /// Returns how line `i` is checked.
     fn kind(&self, i: u32) -> Kind
         requires { i < (checks self.now).count }
         ensures { result ≡ (checks self.now).kind i };
 }
 
-/// The numbers of lines by their places, and how each is checked, for the values of the checks.
+/// The numbers of lines by their indexes, and how each is checked, for the values of the checks.
 /// Contracts see them as a list and as `Checks`.
 pub trait LineNumbers {
     ghost lines: { Self → List Line };
 
     ghost checks: { Self → Checks };
 
-    /// Returns the line at place `i`, but for its new word, which may be any.
+    /// Returns line `i`, except for its new word, which may be any.
     fn line(&self, i: u32) -> Line
         requires { i < (checks self.now).count }
         ensures cell { result.cell ≡ (number_in (lines self.now) i).cell }
         ensures time { result.time ≡ (number_in (lines self.now) i).time }
         ensures old { result.old ≡ (number_in (lines self.now) i).old };
 
-    /// Returns how many lines are checked: those at places below this.
+    /// Returns how many lines are checked: those with an index below this.
     fn checked(&self) -> u32
         ensures { result ≡ (checks self.now).count };
 
-    /// Returns how the line at place `i` is checked.
+    /// Returns how line `i` is checked.
     fn kind(&self, i: u32) -> Kind
         requires { i < (checks self.now).count }
         ensures { result ≡ (checks self.now).kind i };
@@ -63,26 +63,18 @@ pub(crate) struct LineItems<'a, L> {
     pub(crate) lines: &'a L,
 }
 
-impl<'a, L: Lines> Inputs for LineItems<'a, L> {
+impl<'a, L: CompactLines> Inputs for LineItems<'a, L> {
     ghost pair = { λ p i. items_of (L.lines p.lines.now) i };
 
     ghost count = { λ p. length (L.lines p.lines.now) };
 
     fn at(&self, i: u32) -> Pair {
-        let mut pair = no_terms();
+        let mut pair = Pair::empty();
         self.set_item(i, &mut pair);
         pair
     }
 
     fn set_item(&self, i: u32, item: &mut Pair) {
         self.lines.line(i).item(item);
-    }
-}
-
-// Two combinations without terms, to be filled.
-pub(crate) fn no_terms() -> Pair {
-    Pair {
-        first: Lc::empty(),
-        second: Lc::empty(),
     }
 }

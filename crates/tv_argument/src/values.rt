@@ -3,7 +3,7 @@ ghost use Rattle.std.specs.Prelude.{◌≡◌, ◌^◌, ◌≤◌, ◌<◌, fals
 ghost use Rattle.tv_benes.specs.Items.{bit_at, pair_at};
 ghost use Rattle.tv_core.specs.Values.{GivesIn};
 ghost use Rattle.tv_lines.specs.PackedLines.{unpacked};
-ghost use Rattle.tv_argument.specs.Checks.{AreShort, IsShort, check_values};
+ghost use Rattle.tv_argument.specs.Checks.{AreShort, IsShortKind, check_values};
 ghost use Rattle.tv_argument.specs.Memory.{checks_values, routed_values};
 
 use crate::kinds::Kind;
@@ -15,8 +15,8 @@ use tv_lines::fill_follows;
 /// Assigns the wires of `memory` for 2^`k` lines in time order, `k` from 1 to 20. `items` are the
 /// lines' items, and the settings `bits` send them through the network; the values meet the
 /// constraints where the lines are honest and the settings bring to each the item of its
-/// predecessor. The items are moved in place, with `spare` as room for as many, whatever it holds;
-/// the contents of both are unspecified afterwards. It asks `lines` for each line that makes wires
+/// predecessor. The items are moved in place, with `spare` as scratch space of the same length; the
+/// contents of both are unspecified afterwards. It asks `lines` for each line that makes wires
 /// of its own. It takes time linear in the number of wires, and no memory.
 pub fn fill_argument<V: Values, L: LineNumbers>(
     v: &mut V,
@@ -58,13 +58,13 @@ fn fill_checks<V: Values, L: LineNumbers>(v: &mut V, items: &[PairNum], lines: &
 // Assigns the wires of one check.
 fn fill_check<V: Values>(v: &mut V, kind: Kind, item: &PairNum, line: &Line) -> Put<()>
     requires whole { V.giving.broken v.old ≡ false }
-    requires short { IsShort kind }
+    requires short { IsShortKind kind }
     ensures gives { GivesIn V.giving v.old v.new
         (check_values kind (unpacked item.now) line.now) result }
     ensures whole { OnOk result (V.giving.broken v.new ≡ false) }
 {
     match kind {
-        Kind::Fresh | Kind::Least | Kind::Boot(_) => Ok(()),
+        Kind::ZeroOld | Kind::Least | Kind::Boot(_) => Ok(()),
         Kind::Within(bits) => fill_follows(v, bits, item, line),
     }
 }

@@ -71,18 +71,18 @@ IsAssembled-none w labels most text h =
     record { rest_lines = refl; noted = h; so_far = refl; fits = omega arith; room = omega arith }
 
 -- what the next line makes decides
-next_is : (w : ℕ) (labels : Labels) (most number : ℕ) (words rest behind text line : List ℕ)
+next_is : (w : ℕ) (labels : Labels) (most number : ℕ) (words rest remaining text line : List ℕ)
     → IsAssembled w labels most number words rest text
-    → lines rest ≡ line ∷ lines behind
+    → lines rest ≡ line ∷ lines remaining
     → (with_line w most (context_in labels (number + 1)) words line
-    >>= λ next. image_of w most (lines text) (take number (lines text) ++ line ∷ []) next (lines behind))
+    >>= λ next. image_of w most (lines text) (take number (lines text) ++ line ∷ []) next (lines remaining))
     ≡ assembled w most text
-next_is w labels most number words rest behind text line r first =
+next_is w labels most number words rest remaining text line r first =
     let all = lines text in
-    let next : drop number all ≡ line ∷ lines behind = sym r.rest_lines ∙ first in
-    let count : length (take number all) ≡ number = length-take_next all number line (lines behind) next in
+    let next : drop number all ≡ line ∷ lines remaining = sym r.rest_lines ∙ first in
+    let count : length (take number all) ≡ number = length-take_next all number line (lines remaining) next in
     let before = take number all in
-    let more = λ (words' : List ℕ). image_of w most all (before ++ line ∷ []) words' (lines behind) in
+    let more = λ (words' : List ℕ). image_of w most all (before ++ line ∷ []) words' (lines remaining) in
     let step = λ (n : ℕ) (earlier : List ℕ → Bool) (place : List ℕ → Option ℕ).
     with_line w most (record { number = n + 1; earlier = earlier; address = place }) words line >>= more in
     ap (λ f. step number f (address_in labels)) (is_earlier-is w labels all number r.noted count)
@@ -92,37 +92,37 @@ next_is w labels most number words rest behind text line r first =
     ∙ r.so_far
 
 -- one line more is assembled
-pub IsAssembled-more : (w : ℕ) (labels : Labels) (most number : ℕ) (words after rest behind text line : List ℕ)
+pub IsAssembled-more : (w : ℕ) (labels : Labels) (most number : ℕ) (words after rest remaining text line : List ℕ)
     → IsAssembled w labels most number words rest text
-    → lines rest ≡ line ∷ lines behind
-    → length behind < length rest
+    → lines rest ≡ line ∷ lines remaining
+    → length remaining < length rest
     → with_line w most (context_in labels (number + 1)) words line ≡ Ok after
     → length after ≤ most
-    → IsAssembled w labels most (number + 1) after behind text
-IsAssembled-more w labels most number words after rest behind text line r first shorter step fits =
+    → IsAssembled w labels most (number + 1) after remaining text
+IsAssembled-more w labels most number words after rest remaining text line r first shorter step fits =
     let all = lines text in
-    let next : drop number all ≡ line ∷ lines behind = sym r.rest_lines ∙ first in
-    let goes = next_is w labels most number words rest behind text line r first in
-    let more = λ (words' : List ℕ). image_of w most all (take number all ++ line ∷ []) words' (lines behind) in
+    let next : drop number all ≡ line ∷ lines remaining = sym r.rest_lines ∙ first in
+    let goes = next_is w labels most number words rest remaining text line r first in
+    let more = λ (words' : List ℕ). image_of w most all (take number all ++ line ∷ []) words' (lines remaining) in
     let ends : more after ≡ assembled w most text = ap (λ s. s >>= more) (sym step) ∙ goes in
     record {
-      rest_lines = sym (drop_next all number line (lines behind) next);
+      rest_lines = sym (drop_next all number line (lines remaining) next);
       noted = r.noted;
-      so_far = rw (take_next all number line (lines behind) next, drop_next all number line (lines behind) next) ends;
+      so_far = rw (take_next all number line (lines remaining) next, drop_next all number line (lines remaining) next) ends;
       fits = fits;
       room = omega (arith, r.room);
     }
 
 -- a line at fault is the fault of the text
-pub IsAssembled-fault : (w : ℕ) (labels : Labels) (most number : ℕ) (words rest behind text line : List ℕ) (fault : AsmFault)
+pub IsAssembled-fault : (w : ℕ) (labels : Labels) (most number : ℕ) (words rest remaining text line : List ℕ) (fault : AsmFault)
     → IsAssembled w labels most number words rest text
-    → lines rest ≡ line ∷ lines behind
+    → lines rest ≡ line ∷ lines remaining
     → with_line w most (context_in labels (number + 1)) words line ≡ Err fault
     → Err fault ≡ assembled w most text
-IsAssembled-fault w labels most number words rest behind text line fault r first step =
+IsAssembled-fault w labels most number words rest remaining text line fault r first step =
     let all = lines text in
-    let more = λ (words' : List ℕ). image_of w most all (take number all ++ line ∷ []) words' (lines behind) in
-    ap (λ s. s >>= more) (sym step) ∙ next_is w labels most number words rest behind text line r first
+    let more = λ (words' : List ℕ). image_of w most all (take number all ++ line ∷ []) words' (lines remaining) in
+    ap (λ s. s >>= more) (sym step) ∙ next_is w labels most number words rest remaining text line r first
 
 -- all lines are assembled
 pub IsAssembled-end : (w : ℕ) (labels : Labels) (most number : ℕ) (words rest text : List ℕ) → IsAssembled w labels most number words rest text

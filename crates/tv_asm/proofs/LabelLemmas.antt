@@ -76,25 +76,25 @@ next_address w width ls line false before after h b a =
     a ∙ b ∙ ap (λ n. 2 * (w / 8) * n % 2 ^ w) (sym same)
 
 -- one line more is read
-pub IsRead-more : (w : ℕ) → IsWidth w → (old new : Labels) (place : Place) (after : ℕ) (rest behind text line : List ℕ) (here : Bool)
+pub IsRead-more : (w : ℕ) → IsWidth w → (old new : Labels) (place : Place) (after : ℕ) (rest remaining text line : List ℕ) (here : Bool)
     → IsRead w old place rest text
-    → lines rest ≡ line ∷ lines behind
-    → length behind < length rest
+    → lines rest ≡ line ∷ lines remaining
+    → length remaining < length rest
     → ((name : List ℕ) → place_in new name ≡ option_or (place_in old name)
     (cond (defines name line) (Some (record { line = place.line + 1; address = place.address })) None))
     → has_instruction line ≡ here
     → after ≡ cond here ((place.address + w / 4) % 2 ^ w) place.address
-    → IsRead w new (record { line = place.line + 1; address = after }) behind text
-IsRead-more w width old new place after rest behind text line here r first shorter noted h a =
+    → IsRead w new (record { line = place.line + 1; address = after }) remaining text
+IsRead-more w width old new place after rest remaining text line here r first shorter noted h a =
     let all = lines text in
-    let next : drop place.line all ≡ line ∷ lines behind = sym r.rest_lines ∙ first in
-    let same : take (place.line + 1) all ≡ take place.line all ++ line ∷ [] = take_next all place.line line (lines behind) next in
+    let next : drop place.line all ≡ line ∷ lines remaining = sym r.rest_lines ∙ first in
+    let same : take (place.line + 1) all ≡ take place.line all ++ line ∷ [] = take_next all place.line line (lines remaining) next in
     let at : place_after w (take place.line all) ≡ record { line = place.line + 1; address = place.address } =
     ap (λ n. record { line = n + 1; address = 2 * (w / 8) * count_by has_instruction (take place.line all) % 2 ^ w })
-    (length-take_next all place.line line (lines behind) next)
+    (length-take_next all place.line line (lines remaining) next)
     ∙ ap (λ n. record { line = place.line + 1; address = n }) (sym r.address) in
     record {
-      rest_lines = sym (drop_next all place.line line (lines behind) next);
+      rest_lines = sym (drop_next all place.line line (lines remaining) next);
       noted = rw same (AreLabelsOf-push w old new (take place.line all) line r.noted (rw at noted));
       address = rw same (next_address w width (take place.line all) line here place.address after h r.address a);
       room = omega (arith, r.room);

@@ -10,7 +10,7 @@ use Rattle.std.specs.Option.{IfSome, ok_or, option_map_or}
 use Rattle.std.specs.Str.{bytes_eq}
 use Rattle.tv_isa.proofs.TableLemmas.{find-all}
 use Rattle.tv_isa.specs.Instruction.{IsInstruction, encode}
-use Rattle.tv_isa.specs.Table.{Row, instructions, with_name}
+use Rattle.tv_isa.specs.Table.{TableRow, instructions, with_name}
 use Rattle.tv_isa.specs.declared.instr.Instr.{Instr}
 use Rattle.tv_isa.specs.declared.operation.Shape.{Shape}
 use Rattle.tv_isa.specs.declared.operation.Shape.TheVariants.{DestSourceA, DestA, SourceA, OnlyA, ADest, Unused}
@@ -197,7 +197,7 @@ opcodes : list_all (λ r. ltb r.op 32) instructions ≡ true
 unfolding instructions
 opcodes = refl
 
-named_used : (name : List ℕ) (row : Row) → with_name name ≡ Some row → row.op < 32
+named_used : (name : List ℕ) (row : TableRow) → with_name name ≡ Some row → row.op < 32
 unfolding with_name
 named_used name row is =
     ltb-true row.op 32 (find-all (λ r. bytes_eq r.name name) (λ r. ltb r.op 32) instructions row opcodes is)
@@ -239,9 +239,9 @@ line_small w width first earlier place small line =
     check_if (not (option_map_or earlier s.label false)) DoubledLabel _ (AreSmall w) (λ _.
     part_small w width place small s.instruction))))
 
-told_small : {A : Type 0} (number : ℕ) (read : Result A AsmWhy) (P : A → Type 0) → IfOk read P → IfOk (at_line number read) P
-told_small number (Ok x) P h = h
-told_small number (Err why) P h = tt
+at_line_small : {A : Type 0} (number : ℕ) (read : Result A AsmWhy) (P : A → Type 0) → IfOk read P → IfOk (at_line number read) P
+at_line_small number (Ok x) P h = h
+at_line_small number (Err why) P h = tt
 
 next_small : (w : ℕ) → IsWidth w → (most : ℕ) (context : Context) → HasSmall w context.address → (words line : List ℕ)
     → AreSmall w words → IfOk (with_line w most context words line) (AreSmall w)
@@ -250,7 +250,7 @@ next_small w width most context small words line so_far =
     bind_if (at_line context.number said_words) _ (AreSmall w) (λ two is.
     check_if (leb (length words + length two) most) (TooMany context.number most) _ (AreSmall w) (λ _.
     both w words two so_far (known _ (AreSmall w) two is
-    (told_small context.number said_words (AreSmall w) (line_small w width (context.number == 1) context.earlier context.address small line)))))
+    (at_line_small context.number said_words (AreSmall w) (line_small w width (context.number == 1) context.earlier context.address small line)))))
 
 image_small : (w : ℕ) → IsWidth w → (most : ℕ) (all before : List (List ℕ)) (words : List ℕ) (more : List (List ℕ)) → AreSmall w words
     → IfOk (image_of w most all before words more) (AreSmall w)

@@ -36,10 +36,10 @@ pub fn assemble<const W: u32>(alloc: Global, text: &[u8], most: u32) -> Result<W
     let mut words = Words::new(alloc);
     let mut number = 0_u64;
     let mut rest = text;
-    while let Some((line, behind)) = next_line(rest) {
+    while let Some((line, remaining)) = next_line(rest) {
         number += 1;
         append::<W>(&mut words, line, number, &labels, most)?;
-        rest = behind;
+        rest = remaining;
     }
     Ok(words)
 }

@@ -40,14 +40,14 @@ impl<'a> Labels<'a> {
             address: 0,
         };
         let mut rest = text;
-        while let Some((line, behind)) = next_line(rest) {
+        while let Some((line, remaining)) = next_line(rest) {
             place.line += 1;
             let statement = Statement::of(code_of(line));
             labels.note(statement, place)?;
             if has_instruction(statement) {
                 place.address = next_address::<W>(place.address);
             }
-            rest = behind;
+            rest = remaining;
         }
         Ok(labels)
     }

@@ -36,9 +36,9 @@ fn labelled(code: &[u8]) -> Option<Statement<'_>>
 {
     let end = label_end(code);
     match &code[end..] {
-        [b':', behind @ ..] if end > 1 => Some(Statement {
+        [b':', remaining @ ..] if end > 1 => Some(Statement {
             label: Some(&code[..end]),
-            instruction: trimmed(behind),
+            instruction: trimmed(remaining),
         }),
         _ => None,
     }

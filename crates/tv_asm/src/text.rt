@@ -23,8 +23,8 @@ fn trimmed_front(text: &[u8]) -> &[u8]
     ensures { result.now ≡ trimmed_front text.now }
 {
     let mut rest = text;
-    while let [b' ' | b'\t', behind @ ..] = rest {
-        rest = behind;
+    while let [b' ' | b'\t', remaining @ ..] = rest {
+        rest = remaining;
     }
     rest
 }
@@ -51,7 +51,7 @@ fn place_of(text: &[u8], separator: u8) -> usize
 /// there is none.
 pub(crate) fn cut(text: &[u8], separator: u8) -> (&[u8], &[u8])
     ensures before { result.0.now ≡ before_first (λ c. c == separator) text.now }
-    ensures behind { result.1.now ≡ after_first (λ c. c == separator) text.now }
+    ensures remaining { result.1.now ≡ after_first (λ c. c == separator) text.now }
 {
     let end = place_of(text, separator);
     (&text[..end], &text[(end + 1).min(text.len())..])

@@ -12,16 +12,16 @@ use Rattle.tv_check.specs.Meaning.{DifferFirst}
 
 -- ---- the first of a list: here, or one place after one of the rest
 
-none_behind : (test : Bool) (rest : Option ℕ) → cond test (option_map suc rest) (Some 0) ≡ None → (test ≡ true) × (rest ≡ None)
-none_behind true None e = (refl, refl)
-none_behind true (Some k) e = absurd cc
-none_behind false rest e = absurd cc
+none_after : (test : Bool) (rest : Option ℕ) → cond test (option_map suc rest) (Some 0) ≡ None → (test ≡ true) × (rest ≡ None)
+none_after true None e = (refl, refl)
+none_after true (Some k) e = absurd cc
+none_after false rest e = absurd cc
 
-some_behind : (test : Bool) (rest : Option ℕ) (at : ℕ) → cond test (option_map suc rest) (Some 0) ≡ Some at
+some_after : (test : Bool) (rest : Option ℕ) (at : ℕ) → cond test (option_map suc rest) (Some 0) ≡ Some at
     → ((test ≡ false) × (at ≡ 0)) ⊎ ((k : ℕ) × (test ≡ true) × (rest ≡ Some k) × (at ≡ suc k))
-some_behind true None at e = absurd cc
-some_behind true (Some k) at e = inr (k, refl, refl, cc)
-some_behind false rest at e = inl (refl, cc)
+some_after true None at e = absurd cc
+some_after true (Some k) at e = inr (k, refl, refl, cc)
+some_after false rest at e = inl (refl, cc)
 
 -- ---- constraints
 
@@ -44,7 +44,7 @@ pub all_hold : (z : List ℕ) (constraints : List Constraint) → first_failure 
     → AllByRecursion (λ constraint. Holds constraint z) constraints
 all_hold z [] e = tt
 all_hold z (c ∷ cs) e =
-    let both = none_behind (holds z c) (first_failure z 0 cs) (sym (first_failure-cons z c cs) ∙ e) in
+    let both = none_after (holds z c) (first_failure z 0 cs) (sym (first_failure-cons z c cs) ∙ e) in
     (eqb-true _ _ both.0, all_hold z cs both.1)
 
 pub none_fails : (z : List ℕ) (constraints : List Constraint) → AllByRecursion (λ constraint. Holds constraint z) constraints
@@ -59,7 +59,7 @@ pub fails_at : (z : List ℕ) (constraints : List Constraint) (at : ℕ) → fir
     → (c : Constraint) × (slice_get constraints at ≡ Some c) × (¬ (Holds c z)) × AllByRecursion (λ constraint. Holds constraint z) (take at constraints)
 fails_at z [] at e = absurd cc
 fails_at z (c ∷ cs) at e =
-    elim (some_behind (holds z c) (first_failure z 0 cs) at (sym (first_failure-cons z c cs) ∙ e)) [
+    elim (some_after (holds z c) (first_failure z 0 cs) at (sym (first_failure-cons z c cs) ∙ e)) [
       | inl here ↦ rw here.1 (c, refl, eqb-false _ _ here.0, tt)
       | inr later ↦
           let rest = fails_at z cs later.0 later.2 in
@@ -85,7 +85,7 @@ same_lists [] [] e = refl
 same_lists [] (y ∷ ys) e = absurd cc
 same_lists (x ∷ xs) [] e = absurd cc
 same_lists (x ∷ xs) (y ∷ ys) e =
-    let both = none_behind (x == y) (first_difference xs ys) e in
+    let both = none_after (x == y) (first_difference xs ys) e in
     let first = eqb-true x y both.0 in
     let others = same_lists xs ys both.1 in
     cc
@@ -99,7 +99,7 @@ differ [] [] at e = absurd cc
 differ [] (y ∷ ys) at e = let zero-is : at ≡ 0 = cc in rw zero-is (record { before = refl; there = λ h. absurd cc })
 differ (x ∷ xs) [] at e = let zero-is : at ≡ 0 = cc in rw zero-is (record { before = refl; there = λ h. absurd cc })
 differ (x ∷ xs) (y ∷ ys) at e =
-    elim (some_behind (x == y) (first_difference xs ys) at e) [
+    elim (some_after (x == y) (first_difference xs ys) at e) [
       | inl here ↦ rw here.1 (record { before = refl; there = λ h. eqb-false x y here.0 cc })
       | inr later ↦
           let rest = differ xs ys later.0 later.2 in

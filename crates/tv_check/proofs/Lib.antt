@@ -2,5 +2,5 @@ pub mod Difference
 pub mod Firsts
 pub mod Room
 pub mod Verdicts
-pub mod Trying
+pub mod Trials
 mod Worked

@@ -54,8 +54,8 @@ judge_chose s z x verdict e =
     chose (length z == s.wires) (first_difference (1 ∷ x) (take (1 + s.outputs + s.inputs) z)) (first_failure z 0 s.constraints) (length z) s.wires verdict e
 
 -- yes comes exactly where the assignment satisfies the system and extends the numbers
-yes_tells : (system : System) (z x : List ℕ) → HasRoom system → All (λ v. v < P) z → judge system z x ≡ Yes → Sat system z × Extends system z x
-yes_tells system z x room below e =
+yes_means : (system : System) (z x : List ℕ) → HasRoom system → All (λ v. v < P) z → judge system z x ≡ Yes → Sat system z × Extends system z x
+yes_means system z x room below e =
     let is = judge_chose system z x Yes e in
     let wires : length z ≡ system.wires = eqb-true _ _ is.0 in
     let public = begins x z (1 + system.outputs + system.inputs) (system.outputs + system.inputs) (omega arith) (omega arith) (same_lists _ _ is.1) in (
@@ -63,8 +63,8 @@ yes_tells system z x room below e =
       record { publics = public.1; values = public.2 },
     )
 
-tells_yes : (system : System) (z x : List ℕ) → Sat system z → Extends system z x → judge system z x ≡ Yes
-tells_yes system z x sat extends =
+judged_yes : (system : System) (z x : List ℕ) → Sat system z → Extends system z x → judge system z x ≡ Yes
+judged_yes system z x sat extends =
     let wires : length z == system.wires ≡ true = eq-eqb _ _ sat.each_wire in
     let front = begins_back x z (1 + system.outputs + system.inputs) (system.outputs + system.inputs) (omega arith) sat.one extends.publics extends.values in
     let public : first_difference (1 ∷ x) (take (1 + system.outputs + system.inputs) z) ≡ None = rw (← front) (no_difference (1 ∷ x)) in
@@ -72,19 +72,19 @@ tells_yes system z x sat extends =
     rw (wires, public, constraints) refl
 
 pub yes_exactly : (system : System) (z x : List ℕ) → HasRoom system → All (λ v. v < P) z → (judge system z x ≡ Yes) ↔ VerdictMeans Yes system z x
-yes_exactly system z x room below = (yes_tells system z x room below, λ both. tells_yes system z x both.0 both.1)
+yes_exactly system z x room below = (yes_means system z x room below, λ both. judged_yes system z x both.0 both.1)
 
 -- a no is true
-no_tells : (s : System) (z x : List ℕ) (verdict : Verdict) → verdict ≢ Yes → judge s z x ≡ verdict → VerdictMeans verdict s z x
-no_tells s z x Yes other e = absurd (other refl)
-no_tells s z x (WireCount has wants) other e =
+no_means : (s : System) (z x : List ℕ) (verdict : Verdict) → verdict ≢ Yes → judge s z x ≡ verdict → VerdictMeans verdict s z x
+no_means s z x Yes other e = absurd (other refl)
+no_means s z x (WireCount has wants) other e =
     let chose = judge_chose s z x (WireCount has wants) e in
     let differ = eqb-false (length z) s.wires chose.0 in
     (chose.1, chose.2, λ same. differ (chose.1 ∙ same ∙ sym chose.2))
-no_tells s z x (NoPublic at) other e =
+no_means s z x (NoPublic at) other e =
     let chose = judge_chose s z x (NoPublic at) e in
     (eqb-true (length z) s.wires chose.0, differ (1 ∷ x) (take (1 + s.outputs + s.inputs) z) at chose.1)
-no_tells s z x (NoConstraint at) other e =
+no_means s z x (NoConstraint at) other e =
     let chose = judge_chose s z x (NoConstraint at) e in
     let first = fails_at z s.constraints at chose.2 in (
       eqb-true (length z) s.wires chose.0,
@@ -93,20 +93,20 @@ no_tells s z x (NoConstraint at) other e =
     )
 
 -- a true no is the verdict
-tells_no : (s : System) (z x : List ℕ) (verdict : Verdict) → verdict ≢ Yes → VerdictMeans verdict s z x → judge s z x ≡ verdict
-tells_no s z x Yes other wrong = absurd (other refl)
-tells_no s z x (WireCount has wants) other wrong =
+judged_no : (s : System) (z x : List ℕ) (verdict : Verdict) → verdict ≢ Yes → VerdictMeans verdict s z x → judge s z x ≡ verdict
+judged_no s z x Yes other wrong = absurd (other refl)
+judged_no s z x (WireCount has wants) other wrong =
     let test : length z == s.wires ≡ false = ne_eqb (length z) s.wires (λ same. wrong.2 (sym wrong.0 ∙ same ∙ wrong.1)) in
     rw (test, wrong.0, wrong.1) refl
-tells_no s z x (NoPublic at) other wrong =
+judged_no s z x (NoPublic at) other wrong =
     let test : length z == s.wires ≡ true = eq-eqb (length z) s.wires wrong.0 in
     let public = difference_of (1 ∷ x) (take (1 + s.outputs + s.inputs) z) at wrong.1 in
     rw (test, public) refl
-tells_no s z x (NoConstraint at) other wrong =
+judged_no s z x (NoConstraint at) other wrong =
     let test : length z == s.wires ≡ true = eq-eqb (length z) s.wires wrong.0 in
     let public : first_difference (1 ∷ x) (take (1 + s.outputs + s.inputs) z) ≡ None = rw (← wrong.1) (no_difference (1 ∷ x)) in
     let failing = failing_of z s.constraints at wrong.2.failing wrong.2.there wrong.2.fails (recursion_from_All _ (take at s.constraints) wrong.2.before) in
     rw (test, public, failing) refl
 
 pub no_exactly : (s : System) (z x : List ℕ) (verdict : Verdict) → verdict ≢ Yes → (judge s z x ≡ verdict) ↔ VerdictMeans verdict s z x
-no_exactly s z x verdict other = (no_tells s z x verdict other, tells_no s z x verdict other)
+no_exactly s z x verdict other = (no_means s z x verdict other, judged_no s z x verdict other)

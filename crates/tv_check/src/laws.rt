@@ -16,7 +16,7 @@ pub fn systems_have_room()
 {}
 
 /// Each verdict comes exactly where what it says is so.
-pub fn verdicts_tell()
+pub fn verdicts_are_exact()
     ensures yes { (system : System) (z x : List ℕ) → HasRoom system → All (λ v. v < P) z
         → (judge system z x ≡ Yes) ↔ VerdictMeans Yes system z x }
     ensures no { (system : System) (z x : List ℕ) (verdict : Verdict) → verdict ≢ Yes

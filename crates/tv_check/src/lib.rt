@@ -9,5 +9,5 @@ mod publics;
 mod verdict;
 
 pub use checker::check;
-pub use laws::{systems_have_room, verdicts_tell};
+pub use laws::{systems_have_room, verdicts_are_exact};
 pub use verdict::Verdict;

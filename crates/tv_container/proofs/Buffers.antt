@@ -8,7 +8,7 @@ use Rattle.std.proofs.lemmas.Grind.{flat_map-append}
 use Rattle.std.proofs.Math.Seq.{take-append-add, take-suc}
 use Rattle.std.specs.List.{copy_within, flat_map}
 use Rattle.std.specs.Prelude.{MatchResult, is_ok, is_err, true, false}
-use Rattle.tv_container.specs.Taking.{PassesOn, Took}
+use Rattle.tv_container.specs.Taking.{PassesOn, TakesBytes}
 use Rattle.tv_container.specs.declared.pending.Pending.{Pending}
 use Rattle.tv_container.specs.Faults.{sink_fault}
 use Rattle.tv_container.specs.Writing.{Adds, OnlyAppends, Passes}
@@ -17,7 +17,7 @@ use Rattle.tv_core.specs.Sinks.{IsCause}
 use Rattle.tv_core.specs.declared.sink.SinkFault.{SinkFault}
 use Rattle.tv_core.specs.declared.sink.SinkFault.TheVariants as sink
 use Rattle.tv_files.proofs.Cases.{OnErr-map, OnOk-map}
-use Rattle.tv_files.proofs.NamedFiles.{with_more-none, told-with_more-with_more, with_more-none_before}
+use Rattle.tv_files.proofs.NamedFiles.{with_more-none, known-with_more-with_more, with_more-none_before}
 use Rattle.tv_files.specs.Calls.{Appends}
 use Rattle.tv_files.specs.Outside.{Outside, Names, RanOut, SameCounts, with_more}
 use Rattle.tv_files.specs.declared.calls.FileRefusal.{FileRefusal}
@@ -50,7 +50,7 @@ others_held bytes held n size room is =
 pub adds_none : (outside : Outside) (name : List ℕ) → Adds outside outside name []
 adds_none outside name = by_contents outside.contents
   where
-    by_contents : (told : Option Names) → told ≡ option_map (with_more name []) told
+    by_contents : (known : Option Names) → known ≡ option_map (with_more name []) known
     by_contents None = refl
     by_contents (Some files) = ap Some (sym (with_more-none name files))
 
@@ -60,7 +60,7 @@ nothing_appended outside name = record {
   contents = adds_none outside name;
   said = refl;
   later = search rules;
-  there = λ files told. inl refl;
+  there = λ files known. inl refl;
 }
 
 -- a shorter first part of bytes is one of bytes that begin with them
@@ -107,7 +107,7 @@ call_passes old new name bytes front held (Err why) (Err fault) call split is =
 
 -- bytes added, and then bytes added
 adds_then : (old mid new : Outside) (name first second : List ℕ) → Adds old mid name first → Adds mid new name second → Adds old new name (first ++ second)
-adds_then old mid new name first second p q = q ∙ ap (option_map (with_more name second)) p ∙ told-with_more-with_more name first second old.contents
+adds_then old mid new name first second p q = q ∙ ap (option_map (with_more name second)) p ∙ known-with_more-with_more name first second old.contents
 
 -- appended, and then appended
 pub appends_then : (old mid new : Outside) (name : List ℕ) → OnlyAppends old mid name → OnlyAppends mid new name → OnlyAppends old new name
@@ -122,13 +122,13 @@ appends_then old mid new name p q = record {
     wants = omega (arith, p.later.wants, q.later.wants);
     absent = omega (arith, p.later.absent, q.later.absent);
   };
-  there = λ files told. by_cases files told (p.there files told);
+  there = λ files known. by_cases files known (p.there files known);
 }
   where
     by_cases : (files : Names) → old.contents ≡ Some files → (mid.absent ≡ old.absent) ⊎ (files name ≡ None) → (new.absent ≡ old.absent) ⊎ (files name ≡ None)
-    by_cases files told (inr none) = inr none
-    by_cases files told (inl same) =
-        let after : mid.contents ≡ Some (with_more name p.more files) = p.contents ∙ ap (option_map (with_more name p.more)) told in
+    by_cases files known (inr none) = inr none
+    by_cases files known (inl same) =
+        let after : mid.contents ≡ Some (with_more name p.more files) = p.contents ∙ ap (option_map (with_more name p.more)) known in
         elim (q.there (with_more name p.more files) after) [
           | inl again ↦ inl (again ∙ same)
           | inr none ↦ inr (with_more-none_before name p.more files none)
@@ -254,7 +254,7 @@ caused_seen outcome seen old new sink.Memory none cause rose =
 
 -- bytes are taken, and then others
 pub took_then : {name : List ℕ} {old mid new : Outside} {before between after : Pending} {first second : List ℕ} →
-    Took name old before mid between first → Took name mid between new after second → Took name old before new after (first ++ second)
+    TakesBytes name old before mid between first → TakesBytes name mid between new after second → TakesBytes name old before new after (first ++ second)
 took_then {name} {old} {mid} {new} {before} {between} {after} {first} {second} p q = record {
   passes = λ ok. by_outcome between.outcome refl (p.passes ok);
   lost = λ fault e. let early = p.lost fault e in let late = q.lost fault early.0 in (late.0, late.1 ∙ early.1);
@@ -268,18 +268,18 @@ took_then {name} {old} {mid} {new} {before} {between} {after} {first} {second} p
 
 -- bytes are taken, and then those held are appended
 pub took_last : {name : List ℕ} {old mid new : Outside} {before between after : Pending} {bytes : List ℕ} →
-    Took name old before mid between bytes → Took name mid between new after [] → Took name old before new after bytes
-took_last {name} {old} {mid} {new} {before} {between} {after} {bytes} p q = subst (λ l. Took name old before new after l) (append-nil bytes) (took_then p q)
+    TakesBytes name old before mid between bytes → TakesBytes name mid between new after [] → TakesBytes name old before new after bytes
+took_last {name} {old} {mid} {new} {before} {between} {after} {bytes} p q = subst (λ l. TakesBytes name old before new after l) (append-nil bytes) (took_then p q)
 
 -- bytes are held, and no call is made
 pub pushed : {name : List ℕ} {outside : Outside} {before : Pending} {held bytes : List ℕ} → held ≡ before.buffer ++ bytes →
-    Took name outside before outside (record before { buffer = held }) bytes
+    TakesBytes name outside before outside (record before { buffer = held }) bytes
 pushed {name} {outside} {before} {held} {bytes} is = record {
   passes = λ ok. rw ok (all_held outside name (before.buffer ++ bytes) held (sym is));
   lost = λ fault e. (e, refl);
 }
 
-pub took_none : {name : List ℕ} {outside : Outside} {before : Pending} → Took name outside before outside before []
+pub took_none : {name : List ℕ} {outside : Outside} {before : Pending} → TakesBytes name outside before outside before []
 took_none {name} {outside} {before} = pushed (sym (append-nil before.buffer))
 
 -- the first bytes held were appended, or that was refused
@@ -287,7 +287,7 @@ pub called : {name : List ℕ} {old new : Outside} {before : Pending} {rest : Li
     (written : Result (Unit {0}) FileRefusal) →
     is_ok before.outcome ≡ true → Appends old new name (take n before.buffer) written → rest ≡ drop n before.buffer →
     MatchResult written (λ x. outcome ≡ Ok x) (λ why. IsErrAnd outcome (λ fault. fault ≡ sink_fault why))
-    → Took name old before new (record { buffer = rest; outcome = outcome }) []
+    → TakesBytes name old before new (record { buffer = rest; outcome = outcome }) []
 called {name} {old} {new} {before} {rest} {outcome} n written ok call is answer = record {
   passes = λ _. call_passes old new name (before.buffer ++ []) (take n before.buffer) rest written outcome call
       (append-nil before.buffer ∙ sym (take-append-drop n before.buffer) ∙ ap (λ l. take n before.buffer ++ l) (sym is)) answer;
@@ -296,7 +296,7 @@ called {name} {old} {new} {before} {rest} {outcome} n written ok call is answer 
 
 -- nothing more is appended after a refusal
 pub lost_more : {name : List ℕ} {outside : Outside} {before : Pending} {held bytes : List ℕ} → is_ok before.outcome ≡ false →
-    Took name outside before outside (record before { buffer = held }) bytes
+    TakesBytes name outside before outside (record before { buffer = held }) bytes
 lost_more refused = record {
   passes = λ ok. let none : is_ok {E = SinkFault} (Ok (tt {0})) ≡ false = rw ok at refused in cc;
   lost = λ fault e. (e, refl);
@@ -312,7 +312,7 @@ module _ {X : Type 0} (f : X → List ℕ) (xs : List X) (i : ℕ) (d : X) where
 
   -- one more of the items of a list
   pub each_took : {name : List ℕ} {old mid new : Outside} {before between after : Pending} {bytes : List ℕ} → i < length xs → bytes ≡ f (get_or xs i d) →
-      Took name old before mid between (flat_map f (take i xs)) → Took name mid between new after bytes
-      → Took name old before new after (flat_map f (take (i + 1) xs))
-  each_took {name} {old} {mid} {new} {before} {between} {after} {bytes} h is p q = subst (λ l. Took name old before new after l) (sym (each_more bytes h is))
+      TakesBytes name old before mid between (flat_map f (take i xs)) → TakesBytes name mid between new after bytes
+      → TakesBytes name old before new after (flat_map f (take (i + 1) xs))
+  each_took {name} {old} {mid} {new} {before} {between} {after} {bytes} h is p q = subst (λ l. TakesBytes name old before new after l) (sym (each_more bytes h is))
       (took_then p q)

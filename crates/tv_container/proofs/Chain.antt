@@ -30,11 +30,11 @@ refuses_any why value answer refuses = record { bad = λ at what e. let none : O
 
 -- a refusal that isn't a failed read may stop where nothing was read
 pub stopped_here : (outside : Outside) (name : List ℕ) (why : ReadRefusal) → IsNotFault why → Stopped outside outside name why
-stopped_here outside name (Bad at what) told = record { only = search rules; there = search rules; leaves = refl }
-stopped_here outside name Fault told = absurd (told.told refl)
-stopped_here outside name Memory told = record { only = search rules; there = search rules; leaves = inl refl }
+stopped_here outside name (Bad at what) known = record { only = search rules; there = search rules; leaves = refl }
+stopped_here outside name Fault known = absurd (known.known refl)
+stopped_here outside name Memory known = record { only = search rules; there = search rules; leaves = inl refl }
 
 -- and so may a step that read nothing
 pub looks_here : {A : Type 0} (outside : Outside) (name : List ℕ) (result : Result A ReadRefusal) → IfErr result IsNotFault → Looks outside outside name result
-looks_here outside name (Ok value) told = refl
-looks_here outside name (Err why) told = stopped_here outside name why told
+looks_here outside name (Ok value) known = refl
+looks_here outside name (Err why) known = stopped_here outside name why known

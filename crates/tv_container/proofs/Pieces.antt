@@ -18,14 +18,14 @@ use Rattle.tv_container.specs.Reading.{bytes_of, IsMissing, IsPiece, Holds}
 pub read_gives : (start old new : Outside) (name file : List ℕ) (at : ℕ) (into : List ℕ) (count : ℕ) → Reads old new name at into (Ok count) →
     old ≡ start → bytes_of start name ≡ Some file → Gives file at count into
 unfolding bytes_of
-read_gives start old new name file at into count reads same told = by_contents old.contents refl
+read_gives start old new name file at into count reads same known = by_contents old.contents refl
   where
-    known : option_and_then (λ (files : Names). files name) old.contents ≡ Some file
-    known = rw same told
+    named_file : option_and_then (λ (files : Names). files name) old.contents ≡ Some file
+    named_file = rw same known
 
     by_contents : (held : Option Names) → old.contents ≡ held → Gives file at count into
-    by_contents None e = let none : None ≡ Some file = rw e at known in cc
-    by_contents (Some files) e = reads.bytes files e file (rw e at known)
+    by_contents None e = let none : None ≡ Some file = rw e at named_file in cc
+    by_contents (Some files) e = reads.bytes files e file (rw e at named_file)
 
 -- the next piece goes after what is held
 pub piece_grows : (front into rest file : List ℕ) (at held count : ℕ) → length front ≡ held → count ≤ length into →
@@ -121,6 +121,6 @@ ends_if_none file into at count gives some =
 pub read_there : (start old new : Outside) (name : List ℕ) (at : ℕ) (into : List ℕ) (count : ℕ) → Reads old new name at into (Ok count) →
     old ≡ start → IsMissing start name → ⊥
 read_there start old new name at into count reads same missing =
-    let told : old.contents ≡ Some missing.files = rw same missing.told in
-    let fails = reads.missing missing.files told missing.none in
+    let known : old.contents ≡ Some missing.files = rw same missing.known in
+    let fails = reads.missing missing.files known missing.none in
     cc fails.0

@@ -19,15 +19,15 @@ not_created old new name bytes fault none =
       whole = tt;
       part = elim none.call.refused [ inl same ↦ inl same | inr empty ↦ inr (0, empty) ];
       cause = is_cause old new none.why (Err none.why) refl none.call.failed none.call.memory;
-      only = record { said = none.call.said; absent = λ files told. none.call.absent; later = none.call.later };
+      only = record { said = none.call.said; absent = λ files known. none.call.absent; later = none.call.later };
     })
 
 module _ (old begun new : Outside) (name : List ℕ) (creates : Creates old begun name (Ok tt)) (appends : OnlyAppends begun new name) where
   grown : HasBytes old new name appends.more
   grown = written_grows old begun new name [] appends.more creates.done appends.contents
 
-  told : (files : Names) → old.contents ≡ Some files → new.contents ≡ Some (with_bytes name appends.more files)
-  told files is = grown ∙ ap (option_map (with_bytes name appends.more)) is
+  known : (files : Names) → old.contents ≡ Some files → new.contents ≡ Some (with_bytes name appends.more files)
+  known files is = grown ∙ ap (option_map (with_bytes name appends.more)) is
 
   missed : (files : Names) → old.contents ≡ Some files → (new.absent ≡ begun.absent) ⊎ (with_bytes name [] files name ≡ None) → new.absent ≡ old.absent
   missed files is (inl same) = same ∙ creates.absent
@@ -49,14 +49,14 @@ module _ (old begun new : Outside) (name : List ℕ) (creates : Creates old begu
   whole_by : (bytes : List ℕ) (contents : Option Names) → old.contents ≡ contents → HasNow new name bytes → HasBytes old new name bytes
   whole_by bytes None is now = grown ∙ ap (option_map (with_bytes name appends.more)) is ∙ sym (ap (option_map (with_bytes name bytes)) is)
   whole_by bytes (Some files) is now =
-      let both : Some appends.more ≡ Some bytes = sym (with_bytes-here name appends.more files) ∙ now (with_bytes name appends.more files) (told files is) in
+      let both : Some appends.more ≡ Some bytes = sym (with_bytes-here name appends.more files) ∙ now (with_bytes name appends.more files) (known files is) in
       let same : appends.more ≡ bytes = cc in
       grown ∙ ap (λ l. option_map (with_bytes name l) old.contents) same
 
   part_by : (bytes : List ℕ) (contents : Option Names) → old.contents ≡ contents → HasFront new name bytes → HasPart old new name bytes
   part_by bytes None is front = inl (grown ∙ ap (option_map (with_bytes name appends.more)) is ∙ sym is)
   part_by bytes (Some files) is front =
-      let part = front (with_bytes name appends.more files) (told files is) in
+      let part = front (with_bytes name appends.more files) (known files is) in
       let both : Some appends.more ≡ Some (take part.0 bytes) = sym (with_bytes-here name appends.more files) ∙ part.1 in
       let same : appends.more ≡ take part.0 bytes = cc in
       inr (part.0, grown ∙ ap (λ l. option_map (with_bytes name l) old.contents) same)

@@ -14,25 +14,25 @@ with_more-here name more files =
     ap (λ same. cond same (option_map (λ held. held ++ more) (files name)) (files name)) ((bytes_eq-Decides name name).1 refl)
 
 -- contents that are known after bytes were added to a name were known before
-told_before : (old new : Outside) (name more : List ℕ) (files : Names) → Adds old new name more → new.contents ≡ Some files →
+known_before : (old new : Outside) (name more : List ℕ) (files : Names) → Adds old new name more → new.contents ≡ Some files →
     (before : Names) × (old.contents ≡ Some before) × (files name ≡ option_map (λ held. held ++ more) (before name))
-told_before old new name more files adds told = by_contents old.contents refl
+known_before old new name more files adds known = by_contents old.contents refl
   where
     by_contents : (contents : Option Names) → old.contents ≡ contents →
         (before : Names) × (old.contents ≡ Some before) × (files name ≡ option_map (λ held. held ++ more) (before name))
     by_contents None is =
-        let none : None ≡ Some files = sym (adds ∙ ap (option_map (with_more name more)) is) ∙ told in
+        let none : None ≡ Some files = sym (adds ∙ ap (option_map (with_more name more)) is) ∙ known in
         cc
     by_contents (Some before) is =
-        let same : Some (with_more name more before) ≡ Some files = sym (adds ∙ ap (option_map (with_more name more)) is) ∙ told in
+        let same : Some (with_more name more before) ≡ Some files = sym (adds ∙ ap (option_map (with_more name more)) is) ∙ known in
         let files_are : with_more name more before ≡ files = cc in
         (before, is, sym (ap (λ names. names name) files_are) ∙ with_more-here name more before)
 
 -- a first part of the bytes that are held and of others was added, and the rest of them is held
 pub has_more : (old new : Outside) (name held bytes more after : List ℕ) → HasBut old name held bytes → Passes old new name (held ++ more) after →
     HasBut new name after (bytes ++ more)
-has_more old new name held bytes more after has passes = λ files told.
-    let before = told_before old new name passes.front files passes.contents told in
+has_more old new name held bytes more after has passes = λ files known.
+    let before = known_before old new name passes.front files passes.contents known in
     let had = has before.0 before.1 in (
       had.0 ++ passes.front,
       before.2 ∙ ap (option_map (λ front. front ++ passes.front)) had.1,
@@ -45,8 +45,8 @@ has_more old new name held bytes more after has passes = λ files told.
 -- the first few of the bytes that are held and of others were added
 pub has_front : (old new : Outside) (name held bytes more : List ℕ) → HasBut old name held bytes → ((n : ℕ) × Adds old new name (take n (held ++ more))) →
     HasFront new name (bytes ++ more)
-has_front old new name held bytes more has added = λ files told.
-    let before = told_before old new name (take added.0 (held ++ more)) files added.1 told in
+has_front old new name held bytes more has added = λ files known.
+    let before = known_before old new name (take added.0 (held ++ more)) files added.1 known in
     let had = has before.0 before.1 in
     let whole : had.0 ++ (held ++ more) ≡ bytes ++ more = sym (append_assoc had.0 held more) ∙ ap (λ front. front ++ more) had.2 in (
       length had.0 + added.0,
@@ -56,14 +56,14 @@ has_front old new name held bytes more has added = λ files told.
 
 -- what a name has of bytes is a first part of bytes that begin with them
 pub but_front : (outside : Outside) (name held bytes rest whole : List ℕ) → HasBut outside name held bytes → whole ≡ bytes ++ rest → HasFront outside name whole
-but_front outside name held bytes rest whole has is = λ files told.
-    let had = has files told in
+but_front outside name held bytes rest whole has is = λ files known.
+    let had = has files known in
     let same : whole ≡ had.0 ++ (held ++ rest) = is ∙ ap (λ l. l ++ rest) (sym had.2) ∙ append_assoc had.0 held rest in
     (length had.0, had.1 ∙ ap Some (sym (take-append_seam had.0 (held ++ rest)) ∙ ap (take (length had.0)) (sym same)))
 
 pub front_front : (outside : Outside) (name bytes rest whole : List ℕ) → HasFront outside name bytes → whole ≡ bytes ++ rest → HasFront outside name whole
-front_front outside name bytes rest whole has is = λ files told.
-    let had = has files told in
+front_front outside name bytes rest whole has is = λ files known.
+    let had = has files known in
     let within : min had.0 (length bytes) ≤ length bytes = omega arith in (
       min had.0 (length bytes),
       had.1 ∙ ap Some (sym (take-append-le (min had.0 (length bytes)) bytes rest within ∙ take_min had.0 bytes)

@@ -18,7 +18,7 @@ Known outside name So = (file : List ℕ) → bytes_of outside name ≡ Some fil
 -- contents are known, and the name isn't there
 pub record IsMissing (outside : Outside) (name : List ℕ) : Type 0 where
   pub files : Names
-  pub told : outside.contents ≡ Some files
+  pub known : outside.contents ≡ Some files
   pub none : files name ≡ None
 
 -- what a refusal leaves: all, where it says what is wrong; a fault is a fault of a read; and where memory
@@ -53,7 +53,7 @@ ReadsAs result answer = ReadsAsBy result (λ value. value) answer
 
 -- a refusal that isn't a failed read
 pub record IsNotFault (why : ReadRefusal) : Type 0 where
-  pub told : why ≢ refusal.Fault
+  pub known : why ≢ refusal.Fault
 
 -- bytes of a file, from a place on
 pub record Piece : Type 0 where

@@ -15,6 +15,6 @@ pub record PassesOn (old new : Outside) (name bytes held : List ℕ) (outcome : 
   pub cause : HasCause old new outcome
 
 -- bytes were taken after those held, and some of them passed on; after a refusal nothing is
-pub record Took (name : List ℕ) (old : Outside) (before : Pending) (new : Outside) (after : Pending) (bytes : List ℕ) : Type 0 where
+pub record TakesBytes (name : List ℕ) (old : Outside) (before : Pending) (new : Outside) (after : Pending) (bytes : List ℕ) : Type 0 where
   pub passes : before.outcome ≡ Ok tt → PassesOn old new name (before.buffer ++ bytes) after.buffer after.outcome
   pub lost : (fault : SinkFault) → before.outcome ≡ Err fault → (after.outcome ≡ Err fault) × (new ≡ old)

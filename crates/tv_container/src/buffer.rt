@@ -42,7 +42,7 @@ impl Buffer {
         }
     }
 
-    /// Takes bytes after those held.
+    /// Appends bytes to the buffer.
     #[inline]
     pub fn push(&mut self, more: &[u8])
         requires { length self.old + length more.now ≤ 8192 }

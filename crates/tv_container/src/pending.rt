@@ -3,7 +3,7 @@ ghost use Rattle.std.specs.Prelude.{◌≡◌, ◌≤◌, ◌<◌, [], ◌++◌,
 ghost use Rattle.std.specs.List.{All};
 ghost use Rattle.tv_core.specs.declared.field.TheConstants.{P};
 ghost use Rattle.tv_container.specs.Bytes.{eight_bytes, four_bytes, terms_bytes};
-ghost use Rattle.tv_container.specs.Taking.{Took};
+ghost use Rattle.tv_container.specs.Taking.{TakesBytes};
 
 use crate::buffer::Buffer;
 use crate::faults::sink_fault;
@@ -38,7 +38,7 @@ impl Pending {
     #[inline]
     pub fn put<D: Files>(&mut self, files: &mut D, name: &str, more: &[u8])
         requires { length more.now ≤ 4096 }
-        ensures { Took name.now (D.seen files.old) self.old (D.seen files.new) self.new more.now }
+        ensures { TakesBytes name.now (D.seen files.old) self.old (D.seen files.new) self.new more.now }
     {
         self.make_room(files, name);
         self.buffer.push(more);
@@ -47,7 +47,7 @@ impl Pending {
     /// Takes a number in four bytes and one in eight.
     #[inline]
     pub fn put_pair<D: Files>(&mut self, files: &mut D, name: &str, short: u32, long: u64)
-        ensures { Took name.now (D.seen files.old) self.old (D.seen files.new) self.new
+        ensures { TakesBytes name.now (D.seen files.old) self.old (D.seen files.new) self.new
             (four_bytes short ++ eight_bytes long) }
     {
         self.make_room(files, name);
@@ -58,7 +58,7 @@ impl Pending {
     #[inline]
     pub fn put_terms<D: Files>(&mut self, files: &mut D, name: &str, terms: &[(F, Wire)])
         requires { length terms.now ≤ 128 }
-        ensures took { Took name.now (D.seen files.old) self.old (D.seen files.new) self.new
+        ensures took { TakesBytes name.now (D.seen files.old) self.old (D.seen files.new) self.new
             (four_bytes (length terms.now) ++ terms_bytes terms.now) }
         ensures canonical { All (λ t. t.0 < P) terms.now }
     {
@@ -67,9 +67,9 @@ impl Pending {
         self.buffer.push_terms(terms);
     }
 
-    /// Appends all that is held; there is no call for no bytes.
+    /// Appends all pending bytes; there is no call where there are none.
     pub fn flush<D: Files>(&mut self, files: &mut D, name: &str)
-        ensures took { Took name.now (D.seen files.old) self.old (D.seen files.new) self.new [] }
+        ensures took { TakesBytes name.now (D.seen files.old) self.old (D.seen files.new) self.new [] }
         ensures none { self.new.buffer ≡ [] }
     {
         self.make_room(files, name);
@@ -81,7 +81,7 @@ impl Pending {
     // Appends a piece where a whole one is held.
     #[inline]
     fn make_room<D: Files>(&mut self, files: &mut D, name: &str)
-        ensures took { Took name.now (D.seen files.old) self.old (D.seen files.new) self.new [] }
+        ensures took { TakesBytes name.now (D.seen files.old) self.old (D.seen files.new) self.new [] }
         ensures room { length self.new.buffer ≤ 4096 }
     {
         if self.buffer.is_full() {
@@ -93,7 +93,7 @@ impl Pending {
     #[cold]
     #[inline(never)]
     fn append_piece<D: Files>(&mut self, files: &mut D, name: &str)
-        ensures took { Took name.now (D.seen files.old) self.old (D.seen files.new) self.new [] }
+        ensures took { TakesBytes name.now (D.seen files.old) self.old (D.seen files.new) self.new [] }
         ensures rest { self.new.buffer ≡ drop 4096 self.old.buffer }
         ensures room { length self.new.buffer ≤ 4096 }
     {

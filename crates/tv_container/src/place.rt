@@ -1,4 +1,4 @@
-//! Bytes that are put at a place of others.
+//! Bytes written over a part of other bytes.
 
 ghost use Rattle.std.specs.Prelude.{◌≡◌, ◌≤◌, ◌<◌, ◌+◌, ◌*◌, ◌++◌, length, take};
 ghost use Rattle.std.specs.List.{All};

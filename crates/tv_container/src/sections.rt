@@ -268,7 +268,7 @@ pub fn wanted(section: Option<Section>, kind: u32, end: u64) -> Result<Section, 
     ensures gives { (file : List ℕ) → end ≡ length file → (sections : List Section) →
         section ≡ section_of kind sections → ReadsAs result (wanted kind file sections) }
     ensures same { IfOk result (λ found. section ≡ Some found) }
-    ensures told { IfErr result IsNotFault }
+    ensures no_fault { IfErr result IsNotFault }
 {
     section.ok_or(ReadRefusal::Bad {
         at: end,

@@ -25,7 +25,7 @@ pub enum ReadWhy {
     /// The numbers are of another field.
     #[error("another prime")]
     OtherPrime,
-    /// A size or a number is `has` where `wants` is called for.
+    /// A size or a number is `has`, and should be `wants`.
     #[error("{has} for {wants}")]
     BadCount { has: u64, wants: u64 },
     /// A term's wire isn't one of the system's.

@@ -67,8 +67,8 @@ impl Window {
         long_at(&self.bytes, (at - self.at) as usize)
     }
 
-    /// Returns how many whole terms of 12 bytes, the first of which it holds, the window holds from
-    /// a place to an end.
+    /// Returns how many whole terms of 12 bytes the window has from a place to an end; it has the
+    /// first of them.
     pub fn whole_terms(&self, at: u64, end: u64) -> u32
         requires held { Holds self.now at 12 }
         requires within { at + 12 ≤ end }
@@ -81,7 +81,7 @@ impl Window {
         (held.min(end - at) / 12) as u32
     }
 
-    /// Returns the bytes that the window holds from a place on, which it holds.
+    /// Returns the bytes of the window from a place on, which lies in it.
     pub fn bytes_from(&self, at: u64) -> &[u8]
         requires { Holds self.now at 0 }
         ensures all { at + length result.now ≡ self.now.at + length self.now.bytes }
@@ -103,7 +103,7 @@ impl Window {
     }
 
     /// Reads on to a place until the window holds this many bytes there, and returns whether the
-    /// file has them. A call asks for as many bytes as there is room for.
+    /// file has them. A call asks for all the bytes that there is room for.
     pub fn reach<D: Files>(
         &mut self,
         files: &mut D,

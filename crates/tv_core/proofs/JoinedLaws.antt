@@ -7,7 +7,7 @@ use Rattle.std.proofs.lemmas.Grind.{flat_map-append}
 use Rattle.std.proofs.lemmas.List.{append-nil}
 use Rattle.tv_core.proofs.BelowLaws.{range-more}
 use Rattle.tv_core.proofs.ValuesChain.{gives_then, gives_then_refused, gives_refused_then, gives_nothing}
-use Rattle.tv_core.proofs.Meeting.{HasFrom-split}
+use Rattle.tv_core.proofs.MeetsLaws.{HasFrom-split}
 use Rattle.tv_core.specs.Below.{joined_below}
 use Rattle.tv_core.specs.Values.{ValuesMeaning, GivesAll, GivesSome}
 use Rattle.tv_core.specs.Laws.{HasFrom}

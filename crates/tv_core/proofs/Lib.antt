@@ -1,4 +1,4 @@
-pub mod Adding
+pub mod Addition
 pub mod ApartLaws
 pub mod BelowLaws
 mod Cells
@@ -7,15 +7,15 @@ pub mod CombinationLaws
 pub mod DifferenceLaws
 pub mod Euclid
 pub mod FieldLaws
-pub mod Fitting
+pub mod Fits
 pub mod ValuesChain
 pub mod ValuesTails
-pub mod Having
+pub mod HasLaws
 pub mod InverseLaws
 pub mod JoinedLaws
 pub mod LineLaws
 pub mod LoopLaws
-pub mod Meeting
+pub mod MeetsLaws
 pub mod NormalCircuits
 pub mod NormalLaws
 pub mod Pigeonhole
@@ -24,5 +24,5 @@ pub mod PrimeProof
 pub mod Residues
 pub mod RowLaws
 pub mod TailCalls
-pub mod Testing
+pub mod TestLaws
 pub mod Unique

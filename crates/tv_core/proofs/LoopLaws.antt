@@ -4,7 +4,7 @@ use Rattle.std.proofs.lemmas.Bool.{cases_eq}
 use Rattle.tv_core.proofs.BelowLaws.{each_below-zero, each_below-suc}
 use Rattle.tv_core.proofs.Chain.{puts_here}
 use Rattle.tv_core.proofs.ValuesChain.{gives_then, gives_then_refused, gives_refused_then, gives_nothing}
-use Rattle.tv_core.proofs.Meeting.{parts, whole}
+use Rattle.tv_core.proofs.MeetsLaws.{parts, whole}
 use Rattle.tv_core.specs.Below.{each_below}
 use Rattle.tv_core.specs.Circuits.{Circuit, here, turns, pure, ◌>>=◌}
 use Rattle.tv_core.specs.Values.{ValuesMeaning, GivesAll, GivesSome}

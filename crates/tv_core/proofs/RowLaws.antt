@@ -7,7 +7,7 @@ use Rattle.std.proofs.lemmas.List.Elements.{recursion_from_All}
 use Rattle.std.specs.List.{AllByRecursion}
 use Rattle.tv_core.specs.Constraints.{Combination, Constraint}
 use Rattle.tv_core.specs.Rows.{constraint_at, Within, row_after}
-use Rattle.tv_core.specs.declared.rows.Row.{Row}
+use Rattle.tv_core.specs.declared.rows.TermRow.{TermRow}
 
 module _ {X : Type 0} where
   slice_range-append : (xs ys : List X) (i j : ℕ) → i ≤ j → j ≤ length xs → slice_range (xs ++ ys) i j ≡ slice_range xs i j
@@ -20,14 +20,14 @@ module _ {X : Type 0} where
       ap₂ take size (ap₂ drop h is ∙ drop-append_seam xs (ys ++ zs)) ∙ take-append_seam ys zs
 
 -- more terms leave the constraints of earlier rows
-constraint_at-append : (terms more : Combination) (row : Row) → Within terms row → constraint_at (terms ++ more) row ≡ constraint_at terms row
+constraint_at-append : (terms more : Combination) (row : TermRow) → Within terms row → constraint_at (terms ++ more) row ≡ constraint_at terms row
 constraint_at-append terms more row w =
     let a = slice_range-append terms more row.start (row.start + row.a_end) (omega arith) (omega (arith, w.b_from, w.c_from, w.within)) in
     let b = slice_range-append terms more (row.start + row.a_end) (row.start + row.b_end) (omega (arith, w.b_from)) (omega (arith, w.c_from, w.within)) in
     let c = slice_range-append terms more (row.start + row.b_end) (row.start + row.c_end) (omega (arith, w.c_from)) (omega (arith, w.within)) in
     rw (a, b, c) refl
 
-constraints-append : (terms more : Combination) (rows : List Row) → AllByRecursion (Within terms) rows
+constraints-append : (terms more : Combination) (rows : List TermRow) → AllByRecursion (Within terms) rows
     → map (constraint_at (terms ++ more)) rows ≡ map (constraint_at terms) rows
 constraints-append terms more [] w = refl
 constraints-append terms more (row ∷ rows) w = ap₂ (λ x xs. x ∷ xs) (constraint_at-append terms more row w.0) (constraints-append terms more rows w.1)
@@ -50,7 +50,7 @@ constraint_at-after terms a b c =
     constraint_same _ _ _ a b c first second third
 
 -- one constraint more
-pub constraints-push : (terms a b c : Combination) (rows : List Row) → All (Within terms) rows
+pub constraints-push : (terms a b c : Combination) (rows : List TermRow) → All (Within terms) rows
     → map (constraint_at (terms ++ (a ++ (b ++ c)))) (rows ++ row_after terms a b c ∷ []) ≡ map (constraint_at terms) rows
     ++ (record { a = a; b = b; c = c }) ∷ []
 constraints-push terms a b c rows w =

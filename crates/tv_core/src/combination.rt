@@ -15,7 +15,7 @@ pub const TERMS: usize = 128;
 /// A linear combination of wires. Contracts see it as the list of its terms, each a coefficient and
 /// a wire, of which it has at most `TERMS`.
 ///
-/// It lies in the value itself, about 2 KB: lend it, and make it where it is used.
+/// The terms are stored in the value itself, about 2 KB: pass it by reference.
 #[derive(Drop)]
 pub struct Lc {
     // The terms are the first `len`.
@@ -77,7 +77,7 @@ impl Lc {
         self.len = 0;
     }
 
-    /// Makes it one wire, once.
+    /// Sets it to one wire, once.
     pub fn set_wire(&mut self, w: Wire)
         ensures terms { self.new ≡ wire w }
         ensures top { top self.new ≡ w + 1 }
@@ -86,7 +86,7 @@ impl Lc {
         self.plus(F::ONE, w);
     }
 
-    /// Makes it one wire less another.
+    /// Sets it to one wire minus another.
     pub fn set_difference(&mut self, x: Wire, y: Wire)
         ensures terms { self.new ≡ less (wire x) (wire y) }
         ensures top { top self.new ≡ max (x + 1) (y + 1) }

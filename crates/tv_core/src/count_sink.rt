@@ -10,7 +10,7 @@ use crate::sink::{Put, Sink};
 use crate::wire::Wire;
 use std::marker::Model;
 
-/// A sink that counts what is put into it. It takes no memory and never refuses.
+/// A sink that counts the constraints put into it. It takes no memory and never fails.
 #[derive(Drop)]
 pub struct CountSink {
     wires: u32,

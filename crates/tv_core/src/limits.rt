@@ -33,5 +33,5 @@ pub const CELL_BITS: u32 = 31;
 /// The cell of the primary tape's first word, 2^30; those below are the words of memory.
 pub const TAPE_CELLS: u32 = 1_073_741_824;
 
-/// The cell of a line that looks at no word, 2^30 + 2^29; it holds 0.
+/// The null cell, 2^30 + 2^29, whose word is 0: that of a line which accesses no word.
 pub const NULL_CELL: u32 = 1_610_612_736;

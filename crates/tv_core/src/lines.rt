@@ -1,18 +1,20 @@
 //! Lines of memory, as numbers and as combinations.
+ghost use Rattle.std.specs.Prelude.{◌≡◌, []};
+
 use crate::combination::Lc;
 use crate::field::F;
 
-/// A line of memory: at a time a cell is looked at, which holds `old` before and `new` from then
-/// on.
+/// A line of memory: an access to a cell at a time. The cell's word is `old` before and `new` from
+/// then on.
 #[derive(Clone, Copy, PartialEq, Eq, Debug)]
 pub struct Line {
     /// A word of memory, a word of the primary tape, or none, by its number, which is below 2^31.
     pub cell: u32,
-    /// When it is, counted from the first line.
+    /// The time, counted from the first line.
     pub time: u32,
-    /// The word that the cell holds before.
+    /// The cell's word before that time.
     pub old: u32,
-    /// The word that it holds from then on.
+    /// The cell's word from then on.
     pub new: u32,
 }
 
@@ -23,9 +25,9 @@ pub struct LineLc {
     pub cell: Lc,
     /// The time.
     pub time: Lc,
-    /// The word that the cell holds before.
+    /// The cell's word before that time.
     pub old: Lc,
-    /// The word that it holds from then on.
+    /// The cell's word from then on.
     pub new: Lc,
 }
 
@@ -36,19 +38,32 @@ pub struct LineNum {
     pub cell: F,
     /// The time.
     pub time: F,
-    /// The word that the cell holds before.
+    /// The cell's word before that time.
     pub old: F,
-    /// The word that it holds from then on.
+    /// The cell's word from then on.
     pub new: F,
 }
 
-/// Two combinations that travel together.
+/// Two combinations that a network moves together.
 #[derive(Drop)]
 pub struct Pair {
     /// The first of the two.
     pub first: Lc,
     /// The second.
     pub second: Lc,
+}
+
+impl Pair {
+    /// Returns two combinations without terms.
+    pub fn empty() -> Pair
+        ensures first { result.first ≡ [] }
+        ensures second { result.second ≡ [] }
+    {
+        Pair {
+            first: Lc::empty(),
+            second: Lc::empty(),
+        }
+    }
 }
 
 /// The numbers of a `Pair`.

@@ -5,7 +5,7 @@ ghost use Rattle.tv_core.specs.Meanings.{Listed, listed_meaning};
 
 use crate::combination::Lc;
 use crate::field::F;
-use crate::rows::{Row, append};
+use crate::rows::{TermRow, append, combinations};
 use crate::sink::{Put, Sink, SinkFault};
 use crate::wire::Wire;
 use std::alloc::{AllocError, Global};
@@ -18,7 +18,7 @@ use std::marker::Model;
 pub struct ListSink {
     wires: u32,
     terms: Vec<(F, Wire)>,
-    rows: Vec<Row>,
+    rows: Vec<TermRow>,
     broken: bool,
 }
 
@@ -73,14 +73,7 @@ impl ListSink {
         ensures { slice_get self.now.list i ≡ Some
             (record { a = result.0; b = result.1; c = result.2 }) }
     {
-        let row = self.rows[i as usize];
-        let terms = &self.terms[row.start..];
-        let (a_end, b_end, c_end) = (row.a_end as usize, row.b_end as usize, row.c_end as usize);
-        (
-            Lc::from_terms(&terms[..a_end]),
-            Lc::from_terms(&terms[a_end..b_end]),
-            Lc::from_terms(&terms[b_end..c_end]),
-        )
+        combinations(&self.terms, self.rows[i as usize])
     }
 }
 

@@ -1,6 +1,6 @@
 //! The terms of a list of constraints in one vector, and where each constraint's terms stand.
 ghost use Rattle.std.specs.Prelude.{◌≡◌, ◌≤◌, [], ◌∷◌, ◌++◌, length, OnOk, OnErr};
-ghost use Rattle.tv_core.specs.Rows.{row_after};
+ghost use Rattle.tv_core.specs.Rows.{constraint_at, row_after, Within};
 
 use crate::combination::Lc;
 use crate::field::F;
@@ -10,17 +10,32 @@ use std::alloc::AllocError;
 // Where the terms of a constraint stand: the first, and the ends of its three combinations from
 // there.
 #[derive(Clone, Copy)]
-pub(crate) struct Row {
+pub(crate) struct TermRow {
     pub(crate) start: usize,
     pub(crate) a_end: u16,
     pub(crate) b_end: u16,
     pub(crate) c_end: u16,
 }
 
+// Returns the three combinations of a row of the terms.
+pub(crate) fn combinations(terms: &[(F, Wire)], row: TermRow) -> (Lc, Lc, Lc)
+    requires within { Within terms.now row }
+    ensures { constraint_at terms.now row ≡ record { a = result.0; b = result.1; c = result.2 } }
+{
+    let a_end = row.start + row.a_end as usize;
+    let b_end = row.start + row.b_end as usize;
+    let c_end = row.start + row.c_end as usize;
+    (
+        Lc::from_terms(&terms[row.start..a_end]),
+        Lc::from_terms(&terms[a_end..b_end]),
+        Lc::from_terms(&terms[b_end..c_end]),
+    )
+}
+
 // Appends three combinations one after another, and their row, or nothing where memory runs out.
 pub(crate) fn append(
     terms: &mut Vec<(F, Wire)>,
-    rows: &mut Vec<Row>,
+    rows: &mut Vec<TermRow>,
     a: &Lc,
     b: &Lc,
     c: &Lc,
@@ -33,7 +48,7 @@ pub(crate) fn append(
         × (rows.new.items ≡ rows.old.items)) }
 {
     let (a, b, c) = (a.terms(), b.terms(), c.terms());
-    let row = Row {
+    let row = TermRow {
         start: terms.len(),
         a_end: a.len() as u16,
         b_end: (a.len() + b.len()) as u16,

@@ -10,16 +10,16 @@ use Rattle.tv_asm.specs.Instruction.{counted, fields, operand_at, operand_count,
 use Rattle.tv_asm.specs.Operand.{operand}
 use Rattle.tv_isa.proofs.TableLemmas.{find-all}
 use Rattle.tv_isa.specs.Instruction.{decode, encode}
-use Rattle.tv_isa.specs.Table.{Row, instructions, with_name, with_opcode}
+use Rattle.tv_isa.specs.Table.{TableRow, instructions, with_name, with_opcode}
 use Rattle.tv_isa.specs.declared.instr.Instr.{Instr}
 use Rattle.tv_isa.specs.declared.operation.Shape.{Shape}
 use Rattle.tv_isa.specs.declared.operation.Shape.TheVariants.{DestSourceA, DestA, SourceA, OnlyA, ADest, Unused}
 use Rattle.tv_word.proofs.DecimalLemmas.{is_decimal_byte, IsDecimal-decimal}
 use Rattle.tv_word.proofs.WidthLaws.{for_widths}
 use Rattle.tv_word.specs.Widths.{IsWidth}
-use Rattle.tv_disasm.specs.Disassembly.{hexadecimal, instruction_text, last_text, leaves_zero, operand_texts, raw_text, register_text, row_text, tells_all}
+use Rattle.tv_disasm.specs.Disassembly.{hexadecimal, instruction_text, last_text, leaves_zero, operand_texts, raw_text, register_text, row_text, shows_all_bits}
 use Rattle.tv_disasm.specs.Disassembly.{two_words_text}
-use Rattle.tv_disasm.proofs.LineLemmas.{AreOperands, IsLine, spelled_line, spelled-IsLine, words_of-line}
+use Rattle.tv_disasm.proofs.LineLemmas.{AreOperands, IsTextLine, printed_line, spelled-IsTextLine, words_of-line}
 use Rattle.tv_disasm.proofs.NumberLemmas.{first-decimal, IsDecimal-IsWord, IsHexadecimal-hexadecimal, number-decimal, number-hexadecimal}
 use Rattle.tv_disasm.proofs.NumberLemmas.{register-register_text, register-word, word_wide}
 use Rattle.tv_disasm.proofs.WordLemmas.{apart, is_word_byte, IsWord}
@@ -48,7 +48,7 @@ find-same p f g (y ∷ ys) x e found =
     step_same f g x y (p y) (find p ys) here found (find-same p f g ys x behind)
 
 -- a row of the table: what its name is looked up to
-pub record IsRow (opcode : ℕ) (row : Row) : Type 0 where
+pub record IsRow (opcode : ℕ) (row : TableRow) : Type 0 where
   pub op : row.op ≡ opcode
   pub found : with_name row.name ≡ Some row
   pub name : IsWord row.name
@@ -72,10 +72,10 @@ names_not_raw : list_all (λ row. not (bytes_eq row.name (codes ".raw"))) instru
 unfolding instructions
 names_not_raw = refl
 
-pub with_opcode-IsRow : (op : ℕ) (row : Row) → with_opcode op ≡ Some row → IsRow op row
+pub with_opcode-IsRow : (op : ℕ) (row : TableRow) → with_opcode op ≡ Some row → IsRow op row
 unfolding with_opcode
 with_opcode-IsRow op row h =
-    let p = λ (r : Row). r.op == op in
+    let p = λ (r : TableRow). r.op == op in
     let word = and_parts (nat_lt 0 (length row.name)) (list_all is_word_byte row.name)
     (find-all p (λ r. nat_lt 0 (length r.name) && list_all is_word_byte r.name) instructions row names_words h) in
     record {
@@ -187,33 +187,33 @@ encode-decode w width h a below low =
 
 -- a line of two words: what it is made of, and what it says
 pub record IsLineOf (w h a : ℕ) (text : List ℕ) : Type 0 where
-  pub line : IsLine text
+  pub line : IsTextLine text
   pub words : (address : List ℕ → Option ℕ) → words_of w address text ≡ Ok (h ∷ a ∷ [])
 
-table_words-told : (w : ℕ) → IsWidth w → (address : List ℕ → Option ℕ) (row : Row) (i : Instr) → IsRow i.op row → IsTold w row.shape i
+table_words-known : (w : ℕ) → IsWidth w → (address : List ℕ → Option ℕ) (row : TableRow) (i : Instr) → IsRow i.op row → IsTold w row.shape i
     → table_words w address row.name (operand_texts row.shape i) ≡ Ok (encode w i)
-table_words-told w width address row i r t =
+table_words-known w width address row i r t =
     rw (r.found, texts-counted row.shape i, r.op, fields-texts w width address row.shape i t) refl
 
 -- an instruction by its name
-instruction-IsLineOf : (w : ℕ) → IsWidth w → (h a : ℕ) (row : Row) → h < 2 ^ w → h % 2 ^ (w - 14) ≡ 0 → IsRow (decode w h a).op row
+instruction-IsLineOf : (w : ℕ) → IsWidth w → (h a : ℕ) (row : TableRow) → h < 2 ^ w → h % 2 ^ (w - 14) ≡ 0 → IsRow (decode w h a).op row
     → IsTold w row.shape (decode w h a) → IsLineOf w h a (instruction_text row.name row.shape (decode w h a))
 instruction-IsLineOf w width h a row below low r t =
     let i = decode w h a in
     let operands = operand_texts row.shape i in
     let are : AreOperands operands = operand_texts-words w width row.shape i t in
     record {
-      line = spelled-IsLine row.name operands r.name are;
+      line = spelled-IsTextLine row.name operands r.name are;
       words = λ address.
           words_of-line w address row.name operands r.name are
-          ∙ rw r.not_raw (table_words-told w width address row i r t ∙ ap (λ words. Ok words) (encode-decode w width h a below low));
+          ∙ rw r.not_raw (table_words-known w width address row i r t ∙ ap (λ words. Ok words) (encode-decode w width h a below low));
     }
 
 -- two words as they are, as a name and operands
 raw_operands : ℕ → ℕ → ℕ → List (List ℕ)
 raw_operands w h a = (codes "0x" ++ hexadecimal (w / 4) h) ∷ decimal a ∷ []
 
-raw-spelled : (w h a : ℕ) → raw_text w h a ≡ spelled_line (codes ".raw") (raw_operands w h a)
+raw-spelled : (w h a : ℕ) → raw_text w h a ≡ printed_line (codes ".raw") (raw_operands w h a)
 unfolding raw_operands
 raw-spelled w h a =
     rw (append-nil (decimal a), append_assoc (hexadecimal (w / 4) h) (codes ", ") (decimal a)) refl
@@ -240,33 +240,33 @@ raw-IsLineOf w width h a high below =
     let operands = raw_operands w h a in
     let name : IsWord (codes ".raw") = record { some = omega arith; bytes = refl } in
     let are = raw-operands w width h a below in
-    let whole : IsLineOf w h a (spelled_line (codes ".raw") operands) = record {
-      line = spelled-IsLine (codes ".raw") operands name are;
+    let whole : IsLineOf w h a (printed_line (codes ".raw") operands) = record {
+      line = spelled-IsTextLine (codes ".raw") operands name are;
       words = λ address.
           words_of-line w address (codes ".raw") operands name are ∙ raw-words w width h a high below;
     } in
     rw (raw-spelled w h a) whole
 
-told : (w h a : ℕ) (shape : Shape) → a < 2 ^ w → leaves_zero shape (decode w h a) ≡ true → ((decode w h a).imm || nat_lt a 16) ≡ true
+known : (w h a : ℕ) (shape : Shape) → a < 2 ^ w → leaves_zero shape (decode w h a) ≡ true → ((decode w h a).imm || nat_lt a 16) ≡ true
     → IsTold w shape (decode w h a)
-told w h a shape below zeros last =
+known w h a shape below zeros last =
     record { dest = omega arith; source = omega arith; zeros = zeros; last = last; a = below }
 
-by_name_or_raw : (w : ℕ) → IsWidth w → (h a : ℕ) (row : Row) (b : Bool) → h < 2 ^ w → a < 2 ^ w → IsRow (decode w h a).op row
-    → tells_all w h row.shape (decode w h a) ≡ b
+by_name_or_raw : (w : ℕ) → IsWidth w → (h a : ℕ) (row : TableRow) (b : Bool) → h < 2 ^ w → a < 2 ^ w → IsRow (decode w h a).op row
+    → shows_all_bits w h row.shape (decode w h a) ≡ b
     → IsLineOf w h a (if b then instruction_text row.name row.shape (decode w h a) else raw_text w h a)
 by_name_or_raw w width h a row true high below r e =
     let i = decode w h a in
     let parts = and_parts (h % 2 ^ (w - 14) == 0 && leaves_zero row.shape i) (i.imm || nat_lt i.a 16) e in
     let first = and_parts (h % 2 ^ (w - 14) == 0) (leaves_zero row.shape i) parts.0 in
-    instruction-IsLineOf w width h a row high (eqb-true (h % 2 ^ (w - 14)) 0 first.0) r (told w h a row.shape below first.1 parts.1)
+    instruction-IsLineOf w width h a row high (eqb-true (h % 2 ^ (w - 14)) 0 first.0) r (known w h a row.shape below first.1 parts.1)
 by_name_or_raw w width h a row false high below r e = raw-IsLineOf w width h a high below
 
-row_text-IsLineOf : (w : ℕ) → IsWidth w → (h a : ℕ) (row : Option Row) → h < 2 ^ w → a < 2 ^ w → with_opcode (decode w h a).op ≡ row
+row_text-IsLineOf : (w : ℕ) → IsWidth w → (h a : ℕ) (row : Option TableRow) → h < 2 ^ w → a < 2 ^ w → with_opcode (decode w h a).op ≡ row
     → IsLineOf w h a (row_text w h a row)
 row_text-IsLineOf w width h a None high below e = raw-IsLineOf w width h a high below
 row_text-IsLineOf w width h a (Some row) high below e =
-    by_name_or_raw w width h a row (tells_all w h row.shape (decode w h a)) high below (with_opcode-IsRow (decode w h a).op row e) refl
+    by_name_or_raw w width h a row (shows_all_bits w h row.shape (decode w h a)) high below (with_opcode-IsRow (decode w h a).op row e) refl
 
 -- the line of two words says these words
 pub two_words-IsLineOf : (w : ℕ) → IsWidth w → (h a : ℕ) → h < 2 ^ w → a < 2 ^ w → IsLineOf w h a (two_words_text w h a)

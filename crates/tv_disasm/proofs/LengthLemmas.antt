@@ -6,7 +6,7 @@ use Rattle.std.proofs.lemmas.List.{length-append}
 use Rattle.std.specs.List.{All, AllByRecursion, flat_map}
 use Rattle.std.specs.Simd.{first_chunks}
 use Rattle.tv_isa.specs.Instruction.{decode}
-use Rattle.tv_isa.specs.Table.{Row, with_opcode}
+use Rattle.tv_isa.specs.Table.{TableRow, with_opcode}
 use Rattle.tv_isa.specs.declared.instr.Instr.{Instr}
 use Rattle.tv_isa.specs.declared.operation.Shape.{Shape}
 use Rattle.tv_isa.specs.declared.operation.Shape.TheVariants.{DestSourceA, DestA, SourceA, OnlyA, ADest, Unused}
@@ -14,7 +14,7 @@ use Rattle.tv_word.proofs.WidthLaws.{for_widths}
 use Rattle.tv_word.specs.Widths.{IsWidth}
 use Rattle.tv_word.specs.Word.{word_at}
 use Rattle.tv_asm.specs.Instruction.{operand_count}
-use Rattle.tv_disasm.specs.Disassembly.{disassembly_of, line_of, instruction_text, last_text, raw_text, register_text, row_text, tells_all, two_words_text}
+use Rattle.tv_disasm.specs.Disassembly.{disassembly_of, text_line_of, instruction_text, last_text, raw_text, register_text, row_text, shows_all_bits, two_words_text}
 use Rattle.tv_disasm.specs.Laws.{DisassemblyIsShort, DisassemblyOf32IsShorter}
 use Rattle.tv_disasm.proofs.InstructionLemmas.{with_opcode-IsRow}
 use Rattle.tv_disasm.proofs.NumberLemmas.{IsHexadecimal-hexadecimal}
@@ -61,17 +61,17 @@ decode-fitting w width h a below =
     let i = decode w h a in
     record { dest = length-register i.dest (omega arith); source = length-register i.source (omega arith); last = length-last_at w width i.imm a below }
 
-length-by_name : (w : ℕ) → IsWidth w → (h a : ℕ) (row : Row) (b : Bool) → a < 2 ^ w → length row.name + 5 * operand_count row.shape ≤ 20
+length-by_name : (w : ℕ) → IsWidth w → (h a : ℕ) (row : TableRow) (b : Bool) → a < 2 ^ w → length row.name + 5 * operand_count row.shape ≤ 20
     → length (if b then instruction_text row.name row.shape (decode w h a) else raw_text w h a) ≤ 17 + 5 * (w / 16)
 length-by_name w width h a row true below name =
     length-instruction w width row.name row.shape (decode w h a) name (decode-fitting w width h a below)
 length-by_name w width h a row false below name = length-raw w width h a below
 
-length-row_text : (w : ℕ) → IsWidth w → (h a : ℕ) (row : Option Row) → a < 2 ^ w → with_opcode (decode w h a).op ≡ row
+length-row_text : (w : ℕ) → IsWidth w → (h a : ℕ) (row : Option TableRow) → a < 2 ^ w → with_opcode (decode w h a).op ≡ row
     → length (row_text w h a row) ≤ 17 + 5 * (w / 16)
 length-row_text w width h a None below e = length-raw w width h a below
 length-row_text w width h a (Some row) below e =
-    length-by_name w width h a row (tells_all w h row.shape (decode w h a)) below (with_opcode-IsRow (decode w h a).op row e).short
+    length-by_name w width h a row (shows_all_bits w h row.shape (decode w h a)) below (with_opcode-IsRow (decode w h a).op row e).short
 
 length-two_words : (w : ℕ) → IsWidth w → (h a : ℕ) → a < 2 ^ w → length (two_words_text w h a) ≤ 17 + 5 * (w / 16)
 unfolding two_words_text
@@ -87,7 +87,7 @@ length-texts w width (two ∷ more) h =
 
 -- the lines of an image of n bytes
 lines_short : (w : ℕ) → IsWidth w → (image : List ℕ) → All (λ b. b < 256) image
-    → length (flat_map (line_of w) (first_chunks (w / 4) (length image / (w / 4)) image)) ≤ (18 + 5 * (w / 16)) * (length image / (w / 4))
+    → length (flat_map (text_line_of w) (first_chunks (w / 4) (length image / (w / 4)) image)) ≤ (18 + 5 * (w / 16)) * (length image / (w / 4))
 lines_short w width image bytes =
     let k = length image / (w / 4) in
     rw (length-chunks (w / 4) k image) at (length-texts w width (first_chunks (w / 4) k image) (chunks-IsTwo w width k image bytes))

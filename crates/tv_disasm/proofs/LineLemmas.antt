@@ -97,8 +97,8 @@ operands-split operand (next ∷ more) h =
     ∙ ap (λ texts. operand ∷ texts) (operands-split next more h.1)
 
 -- an instruction's name, and its operands
-abbrev pub spelled_line : List ℕ → List (List ℕ) → List ℕ
-spelled_line name operands = name ++ codes " " ++ comma_separated operands
+abbrev pub printed_line : List ℕ → List (List ℕ) → List ℕ
+printed_line name operands = name ++ codes " " ++ comma_separated operands
 
 name-no_blank : (name : List ℕ) → IsWord name → list_any is_blank name ≡ false
 name-no_blank name h =
@@ -110,7 +110,7 @@ pub record AreOperands (operands : List (List ℕ)) : Type 0 where
 
 -- an instruction is read by its name and operands
 pub words_of-line : (w : ℕ) (address : List ℕ → Option ℕ) (name : List ℕ) (operands : List (List ℕ)) → IsWord name → AreOperands operands
-    → words_of w address (spelled_line name operands) ≡ (if bytes_eq name (codes ".raw") then raw_words w operands else table_words w address name operands)
+    → words_of w address (printed_line name operands) ≡ (if bytes_eq name (codes ".raw") then raw_words w operands else table_words w address name operands)
 unfolding words_of
 words_of-line w address name [] n h = absurd (omega (arith, h.some))
 words_of-line w address name (operand ∷ more) n h =
@@ -138,7 +138,7 @@ comma_separated-ended operand (next ∷ more) h =
     is_ended-append operand (44 ∷ 32 ∷ comma_separated (next ∷ more)) (is_ended-append (44 ∷ 32 ∷ []) (comma_separated (next ∷ more))
     (comma_separated-ended next more h.1))
 
-pub record IsLine (line : List ℕ) : Type 0 where
+pub record IsTextLine (line : List ℕ) : Type 0 where
   pub first : is_word_byte (slice_index line 0) ≡ true
   pub bytes : list_all is_line_byte line ≡ true
   pub ended : is_ended line ≡ true
@@ -147,12 +147,12 @@ first-append : (name rest : List ℕ) → IsWord name → is_word_byte (slice_in
 first-append [] rest h = absurd (omega (arith, h.some))
 first-append (c ∷ cs) rest h = first-word (c ∷ cs) h
 
-pub spelled-IsLine : (name : List ℕ) (operands : List (List ℕ)) → IsWord name → AreOperands operands → IsLine (spelled_line name operands)
-spelled-IsLine name [] n h = absurd (omega (arith, h.some))
-spelled-IsLine name (operand ∷ more) n h =
+pub spelled-IsTextLine : (name : List ℕ) (operands : List (List ℕ)) → IsWord name → AreOperands operands → IsTextLine (printed_line name operands)
+spelled-IsTextLine name [] n h = absurd (omega (arith, h.some))
+spelled-IsTextLine name (operand ∷ more) n h =
     let rest = comma_separated (operand ∷ more) in
     let front = all_weaker is_word_byte is_line_byte word-line name n.bytes in
-    let whole : IsLine (name ++ 32 ∷ rest) = record {
+    let whole : IsTextLine (name ++ 32 ∷ rest) = record {
       first = first-append name (32 ∷ rest) n;
       bytes =
           list_all-append is_line_byte name (32 ∷ rest)
@@ -176,7 +176,7 @@ unfolding is_good_header
 good_header w [] h = refl
 good_header w (c ∷ cs) h = rw (apart_from is_word_byte c 59 h refl) refl
 
-code_says-line : (line : List ℕ) → IsLine line → code_says line ≡ Some (record { label = None; instruction = line })
+code_says-line : (line : List ℕ) → IsTextLine line → code_says line ≡ Some (record { label = None; instruction = line })
 unfolding code_says
 code_says-line line h =
     rw (trimmed-ended line h.first h.ended, apart is_word_byte (slice_index line 0) 95 h.first refl) refl
@@ -186,7 +186,7 @@ part_words-some w address [] h = cc
 part_words-some w address (c ∷ cs) h = refl
 
 -- such a line has the words of its instruction
-pub line_words-line : (w : ℕ) (first : Bool) (earlier : List ℕ → Bool) (address : List ℕ → Option ℕ) (line : List ℕ) → IsLine line
+pub line_words-line : (w : ℕ) (first : Bool) (earlier : List ℕ → Bool) (address : List ℕ → Option ℕ) (line : List ℕ) → IsTextLine line
     → line_words w first earlier address line ≡ words_of w address line
 unfolding line_words
 line_words-line w first earlier address line h =

@@ -19,15 +19,15 @@ use Rattle.tv_word.proofs.WidthLaws.{for_widths, word_bits}
 use Rattle.tv_word.specs.Widths.{IsWidth}
 use Rattle.tv_word.specs.Word.{low_bytes, little_endian, word_at}
 use Rattle.tv_disasm.specs.Disassembly.{disassembly_of, header_of, two_words_text}
-use Rattle.tv_disasm.specs.Laws.{DisassemblyAssembles, DisassemblyTellsWidth, WordsSpellImage}
+use Rattle.tv_disasm.specs.Laws.{DisassemblyAssembles, DisassemblyFixesWidth, WordsSpellImage}
 use Rattle.tv_disasm.proofs.InstructionLemmas.{IsLineOf, two_words-IsLineOf}
-use Rattle.tv_disasm.proofs.LineLemmas.{IsLine, last-word, line_words-line}
+use Rattle.tv_disasm.proofs.LineLemmas.{IsTextLine, last-word, line_words-line}
 use Rattle.tv_disasm.proofs.WordLemmas.{apart, apart_from, is_line_byte, is_word_byte, none_passes}
 
 abbrev is_line_feed : ℕ → Bool
 is_line_feed c = c == 10
 
-no_return : (line : List ℕ) → IsLine line → strip_carriage_return line ≡ line
+no_return : (line : List ℕ) → IsTextLine line → strip_carriage_return line ≡ line
 no_return line h =
     rw (apart is_word_byte (slice_index line (length line - 1)) 13 (last-word line h.ended) refl) refl
 
@@ -41,12 +41,12 @@ lines-cons line rest whole same =
     ∙ text_lines-cons line pieces some
     ∙ ap (λ l. l ∷ text_lines pieces) same
 
-lines-line : (line rest : List ℕ) → IsLine line → lines (line ++ 10 ∷ rest) ≡ line ∷ lines rest
+lines-line : (line rest : List ℕ) → IsTextLine line → lines (line ++ 10 ∷ rest) ≡ line ∷ lines rest
 lines-line line rest h =
     lines-cons line rest (none_passes is_line_byte is_line_feed (λ c e. apart is_line_byte c 10 e refl) line h.bytes) (no_return line h)
 
 -- a text made of lines is cut into them
-pub lines-flat_map : {X : Type 0} (f : X → List ℕ) (xs : List X) → AllByRecursion (λ x. IsLine (f x)) xs
+pub lines-flat_map : {X : Type 0} (f : X → List ℕ) (xs : List X) → AllByRecursion (λ x. IsTextLine (f x)) xs
     → lines (flat_map (λ x. f x ++ codes "\n") xs) ≡ map f xs
 lines-flat_map f [] h = lines-nil
 lines-flat_map f (x ∷ xs) h =
@@ -67,7 +67,7 @@ pub record IsTwo (w : ℕ) (two : List ℕ) : Type 0 where
 IsTwo-IsLineOf : (w : ℕ) → IsWidth w → (two : List ℕ) → IsTwo w two → IsLineOf w (word_at w two 0) (word_at w two (w / 8)) (text_of w two)
 IsTwo-IsLineOf w width two h = two_words-IsLineOf w width (word_at w two 0) (word_at w two (w / 8)) h.first h.second
 
-texts-lines : (w : ℕ) → IsWidth w → (pairs : List (List ℕ)) → AllByRecursion (IsTwo w) pairs → AllByRecursion (λ two. IsLine (text_of w two)) pairs
+texts-lines : (w : ℕ) → IsWidth w → (pairs : List (List ℕ)) → AllByRecursion (IsTwo w) pairs → AllByRecursion (λ two. IsTextLine (text_of w two)) pairs
 texts-lines w width [] h = tt
 texts-lines w width (two ∷ more) h = ((IsTwo-IsLineOf w width two h.0).line, texts-lines w width more h.1)
 
@@ -215,32 +215,32 @@ text_assembles w width image most bytes whole within =
 abbrev Tells : ℕ → Type 0
 Tells w = (pairs : List (List ℕ)) → AllByRecursion (IsTwo w) pairs → width_of (header_of w ++ flat_map (λ two. text_of w two ++ codes "\n") pairs) ≡ w
 
-tells_16 : Tells 16
+width_of_16 : Tells 16
 unfolding width_of is_header_of_16
-tells_16 pairs are = rw (lines-header (flat_map (λ two. text_of 16 two ++ codes "\n") pairs)) refl
+width_of_16 pairs are = rw (lines-header (flat_map (λ two. text_of 16 two ++ codes "\n") pairs)) refl
 
 no_header : (line : List ℕ) → is_word_byte (slice_index line 0) ≡ true → is_header_of_16 line ≡ false
 unfolding is_header_of_16
 no_header [] h = cc
 no_header (c ∷ cs) h = rw (apart_from is_word_byte c 59 h refl) refl
 
-first_no_header : (pairs : List (List ℕ)) → AllByRecursion (λ two. IsLine (text_of 32 two)) pairs
+first_no_header : (pairs : List (List ℕ)) → AllByRecursion (λ two. IsTextLine (text_of 32 two)) pairs
     → is_header_of_16 (slice_index_or (map (text_of 32) pairs) 0 []) ≡ false
 unfolding is_header_of_16
 first_no_header [] are = refl
 first_no_header (two ∷ more) are = no_header (text_of 32 two) are.0.first
 
-tells_32 : Tells 32
+width_of_32 : Tells 32
 unfolding width_of
-tells_32 pairs are =
+width_of_32 pairs are =
     let lines_are = texts-lines 32 (inr refl) pairs are in
     rw (lines-flat_map (text_of 32) pairs lines_are, first_no_header pairs lines_are) refl
 
-pub text_tells : DisassemblyTellsWidth
+pub text_fixes_width : DisassemblyFixesWidth
 unfolding disassembly_of
-text_tells w width image bytes =
+text_fixes_width w width image bytes =
     let k = length image / (w / 4) in
-    for_widths Tells tells_16 tells_32 w width (first_chunks (w / 4) k image) (chunks-IsTwo w width k image bytes)
+    for_widths Tells width_of_16 width_of_32 w width (first_chunks (w / 4) k image) (chunks-IsTwo w width k image bytes)
 
 -- bytes are the lowest bytes of the number that they represent
 low_bytes-little_endian : (n : ℕ) (bytes : List ℕ) → All (λ b. b < 256) bytes → n ≤ length bytes → low_bytes n (little_endian (take n bytes)) ≡ take n bytes
@@ -266,6 +266,6 @@ chunks-bytes n (suc k) bytes h l =
 whole_words : (w : ℕ) → IsWidth w → (n : ℕ) → n % (w / 8) ≡ 0 → n ≡ n / (w / 8) * (w / 8)
 whole_words = for_widths (λ w. (n : ℕ) → n % (w / 8) ≡ 0 → n ≡ n / (w / 8) * (w / 8)) (λ n h. omega arith) (λ n h. omega arith)
 
-pub words_spell : WordsSpellImage
-words_spell w width image bytes whole =
+pub words_read_back : WordsSpellImage
+words_read_back w width image bytes whole =
     chunks-bytes (w / 8) (length image / (w / 8)) image bytes (whole_words w width (length image) whole)

@@ -3,7 +3,7 @@ use Rattle.std.specs.Prelude.{ℕ, zero, suc, ◌-◌, ◌/◌, ◌%◌, ◌^◌
 use Rattle.std.specs.List.{flat_map, join_by}
 use Rattle.std.specs.Simd.{first_chunks}
 use Rattle.tv_isa.specs.Instruction.{decode}
-use Rattle.tv_isa.specs.Table.{Row, with_opcode}
+use Rattle.tv_isa.specs.Table.{TableRow, with_opcode}
 use Rattle.tv_isa.specs.declared.instr.Instr.{Instr}
 use Rattle.tv_isa.specs.declared.operation.Shape.{Shape}
 use Rattle.tv_isa.specs.declared.operation.Shape.TheVariants.{DestSourceA, DestA, SourceA, OnlyA, ADest, Unused}
@@ -55,22 +55,22 @@ leaves_zero Unused i = false
 
 -- an instruction's text determines all of its two words: no ignored bit is 1, no field that the form doesn't name is
 -- used, and an A that isn't a number is one of the 16 registers
-abbrev pub tells_all : ℕ → ℕ → Shape → Instr → Bool
-tells_all w h shape i = h % 2 ^ (w - 14) == 0 && leaves_zero shape i && (i.imm || nat_lt i.a 16)
+abbrev pub shows_all_bits : ℕ → ℕ → Shape → Instr → Bool
+shows_all_bits w h shape i = h % 2 ^ (w - 14) == 0 && leaves_zero shape i && (i.imm || nat_lt i.a 16)
 
 -- two words, by the row of the table that their opcode has: by name where that determines all of them
-abbrev pub row_text : ℕ → ℕ → ℕ → Option Row → List ℕ
+abbrev pub row_text : ℕ → ℕ → ℕ → Option TableRow → List ℕ
 row_text w h a None = raw_text w h a
 row_text w h a (Some row) =
-    if tells_all w h row.shape (decode w h a) then instruction_text row.name row.shape (decode w h a) else raw_text w h a
+    if shows_all_bits w h row.shape (decode w h a) then instruction_text row.name row.shape (decode w h a) else raw_text w h a
 
 -- the text of two words, without the line's end
 unfoldable pub two_words_text : ℕ → ℕ → ℕ → List ℕ
 two_words_text w h a = row_text w h a (with_opcode (decode w h a).op)
 
 -- the line of the bytes of two words, and its end
-abbrev pub line_of : ℕ → List ℕ → List ℕ
-line_of w two = two_words_text w (word_at w two 0) (word_at w two (w / 8)) ++ codes "\n"
+abbrev pub text_line_of : ℕ → List ℕ → List ℕ
+text_line_of w two = two_words_text w (word_at w two 0) (word_at w two (w / 8)) ++ codes "\n"
 
 -- the line that a text for words of 16 bits begins with: its header
 abbrev pub header_of : ℕ → List ℕ
@@ -78,4 +78,4 @@ header_of w = if w == 16 then codes "; TinyRAM W=16 K=16\n" else []
 
 -- the text of an image: a line for each two words, after the header
 unfoldable pub disassembly_of : ℕ → List ℕ → List ℕ
-disassembly_of w image = header_of w ++ flat_map (line_of w) (first_chunks (w / 4) (length image / (w / 4)) image)
+disassembly_of w image = header_of w ++ flat_map (text_line_of w) (first_chunks (w / 4) (length image / (w / 4)) image)

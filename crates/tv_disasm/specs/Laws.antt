@@ -18,8 +18,8 @@ DisassemblyAssembles =
     (w : ℕ) → IsWidth w → (image : List ℕ) (most : ℕ) → All (λ b. b < 256) image → length image % (w / 4) ≡ 0 → length image ≤ w / 8 * most → assembled w most (disassembly_of w image) ≡ Ok (words_in w image)
 
 -- the text of an image determines the width that it was made for
-abbrev pub DisassemblyTellsWidth : Type 0
-DisassemblyTellsWidth =
+abbrev pub DisassemblyFixesWidth : Type 0
+DisassemblyFixesWidth =
     (w : ℕ) → IsWidth w → (image : List ℕ) → All (λ b. b < 256) image → width_of (disassembly_of w image) ≡ w
 
 -- the bytes of these words are the image again

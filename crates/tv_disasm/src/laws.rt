@@ -1,6 +1,6 @@
 //! What the assembler makes of a text that `disassemble` returns, for words of either width.
 ghost use Rattle.tv_disasm.specs.Laws.{DisassemblyAssembles, DisassemblyIsShort};
-ghost use Rattle.tv_disasm.specs.Laws.{DisassemblyOf32IsShorter, DisassemblyTellsWidth};
+ghost use Rattle.tv_disasm.specs.Laws.{DisassemblyOf32IsShorter, DisassemblyFixesWidth};
 ghost use Rattle.tv_disasm.specs.Laws.{WordsSpellImage};
 
 /// The text of an image assembles to the image's words, by the assembler's own definition: for
@@ -11,15 +11,15 @@ pub fn disassembly_assembles()
 {}
 
 /// The text of an image is one for words of its own width: the assembler takes it at that width.
-#[tactic(auto, using(crate::proofs::TextLemmas::text_tells))]
-pub fn disassembly_tells_its_width()
-    ensures { DisassemblyTellsWidth }
+#[tactic(auto, using(crate::proofs::TextLemmas::text_fixes_width))]
+pub fn disassembly_fixes_its_width()
+    ensures { DisassemblyFixesWidth }
 {}
 
 /// The bytes of the image's words are the image. So an image that is disassembled and assembled
 /// again is the same, byte for byte.
-#[tactic(auto, using(crate::proofs::TextLemmas::words_spell))]
-pub fn words_spell_the_image()
+#[tactic(auto, using(crate::proofs::TextLemmas::words_read_back))]
+pub fn words_are_of_the_image()
     ensures { WordsSpellImage }
 {}
 

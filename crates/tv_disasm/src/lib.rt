@@ -15,5 +15,6 @@ mod operands;
 pub use disassembler::disassemble;
 pub use fault::DisFault;
 pub use laws::{
-    disassembly_assembles, disassembly_is_short, disassembly_tells_its_width, words_spell_the_image,
+    disassembly_assembles, disassembly_fixes_its_width, disassembly_is_short,
+    words_are_of_the_image,
 };

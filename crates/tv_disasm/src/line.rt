@@ -2,7 +2,7 @@
 ghost use Rattle.std.specs.Prelude.{◌≡◌, ◌++◌, ◌-◌, ◌/◌, ◌<◌, drop, OnOk};
 ghost use Rattle.tv_word.specs.Widths.{IsWidth};
 ghost use Rattle.tv_disasm.specs.Disassembly.{digit_char, hexadecimal, instruction_text};
-ghost use Rattle.tv_disasm.specs.Disassembly.{leaves_zero, raw_text, tells_all, two_words_text};
+ghost use Rattle.tv_disasm.specs.Disassembly.{leaves_zero, raw_text, shows_all_bits, two_words_text};
 
 use crate::operands::{push_decimal, push_operands};
 use std::alloc::AllocError;
@@ -16,7 +16,7 @@ pub(crate) fn push_line<const W: u32>(text: &mut Vec<u8>, h: u32, a: u32) -> Res
 {
     let instr = decode::<W>(h, a);
     match operation_of(instr.op) {
-        Some(operation) if tells_all::<W>(h, operation.shape, &instr) => {
+        Some(operation) if shows_all_bits::<W>(h, operation.shape, &instr) => {
             push_instruction(text, operation, &instr)
         }
         _ => push_raw::<W>(text, h, a),
@@ -24,9 +24,9 @@ pub(crate) fn push_line<const W: u32>(text: &mut Vec<u8>, h: u32, a: u32) -> Res
 }
 
 /// Returns whether an instruction's text determines all of its two words.
-fn tells_all<const W: u32>(h: u32, shape: Shape, instr: &Instr) -> bool
+fn shows_all_bits<const W: u32>(h: u32, shape: Shape, instr: &Instr) -> bool
     requires { IsWidth W }
-    ensures { result ≡ tells_all W h shape instr.now }
+    ensures { result ≡ shows_all_bits W h shape instr.now }
 {
     h % (1 << (W - 14)) == 0 && leaves_zero(shape, instr) && (instr.imm || instr.a < 16)
 }

@@ -115,21 +115,21 @@ source_small _ source h = omega arith
 abbrev head_of : ℕ → Bool → ℕ → ℕ → ℕ
 head_of op imm dest source = op * 2 ^ 27 + cond imm (2 ^ 26) 0 + dest * 2 ^ 22 + source * 2 ^ 18
 
-record Tells (op : ℕ) (imm : Bool) (head : ℕ) : Type 0 where
+record HeadFields (op : ℕ) (imm : Bool) (head : ℕ) : Type 0 where
   small : head < 2 ^ 32
   op_is : field 27 5 head ≡ op
   imm_is : (field 26 1 head == 1) ≡ imm
 
-head_tells : (op : ℕ) (imm : Bool) (dest source : ℕ) → op < 32 → dest < 16 → source < 16 → Tells op imm (head_of op imm dest source)
-head_tells op true dest source h k l = record { small = omega arith; op_is = omega arith; imm_is = eq-eqb _ 1 (omega arith) }
-head_tells op false dest source h k l = let none : field 26 1 (head_of op false dest source) ≡ 0 = omega arith in
+head_fields : (op : ℕ) (imm : Bool) (dest source : ℕ) → op < 32 → dest < 16 → source < 16 → HeadFields op imm (head_of op imm dest source)
+head_fields op true dest source h k l = record { small = omega arith; op_is = omega arith; imm_is = eq-eqb _ 1 (omega arith) }
+head_fields op false dest source h k l = let none : field 26 1 (head_of op false dest source) ≡ 0 = omega arith in
     record { small = omega arith; op_is = omega arith; imm_is = ap (λ n. n == 1) none }
 
 abbrev drawn_head : ℕ → ℕ
 drawn_head g = head_of (op_in g) (imm_in g) (dest_if (shape_of (op_in g)) (g / 2 ^ 9 % 16)) (source_if (shape_of (op_in g)) (g / 2 ^ 13 % 16))
 
-drawn_tells : (g : ℕ) → Tells (op_in g) (imm_in g) (drawn_head g)
-drawn_tells g = head_tells (op_in g) (imm_in g) _ _ (drawn_small g) (dest_small (shape_of (op_in g)) _ (omega arith))
+drawn_fields : (g : ℕ) → HeadFields (op_in g) (imm_in g) (drawn_head g)
+drawn_fields g = head_fields (op_in g) (imm_in g) _ _ (drawn_small g) (dest_small (shape_of (op_in g)) _ (omega arith))
     (source_small (shape_of (op_in g)) _ (omega arith))
 
 -- a store has an address after the first 2^16 bytes
@@ -146,12 +146,12 @@ drawn_follows : (g : ℕ) (st : State) → word_in 32 st.memory (st.pc / 4) ≡ 
     → Follows st (next 32 st)
 drawn_follows g st head tail =
     let i = fetched 32 st in
-    let tells = drawn_tells g in
-    let op_is : i.op ≡ op_in g = ap (field 27 5) head ∙ tells.op_is in
+    let fields = drawn_fields g in
+    let op_is : i.op ≡ op_in g = ap (field 27 5) head ∙ fields.op_is in
     row_follows (op_of i.op) st i.dest (reg st i.dest) (reg st i.source) (operand st i) (ap (λ op. stays (op_of op)) op_is ∙ drawn_stays g)
     (λ store.
     let far = stores_far g (sym (store_test (op_in g) (drawn_small g)) ∙ ap (λ op. is_store (op_of op)) (sym op_is) ∙ store) in
-    let imm : i.imm ≡ true = ap (λ n. field 26 1 n == 1) head ∙ tells.imm_is ∙ far.0 in
+    let imm : i.imm ≡ true = ap (λ n. field 26 1 n == 1) head ∙ fields.imm_is ∙ far.0 in
     let whole : operand st i ≡ (instr_in g).a = ap (λ b. cond b i.a (reg st (i.a % 16))) imm ∙ tail in
     omega (arith, whole, far.1))
 
@@ -201,7 +201,7 @@ module _ (seed : ℕ) where
       let g = word_at seed n in
       subst (AreWords 32) (sym (joined_below-suc n (pair_at seed)))
       (All-append (λ v. v < 2 ^ 32) (joined_below n (pair_at seed)) (pair_at seed n) (pairs_words n)
-      (pair_words (drawn_head g) (instr_in g).a (drawn_tells g).small (operand_small g (word_small n))))
+      (pair_words (drawn_head g) (instr_in g).a (drawn_fields g).small (operand_small g (word_small n))))
 
   words_small : (i n : ℕ) → AreWords 32 (words_drawn seed i n)
   unfolding each_below

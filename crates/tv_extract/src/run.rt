@@ -24,7 +24,7 @@ pub struct Run {
 /// Why an assignment has no run.
 #[derive(Clone, Copy, PartialEq, Eq, Debug, Error)]
 pub enum NotRun {
-    /// It has `has` values, and the system `wants` wires.
+    /// It has `has` values, where the system has `wants` wires.
     #[error("{has} wires, {wants} wanted")]
     WireCount { has: u64, wants: u64 },
     /// The number at this wire, which is public or that of a word taken, is no word.

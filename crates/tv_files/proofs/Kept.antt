@@ -58,7 +58,7 @@ prefix_added name bytes due old new (inr half) = (length bytes / 2, ap Some half
 -- a name that was found isn't missing among the known files
 pub found_is_there : (name : List ℕ) (m : BTreeMap (String Global) (Vec ℕ Global)) (had : Vec ℕ Global) (files : Names) →
     get_by_text m name ≡ Some had → Some (names_in m) ≡ Some files → files name ≢ None
-found_is_there name m had files found told gone =
+found_is_there name m had files found known gone =
     let same : names_in m ≡ files = cc in
     let here : names_in m name ≡ Some had.items = ap (option_map (λ bytes. bytes.items)) found in
     let missing : names_in m name ≡ None = ap (λ names. names name) same ∙ gone in

@@ -34,10 +34,10 @@ with_more-with_bytes name bytes more files =
     ∙ update-update name (Some bytes) (Some (bytes ++ more)) files
 
 -- the same of files that may not be known
-pub told-with_more-with_bytes : (name bytes more : List ℕ) (told : Option Names) →
-    option_map (with_more name more) (option_map (with_bytes name bytes) told) ≡ option_map (with_bytes name (bytes ++ more)) told
-told-with_more-with_bytes name bytes more None = refl
-told-with_more-with_bytes name bytes more (Some files) = ap Some (with_more-with_bytes name bytes more files)
+pub known-with_more-with_bytes : (name bytes more : List ℕ) (known : Option Names) →
+    option_map (with_more name more) (option_map (with_bytes name bytes) known) ≡ option_map (with_bytes name (bytes ++ more)) known
+known-with_more-with_bytes name bytes more None = refl
+known-with_more-with_bytes name bytes more (Some files) = ap Some (with_more-with_bytes name bytes more files)
 
 -- adding nothing changes nothing
 pub with_more-none : (name : List ℕ) (files : Names) → with_more name [] files ≡ files
@@ -65,10 +65,10 @@ with_more-with_more name first second files =
     both (Some bytes) = ap Some (append_assoc bytes first second)
 
 -- the same of files that may not be known
-pub told-with_more-with_more : (name first second : List ℕ) (told : Option Names) →
-    option_map (with_more name second) (option_map (with_more name first) told) ≡ option_map (with_more name (first ++ second)) told
-told-with_more-with_more name first second None = refl
-told-with_more-with_more name first second (Some files) = ap Some (with_more-with_more name first second files)
+pub known-with_more-with_more : (name first second : List ℕ) (known : Option Names) →
+    option_map (with_more name second) (option_map (with_more name first) known) ≡ option_map (with_more name (first ++ second)) known
+known-with_more-with_more name first second None = refl
+known-with_more-with_more name first second (Some files) = ap Some (with_more-with_more name first second files)
 
 -- a name that isn't there stays absent
 pub with_more-absent : (name more : List ℕ) (files : Names) → files name ≡ None → with_more name more files name ≡ None

@@ -26,8 +26,8 @@ front_ends front bytes into at here is_front gives room =
 -- a name that was read is there, where contents are known
 pub held_of_read : (old new : Outside) (name : List ℕ) (at : ℕ) (into : List ℕ) (count : ℕ) → Reads old new name at into (Ok count) →
     WhereKnown old (λ files. (bytes : List ℕ) × (files name ≡ Some bytes) × Gives bytes at count into)
-held_of_read old new name at into count reads files told = by_name (files name) refl
+held_of_read old new name at into count reads files known = by_name (files name) refl
   where
     by_name : (file : Option (List ℕ)) → (files name ≡ file) → (bytes : List ℕ) × (files name ≡ Some bytes) × Gives bytes at count into
-    by_name None e = let fails = reads.missing files told e in cc fails.0
-    by_name (Some bytes) e = (bytes, e, reads.bytes files told bytes e)
+    by_name None e = let fails = reads.missing files known e in cc fails.0
+    by_name (Some bytes) e = (bytes, e, reads.bytes files known bytes e)

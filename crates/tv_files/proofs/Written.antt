@@ -4,13 +4,13 @@ use Rattle.std.proofs.lemmas.List.{take-append-le, take_min}
 use Rattle.std.proofs.Math.Seq.{take-append-add}
 use Rattle.tv_files.specs.Outside.{Outside, with_bytes, with_more}
 use Rattle.tv_files.specs.Whole.{HasBytes, HasPart}
-use Rattle.tv_files.proofs.NamedFiles.{told-with_more-with_bytes}
+use Rattle.tv_files.proofs.NamedFiles.{known-with_more-with_bytes}
 
 -- the next piece goes after what was written
 pub written_grows : (old now new : Outside) (name written piece : List ℕ) → HasBytes old now name written →
     new.contents ≡ option_map (with_more name piece) now.contents → HasBytes old new name (written ++ piece)
 written_grows old now new name written piece before added =
-    added ∙ ap (option_map (with_more name piece)) before ∙ told-with_more-with_bytes name written piece old.contents
+    added ∙ ap (option_map (with_more name piece)) before ∙ known-with_more-with_bytes name written piece old.contents
 
 -- a front, and the first few bytes after it, are a front
 take_front : (written piece rest : List ℕ) (n : ℕ) → take (length written + min n (length piece)) (written ++ (piece ++ rest)) ≡ written ++ take n piece

@@ -75,10 +75,10 @@ is_failed (Err Failed) = true
 is_failed (Err Memory) = false
 
 -- memory ran out in the call
-abbrev pub is_wanting : {T : Type 0} → Result T FileRefusal → Bool
-is_wanting (Ok _) = false
-is_wanting (Err Failed) = false
-is_wanting (Err Memory) = true
+abbrev pub is_out_of_memory : {T : Type 0} → Result T FileRefusal → Bool
+is_out_of_memory (Ok _) = false
+is_out_of_memory (Err Failed) = false
+is_out_of_memory (Err Memory) = true
 
 -- which events came in a call: a fault in a read, in a write or in saying, memory running out, a name that isn't there
 pub record Events : Type 0 where

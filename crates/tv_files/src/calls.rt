@@ -15,7 +15,7 @@ pub enum FileRefusal {
     Memory,
 }
 
-/// Named files and one stream of printed words.
+/// Named files and one stream of printed bytes.
 ///
 /// What a value means is `seen`, an `Outside`: the files' contents and the printed bytes, where
 /// they are known, and counts of faults, of allocation failures and of names that were absent. No
@@ -29,7 +29,7 @@ pub trait Files {
     fn read(&mut self, name: &str, at: u64, into: &mut [u8]) -> Result<usize, FileRefusal>
         ensures { Reads (seen self.old) (seen self.new) name.now at into.new result };
 
-    /// Makes the name stand for no bytes, whether or not it was there. After a refusal it is as
+    /// Creates an empty file of this name, in place of one that is there. After a refusal it is as
     /// before, or empty.
     fn create(&mut self, name: &str) -> Result<(), FileRefusal>
         ensures { Creates (seen self.old) (seen self.new) name.now result };
@@ -39,7 +39,7 @@ pub trait Files {
     fn append(&mut self, name: &str, bytes: &[u8]) -> Result<(), FileRefusal>
         ensures { Appends (seen self.old) (seen self.new) name.now bytes.now result };
 
-    /// Adds the bytes to what was said. After a refusal a prefix of them was added.
+    /// Prints the bytes. After a refusal a prefix of them was printed.
     fn say(&mut self, bytes: &[u8]) -> Result<(), FileRefusal>
         ensures { Says (seen self.old) (seen self.new) bytes.now result };
 }

@@ -5,7 +5,7 @@ ghost use Rattle.tv_files.specs.Calls.{Reads, Creates, Appends, Says};
 ghost use Rattle.tv_files.specs.Outside.{with_bytes, with_more};
 ghost use Rattle.tv_files.specs.MemFiles.{names_of, said_of, calls_of, failing_of, outside_of};
 ghost use Rattle.tv_files.specs.MemFiles.{nothing};
-ghost use Rattle.tv_files.specs.MemFiles.{Counted, is_due, is_failed, is_wanting, no_event};
+ghost use Rattle.tv_files.specs.MemFiles.{Counted, is_due, is_failed, is_out_of_memory, no_event};
 ghost use Rattle.tv_files.specs.MemFiles.{read_answer};
 ghost use Rattle.tv_files.specs.MemFiles.{first_half};
 
@@ -36,9 +36,9 @@ pub struct MemFiles {
 }
 
 impl MemFiles {
-    /// No names, nothing said, no call that is to fail, and counts of 0.
+    /// No names, nothing printed, no call that is to fail, and counts of 0.
     pub fn new(alloc: Global) -> MemFiles
-        ensures told { outside_of result ≡ nothing }
+        ensures known { outside_of result ≡ nothing }
         ensures calls { calls_of result ≡ 0 }
         ensures failing { failing_of result ≡ [] }
     {
@@ -56,7 +56,7 @@ impl MemFiles {
         }
     }
 
-    /// Makes the name stand for these bytes. All stays as it was where memory is refused.
+    /// Sets the contents of the file of this name. Nothing changes where memory runs out.
     pub fn set(&mut self, name: &str, bytes: &[u8]) -> Result<(), AllocError>
         ensures ok { OnOk result (outside_of self.new ≡ record (outside_of self.old) {
           contents = Some (with_bytes name.now bytes.now (names_of self.old));
@@ -68,11 +68,11 @@ impl MemFiles {
         put(self.alloc, &mut self.names, name, bytes)
     }
 
-    /// Lets the call with this number fail. All stays as it was where memory is refused.
+    /// Lets the call with this number fail. Nothing changes where memory runs out.
     pub fn fail_at(&mut self, number: u64) -> Result<(), AllocError>
         ensures ok { OnOk result (failing_of self.new ≡ failing_of self.old ++ number ∷ []) }
         ensures err { OnErr result (failing_of self.new ≡ failing_of self.old) }
-        ensures told { outside_of self.new ≡ outside_of self.old }
+        ensures known { outside_of self.new ≡ outside_of self.old }
         ensures calls { calls_of self.new ≡ calls_of self.old }
     {
         self.failing.push(number)?;
@@ -86,7 +86,7 @@ impl MemFiles {
         self.names.get(name).map(|bytes| bytes.as_slice())
     }
 
-    /// What was said.
+    /// The printed bytes.
     pub fn said_bytes(&self) -> &[u8]
         ensures { result.now ≡ said_of self.now }
     {
@@ -138,7 +138,7 @@ impl Files for MemFiles {
         ensures refused { OnErr result (names_of self.new ≡ names_of self.old) }
         ensures counted { Counted self.old self.new (record no_event {
           write_fault = is_failed result;
-          want = is_wanting result;
+          want = is_out_of_memory result;
         }) }
     {
         if next_is_due(&mut self.calls, &self.failing) {
@@ -163,7 +163,7 @@ impl Files for MemFiles {
             (names_of self.old)))) }
         ensures counted { Counted self.old self.new (record no_event {
           write_fault = is_failed result;
-          want = is_wanting result;
+          want = is_out_of_memory result;
           miss = is_none (names_of self.old name.now);
         }) }
     {
@@ -186,7 +186,7 @@ impl Files for MemFiles {
             × (said_of self.new ≡ said_of self.old ++ first_half bytes.now))) }
         ensures counted { Counted self.old self.new (record no_event {
           say_fault = is_failed result;
-          want = is_wanting result;
+          want = is_out_of_memory result;
         }) }
     {
         let due = next_is_due(&mut self.calls, &self.failing);

@@ -7,13 +7,13 @@ use crate::calls::FileRefusal;
 use std::alloc::AllocError;
 use thiserror::Error;
 
-/// Why `slurp` gave no contents.
+/// Why `slurp` returned no contents.
 #[derive(Clone, Copy, PartialEq, Eq, Debug, Error)]
 pub enum Slurp {
     /// Reading failed.
     #[error("reading failed")]
     Fault,
-    /// Memory was wanting.
+    /// Memory ran out.
     #[error("out of memory")]
     Memory,
     /// The file has more than `most` bytes.

@@ -3,7 +3,7 @@ ghost use Rattle.std.specs.Prelude.{◌≡◌, ◌≤◌, ◌-◌, ◌++◌, min
 ghost use Rattle.std.specs.Prelude.{IsTrue};
 ghost use Rattle.tv_files.specs.Outside.{with_bytes};
 ghost use Rattle.tv_files.specs.MemFiles.{names_in, one_more, raised, is_listed, is_failed};
-ghost use Rattle.tv_files.specs.MemFiles.{is_wanting, first_half};
+ghost use Rattle.tv_files.specs.MemFiles.{is_out_of_memory, first_half};
 
 use crate::calls::FileRefusal;
 use std::alloc::{AllocError, Global};
@@ -26,7 +26,7 @@ pub fn next_is_due(calls: &mut u64, failing: &[u64]) -> bool
     failing.contains(calls)
 }
 
-/// Makes the name stand for a copy of these bytes. Nothing changes where memory is refused.
+/// Sets the contents of the name to a copy of these bytes. Nothing changes where memory runs out.
 pub fn put(
     alloc: Global,
     names: &mut BTreeMap<String, Vec<u8>>,
@@ -70,7 +70,7 @@ pub fn add(
     ensures refused { OnErr result ((to.new.items ≡ to.old.items)
         ⊎ (IsTrue due × (to.new.items ≡ to.old.items ++ first_half bytes.now))) }
     ensures faults { faults.new ≡ raised (is_failed result) faults.old }
-    ensures wants { wants.new ≡ raised (is_wanting result) wants.old }
+    ensures wants { wants.new ≡ raised (is_out_of_memory result) wants.old }
     ensures faults_later { faults.old ≤ faults.new }
     ensures wants_later { wants.old ≤ wants.new }
 {

@@ -51,8 +51,8 @@ pub fn slurp<D: Files>(
     }
 }
 
-/// Makes the name stand for these bytes: creates it, then appends pieces of 4,096 bytes, of which
-/// the last may be shorter, and none for no bytes.
+/// Writes the whole file of this name: creates it, then appends pieces of 4,096 bytes, of which the
+/// last may be shorter, and none for no bytes.
 ///
 /// After a refusal the name is as it was, or has a first part of the bytes. Nothing else outside is
 /// changed but the counts, and `absent` is not.

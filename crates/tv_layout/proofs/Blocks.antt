@@ -1,7 +1,7 @@
 -- What a system needs of a step's circuit. A system's laws stand on these records alone; that the circuit of tv_block has
 -- them is proved in Systems.
 use Rattle.std.specs.Prelude.{◌≡◌, ℕ, ◌+◌, ◌/◌, ◌^◌, ◌<◌, ◌≤◌, Bool, List, length, Option, Some, is_some}
-use Rattle.tv_block.specs.Block.{did, IsMachineStep}
+use Rattle.tv_block.specs.Block.{transition_in, IsMachineStep}
 use Rattle.tv_block.specs.Complete.{olds_of}
 use Rattle.tv_parts.specs.States.{state_in}
 use Rattle.tv_block.specs.declared.records.Block.{Block}
@@ -9,10 +9,10 @@ use Rattle.tv_parts.specs.declared.records.StateWires.{StateWires}
 use Rattle.tv_core.specs.Laws.{Assigns, Meets, HasFrom, InField}
 use Rattle.tv_core.specs.declared.limits.TheConstants.{NULL_CELL}
 use Rattle.tv_step.specs.Rows.{word_size}
-use Rattle.tv_numbers.specs.Numbers.{Did, lines_in}
+use Rattle.tv_numbers.specs.Numbers.{Transition, lines_in}
 use Rattle.tv_numbers.specs.Shown.{MayTake}
 use Rattle.tv_numbers.specs.Views.{ViewInRange, Matches}
-use Rattle.tv_step.specs.Range.{InRange}
+use Rattle.tv_step.specs.Range.{StateInRange}
 use Rattle.tv_step.specs.Reads.{word_taken}
 use Rattle.tv_step.specs.Runs.{IsDefined}
 use Rattle.tv_step.specs.State.{State}
@@ -26,7 +26,7 @@ pub record BlockSizes (block : BlockCircuit) (made : ℕ) : Type 0 where
 
 -- the cells of a step's lines: it fetches its instruction's two words from neighbouring cells, which stand before the
 -- null cell, and no line is of a cell after that; one of the null cell leaves 0
-pub record HasCells (w : ℕ) (b : Did) : Type 0 where
+pub record HasCells (w : ℕ) (b : Transition) : Type 0 where
   pub first : b.first.cell ≡ b.now.pc / word_size w
   pub second : b.second.cell ≡ b.first.cell + 1
   pub low : b.second.cell < NULL_CELL
@@ -35,7 +35,7 @@ pub record HasCells (w : ℕ) (b : Did) : Type 0 where
 
 pub record IsSoundStep (w : ℕ) (z x : List ℕ) (time : ℕ) (state : StateWires) (made : Block) : Type 0 where
   pub machine : IsMachineStep w z x time state made
-  pub cells : HasCells w (did z state made)
+  pub cells : HasCells w (transition_in z state made)
 
 -- an assignment that satisfies its constraints, the state before being in range, has a step of the machine there
 abbrev pub BlockIsSound : ℕ → BlockCircuit → Type 0
@@ -51,14 +51,14 @@ pub record Given (w : ℕ) (values : BlockValues) (z x : List ℕ) (state : Stat
   pub early : time + 2 < 2 ^ 32
   pub assigns : Assigns z
   pub range : ViewInRange w (length x) (state_in z state)
-  pub machine : InRange w st
+  pub machine : StateInRange w st
   pub matches : Matches x (state_in z state) st
   pub defined : IsDefined w st
   pub may : MayTake w (state_in z state) st word
   pub has : HasFrom z next (values (length x) (state_in z state) (olds_of w (length x) st time) word)
 
 -- the lines are those of the machine's step, and the word is the one that was passed
-pub record ShowsStep (w n time : ℕ) (st : State) (word : Option ℕ) (b : Did) : Type 0 where
+pub record ShowsStep (w n time : ℕ) (st : State) (word : Option ℕ) (b : Transition) : Type 0 where
   pub lines : lines_in b ≡ step_lines w n st time
   pub takes : b.takes ≡ is_some word
   pub same : (v : ℕ) → word ≡ Some v → b.word ≡ v
@@ -66,11 +66,11 @@ pub record ShowsStep (w n time : ℕ) (st : State) (word : Option ℕ) (b : Did)
 -- The values are as many as wires and each below P for each state of the machine in range; and an assignment that is
 -- given them satisfies the block's constraints, and shows the step.
 pub record BlockIsComplete (w : ℕ) (block : BlockCircuit) (made : ℕ) (values : BlockValues) : Type 0 where
-  pub many : (n time : ℕ) (st : State) (ended : Bool) → n < 2 ^ 29 → InRange w st
+  pub many : (n time : ℕ) (st : State) (ended : Bool) → n < 2 ^ 29 → StateInRange w st
       → length (values n (view_of n st ended) (olds_of w n st time) (word_taken w st)) ≡ made
-  pub below : (n time : ℕ) (st : State) (ended : Bool) → n < 2 ^ 29 → InRange w st
+  pub below : (n time : ℕ) (st : State) (ended : Bool) → n < 2 ^ 29 → StateInRange w st
       → InField (values n (view_of n st ended) (olds_of w n st time) (word_taken w st))
   pub met : (z x : List ℕ) (state : StateWires) (time next : ℕ) (st : State) (word : Option ℕ) → Given w values z x state time next st word
       → Meets z (block (length x) state time next).list
   pub shows : (z x : List ℕ) (state : StateWires) (time next : ℕ) (st : State) (word : Option ℕ) → Given w values z x state time next st word
-      → ShowsStep w (length x) time st word (did z state (block (length x) state time next).answer)
+      → ShowsStep w (length x) time st word (transition_in z state (block (length x) state time next).answer)

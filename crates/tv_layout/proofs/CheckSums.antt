@@ -5,7 +5,7 @@ use Rattle.tv_core.proofs.BelowLaws.{sum_below-zero, sum_below-suc, sum_below-ad
 use Rattle.tv_core.specs.Below.{sum_below}
 use Rattle.tv_core.specs.declared.limits.TheConstants.{CELL_BITS, TAPE_CELLS}
 use Rattle.tv_argument.specs.declared.kinds.Kind.{Kind}
-use Rattle.tv_argument.specs.declared.kinds.Kind.TheVariants.{Fresh, Boot, Within}
+use Rattle.tv_argument.specs.declared.kinds.Kind.TheVariants.{ZeroOld, Boot, Within}
 use Rattle.tv_layout.proofs.LineKinds.{first_boot, later_boot, later_first}
 use Rattle.tv_layout.specs.Checks.{boot_kind, first_kind}
 use Rattle.tv_layout.specs.Sizes.{step_cost, check_costs, in_row, checks_total}
@@ -51,7 +51,7 @@ thirds_sum (suc t) f =
 
 -- ---- of all lines, where the check at a place costs what its kind does
 module _ (cost : Kind → ℕ) (boots : (c : ℕ) → cost (Boot c) ≡ cost (Boot 0)) (k words n t : ℕ) (c : ℕ → ℕ)
-    (image : (i : ℕ) → i < words → c i ≡ cost (boot_kind Fresh 0 i))
+    (image : (i : ℕ) → i < words → c i ≡ cost (boot_kind ZeroOld 0 i))
     (tape : (i : ℕ) → i < n → c (words + i) ≡ cost (boot_kind (Within CELL_BITS) TAPE_CELLS i))
     (first : (j : ℕ) → j < t → c (words + n + 3 * j) ≡ cost (first_kind words j))
     (second : (j : ℕ) → j < t → c (words + n + (3 * j + 1)) ≡ cost (Within k))
@@ -78,5 +78,5 @@ module _ (cost : Kind → ℕ) (boots : (c : ℕ) → cost (Boot c) ≡ cost (Bo
   checks_sum =
       sum_below-add (words + n) (3 * t) c
       ∙ ap₂ (λ x y. x + y)
-      (sum_below-add words n c ∙ ap₂ (λ x y. x + y) (row_of Fresh 0 words c image) (row_of (Within CELL_BITS) TAPE_CELLS n (λ i. c (words + i)) tape))
+      (sum_below-add words n c ∙ ap₂ (λ x y. x + y) (row_of ZeroOld 0 words c image) (row_of (Within CELL_BITS) TAPE_CELLS n (λ i. c (words + i)) tape))
       steps_sum

@@ -11,8 +11,8 @@ use Rattle.tv_lines.specs.Placed.{zero_line, number_in}
 use Rattle.tv_argument.proofs.Parts.{placed}
 use Rattle.tv_argument.specs.Checks.{IsOfKind, IsPadded, AreOfKinds, HasCell, IsNear, AreNear}
 use Rattle.tv_argument.specs.declared.kinds.Kind.{Kind}
-use Rattle.tv_argument.specs.declared.kinds.Kind.TheVariants.{Fresh, Within}
-use Rattle.tv_numbers.specs.Numbers.{Did, lines_in}
+use Rattle.tv_argument.specs.declared.kinds.Kind.TheVariants.{ZeroOld, Within}
+use Rattle.tv_numbers.specs.Numbers.{Transition, lines_in}
 use Rattle.tv_numbers.specs.Views.{View}
 use Rattle.tv_step.specs.Range.{AreWords}
 use Rattle.tv_step.specs.Rows.{word_size}
@@ -26,7 +26,7 @@ use Rattle.tv_layout.proofs.MemoryCosts.{tape_kind, first_kinds, second_kinds, t
 use Rattle.tv_layout.proofs.NumberPlaces.{written_at, all, long, at_image, at_tape, at_step, at_padding, each_checked, below_three}
 use Rattle.tv_layout.proofs.FirstState.{HoldsZeros, first_view}
 use Rattle.tv_layout.proofs.Positions.{log_above, log_within}
-use Rattle.tv_layout.proofs.Steps.{did_at, cells}
+use Rattle.tv_layout.proofs.Steps.{transition_at, cells}
 use Rattle.tv_layout.proofs.Whole.{few, short, early, spare, filled, lines_valued, all_placed}
 use Rattle.tv_layout.specs.Blocks.{BlockCircuit}
 use Rattle.tv_layout.specs.Checks.{least_place, boot_kind, first_kind, line_kind, checks_of}
@@ -79,11 +79,11 @@ module _ (w : ℕ) (block : BlockCircuit) (made : ℕ) (sizes : BlockSizes block
   abbrev least : ℕ
   least = least_place (length image) (length x)
 
-  abbrev here : ℕ → Did
-  here i = did_at block made sizes z x (boot_count image (length x)) (zero_wires_at w (length x)) (first_at w (length x)) i
+  abbrev here : ℕ → Transition
+  here i = transition_at block made sizes z x (boot_count image (length x)) (zero_wires_at w (length x)) (first_at w (length x)) i
 
   abbrev f : ℕ → List Line
-  f i = lines_in (did_at block made sizes z x (boot_count image (length x)) (zero_wires_at w (length x)) (first_at w (length x)) i)
+  f i = lines_in (transition_at block made sizes z x (boot_count image (length x)) (zero_wires_at w (length x)) (first_at w (length x)) i)
 
   three : (i : ℕ) → length (f i) ≡ 3
   three i = refl
@@ -113,8 +113,8 @@ module _ (w : ℕ) (block : BlockCircuit) (made : ℕ) (sizes : BlockSizes block
   on_image i h =
       let some : length image ≢ 0 = λ e. omega (arith, e, h) in
       subst (IsOfKind least i (written_at i i (slice_index image i))) (sym (of_image k (length image) (length x) i h))
-      (subst (λ c. IsOfKind least i (written_at c i (slice_index image i)) (boot_kind Fresh 0 i)) (zero-add i)
-      (boot_is least i 0 i (slice_index image i) Fresh (omega (arith, h, fits.image_fits))
+      (subst (λ c. IsOfKind least i (written_at c i (slice_index image i)) (boot_kind ZeroOld 0 i)) (zero-add i)
+      (boot_is least i 0 i (slice_index image i) ZeroOld (omega (arith, h, fits.image_fits))
       (λ e. (e ∙ sym (least_some (length image) (length x) some), refl))
       (λ e. not_least (length image) (length x) i (λ _. e) (λ none. absurd (some none)))))
 
@@ -239,7 +239,7 @@ module _ (w : ℕ) (block : BlockCircuit) (made : ℕ) (sizes : BlockSizes block
   image_near : (i : ℕ) → i < length image → IsNear numbers i (line_kind k (length image) (length x) i)
   image_near i h =
       subst (IsNear numbers i) (sym (of_image k (length image) (length x) i h))
-      (near_boot i 0 i Fresh tt (λ e. (
+      (near_boot i 0 i ZeroOld tt (λ e. (
         record { place = i - 1; below = omega (arith, many, within, h, e); is = cell_of_image (i - 1) (omega (arith, h)) ∙ omega arith },
         λ j l same. omega (arith, cell_of_image j (omega (arith, l, h)), cell_of_image i h, same, l),
       )))

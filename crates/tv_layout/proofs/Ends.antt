@@ -8,7 +8,7 @@ use Rattle.tv_bits.proofs.BitsLaws.{bits_sound, bits_complete}
 use Rattle.tv_bits.specs.Bits.{bits_of, bits_values}
 use Rattle.tv_core.proofs.CombinationLaws.{wire-below, value-wire, value-constant}
 use Rattle.tv_core.proofs.LoopLaws.{turn_met, turns_met}
-use Rattle.tv_core.proofs.Meeting.{Meets-split, Meets-join, whole}
+use Rattle.tv_core.proofs.MeetsLaws.{Meets-split, Meets-join, whole}
 use Rattle.tv_core.specs.Circuits.{fresh, here, put, pure, turns, ◌>>=◌}
 use Rattle.tv_core.specs.Combinations.{wire, constant}
 use Rattle.tv_core.specs.Constraints.{value}

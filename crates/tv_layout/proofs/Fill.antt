@@ -11,7 +11,7 @@ use Rattle.tv_core.proofs.BelowLaws.{length-each_below}
 use Rattle.tv_core.proofs.CombinationLaws.{Sat-from_Meets}
 use Rattle.tv_core.proofs.FieldLaws.{InField-cons, InField-append, InField-joined_below}
 use Rattle.tv_core.proofs.JoinedLaws.{length-joined_below, has_each_list}
-use Rattle.tv_core.proofs.Meeting.{HasFrom-split}
+use Rattle.tv_core.proofs.MeetsLaws.{HasFrom-split}
 use Rattle.tv_core.specs.Below.{joined_below}
 use Rattle.tv_core.specs.Laws.{Assigns, Meets, HasFrom, InField}
 use Rattle.tv_core.specs.Lines.{Line, Honest}
@@ -19,13 +19,13 @@ use Rattle.tv_core.specs.declared.field.TheConstants.{P}
 use Rattle.tv_lines.specs.PackedLines.{line_value}
 use Rattle.tv_lines.specs.Placed.{LinesFrom}
 use Rattle.tv_argument.proofs.Complete.{memory_complete}
-use Rattle.tv_argument.specs.Memory.{memory_made}
+use Rattle.tv_argument.specs.Memory.{argument_made}
 use Rattle.tv_argument.specs.Order.{argument_values}
 use Rattle.tv_step.proofs.EndLaws.{end_answers}
 use Rattle.tv_step.proofs.RangeLaws.{start_in_range, run_keeps_range, answer_is_word}
 use Rattle.tv_step.specs.Cells.{boot_lines}
 use Rattle.tv_step.specs.Machine.{start, state_after, Accepts}
-use Rattle.tv_step.specs.Range.{AreWords, InRange}
+use Rattle.tv_step.specs.Range.{AreWords, StateInRange}
 use Rattle.tv_step.specs.Reads.{ended_after, Reads}
 use Rattle.tv_step.specs.Runs.{Answering}
 use Rattle.tv_layout.proofs.Ends.{at_place, words_met, zero_wires_met, tie_met}
@@ -33,7 +33,7 @@ use Rattle.tv_layout.proofs.FirstState.{HoldsZeros}
 use Rattle.tv_layout.proofs.Positions.{layout_meets, layout_next, last_of, log_some, log_within, memory_at}
 use Rattle.tv_layout.proofs.RunLines.{input, run_placed, run_few, run_honest}
 use Rattle.tv_layout.proofs.StepsFill.{steps_met, steps_lines, steps_take, last_said}
-use Rattle.tv_layout.proofs.Taking.{taken_of_is}
+use Rattle.tv_layout.proofs.TakenWords.{taken_of_is}
 use Rattle.tv_layout.proofs.Whole.{few, short, early, spare, lines_valued, lines_many}
 use Rattle.tv_layout.proofs.Blocks.{BlockSizes, BlockIsSound, BlockIsComplete}
 use Rattle.tv_layout.specs.Blocks.{BlockCircuit, BlockValues}
@@ -55,8 +55,8 @@ has_by_places z k (x ∷ xs) each = (
   has_by_places z (k + 1) xs (λ i h. let same : k + 1 + i ≡ k + suc i = omega arith in ap (λ n. slice_index z n) same ∙ each (suc i) (omega arith)),
 )
 
-has_behind : (v : ℕ) (rest : List ℕ) → HasFrom (v ∷ rest) 1 rest
-has_behind v rest = has_by_places (v ∷ rest) 1 rest (λ i h. get_or-append-add (v ∷ []) rest i 0)
+has_after : (v : ℕ) (rest : List ℕ) → HasFrom (v ∷ rest) 1 rest
+has_after v rest = has_by_places (v ∷ rest) 1 rest (λ i h. get_or-append-add (v ∷ []) rest i 0)
 
 module _ (w : ℕ) (net : Net) (block : BlockCircuit) (made : ℕ) (values : BlockValues) (sizes : BlockSizes block made) (law : BlockIsSound w block)
     (complete : BlockIsComplete w block made values)
@@ -77,7 +77,7 @@ module _ (w : ℕ) (net : Net) (block : BlockCircuit) (made : ℕ) (values : Blo
   abbrev z : List ℕ
   z = 1 ∷ ((v ∷ x) ++ (bits ++ (replicate STATE_WIRES 0 ++ (blocks ++ lasts))))
 
-  range : (i : ℕ) → InRange w (state_after w i (start w image x aux))
+  range : (i : ℕ) → StateInRange w (state_after w i (start w image x aux))
   range i = run_keeps_range w fits.width (start w image x aux) i (start_in_range w fits.width image x aux x_words aux_words)
 
   block_many : (i : ℕ) → length (run_step_values values w image x aux i) ≡ made
@@ -123,7 +123,7 @@ module _ (w : ℕ) (net : Net) (block : BlockCircuit) (made : ℕ) (values : Blo
   has_parts : HasParts
   has_parts =
       let a = HasFrom-split z 1 (v ∷ x) (bits ++ (replicate STATE_WIRES 0 ++ (blocks ++ lasts)))
-      (has_behind 1 ((v ∷ x) ++ (bits ++ (replicate STATE_WIRES 0 ++ (blocks ++ lasts))))) in
+      (has_after 1 ((v ∷ x) ++ (bits ++ (replicate STATE_WIRES 0 ++ (blocks ++ lasts))))) in
       let p : 1 + length (v ∷ x) ≡ 2 + length x = omega arith in
       let b = HasFrom-split z (2 + length x) bits (replicate STATE_WIRES 0 ++ (blocks ++ lasts))
       (subst (λ k. HasFrom z k (bits ++ (replicate STATE_WIRES 0 ++ (blocks ++ lasts)))) p a.1) in
@@ -195,7 +195,7 @@ module _ (w : ℕ) (net : Net) (block : BlockCircuit) (made : ℕ) (values : Blo
       let c = length-append blocks lasts in
       let d = length-append (replicate STATE_WIRES 0) (blocks ++ lasts) in
       let m = (memory_complete net).many (checks_of image (length x) t) (log_of count) (all_lines w image x aux t) in
-      let e = layout_next block made sizes w net image (length x) t (memory_made net (checks_of image (length x) t) (log_of count))
+      let e = layout_next block made sizes w net image (length x) t (argument_made net (checks_of image (length x) t) (log_of count))
       (λ at. (memory_complete net).next (checks_of image (length x) t) (log_of count) (system_lines block w image (length x) t) at) in
       omega (arith, a, b, c, d, m, length-bits, length-blocks, e)
 

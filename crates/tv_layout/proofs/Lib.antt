@@ -14,7 +14,7 @@ pub mod NormalLaws
 pub mod NumberPlaces
 pub mod PartCosts
 pub mod Positions
-pub mod Reducing
+pub mod Reduction
 pub mod Rooms
 pub mod Run
 pub mod RunLines
@@ -27,5 +27,5 @@ pub mod Steps
 pub mod StepsFill
 pub mod SystemSizes
 pub mod Systems
-pub mod Taking
+pub mod TakenWords
 pub mod Whole

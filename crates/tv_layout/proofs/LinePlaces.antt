@@ -11,7 +11,7 @@ use Rattle.std.proofs.lemmas.List.FromFn.{length-map-range_with_len, get_or-map-
 use Rattle.tv_block.proofs.Placed.{block_places}
 use Rattle.tv_block.specs.Block.{block_of}
 use Rattle.tv_block.specs.Complete.{block_made}
-use Rattle.tv_block.specs.Places.{next_state, block_wires, IsShort}
+use Rattle.tv_block.specs.Places.{next_state, block_wires, IsShortLine}
 use Rattle.tv_block.specs.Under.{LineUnder}
 use Rattle.tv_block.specs.declared.records.Block.{Block}
 use Rattle.tv_parts.specs.declared.records.StateWires.{StateWires}
@@ -192,7 +192,7 @@ word_made wires cell time word some h short = record {
   new_short = short;
 }
 
-short_made : (wires : ℕ) (line : LineLc) → IsShort line → top line.cell ≤ wires → top line.time ≤ wires → top line.old ≤ wires → top line.new ≤ wires
+short_made : (wires : ℕ) (line : LineLc) → IsShortLine line → top line.cell ≤ wires → top line.time ≤ wires → top line.old ≤ wires → top line.new ≤ wires
     → IsMade wires line
 short_made wires line short cell time old new = record {
   cell = cell;
@@ -209,8 +209,8 @@ short_made wires line short cell time old new = record {
 block_line_made : (w : ℕ) → IsWidth w → (state : StateWires) (time at wires : ℕ) → state.pc < at → at + block_made w ≤ wires
     → (k : ℕ) → k < 3 → IsMade wires (line_in (block_wires w state time at).lines k)
 block_line_made w width state time at wires pc end k h =
-    let short : IsShort (line_in (block_wires w state time at).lines k) =
-    All-get_or IsShort (block_wires w state time at).lines k no_line h (block_places.short w width state time at) in
+    let short : IsShortLine (line_in (block_wires w state time at).lines k) =
+    All-get_or IsShortLine (block_wires w state time at).lines k no_line h (block_places.short w width state time at) in
     let under : LineUnder (at + block_made w) (line_in (block_wires w state time at).lines k) =
     All-get_or (LineUnder (at + block_made w)) (block_wires w state time at).lines k no_line h (block_places.below w width state time at (omega arith)) in
     short_made wires (line_in (block_wires w state time at).lines k) short

@@ -3,7 +3,7 @@ use Rattle.std.proofs.Common.{◌≡◌, ℕ, Bool, true, false, List, [], ◌�
 use Rattle.tv_core.specs.Lines.{Line, written, HonestFrom}
 use Rattle.tv_mem.specs.Words.{AreBytes}
 use Rattle.tv_numbers.specs.Laws.{HoldsOlds, AuxFits, DoesStep}
-use Rattle.tv_numbers.specs.Numbers.{Did, lines_in}
+use Rattle.tv_numbers.specs.Numbers.{Transition, lines_in}
 use Rattle.tv_numbers.specs.Views.{Matches}
 use Rattle.tv_step.specs.Cells.{cells_of}
 use Rattle.tv_step.specs.Machine.{next, left_in, state_after}
@@ -16,7 +16,7 @@ HonestFrom-right m [] ys h = h
 HonestFrom-right m (x ∷ xs) ys h = HonestFrom-right (written m x) xs ys h.1
 
 -- ---- one step
-module _ (w : ℕ) (x : List ℕ) (time : ℕ) (b : Did) (st : State) (does : DoesStep w x time b) where
+module _ (w : ℕ) (x : List ℕ) (time : ℕ) (b : Transition) (st : State) (does : DoesStep w x time b) where
   -- honest lines, of a memory that holds what the state's cells hold, have their olds in these cells
   pub holds : (m : ℕ → ℕ) → ((c : ℕ) → m c ≡ cells_of w x st c) → (later : List Line) → HonestFrom m (lines_in b ++ later) → HoldsOlds w x b st
   holds m cells later h =

@@ -5,7 +5,7 @@ use Rattle.tv_core.specs.Below.{sum_below}
 use Rattle.tv_core.specs.declared.limits.TheConstants.{CELL_BITS, TAPE_CELLS}
 use Rattle.tv_argument.specs.Checks.{check_made, check_added}
 use Rattle.tv_argument.specs.Costs.{network_made}
-use Rattle.tv_argument.specs.Memory.{memory_made, memory_added}
+use Rattle.tv_argument.specs.Memory.{argument_made, argument_added}
 use Rattle.tv_argument.specs.declared.kinds.Kind.{Kind}
 use Rattle.tv_argument.specs.declared.kinds.Kind.TheVariants.{Boot, Within}
 use Rattle.tv_layout.proofs.CheckSums.{checks_sum}
@@ -50,8 +50,8 @@ module _ (net : Net) (image : List ℕ) (n t : ℕ) where
   abbrev k : ℕ
   k = log_of (line_count image n t)
 
-  pub wires_are : memory_made net (checks_of image n t) k ≡ memory_wires net image n t
+  pub wires_are : argument_made net (checks_of image n t) k ≡ memory_wires net image n t
   wires_are = ap (λ s. network_made net k + s) (kinds_sum k (length image) n t check_made (λ c. refl))
 
-  pub constraints_are : memory_added net (checks_of image n t) k ≡ memory_constraints net image n t
+  pub constraints_are : argument_added net (checks_of image n t) k ≡ memory_constraints net image n t
   constraints_are = ap (λ s. network_made net k + s) (kinds_sum k (length image) n t check_added (λ c. refl))

@@ -5,7 +5,7 @@ use Rattle.std.specs.Prelude.{nat_le}
 use Rattle.tv_benes.specs.declared.shape.Net.{Net}
 use Rattle.tv_bits.proofs.BitsLaws.{bits_next}
 use Rattle.tv_core.proofs.LoopLaws.{turns-next}
-use Rattle.tv_core.proofs.Meeting.{Meets-split, Meets-join}
+use Rattle.tv_core.proofs.MeetsLaws.{Meets-split, Meets-join}
 use Rattle.tv_core.specs.Circuits.{fresh, here, put, pure, turns, ◌>>=◌}
 use Rattle.tv_core.specs.Combinations.{wire}
 use Rattle.tv_core.specs.Laws.{Meets}
@@ -91,11 +91,11 @@ module _ (block : BlockCircuit) (made : ℕ) (sizes : BlockSizes block made) whe
         rw layout_list (Meets-join z _ _ m.words (Meets-join z _ _ m.zero_wires (Meets-join z _ _ m.steps (Meets-join z _ _ m.tie m.honest))))
 
     -- where it ends
-    pub layout_next : (memory_made : ℕ) → ((at : ℕ)
-        → (argument_of net (checks_of image n t) (log_of (line_count image n t)) (system_lines block w image n t) at).next ≡ at + memory_made)
-        → (layout_of block w net image n t (2 + n)).next ≡ memory_at w made n t + memory_made
+    pub layout_next : (argument_made : ℕ) → ((at : ℕ)
+        → (argument_of net (checks_of image n t) (log_of (line_count image n t)) (system_lines block w image n t) at).next ≡ at + argument_made)
+        → (layout_of block w net image n t (2 + n)).next ≡ memory_at w made n t + argument_made
     unfolding layout_of tie_of put ◌>>=◌
-    layout_next memory_made ends =
+    layout_next argument_made ends =
         rw (words_next w tape_at n (2 + n)) (rw (zero_wires_next (zero_wires_at w n), zero_wires_answer (zero_wires_at w n))
         (rw (steps_next n (boot_count image n) t (zero_wires_at w n) (first_at w n)) (ends (memory_at w made n t))))
 

@@ -11,7 +11,7 @@ use Rattle.tv_core.proofs.LineLaws.{HonestFrom-from_Honest}
 use Rattle.tv_core.specs.Below.{joined_below}
 use Rattle.tv_core.specs.Lines.{Line, Honest, HonestFrom, memory_after}
 use Rattle.tv_numbers.specs.Laws.{HoldsOlds, AuxFits, DoesStep}
-use Rattle.tv_numbers.specs.Numbers.{Did, lines_in}
+use Rattle.tv_numbers.specs.Numbers.{Transition, lines_in}
 use Rattle.tv_numbers.specs.Views.{Matches}
 use Rattle.tv_step.proofs.EndLaws.{steps_at_the_end, last_answers}
 use Rattle.tv_step.proofs.HonestLaws.{lines_leave_the_state}
@@ -19,13 +19,13 @@ use Rattle.tv_step.proofs.RangeLaws.{start_in_range, run_keeps_range}
 use Rattle.tv_step.proofs.ReadLaws.{taken_are_the_front}
 use Rattle.tv_step.specs.Cells.{boot_lines, run_lines, IsInput}
 use Rattle.tv_step.specs.Machine.{start, state_after, Accepts}
-use Rattle.tv_step.specs.Range.{InRange}
+use Rattle.tv_step.specs.Range.{StateInRange}
 use Rattle.tv_step.specs.Reads.{word_taken, words_in, Reads}
 use Rattle.tv_step.specs.State.{State}
 use Rattle.tv_step.specs.Trace.{lines_of}
 use Rattle.tv_layout.proofs.Machine.{HonestFrom-right, holds, Led, led}
-use Rattle.tv_layout.proofs.Steps.{step, did_at, next_state}
-use Rattle.tv_layout.proofs.Taking.{taken_in, taken_fits}
+use Rattle.tv_layout.proofs.Steps.{step, transition_at, next_state}
+use Rattle.tv_layout.proofs.TakenWords.{taken_in, taken_fits}
 use Rattle.tv_parts.specs.States.{state_in}
 use Rattle.tv_layout.proofs.Blocks.{BlockSizes}
 use Rattle.tv_layout.specs.Blocks.{BlockCircuit}
@@ -56,11 +56,11 @@ module _ (w : ℕ) (block : BlockCircuit) (made : ℕ) (sizes : BlockSizes block
   abbrev time : ℕ
   time = length image + length x
 
-  abbrev here : ℕ → Did
-  here i = did_at block made sizes z x (length image + length x) zero_wires first i
+  abbrev here : ℕ → Transition
+  here i = transition_at block made sizes z x (length image + length x) zero_wires first i
 
   abbrev lines : ℕ → List Line
-  lines i = lines_in (did_at block made sizes z x (length image + length x) zero_wires first i)
+  lines i = lines_in (transition_at block made sizes z x (length image + length x) zero_wires first i)
 
   abbrev taken : ℕ → List ℕ
   taken i = taken_in z (step block made sizes z x (length image + length x) zero_wires first i).spot
@@ -90,7 +90,7 @@ module _ (w : ℕ) (block : BlockCircuit) (made : ℕ) (sizes : BlockSizes block
         by_takes false k rest = ap (λ b. (if b then (here i).word ∷ [] else []) ++ later (suc i) m) k ∙ rest
 
     -- what a step takes is at the front of what is left of the tape
-    aux_fits : (i m : ℕ) (st : State) → i + suc m ≤ t → InRange w st → Matches x (here i).now st → HoldsOlds w x (here i) st → st.aux ≡ later i (suc m)
+    aux_fits : (i m : ℕ) (st : State) → i + suc m ≤ t → StateInRange w st → Matches x (here i).now st → HoldsOlds w x (here i) st → st.aux ≡ later i (suc m)
         → AuxFits w st (here i).takes (here i).word (later (suc i) m)
     aux_fits i m st h range now olds aux =
         let front : st.aux ≡ taken i ++ later (suc i) m = aux ∙ later_first i m in
@@ -110,7 +110,7 @@ module _ (w : ℕ) (block : BlockCircuit) (made : ℕ) (sizes : BlockSizes block
       abbrev now : ℕ → State
       now i = state_after w i (start w image x aux)
 
-      range : (i : ℕ) → InRange w (now i)
+      range : (i : ℕ) → StateInRange w (now i)
       range i = run_keeps_range w input.width (start w image x aux) i (start_in_range w input.width image x aux input.primary_words input.aux_words)
 
       -- what is known before step i

@@ -14,7 +14,7 @@ use Rattle.tv_step.proofs.RangeLaws.{start_in_range, run_keeps_range}
 use Rattle.tv_step.specs.Cells.{IsLine, IsInput, boot_lines, run_lines}
 use Rattle.tv_step.specs.Machine.{fetched, operand, start, state_after}
 use Rattle.tv_step.specs.Ops.{op_of}
-use Rattle.tv_step.specs.Range.{AreWords, InRange}
+use Rattle.tv_step.specs.Range.{AreWords, StateInRange}
 use Rattle.tv_step.specs.Rows.{word_size}
 use Rattle.tv_step.specs.State.{State}
 use Rattle.tv_step.specs.Trace.{looked_at, data_line, step_lines, lines_of, null_line}
@@ -28,7 +28,7 @@ use Rattle.tv_word.proofs.WidthLaws.{word_small}
 fits_of : (w : ℕ) → IsWidth w → (line : Line) → IsLine w line → Fits line
 fits_of w width line l = record { cell = l.cell; old = word_small w width line.old l.old; new = word_small w width line.new l.new }
 
-step_placed : (w : ℕ) → IsWidth w → (n : ℕ) → n < 2 ^ 29 → (st : State) (time : ℕ) → InRange w st → LinesFrom time (step_lines w n st time)
+step_placed : (w : ℕ) → IsWidth w → (n : ℕ) → n < 2 ^ 29 → (st : State) (time : ℕ) → StateInRange w st → LinesFrom time (step_lines w n st time)
 step_placed w width n short st time range =
     let j : ℕ = st.pc / word_size w in
     let head : Line = looked_at j time (word_in w st.memory j) in
@@ -50,7 +50,7 @@ step_placed w width n short st time range =
       ),
     )
 
-trace_placed : (w : ℕ) → IsWidth w → (n : ℕ) → n < 2 ^ 29 → (time : ℕ) (st : State) → InRange w st → (t : ℕ) → LinesFrom time (lines_of w n time st t)
+trace_placed : (w : ℕ) → IsWidth w → (n : ℕ) → n < 2 ^ 29 → (time : ℕ) (st : State) → StateInRange w st → (t : ℕ) → LinesFrom time (lines_of w n time st t)
 trace_placed w width n short time st range zero = tt
 trace_placed w width n short time st range (suc t) =
     LinesFrom-append time (time + 3 * t) (lines_of w n time st t) _ (omega (arith, lines_are_three_a_step w n time st t))

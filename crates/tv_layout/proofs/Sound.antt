@@ -21,8 +21,8 @@ use Rattle.tv_layout.proofs.Ends.{words_there, are_words, zero_wires_there, tie_
 use Rattle.tv_layout.proofs.FirstState.{HoldsZeros, first_view}
 use Rattle.tv_layout.proofs.Positions.{layout_met, last_of, log_some, log_within}
 use Rattle.tv_layout.proofs.Run.{Known, known_at, takes_at, accepts, reads_all}
-use Rattle.tv_layout.proofs.Steps.{step, did_at, last_step, does, taken_words}
-use Rattle.tv_layout.proofs.Taking.{taken_in, taken_at_is, taken_of_is}
+use Rattle.tv_layout.proofs.Steps.{step, transition_at, last_step, does, taken_words}
+use Rattle.tv_layout.proofs.TakenWords.{taken_in, taken_at_is, taken_of_is}
 use Rattle.tv_layout.proofs.Whole.{few, short, early, spare, lines, lines_valued, all_placed, lines_many}
 use Rattle.tv_parts.specs.States.{state_in}
 use Rattle.tv_layout.proofs.Blocks.{BlockSizes, BlockIsSound}
@@ -53,7 +53,7 @@ module _ (w : ℕ) (block : BlockCircuit) (made : ℕ) (sizes : BlockSizes block
   aux = taken_of block w image (length x) t z
 
   each_does : (i : ℕ) → i < t → DoesStep w x (boot_count image (length x) + 3 * i)
-      (did_at block made sizes z x (boot_count image (length x)) (zero_wires_at w (length x)) (first_at w (length x)) i)
+      (transition_at block made sizes z x (boot_count image (length x)) (zero_wires_at w (length x)) (first_at w (length x)) i)
   each_does i h =
       does block made sizes z x (boot_count image (length x)) (zero_wires_at w (length x)) (first_at w (length x)) w fits.width law t assigns
       (short image (length x) t w fits) (early image (length x) t w fits) zeros_there met i h
@@ -97,11 +97,11 @@ module _ (w : ℕ) (block : BlockCircuit) (made : ℕ) (sizes : BlockSizes block
       ap (λ k. (steps_of block (length x) (boot_count image (length x)) k (zero_wires_at w (length x)) (first_at w (length x))).answer) more
       ∙ last_step block made sizes z x (boot_count image (length x)) (zero_wires_at w (length x)) (first_at w (length x)) m
 
-  last_answers : (m : ℕ) → m + 1 ≡ t → (did_at block made sizes z x (boot_count image (length x)) (zero_wires_at w (length x))
+  last_answers : (m : ℕ) → m + 1 ≡ t → (transition_at block made sizes z x (boot_count image (length x)) (zero_wires_at w (length x))
       (first_at w (length x)) m).answers ≡ true
   last_answers m e = eq-eqb _ 1 (ap (λ r. slice_index z r.answers) (sym (last_is m e)) ∙ answers)
 
-  last_value : (m : ℕ) → m + 1 ≡ t → (did_at block made sizes z x (boot_count image (length x)) (zero_wires_at w (length x)) (first_at w (length x)) m).value
+  last_value : (m : ℕ) → m + 1 ≡ t → (transition_at block made sizes z x (boot_count image (length x)) (zero_wires_at w (length x)) (first_at w (length x)) m).value
       ≡ slice_index z 1
   last_value m e = ap (λ r. slice_index z r.value) (sym (last_is m e)) ∙ value
 

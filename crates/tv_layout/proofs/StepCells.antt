@@ -3,12 +3,11 @@ use Rattle.std.proofs.Common.{◌≡◌, ℕ, ◌+◌, ◌/◌, ◌%◌, ◌<◌
 use Rattle.std.proofs.lemmas.Bool.{ne_eqb}
 use Rattle.tv_core.specs.declared.limits.TheConstants.{NULL_CELL}
 use Rattle.tv_isa.specs.Instruction.{decode}
-use Rattle.tv_isa.specs.Opcodes.{among}
+use Rattle.tv_isa.specs.Opcodes.{among, memory_ops}
 use Rattle.tv_isa.specs.declared.instr.Instr.{Instr}
 use Rattle.tv_numbers.proofs.RangeLaws.{operand_small, some_left}
 use Rattle.tv_numbers.specs.Laws.{AtNumbers}
-use Rattle.tv_numbers.specs.Numbers.{operand_word, other_word, touches, takes_primary, with_byte_in, old_in, data_line, did_of, step_words}
-use Rattle.tv_numbers.specs.Tables.{memory_ops}
+use Rattle.tv_numbers.specs.Numbers.{operand_word, other_word, touches, takes_primary, with_byte_in, old_in, data_line, transition_of, step_words}
 use Rattle.tv_numbers.specs.Views.{View}
 use Rattle.tv_step.specs.Rows.{word_size}
 use Rattle.tv_step.specs.Trace.{tape_cell}
@@ -78,7 +77,7 @@ module _ (w : ℕ) (width : IsWidth w) (n : ℕ) (v : View) (head tail o : ℕ) 
   data_cells = data_by (takes_primary v i n) (touches v i) refl refl
 
 pub numbers_have_cells : (w : ℕ) → IsWidth w → (n time : ℕ) (v : View) (head tail o : ℕ) (takes : Bool) → AtNumbers w n v (step_words head tail o takes)
-    → HasCells w (did_of w n time v (step_words head tail o takes))
+    → HasCells w (transition_of w n time v (step_words head tail o takes))
 numbers_have_cells w width n time v head tail o takes is =
     let data_ = data_cells w width n v head tail o takes is (time + 2) in
     let low = low_cell w width v.pc is.range.pc_fits in

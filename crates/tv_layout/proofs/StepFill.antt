@@ -5,8 +5,8 @@ use Rattle.std.specs.Prelude.{◌||◌, is_some, if◌then◌else◌, All}
 use Rattle.tv_core.specs.Laws.{Meets}
 use Rattle.tv_core.specs.Lines.{Line}
 use Rattle.tv_numbers.specs.Laws.{HoldsOlds, AuxFits}
-use Rattle.tv_numbers.specs.Numbers.{Did, lines_in}
-use Rattle.tv_numbers.specs.Views.{flag_of, Matches}
+use Rattle.tv_numbers.specs.Numbers.{Transition, lines_in}
+use Rattle.tv_numbers.specs.Views.{Matches}
 use Rattle.tv_step.proofs.CellLaws.{olds_are_in_cells}
 use Rattle.tv_step.specs.Cells.{cells_of, IsOn}
 use Rattle.tv_step.specs.Machine.{next, state_after}
@@ -14,12 +14,13 @@ use Rattle.tv_step.specs.Reads.{word_taken, finds_end, words_in}
 use Rattle.tv_step.specs.State.{State, Next}
 use Rattle.tv_word.specs.Widths.{IsWidth}
 use Rattle.tv_layout.proofs.Machine.{led}
-use Rattle.tv_layout.proofs.Taking.{AuxCase.{Takes, Ends, Other}, aux_case}
-use Rattle.tv_block.specs.Block.{IsMachineStep, did}
+use Rattle.tv_layout.proofs.TakenWords.{AuxCase.{Takes, Ends, Other}, aux_case}
+use Rattle.tv_block.specs.Block.{IsMachineStep, transition_in}
 use Rattle.tv_layout.proofs.Blocks.{BlockIsSound, BlockIsComplete, Given, ShowsStep}
 use Rattle.tv_layout.specs.Blocks.{BlockCircuit, BlockValues}
 use Rattle.tv_block.specs.declared.records.Block.{Block}
 use Rattle.tv_parts.specs.declared.records.StateWires.{StateWires}
+use Rattle.tv_word.specs.Word.{flag_of}
 
 or_false : (e : Bool) → flag_of (e || false) ≡ flag_of e
 or_false true = refl
@@ -34,7 +35,7 @@ not_both true e f = cc
 not_both false e f = cc
 
 -- what a step leads to
-pub record Stepped (w : ℕ) (x : List ℕ) (st : State) (b : Did) : Type 0 where
+pub record Stepped (w : ℕ) (x : List ℕ) (st : State) (b : Transition) : Type 0 where
   pub matches : Matches x b.after (state_after w 1 st)
   pub ended : (e : Bool) → b.now.ended ≡ flag_of e → b.after.ended ≡ flag_of (e || finds_end w st)
   pub taken : (if b.takes then b.word ∷ [] else []) ≡ words_in (word_taken w st)
@@ -46,8 +47,8 @@ module _ (w : ℕ) (width : IsWidth w) (block : BlockCircuit) (made : ℕ) (valu
   abbrev step : Block
   step = (block (length x) state time at).answer
 
-  abbrev b : Did
-  b = did z state step
+  abbrev b : Transition
+  b = transition_in z state step
 
   pub step_met : Meets z (block (length x) state time at).list
   step_met = complete.met z x state time at st (word_taken w st) given

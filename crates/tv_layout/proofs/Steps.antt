@@ -6,7 +6,7 @@ use Rattle.std.proofs.lemmas.List.Elements.{All-replicate, All-nil, All-cons, Al
 use Rattle.std.specs.Prelude.{if◌then◌else◌}
 use Rattle.tv_core.proofs.JoinedLaws.{joined_below-zero, joined_below-suc, length-joined_below}
 use Rattle.tv_core.proofs.LoopLaws.{turn_met}
-use Rattle.tv_core.proofs.Meeting.{parts}
+use Rattle.tv_core.proofs.MeetsLaws.{parts}
 use Rattle.tv_core.specs.Below.{joined_below}
 use Rattle.tv_core.specs.Circuits.{turns, pure, ◌>>=◌}
 use Rattle.tv_core.specs.Laws.{Assigns, Meets}
@@ -15,7 +15,7 @@ use Rattle.tv_core.specs.declared.lines.LineLc.{LineLc}
 use Rattle.tv_lines.specs.PackedLines.{line_value}
 use Rattle.tv_lines.specs.Placed.{line_in, LinesFrom, IsLine as Fits}
 use Rattle.tv_numbers.specs.Laws.{DoesStep}
-use Rattle.tv_numbers.specs.Numbers.{Did, lines_in}
+use Rattle.tv_numbers.specs.Numbers.{Transition, lines_in}
 use Rattle.tv_numbers.specs.Views.{ViewInRange}
 use Rattle.tv_step.specs.Cells.{IsLine}
 use Rattle.tv_step.specs.Range.{AreWords}
@@ -24,9 +24,9 @@ use Rattle.tv_word.specs.Widths.{IsWidth}
 use Rattle.tv_layout.proofs.Boot.{LinesFrom-append}
 use Rattle.tv_layout.proofs.FirstState.{HoldsZeros, first_view}
 use Rattle.tv_parts.specs.States.{state_in}
-use Rattle.tv_block.specs.Block.{IsMachineStep, did, reached}
+use Rattle.tv_block.specs.Block.{IsMachineStep, transition_in, reached}
 use Rattle.tv_layout.proofs.Blocks.{BlockSizes, HasCells, BlockIsSound}
-use Rattle.tv_layout.proofs.Taking.{taken_in}
+use Rattle.tv_layout.proofs.TakenWords.{taken_in}
 use Rattle.tv_layout.specs.Blocks.{BlockCircuit}
 use Rattle.tv_layout.specs.Layout.{before_steps, step_of, steps_of, state_at, block_at}
 use Rattle.tv_block.specs.declared.records.Block.{Block}
@@ -74,15 +74,15 @@ start_held block z x time zero_wires first w width zeros_there =
     })
 
 module _ (block : BlockCircuit) (made : ℕ) (sizes : BlockSizes block made) (z x : List ℕ) (time zero_wires first : ℕ) where
-  -- the wires of the state before step i, the step, and what it did
+  -- the wires of the state before step i, the step, and what it transition_in
   abbrev pub state : ℕ → StateWires
   state i = state_at block (length x) time zero_wires first i
 
   abbrev pub step : ℕ → Block
   step i = block_at block (length x) time zero_wires first i
 
-  abbrev pub did_at : ℕ → Did
-  did_at i = did z (state i) (step i)
+  abbrev pub transition_at : ℕ → Transition
+  transition_at i = transition_in z (state i) (step i)
 
   pub next_state : (i : ℕ) → state (suc i) ≡ (step i).next
   unfolding steps_of turns pure ◌>>=◌
@@ -93,14 +93,14 @@ module _ (block : BlockCircuit) (made : ℕ) (sizes : BlockSizes block made) (z 
   last_step i = refl
 
   -- all lines of n steps
-  pub lines_did : (n : ℕ) → map (line_value z) (joined_below n (λ i. (step i).lines)) ≡ joined_below n (λ i. lines_in (did_at i))
-  lines_did n =
-      map-joined (line_value z) (λ i. (step i).lines) (λ i. lines_in (did_at i))
+  pub lines_in_transition : (n : ℕ) → map (line_value z) (joined_below n (λ i. (step i).lines)) ≡ joined_below n (λ i. lines_in (transition_at i))
+  lines_in_transition n =
+      map-joined (line_value z) (λ i. (step i).lines) (λ i. lines_in (transition_at i))
       (λ i. three_lines (line_value z) (step i).lines
       (sizes.three (length x) (state i) (time + 3 * i) (steps_of block (length x) time i zero_wires first).next)) n
 
-  pub length-lines_did : (n : ℕ) → length (joined_below n (λ i. lines_in (did_at i))) ≡ n * 3
-  length-lines_did n = length-joined_below n 3 (λ i. lines_in (did_at i)) (λ i h. refl)
+  pub length-lines_in_transition : (n : ℕ) → length (joined_below n (λ i. lines_in (transition_at i))) ≡ n * 3
+  length-lines_in_transition n = length-joined_below n 3 (λ i. lines_in (transition_at i)) (λ i h. refl)
 
   module _ (w : ℕ) (width : IsWidth w) (law : BlockIsSound w block) (t : ℕ) (assigns : Assigns z) (short : length x < 2 ^ 29) (early : time + 3 * t < 2 ^ 32)
       (zeros_there : HoldsZeros z zero_wires) (met : Meets z (steps_of block (length x) time t zero_wires first).list) where
@@ -116,39 +116,39 @@ module _ (block : BlockCircuit) (made : ℕ) (sizes : BlockSizes block made) (z 
     held zero h = start_held block z x time zero_wires first w width zeros_there
     held (suc i) h = subst (λ s. ViewInRange w (length x) (state_in z s)) (sym (next_state i)) (step_sound i (omega arith) (held i (omega arith))).range
 
-    pub does : (i : ℕ) → i < t → DoesStep w x (time + 3 * i) (did_at i)
+    pub does : (i : ℕ) → i < t → DoesStep w x (time + 3 * i) (transition_at i)
     does i h = (step_sound i h (held i (omega arith))).does
 
     -- the cells of its lines
-    pub cells : (i : ℕ) → i < t → HasCells w (did_at i)
+    pub cells : (i : ℕ) → i < t → HasCells w (transition_at i)
     cells i h = (law z x (state i) (time + 3 * i) _ short (omega arith) assigns (held i (omega arith)) (step_met i h)).cells
 
     -- lines in their places
     fits : (line : Line) → IsLine w line → Fits line
     fits line l = record { cell = l.cell; old = word_small w width line.old l.old; new = word_small w width line.new l.new }
 
-    pub lines_placed : (n : ℕ) → n ≤ t → LinesFrom time (joined_below n (λ i. lines_in (did_at i)))
-    lines_placed zero h = subst (LinesFrom time) (sym (joined_below-zero (λ i. lines_in (did_at i)))) tt
+    pub lines_placed : (n : ℕ) → n ≤ t → LinesFrom time (joined_below n (λ i. lines_in (transition_at i)))
+    lines_placed zero h = subst (LinesFrom time) (sym (joined_below-zero (λ i. lines_in (transition_at i)))) tt
     lines_placed (suc n) h =
         let d = does n (omega arith) in
-        let here : LinesFrom (time + 3 * n) (lines_in (did_at n)) = (
+        let here : LinesFrom (time + 3 * n) (lines_in (transition_at n)) = (
           d.times.0,
-          fits (did_at n).first d.lines.0,
-          (d.times.1, fits (did_at n).second d.lines.1, (d.times.2 ∙ omega arith, fits (did_at n).data_line d.lines.2, tt)),
+          fits (transition_at n).first d.lines.0,
+          (d.times.1, fits (transition_at n).second d.lines.1, (d.times.2 ∙ omega arith, fits (transition_at n).data_line d.lines.2, tt)),
         ) in
-        subst (LinesFrom time) (sym (joined_below-suc n (λ i. lines_in (did_at i))))
-        (LinesFrom-append time (time + 3 * n) (joined_below n (λ i. lines_in (did_at i))) (lines_in (did_at n)) (omega (arith, length-lines_did n))
+        subst (LinesFrom time) (sym (joined_below-suc n (λ i. lines_in (transition_at i))))
+        (LinesFrom-append time (time + 3 * n) (joined_below n (λ i. lines_in (transition_at i))) (lines_in (transition_at n)) (omega (arith, length-lines_in_transition n))
         (lines_placed n (omega arith)) here)
 
     -- the words that they take are words
-    one_word : (i : ℕ) → i < t → (takes : Bool) → (did_at i).takes ≡ takes → AreWords w (if (did_at i).takes then (did_at i).word ∷ [] else [])
-    one_word i h true e = subst (λ b. AreWords w (if b then (did_at i).word ∷ [] else [])) (sym e)
-        (All-cons (λ v. v < 2 ^ w) (did_at i).word [] ((does i h).word e) (All-nil (λ v. v < 2 ^ w)))
-    one_word i h false e = subst (λ b. AreWords w (if b then (did_at i).word ∷ [] else [])) (sym e) (All-nil (λ v. v < 2 ^ w))
+    one_word : (i : ℕ) → i < t → (takes : Bool) → (transition_at i).takes ≡ takes → AreWords w (if (transition_at i).takes then (transition_at i).word ∷ [] else [])
+    one_word i h true e = subst (λ b. AreWords w (if b then (transition_at i).word ∷ [] else [])) (sym e)
+        (All-cons (λ v. v < 2 ^ w) (transition_at i).word [] ((does i h).word e) (All-nil (λ v. v < 2 ^ w)))
+    one_word i h false e = subst (λ b. AreWords w (if b then (transition_at i).word ∷ [] else [])) (sym e) (All-nil (λ v. v < 2 ^ w))
 
     pub taken_words : (n : ℕ) → n ≤ t → AreWords w (joined_below n (λ i. taken_in z (step i).spot))
     taken_words zero h = subst (AreWords w) (sym (joined_below-zero (λ i. taken_in z (step i).spot))) (All-nil (λ v. v < 2 ^ w))
     taken_words (suc n) h =
         subst (AreWords w) (sym (joined_below-suc n (λ i. taken_in z (step i).spot)))
         (All-append (λ v. v < 2 ^ w) (joined_below n (λ i. taken_in z (step i).spot)) (taken_in z (step n).spot) (taken_words n (omega arith))
-        (one_word n (omega arith) (did_at n).takes refl))
+        (one_word n (omega arith) (transition_at n).takes refl))

@@ -6,19 +6,19 @@ use Rattle.std.proofs.lemmas.List.{length-drop}
 use Rattle.std.specs.Prelude.{slice_index}
 use Rattle.tv_core.proofs.JoinedLaws.{joined_below-zero, joined_below-suc}
 use Rattle.tv_core.proofs.LoopLaws.{turns_met}
-use Rattle.tv_core.proofs.Meeting.{whole}
+use Rattle.tv_core.proofs.MeetsLaws.{whole}
 use Rattle.tv_core.specs.Below.{joined_below}
 use Rattle.tv_core.specs.Circuits.{pure}
 use Rattle.tv_core.specs.Laws.{Assigns, Meets, HasFrom}
 use Rattle.tv_core.specs.Lines.{Line}
-use Rattle.tv_numbers.specs.Numbers.{Did, lines_in}
-use Rattle.tv_numbers.specs.Views.{View, flag_of, ViewInRange, Matches}
+use Rattle.tv_numbers.specs.Numbers.{Transition, lines_in}
+use Rattle.tv_numbers.specs.Views.{View, ViewInRange, Matches}
 use Rattle.tv_step.proofs.EndLaws.{steps_at_the_end}
 use Rattle.tv_step.proofs.RangeLaws.{start_in_range, run_keeps_range}
 use Rattle.tv_step.proofs.ReadLaws.{tapes_are_left, ended_takes_nothing}
 use Rattle.tv_step.specs.Cells.{IsOn, IsInput}
 use Rattle.tv_step.specs.Machine.{next, start, state_after}
-use Rattle.tv_step.specs.Range.{AreWords, InRange}
+use Rattle.tv_step.specs.Range.{AreWords, StateInRange}
 use Rattle.tv_step.specs.Reads.{word_taken, ended_after, words_taken}
 use Rattle.tv_step.specs.Runs.{Answering}
 use Rattle.tv_step.specs.State.{State, Next}
@@ -30,8 +30,8 @@ use Rattle.tv_layout.proofs.FirstState.{HoldsZeros, view_same, first_view}
 use Rattle.tv_layout.proofs.Positions.{steps_next}
 use Rattle.tv_layout.proofs.Sound.{starts}
 use Rattle.tv_layout.proofs.StepFill.{Stepped, step_met, shows, sound, stepped}
-use Rattle.tv_layout.proofs.Steps.{state, step, did_at, next_state, last_step, start_held}
-use Rattle.tv_layout.proofs.Taking.{AuxCase.{Takes, Ends, Other}, aux_case, taken_in}
+use Rattle.tv_layout.proofs.Steps.{state, step, transition_at, next_state, last_step, start_held}
+use Rattle.tv_layout.proofs.TakenWords.{AuxCase.{Takes, Ends, Other}, aux_case, taken_in}
 use Rattle.tv_parts.specs.States.{state_in}
 use Rattle.tv_numbers.specs.Shown.{MayTake}
 use Rattle.tv_layout.proofs.Blocks.{BlockSizes, BlockIsSound, BlockIsComplete, Given}
@@ -39,6 +39,7 @@ use Rattle.tv_layout.specs.Blocks.{BlockCircuit, BlockValues, view_of}
 use Rattle.tv_layout.specs.Layout.{before_steps, step_of, steps_of}
 use Rattle.tv_layout.specs.Places.{boot_count}
 use Rattle.tv_layout.specs.Values.{run_step_values}
+use Rattle.tv_word.specs.Word.{flag_of}
 
 module _ (w : ℕ) (block : BlockCircuit) (made : ℕ) (sizes : BlockSizes block made) (values : BlockValues) (law : BlockIsSound w block)
     (complete : BlockIsComplete w block made values)
@@ -51,10 +52,10 @@ module _ (w : ℕ) (block : BlockCircuit) (made : ℕ) (sizes : BlockSizes block
   abbrev now : ℕ → State
   now i = state_after w i (start w image x aux)
 
-  abbrev here : ℕ → Did
-  here i = did_at block made sizes z x (boot_count image (length x)) zero_wires first i
+  abbrev here : ℕ → Transition
+  here i = transition_at block made sizes z x (boot_count image (length x)) zero_wires first i
 
-  range : (i : ℕ) → InRange w (now i)
+  range : (i : ℕ) → StateInRange w (now i)
   range i = run_keeps_range w input.width (start w image x aux) i (start_in_range w input.width image x aux input.primary_words input.aux_words)
 
   on : (i : ℕ) → IsOn w x (now i)

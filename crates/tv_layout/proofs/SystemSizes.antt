@@ -11,7 +11,7 @@ use Rattle.tv_core.specs.declared.lines.LineLc.{LineLc}
 use Rattle.tv_argument.proofs.Complete.{memory_complete}
 use Rattle.tv_argument.proofs.Costs.{memory_cost}
 use Rattle.tv_argument.specs.Checks.{Checks}
-use Rattle.tv_argument.specs.Memory.{memory_made, memory_terms}
+use Rattle.tv_argument.specs.Memory.{argument_made, argument_terms}
 use Rattle.tv_word.proofs.WidthLaws.{width_short}
 use Rattle.tv_layout.proofs.LinePlaces.{line_number, lines_made}
 use Rattle.tv_layout.proofs.MemoryCosts.{wires_are, constraints_are}
@@ -48,7 +48,7 @@ module _ (w : ℕ) (net : Net) (image : List ℕ) (n t : ℕ) (fits : WithinLimi
 
   pub system_wires : (system_of w net image n t).wires ≡ 2 + n + system_made w net image n t
   system_wires =
-      layout_next (block_of w) (block_made w) (step_sized w fits.width) w net image n t (memory_made net checks k)
+      layout_next (block_of w) (block_made w) (step_sized w fits.width) w net image n t (argument_made net checks k)
       (λ at. (memory_complete net).next checks k lines at) ∙ omega (arith, wires_are net image n t)
 
   system_count : length (system_of w net image n t).constraints ≡ system_added w net image n t
@@ -58,7 +58,7 @@ module _ (w : ℕ) (net : Net) (image : List ℕ) (n t : ℕ) (fits : WithinLimi
 
   system_term_count : terms_in (system_of w net image n t).constraints ≡ system_terms w net image n t
   system_term_count =
-      layout_terms w fits.width net image n t (memory_terms net checks k lines)
+      layout_terms w fits.width net image n t (argument_terms net checks k lines)
       (memory_cost.terms net checks k lines at (omega arith) some (line_number w image n t fits) (checks_short w image n t fits).count
       (lines_made w image n t fits))
 
@@ -70,7 +70,7 @@ module _ (w : ℕ) (net : Net) (image : List ℕ) (n t : ℕ) (fits : WithinLimi
       let power : 2 ^ k ≤ 2 ^ 20 = pow-le-pow_right (omega arith) few in
       let memory = memory_cost.few net checks k lines at some few (line_number w image n t fits) (checks_short w image n t fits)
       (lines_made w image n t fits) in
-      most (n * (4 * w + 2)) (t * block_terms w n) (memory_terms net checks k lines) (2 ^ k) words steps memory power
+      most (n * (4 * w + 2)) (t * block_terms w n) (argument_terms net checks k lines) (2 ^ k) words steps memory power
     where
       most : (a b m p : ℕ) → a ≤ 2 ^ 17 * 130 → b ≤ 2 ^ 18 * 2 ^ 14 → m ≤ p * 2 ^ 10 → p ≤ 2 ^ 20 → a + 2 * STATE_WIRES + b + 6 + m < 2 ^ 60
       most a b m p c d e f = omega arith

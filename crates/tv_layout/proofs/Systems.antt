@@ -5,16 +5,16 @@ use Rattle.tv_block.proofs.MachineFills.{machine_step_met, machine_values_fit}
 use Rattle.tv_block.specs.Block.{block_of}
 use Rattle.tv_block.specs.Complete.{block_made, step_values}
 use Rattle.tv_parts.specs.States.{state_in}
-use Rattle.tv_numbers.proofs.RangeLaws.{flag_small}
-use Rattle.tv_numbers.specs.Views.{flag_of}
+use Rattle.tv_word.proofs.FlagLaws.{flag_small}
 use Rattle.tv_word.specs.Widths.{IsWidth}
 use Rattle.tv_layout.proofs.Fill.{fill_complete}
-use Rattle.tv_layout.proofs.Reducing.{layout_reduces}
+use Rattle.tv_layout.proofs.Reduction.{layout_reduces}
 use Rattle.tv_layout.proofs.Sound.{layout_sound}
 use Rattle.tv_layout.proofs.Blocks.{HasCells, BlockIsSound, BlockIsComplete}
 use Rattle.tv_layout.proofs.Sized.{step_sized}
 use Rattle.tv_layout.proofs.StepCells.{numbers_have_cells}
 use Rattle.tv_layout.specs.Systems.{SystemIsSound, SystemIsComplete, SystemReduces}
+use Rattle.tv_word.specs.Word.{flag_of}
 
 module _ (w : ℕ) (width : IsWidth w) where
   pub step_sound : BlockIsSound w (block_of w)

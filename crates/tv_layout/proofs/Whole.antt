@@ -15,7 +15,7 @@ use Rattle.tv_word.specs.Widths.{IsWidth}
 use Rattle.tv_layout.proofs.Boot.{boot_lines_valued, padding_valued, LinesFrom-append, length-boot_lines, boot_lines_placed, padding_placed, length-padding}
 use Rattle.tv_layout.proofs.FirstState.{HoldsZeros}
 use Rattle.tv_layout.proofs.Positions.{log_above, log_within}
-use Rattle.tv_layout.proofs.Steps.{did_at, lines_did, length-lines_did, lines_placed}
+use Rattle.tv_layout.proofs.Steps.{transition_at, lines_in_transition, length-lines_in_transition, lines_placed}
 use Rattle.tv_layout.proofs.Blocks.{BlockSizes, BlockIsSound}
 use Rattle.tv_layout.specs.Blocks.{BlockCircuit}
 use Rattle.tv_layout.specs.Layout.{boot_lines_of, steps_of, block_at, system_lines}
@@ -52,7 +52,7 @@ module _ (w : ℕ) (block : BlockCircuit) (made : ℕ) (sizes : BlockSizes block
     (assigns : Assigns z) (words : AreWords w x) (has : HasFrom z tape_at x) (zeros_there : HoldsZeros z (zero_wires_at w (length x)))
     (met : Meets z (steps_of block (length x) (boot_count image (length x)) t (zero_wires_at w (length x)) (first_at w (length x))).list) where
   abbrev pub lines : ℕ → List Line
-  lines i = lines_in (did_at block made sizes z x (boot_count image (length x)) (zero_wires_at w (length x)) (first_at w (length x)) i)
+  lines i = lines_in (transition_at block made sizes z x (boot_count image (length x)) (zero_wires_at w (length x)) (first_at w (length x)) i)
 
   pub lines_valued : map (line_value z) (system_lines block w image (length x) t)
       ≡ (boot_lines image x ++ joined_below t lines) ++ padding (line_count image (length x) t) (spare image (length x) t)
@@ -61,7 +61,7 @@ module _ (w : ℕ) (block : BlockCircuit) (made : ℕ) (sizes : BlockSizes block
       let count : ℕ = line_count image (length x) t in
       let a = boot_lines_valued z assigns image x (words_32 w fits.width image fits.words) (omega (arith, fits.image_fits))
       (omega (arith, fits.tape_fits)) has in
-      let b = lines_did block made sizes z x (boot_count image (length x)) (zero_wires_at w (length x)) (first_at w (length x)) t in
+      let b = lines_in_transition block made sizes z x (boot_count image (length x)) (zero_wires_at w (length x)) (first_at w (length x)) t in
       let c = padding_valued z assigns count (spare image (length x) t)
       (omega (arith, filled image (length x) t w fits, power_few image (length x) t w fits)) in
       map-append (line_value z) (boot_lines_of image (length x)
@@ -70,7 +70,7 @@ module _ (w : ℕ) (block : BlockCircuit) (made : ℕ) (sizes : BlockSizes block
       (map-append (line_value z) (boot_lines_of image (length x)) _ ∙ ap₂ (λ (u v : List Line). u ++ v) a b) c
 
   steps_many : length (joined_below t lines) ≡ t * 3
-  steps_many = length-lines_did block made sizes z x (boot_count image (length x)) (zero_wires_at w (length x)) (first_at w (length x)) t
+  steps_many = length-lines_in_transition block made sizes z x (boot_count image (length x)) (zero_wires_at w (length x)) (first_at w (length x)) t
 
   pub all_placed : LinesFrom 0 ((boot_lines image x ++ joined_below t lines) ++ padding (line_count image (length x) t) (spare image (length x) t))
   all_placed =

@@ -3,8 +3,9 @@ use Rattle.std.specs.Prelude.{ℕ, ◌-◌, Bool, List, length, Option}
 use Rattle.tv_block.specs.declared.records.Block.{Block}
 use Rattle.tv_parts.specs.declared.records.StateWires.{StateWires}
 use Rattle.tv_core.specs.Circuits.{Circuit}
-use Rattle.tv_numbers.specs.Views.{View, flag_of, seen}
+use Rattle.tv_numbers.specs.Views.{View, seen}
 use Rattle.tv_step.specs.State.{State}
+use Rattle.tv_word.specs.Word.{flag_of}
 
 -- one step from a state, by the number of words of the primary tape, the state's wires, and the time of its first line
 abbrev pub BlockCircuit : Type 0

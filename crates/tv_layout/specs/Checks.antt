@@ -3,7 +3,7 @@ use Rattle.std.specs.Prelude.{ℕ, ◌+◌, ◌-◌, ◌/◌, ◌%◌, ◌==◌,
 use Rattle.tv_core.specs.declared.limits.TheConstants.{CELL_BITS, TAPE_CELLS}
 use Rattle.tv_argument.specs.Checks.{Checks}
 use Rattle.tv_argument.specs.declared.kinds.Kind.{Kind}
-use Rattle.tv_argument.specs.declared.kinds.Kind.TheVariants.{Fresh, Least, Boot, Within}
+use Rattle.tv_argument.specs.declared.kinds.Kind.TheVariants.{ZeroOld, Least, Boot, Within}
 use Rattle.tv_layout.specs.Places.{line_count, log_of}
 
 -- the least line is of cell 0: that of the image's first word, or, where the image has none, the first of the steps,
@@ -28,7 +28,7 @@ step_kind k words j = if j % 3 == 0 then first_kind words (j / 3) else if j % 3 
 -- line i of all 2 ^ k, of an image of this many words and a tape of n
 abbrev pub line_kind : ℕ → ℕ → ℕ → ℕ → Kind
 line_kind k words n i =
-    if nat_lt i words then boot_kind Fresh 0 i
+    if nat_lt i words then boot_kind ZeroOld 0 i
     else if nat_lt i (words + n) then boot_kind (Within CELL_BITS) TAPE_CELLS (i - words)
     else step_kind k words (i - (words + n))
 

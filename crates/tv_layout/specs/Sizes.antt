@@ -10,9 +10,9 @@ use Rattle.tv_core.specs.Meanings.{terms_in}
 use Rattle.tv_core.specs.declared.limits.TheConstants.{CELL_BITS}
 use Rattle.tv_argument.specs.Checks.{check_made, check_added}
 use Rattle.tv_argument.specs.Costs.{network_made}
-use Rattle.tv_argument.specs.Memory.{memory_terms}
+use Rattle.tv_argument.specs.Memory.{argument_terms}
 use Rattle.tv_argument.specs.declared.kinds.Kind.{Kind}
-use Rattle.tv_argument.specs.declared.kinds.Kind.TheVariants.{Fresh, Boot, Within}
+use Rattle.tv_argument.specs.declared.kinds.Kind.TheVariants.{ZeroOld, Boot, Within}
 use Rattle.tv_layout.specs.Checks.{first_kind, checks_of}
 use Rattle.tv_layout.specs.declared.totals.CheckCosts.{CheckCosts}
 use Rattle.tv_layout.specs.Layout.{system_lines}
@@ -34,7 +34,7 @@ module _ (cost : Kind → ℕ) where
 
   abbrev pub check_costs : ℕ → ℕ → CheckCosts
   check_costs k words =
-      costs_are (cost Fresh) (cost (Within CELL_BITS)) (cost (Boot 0)) (step_cost k (first_kind words 0)) (step_cost k (Within CELL_BITS))
+      costs_are (cost ZeroOld) (cost (Within CELL_BITS)) (cost (Boot 0)) (step_cost k (first_kind words 0)) (step_cost k (Within CELL_BITS))
 
 -- n in a row, of which the first costs something else
 abbrev pub in_row : ℕ → ℕ → ℕ → ℕ
@@ -75,7 +75,7 @@ system_added w net image n t = n * (w + 1) + STATE_WIRES + t * block_added w + 2
 abbrev pub system_terms : ℕ → Net → List ℕ → ℕ → ℕ → ℕ
 system_terms w net image n t =
     n * (4 * w + 2) + 2 * STATE_WIRES + t * block_terms w n + 6
-    + memory_terms net (checks_of image n t) (log_of (line_count image n t)) (system_lines (block_of w) w image n t)
+    + argument_terms net (checks_of image n t) (log_of (line_count image n t)) (system_lines (block_of w) w image n t)
 
 -- ---- what it is at most
 abbrev pub network_most : Net → ℕ → ℕ

@@ -1,7 +1,7 @@
 //! How the lines of a system are checked.
 ghost use Rattle.std.specs.Prelude.{◌≡◌, ◌+◌, ◌^◌, ◌<◌, ◌≤◌};
 ghost use Rattle.tv_layout.specs.Checks.{boot_kind, first_kind, line_kind, step_kind};
-ghost use Rattle.tv_argument.specs.Checks.{IsShort};
+ghost use Rattle.tv_argument.specs.Checks.{IsShortKind};
 
 use tv_argument::Kind;
 use tv_core::limits::{CELL_BITS, TAPE_CELLS};
@@ -16,11 +16,11 @@ pub fn line_kind(words: u32, n: u32, k: u32, i: u32) -> Kind
     requires few { k ≤ 20 }
     requires boot { words + n ≤ 2 ^ 20 }
     ensures is { result ≡ line_kind k words n i }
-    ensures short { IsShort result }
+    ensures short { IsShortKind result }
 {
     let boot = words + n;
     if i < words {
-        boot_kind(Kind::Fresh, 0, i)
+        boot_kind(Kind::ZeroOld, 0, i)
     } else if i < boot {
         boot_kind(Kind::Within(CELL_BITS), TAPE_CELLS, i - words)
     } else {
@@ -30,10 +30,10 @@ pub fn line_kind(words: u32, n: u32, k: u32, i: u32) -> Kind
 
 // The kind of line i of those that write words from a cell on.
 fn boot_kind(first: Kind, cell: u32, i: u32) -> Kind
-    requires short { IsShort first }
+    requires short { IsShortKind first }
     requires cells { cell + i < 2 ^ 32 }
     ensures is { result ≡ boot_kind first cell i }
-    ensures short { IsShort result }
+    ensures short { IsShortKind result }
 {
     if i == 0 {
         first
@@ -45,7 +45,7 @@ fn boot_kind(first: Kind, cell: u32, i: u32) -> Kind
 // The kind of a step's first line.
 pub(crate) fn first_kind(words: u32, step: u32) -> Kind
     ensures is { result ≡ first_kind words step }
-    ensures short { IsShort result }
+    ensures short { IsShortKind result }
 {
     if words == 0 && step == 0 {
         Kind::Least
@@ -58,7 +58,7 @@ pub(crate) fn first_kind(words: u32, step: u32) -> Kind
 fn step_kind(k: u32, words: u32, j: u32) -> Kind
     requires few { k ≤ 20 }
     ensures is { result ≡ step_kind k words j }
-    ensures short { IsShort result }
+    ensures short { IsShortKind result }
 {
     if j % 3 == 0 {
         first_kind(words, j / 3)

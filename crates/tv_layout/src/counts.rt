@@ -9,7 +9,7 @@ use crate::lines::LayoutLines;
 use crate::places::{STATE_WIRES, log_of, public_wires};
 use crate::system::emit_system;
 use crate::totals::{constraint_costs, total, wire_costs};
-use tv_argument::{memory_terms, network_made};
+use tv_argument::{argument_terms, network_made};
 use tv_benes::Net;
 use tv_block::{step_costs, step_terms};
 use tv_core::{CountSink, Counts};
@@ -36,7 +36,7 @@ pub fn sizes<const W: u32>(image: &[u32], n: u32, t: u32, net: Net) -> Counts
     let step = step_costs::<W>();
     let constraints = memory_constraints::<W>(image, n, t, net) as u32;
     let k = log_of_lines::<W>(image, n, t);
-    let terms = memory_terms(net, k, &LayoutLines::<W> { image, n, t, k });
+    let terms = argument_terms(net, k, &LayoutLines::<W> { image, n, t, k });
     Counts {
         wires: wires::<W>(image, n, t, net),
         outputs: 1,

@@ -1,10 +1,10 @@
 //! The whole system: the constraints of a program's runs of T steps. Its public wires are the
-//! answer and the words of the primary tape; the steps stand in a row, and an argument about memory
-//! holds their lines to be honest.
+//! answer and the words of the primary tape; the steps stand in a row, and the memory argument
+//! constrains their lines to be honest.
 //!
 //! `emit_system` emits a system into any sink; `wires` and `sizes` return its counts, and
-//! `count_system` counts what is emitted; `line` and `spot` return parts by their places. None of
-//! them allocates, since wires are computed from places.
+//! `count_system` counts what is emitted; `line` and `spot` return parts by their indexes. None of
+//! them allocates, since wires are computed from indexes.
 #![tactic(auto)]
 
 mod checks;

@@ -1,9 +1,9 @@
-//! A system's lines, by their places.
+//! A system's lines, by their indexes.
 ghost use Rattle.std.specs.Prelude.{◌≡◌, ◌+◌, ◌*◌, ◌/◌, ◌%◌, ◌^◌, ◌≤◌, ◌<◌};
 ghost use Rattle.tv_benes.specs.declared.shape.Net.{Net};
 ghost use Rattle.tv_block.specs.Block.{block_of};
 ghost use Rattle.tv_block.specs.Complete.{block_made};
-ghost use Rattle.tv_block.specs.Places.{block_wires, IsShort};
+ghost use Rattle.tv_block.specs.Places.{block_wires, IsShortLine};
 ghost use Rattle.tv_block.specs.Under.{LineUnder};
 ghost use Rattle.tv_layout.specs.Checks.{checks_of};
 ghost use Rattle.tv_layout.specs.Layout.{system_lines, line_of_word};
@@ -17,7 +17,7 @@ ghost use Rattle.tv_word.specs.Widths.{IsWidth};
 use crate::checks::line_kind;
 use crate::places::{step_at, tape_wire, zero_wires_at};
 use crate::sequence::first_state;
-use tv_argument::{Kind, Lines};
+use tv_argument::{CompactLines, Kind};
 use tv_block::{StateWires, block_line, next_state};
 use tv_core::limits::{NULL_CELL, STEPS, TAPE_CELLS, TAPE_WORDS};
 use tv_core::{F, LineLc, Wire};
@@ -32,7 +32,7 @@ pub fn line<const W: u32>(image: &[u32], n: u32, t: u32, i: u32) -> LineLc
     requires fits { WithinLimits W image.now n t }
     requires within { i < 2 ^ log_of (line_count image.now n t) }
     ensures is { result ≡ line_in (system_lines (block_of W) W image.now n t) i }
-    ensures short { IsShort result }
+    ensures short { IsShortLine result }
     ensures below { (net : Net) → LineUnder (system_of W net image.now n t).wires result }
 {
     compact_line::<W>(image, n, t, i).lc()
@@ -43,7 +43,7 @@ fn compact_line<const W: u32>(image: &[u32], n: u32, t: u32, i: u32) -> CompactL
     requires fits { WithinLimits W image.now n t }
     requires within { i < 2 ^ log_of (line_count image.now n t) }
     ensures is { line_lc result ≡ line_in (system_lines (block_of W) W image.now n t) i }
-    ensures short { IsShort (line_lc result) }
+    ensures short { IsShortLine (line_lc result) }
 {
     let words = image.len() as u32;
     let boot = words + n;
@@ -80,7 +80,7 @@ fn step_line<const W: u32>(n: u32, time: u32, j: u32) -> CompactLine
     ensures is { line_lc result ≡ line_in (block_wires W
         (state_before W (zero_wires_at W n) (first_at W n) (j / 3)) (time + 3 * (j / 3))
         (first_at W n + j / 3 * block_made W)).lines (j % 3) }
-    ensures short { IsShort (line_lc result) }
+    ensures short { IsShortLine (line_lc result) }
 {
     let step = j / 3;
     let state = state_before::<W>(n, step);
@@ -101,7 +101,7 @@ fn state_before<const W: u32>(n: u32, step: u32) -> StateWires
     }
 }
 
-// All lines of a program's system, by their places.
+// All lines of a program's system, by their indexes.
 #[derive(Clone, Copy)]
 pub(crate) struct LayoutLines<'a, const W: u32> {
     pub(crate) image: &'a [u32],
@@ -113,7 +113,7 @@ pub(crate) struct LayoutLines<'a, const W: u32> {
     ghost log: { k ≡ log_of (line_count image.now n t) },
 }
 
-impl<'a, const W: u32> Lines for LayoutLines<'a, W> {
+impl<'a, const W: u32> CompactLines for LayoutLines<'a, W> {
     ghost lines = { λ l. system_lines (block_of W) W l.image.now l.n l.t };
 
     ghost checks = { λ l. checks_of l.image.now l.n l.t };

@@ -50,7 +50,7 @@ pub fn public_wires(n: u32) -> u32
 /// the primary tape are taken, and whether the end of the auxiliary one was found.
 pub const STATE_WIRES: u32 = 20;
 
-// The first of the wires that are held to 0, which are the first state's.
+// The first of the wires that are constrained to 0, which are the first state's.
 pub(crate) fn zero_wires_at<const W: u32>(n: u32) -> Wire
     requires width { IsWidth W }
     requires few { n ≤ TAPE_WORDS }

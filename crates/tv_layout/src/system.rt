@@ -49,7 +49,7 @@ pub fn emit_system<const W: u32, S: Sink>(
     memory(s, net, k, &LayoutLines::<W> { image, n, t, k })
 }
 
-// `n` wires from a first one on are words.
+// Constrains `n` wires from a first one on to words.
 fn words<const W: u32, S: Sink>(s: &mut S, first: Wire, n: u32) -> Put<()>
     requires width { IsWidth W }
     requires room { Room S.meaning s.old (n * W) (n * (W + 1)) }
@@ -63,7 +63,7 @@ fn words<const W: u32, S: Sink>(s: &mut S, first: Wire, n: u32) -> Put<()>
     Ok(())
 }
 
-// One wire is a word.
+// Constrains one wire to a word.
 fn word<const W: u32, S: Sink>(s: &mut S, first: Wire, i: u32) -> Put<()>
     requires width { IsWidth W }
     requires room { Room S.meaning s.old W (W + 1) }
@@ -99,7 +99,7 @@ fn zero_wire<S: Sink>(s: &mut S) -> Put<()>
     s.put(&Lc::wire(w), &Lc::constant(F::ONE), &Lc::empty())
 }
 
-// The last step answers, and its value is the public answer.
+// Constrains the last step to answer, and its value to be the public answer.
 fn tie<S: Sink>(s: &mut S, last: &Reached) -> Put<()>
     requires room { Room S.meaning s.old 0 2 }
     requires last_made { ReachedUnder (S.meaning.wires s.old) last.now }

@@ -22,7 +22,7 @@ pub(crate) struct CheckCosts {
     pub(crate) step: u32,
 }
 
-// What checks make in wires, for 2^`k` lines and an image of `words` words.
+// How many wires checks make, for 2^`k` lines and an image of `words` words.
 pub(crate) fn wire_costs(k: u32, words: u32) -> CheckCosts
     requires few { k ≤ 20 }
     ensures is { result ≡ check_costs check_made k words }
@@ -31,7 +31,7 @@ pub(crate) fn wire_costs(k: u32, words: u32) -> CheckCosts
     let far = check_made(Kind::Within(CELL_BITS));
     let rest = check_made(Kind::Within(k)) + far;
     CheckCosts {
-        image_word: check_made(Kind::Fresh),
+        image_word: check_made(Kind::ZeroOld),
         tape_word: far,
         boot_word: check_made(Kind::Boot(0)),
         first_step: check_made(first_kind(words, 0)) + rest,
@@ -39,7 +39,7 @@ pub(crate) fn wire_costs(k: u32, words: u32) -> CheckCosts
     }
 }
 
-// What they cost in constraints.
+// How many constraints they emit.
 pub(crate) fn constraint_costs(k: u32, words: u32) -> CheckCosts
     requires few { k ≤ 20 }
     ensures is { result ≡ check_costs check_added k words }
@@ -48,7 +48,7 @@ pub(crate) fn constraint_costs(k: u32, words: u32) -> CheckCosts
     let far = check_added(Kind::Within(CELL_BITS));
     let rest = check_added(Kind::Within(k)) + far;
     CheckCosts {
-        image_word: check_added(Kind::Fresh),
+        image_word: check_added(Kind::ZeroOld),
         tape_word: far,
         boot_word: check_added(Kind::Boot(0)),
         first_step: check_added(first_kind(words, 0)) + rest,

@@ -15,7 +15,7 @@ use Rattle.std.specs.declared.cmp.Ordering.TheVariants.{Less, Equal}
 use Rattle.tv_core.specs.Lines.{Line}
 use Rattle.tv_listing.specs.Listing.{compared, put_in, by_cell}
 use Rattle.tv_listing.specs.Row.{row_line}
-use Rattle.tv_listing.specs.declared.row.Row.{Row}
+use Rattle.tv_listing.specs.declared.row.ListedLine.{ListedLine}
 
 -- ---- the order
 abbrev before : Line → Line → Bool
@@ -153,14 +153,14 @@ by_cell_is ls sorted moved rises =
     (λ f. sum_by-IsPermutation f ls sorted moved ∙ sym (sum_by-IsPermutation f ls (by_cell ls) (by_cell_moves ls)))
 
 -- ---- rows that were sorted
-abbrev row_before : Row → Row → Bool
+abbrev row_before : ListedLine → ListedLine → Bool
 row_before r s = before (row_line r) (row_line s)
 
-from_of : (k : Row) (rows : List Row) → ((j : ℕ) (d : Row) → j < length rows → row_before (get_or rows j d) k ≡ false) → From (row_line k) (map row_line rows)
+from_of : (k : ListedLine) (rows : List ListedLine) → ((j : ℕ) (d : ListedLine) → j < length rows → row_before (get_or rows j d) k ≡ false) → From (row_line k) (map row_line rows)
 from_of k [] each = tt
 from_of k (r ∷ rows) each = (each 0 k (omega arith), from_of k rows (λ j d h. each (suc j) d (omega arith)))
 
-rises_of : (rows : List Row) → ((i j : ℕ) (d : Row) → i ≤ j → j < length rows → row_before (get_or rows j d) (get_or rows i d) ≡ false)
+rises_of : (rows : List ListedLine) → ((i j : ℕ) (d : ListedLine) → i ≤ j → j < length rows → row_before (get_or rows j d) (get_or rows i d) ≡ false)
     → Rises (map row_line rows)
 rises_of [] each = tt
 rises_of (r ∷ rows) each = (
@@ -168,7 +168,7 @@ rises_of (r ∷ rows) each = (
   rises_of rows (λ i j d h k. each (suc i) (suc j) d (omega arith) (omega arith)),
 )
 
-pub rows_sorted : (rows sorted : List Row) → IsPermutation rows sorted → IsSortedBy (λ r s. is_lt (compared (row_line r) (row_line s))) sorted
+pub rows_sorted : (rows sorted : List ListedLine) → IsPermutation rows sorted → IsSortedBy (λ r s. is_lt (compared (row_line r) (row_line s))) sorted
     → map row_line sorted ≡ by_cell (map row_line rows)
 rows_sorted rows sorted moved up =
     by_cell_is (map row_line rows) (map row_line sorted) (IsPermutation-map row_line rows sorted moved)

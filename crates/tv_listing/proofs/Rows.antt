@@ -17,7 +17,7 @@ use Rattle.tv_lines.specs.Placed.{no_line, line_in}
 use Rattle.tv_step.specs.Cells.{boot_from}
 use Rattle.tv_listing.specs.Listing.{lines_at}
 use Rattle.tv_listing.specs.Row.{row_line}
-use Rattle.tv_listing.specs.declared.row.Row.{Row}
+use Rattle.tv_listing.specs.declared.row.ListedLine.{ListedLine}
 
 take_next : {A : Type 0} (xs : List A) (i : ℕ) (d : A) → i < length xs → take (i + 1) xs ≡ take i xs ++ get_or xs i d ∷ []
 take_next [] i d h = absurd (omega arith)
@@ -29,7 +29,7 @@ pub placed : (w : ℕ) (image : List ℕ) (n t : ℕ) → WithinLimits w image n
 placed w image n t fits = log_above (line_count image n t) (few image n t w fits)
 
 -- one more of the lines that an assignment has
-pub rows_more : (w : ℕ) (image : List ℕ) (n t i : ℕ) (z : List ℕ) (rows : List Row) (row : Row) (line : LineLc) → WithinLimits w image n t
+pub rows_more : (w : ℕ) (image : List ℕ) (n t i : ℕ) (z : List ℕ) (rows : List ListedLine) (row : ListedLine) (line : LineLc) → WithinLimits w image n t
     → i < line_count image n t
     → map row_line rows ≡ take i (lines_at w image n t z) → line ≡ line_in (system_lines (block_of w) w image n t) i → row_line row ≡ line_value z line
     → map row_line (rows ++ row ∷ []) ≡ take (i + 1) (lines_at w image n t z)
@@ -43,7 +43,7 @@ rows_more w image n t i z rows row line fits h before is valued =
     ∙ sym (take_next (lines_at w image n t z) i (row_line row) (omega (arith, length-map (system_lines (block_of w) w image n t) (line_value z))))
 
 -- one more of the lines that write words
-pub words_pushed : (lines : List Line) (rows : List Row) (row : Row) (cell time i : ℕ) (words : List ℕ) → i < length words
+pub words_pushed : (lines : List Line) (rows : List ListedLine) (row : ListedLine) (cell time i : ℕ) (words : List ℕ) → i < length words
     → map row_line rows ≡ lines ++ boot_from cell time (take i words)
     → row_line row ≡ record { cell = cell + i; time = time + i; old = 0; new = slice_index words i }
     → map row_line (rows ++ row ∷ []) ≡ lines ++ boot_from cell time (take (i + 1) words)

@@ -4,7 +4,7 @@ ghost use Rattle.tv_layout.specs.Places.{WithinLimits, line_count};
 ghost use Rattle.tv_listing.specs.Listing.{assigned_lines, lines_at, text_by};
 ghost use Rattle.tv_listing.specs.Row.{row_line};
 
-use crate::row::{By, Row};
+use crate::row::{By, ListedLine};
 use crate::text::text_by;
 use std::alloc::{AllocError, Global};
 use tv_core::F;
@@ -45,7 +45,7 @@ fn rows<const W: u32>(
     t: u32,
     count: u32,
     values: &[F],
-) -> Result<Vec<Row>, AllocError>
+) -> Result<Vec<ListedLine>, AllocError>
     requires fits { WithinLimits W image.now n t }
     requires within { count ≤ line_count image.now n t }
     ensures { IfOk result (λ rows. map row_line rows.items ≡
@@ -53,7 +53,7 @@ fn rows<const W: u32>(
 {
     let mut rows = Vec::with_capacity(alloc, count as usize)?;
     for i in 0..count {
-        rows.push(Row::valued(&line::<W>(image, n, t, i), values))?;
+        rows.push(ListedLine::valued(&line::<W>(image, n, t, i), values))?;
     }
     Ok(rows)
 }

@@ -16,19 +16,19 @@ pub enum By {
 
 /// A line in numbers, which may be any of the field; rows compare in the order of these.
 #[derive(Clone, Copy, PartialEq, Eq, PartialOrd, Ord)]
-pub(crate) struct Row {
+pub(crate) struct ListedLine {
     pub(crate) cell: u64,
     pub(crate) time: u64,
     pub(crate) old: u64,
     pub(crate) new: u64,
 }
 
-impl Row {
+impl ListedLine {
     /// Returns the line that an assignment has.
-    pub(crate) fn valued(line: &LineLc, z: &[F]) -> Row
+    pub(crate) fn valued(line: &LineLc, z: &[F]) -> ListedLine
         ensures { row_line result ≡ line_value z.now line.now }
     {
-        Row {
+        ListedLine {
             cell: line.cell.value_in(z).number(),
             time: line.time.value_in(z).number(),
             old: line.old.value_in(z).number(),
@@ -37,10 +37,10 @@ impl Row {
     }
 
     /// Returns a line of a trace.
-    pub(crate) fn of(line: &Line) -> Row
+    pub(crate) fn of(line: &Line) -> ListedLine
         ensures { row_line result ≡ line.now }
     {
-        Row {
+        ListedLine {
             cell: u64::from(line.cell),
             time: u64::from(line.time),
             old: u64::from(line.old),

@@ -3,12 +3,16 @@ ghost use Rattle.std.specs.Prelude.{◌≡◌, ◌++◌, [], ◌∷◌, IfOk, On
 ghost use Rattle.tv_listing.specs.Listing.{by_cell, line_text, text_of, text_by};
 ghost use Rattle.tv_listing.specs.Row.{row_line};
 
-use crate::row::{By, Row};
+use crate::row::{By, ListedLine};
 use itoa::Buffer;
 use std::alloc::{AllocError, Global};
 
 /// Returns the text of lines in an order.
-pub(crate) fn text_by(alloc: Global, by: By, mut rows: Vec<Row>) -> Result<Vec<u8>, AllocError>
+pub(crate) fn text_by(
+    alloc: Global,
+    by: By,
+    mut rows: Vec<ListedLine>,
+) -> Result<Vec<u8>, AllocError>
     ensures { IfOk result (λ text. text.items ≡ text_by by (map row_line rows.items)) }
 {
     match by {
@@ -20,14 +24,14 @@ pub(crate) fn text_by(alloc: Global, by: By, mut rows: Vec<Row>) -> Result<Vec<u
 
 // Sorts lines by cell.
 #[tactic(auto, using(crate::proofs::Order::rows_sorted))]
-fn sort(rows: &mut Vec<Row>)
+fn sort(rows: &mut Vec<ListedLine>)
     ensures { map row_line rows.new.items ≡ by_cell (map row_line rows.old.items) }
 {
     rows.sort_unstable();
 }
 
 // The text of lines as they follow each other.
-fn text_of(alloc: Global, rows: &[Row]) -> Result<Vec<u8>, AllocError>
+fn text_of(alloc: Global, rows: &[ListedLine]) -> Result<Vec<u8>, AllocError>
     ensures { IfOk result (λ text. text.items ≡ text_of (map row_line rows.now)) }
 {
     let mut text = Vec::new(alloc);
@@ -38,7 +42,7 @@ fn text_of(alloc: Global, rows: &[Row]) -> Result<Vec<u8>, AllocError>
 }
 
 // Adds a line.
-fn push_row(text: &mut Vec<u8>, row: &Row) -> Result<(), AllocError>
+fn push_row(text: &mut Vec<u8>, row: &ListedLine) -> Result<(), AllocError>
     ensures { OnOk result (text.new.items ≡ text.old.items ++ line_text (row_line row.now)) }
 {
     push_number(text, row.time, b' ')?;

@@ -5,7 +5,7 @@ ghost use Rattle.tv_listing.specs.Listing.{traced_lines, text_by};
 ghost use Rattle.tv_listing.specs.Row.{row_line};
 ghost use Rattle.tv_step.specs.Cells.{boot_from};
 
-use crate::row::{By, Row};
+use crate::row::{By, ListedLine};
 use crate::text::text_by;
 use std::alloc::{AllocError, Global};
 use tv_core::Line;
@@ -37,12 +37,17 @@ pub fn trace_text(
 }
 
 // The lines that write words, the first into a cell at a time.
-fn push_words(rows: &mut Vec<Row>, cell: u32, time: u32, words: &[u32]) -> Result<(), AllocError>
+fn push_words(
+    rows: &mut Vec<ListedLine>,
+    cell: u32,
+    time: u32,
+    words: &[u32],
+) -> Result<(), AllocError>
     ensures { OnOk result (map row_line rows.new.items ≡
         map row_line rows.old.items ++ boot_from cell time words.now) }
 {
     for (i, word) in words.iter().enumerate() {
-        rows.push(Row {
+        rows.push(ListedLine {
             cell: u64::from(cell) + i as u64,
             time: u64::from(time) + i as u64,
             old: 0,
@@ -53,12 +58,12 @@ fn push_words(rows: &mut Vec<Row>, cell: u32, time: u32, words: &[u32]) -> Resul
 }
 
 // Lines of a trace.
-fn push_lines(rows: &mut Vec<Row>, lines: &[Line]) -> Result<(), AllocError>
+fn push_lines(rows: &mut Vec<ListedLine>, lines: &[Line]) -> Result<(), AllocError>
     ensures { OnOk result (map row_line rows.new.items ≡
         map row_line rows.old.items ++ lines.now) }
 {
     for line in lines {
-        rows.push(Row::of(line))?;
+        rows.push(ListedLine::of(line))?;
     }
     Ok(())
 }

@@ -78,7 +78,7 @@ module _ (old : Found) (tables : List Table) (same : Same old (page_in tables)) 
         ap (λ i. page_at (slice_get (slice_set tables (number / 1024) new) i) (q % 1024)) here.1
         ∙ ap (λ t. page_at t (q % 1024)) (get_set_same tables (number / 1024) new within)
         ∙ changed (q % 1024)
-        ∙ ap (λ b. cond b (Some page) (page_of table (q % 1024))) (place_tells q here.1)
+        ∙ ap (λ b. cond b (Some page) (page_of table (q % 1024))) (same_entry q here.1)
         ∙ ap (cond (nat_eq q number) (Some page))
         (ap (λ t. page_at t (q % 1024)) (sym was) ∙ ap (λ i. page_at (slice_get tables i) (q % 1024)) (sym here.1) ∙ same q)
     | inr other ↦
@@ -87,8 +87,8 @@ module _ (old : Found) (tables : List Table) (same : Same old (page_in tables)) 
         ∙ sym (ap (λ b. cond b (Some page) (old q)) (ne_eqb q number (λ e. other.1 (ap (λ n. n / 1024) e))))
   ]
     where
-      place_tells : (q : ℕ) → q / 1024 ≡ number / 1024 → nat_eq (q % 1024) (number % 1024) ≡ nat_eq q number
-      place_tells q e = elim (eqb_tells q number) [
+      same_entry : (q : ℕ) → q / 1024 ≡ number / 1024 → nat_eq (q % 1024) (number % 1024) ≡ nat_eq q number
+      same_entry q e = elim (eqb_tells q number) [
         | inl one ↦ eq-eqb (q % 1024) (number % 1024) (ap (λ n. n % 1024) one.1) ∙ sym one.0
         | inr two ↦ ne_eqb (q % 1024) (number % 1024) (λ f. two.1 (omega (arith, e, f))) ∙ sym two.0
       ]

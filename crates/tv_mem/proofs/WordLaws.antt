@@ -11,9 +11,9 @@ use Rattle.tv_mem.specs.Words.{BytesAfterWord}
 use Rattle.tv_word.proofs.ByteLaws.{little_endian-low_bytes}
 
 -- ---- n bytes from an address on
-spelled_below : (m : Bytes) → AreBytes m → (at n : ℕ) → little_endian (bytes_from m at n) < 256 ^ n
-spelled_below m small at zero = omega arith
-spelled_below m small at (suc n) = rw (pow-succ' 256 n) (omega (arith, small at, spelled_below m small (at + 1) n))
+bytes_below : (m : Bytes) → AreBytes m → (at n : ℕ) → little_endian (bytes_from m at n) < 256 ^ n
+bytes_below m small at zero = omega arith
+bytes_below m small at (suc n) = rw (pow-succ' 256 n) (omega (arith, small at, bytes_below m small (at + 1) n))
 
 byte_from : (m : Bytes) → AreBytes m → (at n k : ℕ) → k < n → byte_of (little_endian (bytes_from m at n)) k ≡ m (at + k)
 byte_from m small at zero k h = absurd (omega arith)
@@ -35,9 +35,9 @@ same_from m other at (suc n) same =
     (same_from m other (at + 1) n (λ k h. let place : at + suc k ≡ at + 1 + k = omega arith in rw place at (same (suc k) (omega arith))))
 
 -- a byte before one that was written
-stored_behind : (old new rest after byte v k : ℕ) → new ≡ old → after + byte * 256 ^ k ≡ rest + v * 256 ^ k
+stored_after : (old new rest after byte v k : ℕ) → new ≡ old → after + byte * 256 ^ k ≡ rest + v * 256 ^ k
     → new + 256 * after + byte * 256 ^ suc k ≡ old + 256 * rest + v * 256 ^ suc k
-stored_behind old new rest after byte v k same behind =
+stored_after old new rest after byte v k same behind =
     rw (same, pow-succ' 256 k) (grind (arith, behind))
 
 stored_from : (m : Bytes) (at n k v : ℕ) → k < n
@@ -54,7 +54,7 @@ stored_from m at (suc n) (suc k) v h =
     let place : at + suc k ≡ at + 1 + k = omega arith in
     subst (λ p. little_endian (bytes_from (with_byte m p v) at (suc n)) + m p * 256 ^ suc k ≡ little_endian (bytes_from m at (suc n)) + v * 256 ^ suc k)
     (sym place)
-    (stored_behind (m at) (with_byte m (at + 1 + k) v at) _ _ (m (at + 1 + k)) v k
+    (stored_after (m at) (with_byte m (at + 1 + k) v at) _ _ (m (at + 1 + k)) v k
     (ap (λ t. cond t v (m at)) (ne_eqb at (at + 1 + k) (λ e. omega arith))) (stored_from m (at + 1) n k v (omega arith)))
 
 written_from : (m : Bytes) (at n v : ℕ) → ((k : ℕ) → k < n → m (at + k) ≡ byte_of v k) → bytes_from m at n ≡ low_bytes n v
@@ -77,7 +77,7 @@ word_of w width j k = for_widths (λ w. k < w / 8 → ((j * (w / 8) + k) / (w / 
     (λ h. (omega arith, omega arith)) w width
 
 pub words_are_small : WordsAreSmall
-words_are_small w width m small j = rw (sym (word_bits w width)) (spelled_below m small (j * (w / 8)) (w / 8))
+words_are_small w width m small j = rw (sym (word_bits w width)) (bytes_below m small (j * (w / 8)) (w / 8))
 
 pub byte_of_word : ByteOfWord
 byte_of_word w width m small at =

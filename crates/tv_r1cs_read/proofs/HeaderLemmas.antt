@@ -12,4 +12,4 @@ pub header_in-checked : (file : List ℕ) (sections : List Section) (one two : S
     header_in file sections ≡ checked header one (section_of 3 sections)
 unfolding header_in
 header_in-checked file sections one two done header one_is two_is field counts =
-    rw (one_is, two_is, field) (ap (λ known. checked known one (section_of 3 sections)) counts)
+    rw (one_is, two_is, field) (ap (λ fields. checked fields one (section_of 3 sections)) counts)

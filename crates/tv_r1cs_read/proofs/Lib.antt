@@ -3,5 +3,5 @@ pub mod Constraints
 pub mod Done
 pub mod HeaderLemmas
 pub mod Vectors
-pub mod Summing
-pub mod Failing
+pub mod Sums
+pub mod Failures

@@ -28,17 +28,17 @@ abbrev pub ReportsStop : {A : Type 0} → Result A ReadRefusal → Option ReadRe
 ReportsStop result stopped = MatchResult result (λ _. stopped ≡ None) (λ why. stopped ≡ Some why)
 
 -- a row that is the next constraint, or none, since those before are all
-abbrev pub Gave : Bool → Row → Reached → List ℕ → List Constraint → Type 0
-Gave true row reached file rows = IsAt reached file (rows ++ constraint_of row ∷ [])
-Gave false row reached file rows = IsAll reached file rows
+abbrev pub Yields : Bool → Row → Reached → List ℕ → List Constraint → Type 0
+Yields true row reached file rows = IsAt reached file (rows ++ constraint_of row ∷ [])
+Yields false row reached file rows = IsAll reached file rows
 
 -- the same of a row of its own
-abbrev pub GaveBy : Option Row → Reached → List ℕ → List Constraint → Type 0
-GaveBy (Some row) reached file rows = Gave true row reached file rows
-GaveBy None reached file rows = IsAll reached file rows
+abbrev pub YieldsOwned : Option Row → Reached → List ℕ → List Constraint → Type 0
+YieldsOwned (Some row) reached file rows = Yields true row reached file rows
+YieldsOwned None reached file rows = IsAll reached file rows
 
 -- constraints ahead were tried: each of them holds, or each but for the last; from any number on that is the first that fails
-pub record WentOver (holds : Bool) (z : List ℕ) (old new : Reached) (file : List ℕ) (rows : List Constraint) : Type 0 where
+pub record Tried (holds : Bool) (z : List ℕ) (old new : Reached) (file : List ℕ) (rows : List Constraint) : Type 0 where
   pub more : List Constraint
   pub place : IsAt new file (rows ++ more)
   pub count : new.left + length more ≡ old.left

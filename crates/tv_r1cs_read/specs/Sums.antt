@@ -36,7 +36,7 @@ pub record AreValues (none : Bool) (wires : ℕ) (values : List ℕ) : Type 0 wh
   pub whole : none ≡ false → wires ≤ length values
 
 -- the combination that was read was added to a first sum, has n terms, and ends before this place
-pub record ComesTo (answer : Result (Read Combination) Fault) (z : List ℕ) (first sum n next : ℕ) : Type 0 where
+pub record SumsTo (answer : Result (Read Combination) Fault) (z : List ℕ) (first sum n next : ℕ) : Type 0 where
   pub terms : Combination
   pub count : n ≡ length terms
   pub read : answer ≡ Ok (record { value = terms; next = next })

@@ -114,7 +114,7 @@ fn checked(header: Header, one: &Section, three: Option<Section>) -> Result<Head
     ensures gives { ReadsAs result (checked header one.now three) }
     ensures same { IfOk result (λ checked. checked ≡ header) }
     ensures room { OnOk result (HasRoom header) }
-    ensures told { IfErr result IsNotFault }
+    ensures no_fault { IfErr result IsNotFault }
 {
     let wires = u64::from(header.wires);
     let public = 1 + u64::from(header.outputs) + u64::from(header.inputs);

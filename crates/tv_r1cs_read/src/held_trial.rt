@@ -4,7 +4,7 @@ ghost use Rattle.std.specs.Prelude.{◌≡◌, ℕ, ◌+◌, ◌*◌, ◌≤◌,
 ghost use Rattle.tv_container.specs.Reading.{IsPiece};
 ghost use Rattle.tv_r1cs_read.specs.Held.{IsHeld};
 ghost use Rattle.tv_r1cs_read.specs.R1cs.{combination_at, constraint_at};
-ghost use Rattle.tv_r1cs_read.specs.Sums.{AreValues, ComesTo, IsTried};
+ghost use Rattle.tv_r1cs_read.specs.Sums.{AreValues, SumsTo, IsTried};
 
 use crate::addition::{add_term, add_terms};
 use crate::far_trial::Tried;
@@ -79,7 +79,7 @@ fn sum_held<const PASS: bool, const FIRST: bool>(
         (λ summed. summed.remainder.from ≡ held.from + 4 + 12 * summed.terms) }
     ensures small { IfSome result (λ summed. summed.sum < 2 ^ 151) }
     ensures gives { (file : List ℕ) → IsPiece window.now file → IfSome result
-        (λ summed. ComesTo (combination_at file bounds.now.wires bounds.now.end held.from)
+        (λ summed. SumsTo (combination_at file bounds.now.wires bounds.now.end held.from)
         values.now sum summed.sum summed.terms summed.remainder.from) }
 {
     if !held.has(4 + TERM_BYTES) {

@@ -7,8 +7,8 @@ ghost use Rattle.tv_container.specs.declared.why.ReadRefusal.{ReadRefusal};
 ghost use Rattle.tv_r1cs_read.specs.Places.{IsAll, IsAt};
 ghost use Rattle.tv_r1cs_read.specs.Progress.{counts_of, IsBegun};
 ghost use Rattle.tv_r1cs_read.specs.R1cs.{header_of, r1cs_system};
-ghost use Rattle.tv_r1cs_read.specs.Steps.{Failed, Fewer, Gave, Stays, Steps, ReportsStop};
-ghost use Rattle.tv_r1cs_read.specs.Steps.{WentOn, WentOver};
+ghost use Rattle.tv_r1cs_read.specs.Steps.{Failed, Fewer, Yields, Stays, Steps, ReportsStop};
+ghost use Rattle.tv_r1cs_read.specs.Steps.{WentOn, Tried};
 ghost use Rattle.tv_r1cs_read.specs.Sums.{AreValues};
 
 use crate::far_trial::try_far;
@@ -94,7 +94,7 @@ impl Progress {
         row: &mut Row,
     ) -> Result<bool, ReadRefusal>
         ensures steps { Steps (D.seen files.old) (D.seen files.new) name.now self.old self.new
-            (λ file rows. IfOk result (λ more. Gave more row.new self.new file rows)) }
+            (λ file rows. IfOk result (λ more. Yields more row.new self.new file rows)) }
         ensures tells { ReportsStop result self.new.stopped }
         ensures counts { MatchResult result (λ more. WentOn more row.new self.old self.new)
             (λ _. Stays self.old self.new) }
@@ -163,7 +163,7 @@ impl Progress {
         requires some { 0 < self.old.left }
         ensures steps { Steps (D.seen files.old) (D.seen files.new) name.now self.old self.new
             (λ file rows. IfSome result
-            (λ holds. WentOver holds values.now self.old self.new file rows)) }
+            (λ holds. Tried holds values.now self.old self.new file rows)) }
         ensures goes { IfSome result (λ _. self.new.stopped ≡ None) }
         ensures stops { IsNone result → IsSome self.new.stopped }
         ensures left { IfSome result (λ _. self.new.left < self.old.left) }
@@ -183,7 +183,7 @@ impl Progress {
         requires some { 0 < self.old.left }
         ensures steps { Steps (D.seen files.old) (D.seen files.new) name.now self.old self.new
             (λ file rows. IfSome result
-            (λ holds. WentOver holds values.now self.old self.new file rows)) }
+            (λ holds. Tried holds values.now self.old self.new file rows)) }
         ensures goes { IfSome result (λ _. self.new.stopped ≡ None) }
         ensures stops { IsNone result → IsSome self.new.stopped }
         ensures left { IfSome result (λ _. self.new.left + 1 ≡ self.old.left) }
@@ -208,7 +208,7 @@ impl Progress {
     fn try_window(&mut self, values: &[F]) -> bool
         requires { self.old.stopped ≡ None }
         ensures steps { (outside : Outside) → (name : List ℕ) → Steps outside outside name self.old
-            self.new (λ file rows. WentOver result values.now self.old self.new file rows) }
+            self.new (λ file rows. Tried result values.now self.old self.new file rows) }
         ensures goes { self.new.stopped ≡ None }
         ensures left { Fewer result self.old.left self.new.left }
     {
@@ -227,7 +227,7 @@ impl Progress {
         requires on { self.old.stopped ≡ None }
         requires values { AreValues PASS self.old.header.wires values.now }
         ensures steps { (outside : Outside) → (name : List ℕ) → Steps outside outside name self.old
-            self.new (λ file rows. WentOver result values.now self.old self.new file rows) }
+            self.new (λ file rows. Tried result values.now self.old self.new file rows) }
         ensures goes { self.new.stopped ≡ None }
         ensures left { Fewer result self.old.left self.new.left }
     {

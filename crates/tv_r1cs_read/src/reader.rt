@@ -5,7 +5,7 @@ ghost use Rattle.tv_container.specs.declared.why.ReadRefusal.{ReadRefusal};
 ghost use Rattle.tv_r1cs_read.specs.Places.{IsAt};
 ghost use Rattle.tv_r1cs_read.specs.Progress.{counts_of, IsBegun};
 ghost use Rattle.tv_r1cs_read.specs.R1cs.{header_of, r1cs_system};
-ghost use Rattle.tv_r1cs_read.specs.Steps.{Failed, Gave, GaveBy, Passed, Stays, Steps};
+ghost use Rattle.tv_r1cs_read.specs.Steps.{Failed, Yields, YieldsOwned, Passed, Stays, Steps};
 ghost use Rattle.tv_r1cs_read.specs.Steps.{ReportsStop, WentOn, WentOnBy};
 ghost use Rattle.tv_r1cs_read.specs.Survey.{survey_of};
 
@@ -89,7 +89,7 @@ impl<'a, D: Files> SystemReader<'a, D> {
         ensures name { self.new.name.now ≡ self.old.name.now }
         ensures steps { Steps (D.seen self.old.files.now) (D.seen self.new.files.now)
             self.old.name.now self.old.progress self.new.progress
-            (λ file rows. IfOk result (λ more. Gave more row.new self.new.progress file rows)) }
+            (λ file rows. IfOk result (λ more. Yields more row.new self.new.progress file rows)) }
         ensures tells { ReportsStop result self.new.progress.stopped }
         ensures counts { MatchResult result
             (λ more. WentOn more row.new self.old.progress self.new.progress)
@@ -146,7 +146,7 @@ impl<'a, D: Files> SystemReader<'a, D> {
         ensures name { self.new.name.now ≡ self.old.name.now }
         ensures steps { Steps (D.seen self.old.files.now) (D.seen self.new.files.now)
             self.old.name.now self.old.progress self.new.progress
-            (λ file rows. IfOk result (λ row. GaveBy row self.new.progress file rows)) }
+            (λ file rows. IfOk result (λ row. YieldsOwned row self.new.progress file rows)) }
         ensures tells { ReportsStop result self.new.progress.stopped }
         ensures counts { MatchResult result
             (λ row. WentOnBy row self.old.progress self.new.progress)

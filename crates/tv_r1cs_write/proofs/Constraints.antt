@@ -14,12 +14,12 @@ use Rattle.tv_core.specs.Sinks.{PutsIn}
 use Rattle.tv_core.specs.declared.sink.SinkFault.{SinkFault}
 use Rattle.tv_r1cs_write.specs.Bytes.{head_bytes, rows_bytes, constraint_bytes}
 use Rattle.tv_r1cs_write.specs.Narrow.{AreShort, IsNarrow, HasWiresBelow}
-use Rattle.tv_r1cs_write.specs.Streams.{Progress, Stream, Stands, Tried, begun_bytes, stream_meaning}
+use Rattle.tv_r1cs_write.specs.Streams.{SystemProgress, Stream, Stands, Tried, begun_bytes, stream_meaning}
 use Rattle.tv_container.proofs.Buffers.{cause_seen, unrefused}
 use Rattle.tv_container.proofs.Written.{has_more, has_front}
 
 -- the bytes of one more constraint stand after those of the others
-pub begun_bytes-more : (old new : Progress) (list : List Constraint) (row : Constraint) → new.counts ≡ old.counts → new.labels ≡ old.labels →
+pub begun_bytes-more : (old new : SystemProgress) (list : List Constraint) (row : Constraint) → new.counts ≡ old.counts → new.labels ≡ old.labels →
     begun_bytes old list ++ constraint_bytes row ≡ begun_bytes new (list ++ row ∷ [])
 begun_bytes-more old new list row counts labels =
     append_assoc (head_bytes old.counts old.labels) (rows_bytes list) (constraint_bytes row)
@@ -49,15 +49,15 @@ stands_more : (old new : Stream) (list : List Constraint) (row : Constraint) →
     Passes old.outside new.outside old.name (old.progress.held ++ constraint_bytes row) new.progress.held → Stands new (list ++ row ∷ [])
 stands_more old new list row stands is_narrow name progress passes = record {
   counted =
-      ap (λ (p : Progress). p.constraints) progress
+      ap (λ (p : SystemProgress). p.constraints) progress
       ∙ ap (λ n. n + 1) stands.counted
       ∙ sym (length-append list (row ∷ []));
-  whole = ap (λ (p : Progress). is_err p.outcome) progress ∙ stands.whole;
-  narrow = rw (ap (λ (p : Progress). p.wires) progress) (All-push (IsNarrow old.progress.wires) list row stands.narrow is_narrow);
+  whole = ap (λ (p : SystemProgress). is_err p.outcome) progress ∙ stands.whole;
+  narrow = rw (ap (λ (p : SystemProgress). p.wires) progress) (All-push (IsNarrow old.progress.wires) list row stands.narrow is_narrow);
   written = rw (
     name,
-    ← begun_bytes-more old.progress new.progress list row (ap (λ (p : Progress). p.counts) progress)
-        (ap (λ (p : Progress). p.labels) progress),
+    ← begun_bytes-more old.progress new.progress list row (ap (λ (p : SystemProgress). p.counts) progress)
+        (ap (λ (p : SystemProgress). p.labels) progress),
   )
       (has_more old.outside new.outside old.name old.progress.held _ (constraint_bytes row) new.progress.held stands.written passes);
 }
@@ -82,7 +82,7 @@ pub put_by : {S : Type 0} (seen : S → Stream) (old new : S) (row : Constraint)
 unfolding put
 put_by seen old new row (Ok unit) borrow name a b c passes short is unbroken =
     let first = unrefused (seen old).progress.outcome unbroken in
-    let answered = ap (λ (p : Progress). p.outcome) is in
+    let answered = ap (λ (p : SystemProgress). p.outcome) is in
     let same : (seen new).progress ≡ record (seen old).progress {
       held = (seen new).progress.held;
       constraints = (seen old).progress.constraints + 1;
@@ -90,12 +90,12 @@ put_by seen old new row (Ok unit) borrow name a b c passes short is unbroken =
     record {
       answers = refl;
       stands = λ list s. stands_more (seen old) (seen new) list row s (narrow (seen old).progress.wires row short a b c) name same passes.done;
-      next = ap (λ (p : Progress). p.wires) is;
+      next = ap (λ (p : SystemProgress). p.wires) is;
       keeps = record {
         borrow = borrow;
         name = name;
-        counts = ap (λ (p : Progress). p.counts) is;
-        labels = ap (λ (p : Progress). p.labels) is;
+        counts = ap (λ (p : SystemProgress). p.counts) is;
+        labels = ap (λ (p : SystemProgress). p.labels) is;
         outside = passes.only;
         cause = rw (first, answered) passes.cause;
       };
@@ -103,17 +103,17 @@ put_by seen old new row (Ok unit) borrow name a b c passes short is unbroken =
       wants = rw (first, answered) (omega arith);
     }
 put_by seen old new row (Err fault) borrow name a b c passes short is unbroken =
-    let counts = ap (λ (p : Progress). p.counts) is in
-    let labels = ap (λ (p : Progress). p.labels) is in
+    let counts = ap (λ (p : SystemProgress). p.counts) is in
+    let labels = ap (λ (p : SystemProgress). p.labels) is in
     let first = unrefused (seen old).progress.outcome unbroken in
-    let answered = ap (λ (p : Progress). p.outcome) is in
+    let answered = ap (λ (p : SystemProgress). p.outcome) is in
     record {
       front = [];
       refused = row;
       back = [];
       at = refl;
       tried = λ list s. tried_more (seen old) (seen new) list row s name counts labels passes.refused;
-      broken = ap (λ (p : Progress). is_err p.outcome) is;
+      broken = ap (λ (p : SystemProgress). is_err p.outcome) is;
       keeps = record {
         borrow = borrow;
         name = name;

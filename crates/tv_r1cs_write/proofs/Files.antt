@@ -7,7 +7,7 @@ use Rattle.tv_container.proofs.Written.{but_front, front_front}
 use Rattle.tv_core.specs.Constraints.{Constraint}
 use Rattle.tv_r1cs_write.specs.Bytes.{constraint_bytes, counts_bytes, head_bytes, label_bytes, rows_bytes, rows_size}
 use Rattle.tv_r1cs_write.specs.Laws.{FilesAreFronts, FilesAreOfSystems, FilesAreWhole}
-use Rattle.tv_r1cs_write.specs.Streams.{Progress, begun_bytes, finished_bytes}
+use Rattle.tv_r1cs_write.specs.Streams.{SystemProgress, begun_bytes, finished_bytes}
 use Rattle.tv_r1cs_write.proofs.Sizes.{length-rows_bytes}
 
 -- each section is as long as its header says
@@ -24,7 +24,7 @@ files_of_systems counts count list labels are =
     ∙ rw (are.constraints) refl
 
 -- the bytes before the labels are the first of each longer list's file
-fronts : (progress : Progress) (list more : List Constraint) (labels : List ℕ) →
+fronts : (progress : SystemProgress) (list more : List Constraint) (labels : List ℕ) →
     finished_bytes progress (list ++ more) labels ≡ begun_bytes progress list ++ (rows_bytes more ++ section_bytes 3 (label_bytes labels))
 fronts progress list more labels =
     ap (λ rows. head_bytes progress.counts progress.labels ++ (rows ++ section_bytes 3 (label_bytes labels))) (flat_map-append constraint_bytes list more)

@@ -1,8 +1,8 @@
 mod Constraints
 pub mod Files
-mod Finishing
+mod Finish
 pub mod Others
 mod Rows
 pub mod Sizes
 pub mod Systems
-pub mod Streaming
+pub mod StreamLaws

@@ -19,7 +19,7 @@ use Rattle.tv_container.specs.Written.{HasBut, HasCause, HasCauseFrom, HasFront,
 -- how far writing has come: the counts and the number of labels that the file's head has, the bytes that
 -- are still to be appended, how many wires and constraints there are, and whether all was answered so far, or the
 -- refusal that broke it
-pub record Progress : Type 0 where
+pub record SystemProgress : Type 0 where
   pub counts : Counts
   pub labels : ℕ
   pub held : List ℕ
@@ -28,7 +28,7 @@ pub record Progress : Type 0 where
   pub outcome : Result (Unit {0}) SinkFault
 
 -- all that stands before the constraints is held; there are the constant wire and one for each public number
-abbrev pub begun : Counts → ℕ → Progress
+abbrev pub begun : Counts → ℕ → SystemProgress
 begun counts labels = record {
   counts = counts;
   labels = labels;
@@ -44,7 +44,7 @@ pub record Stream : Type 0 where
   pub outside : Outside
   pub borrow : GName
   pub name : List ℕ
-  pub progress : Progress
+  pub progress : SystemProgress
 
 -- a sink, as it sees the outside
 abbrev pub stream : {D : Type 0} → (D → Outside) → StreamSink D → Stream
@@ -63,7 +63,7 @@ stream seen sink = record {
 }
 
 -- the front of each file of these counts whose constraints begin with the list
-abbrev pub begun_bytes : Progress → List Constraint → List ℕ
+abbrev pub begun_bytes : SystemProgress → List Constraint → List ℕ
 begun_bytes progress list = head_bytes progress.counts progress.labels ++ rows_bytes list
 
 -- the list's constraints are of wires that were made, and the format can hold them; where contents are known, the name
@@ -127,7 +127,7 @@ stream_meaning {S} seen = record {
 }
 
 -- the bytes of the file once the constraints are the list and the wires have these labels
-abbrev pub finished_bytes : Progress → List Constraint → List ℕ → List ℕ
+abbrev pub finished_bytes : SystemProgress → List Constraint → List ℕ → List ℕ
 finished_bytes progress list labels = file_bytes progress.counts progress.labels list labels
 
 -- what the last call does, which writes labels: the file is that of the list that the sink stands for, or

@@ -2,7 +2,7 @@
 ghost use Rattle.std.specs.Prelude.{◌≡◌, ◌*◌, ◌++◌, []};
 ghost use Rattle.std.specs.List.Sorted.{IsStrictlyIncreasing};
 ghost use Rattle.tv_container.specs.Bytes.{section_head};
-ghost use Rattle.tv_container.specs.Taking.{Took};
+ghost use Rattle.tv_container.specs.Taking.{TakesBytes};
 ghost use Rattle.tv_r1cs_write.specs.Bytes.{combination_bytes, constraint_bytes, label_bytes};
 ghost use Rattle.tv_r1cs_write.specs.Bytes.{others};
 ghost use Rattle.tv_r1cs_write.specs.Narrow.{AreShort, IsShort};
@@ -20,7 +20,7 @@ pub(crate) fn put_row<D: Files>(
     b: &Lc,
     c: &Lc,
 )
-    ensures took { Took name.now (D.seen files.old) pending.old (D.seen files.new) pending.new
+    ensures took { TakesBytes name.now (D.seen files.old) pending.old (D.seen files.new) pending.new
         (constraint_bytes (record { a = a.now; b = b.now; c = c.now })) }
     ensures short { AreShort (record { a = a.now; b = b.now; c = c.now }) }
 {
@@ -31,7 +31,7 @@ pub(crate) fn put_row<D: Files>(
 
 // Writes a combination: how many terms it has, and the terms.
 fn put_combination<D: Files>(pending: &mut Pending, files: &mut D, name: &str, lc: &Lc)
-    ensures took { Took name.now (D.seen files.old) pending.old (D.seen files.new) pending.new
+    ensures took { TakesBytes name.now (D.seen files.old) pending.old (D.seen files.new) pending.new
         (combination_bytes lc.now) }
     ensures short { IsShort lc.now }
 {
@@ -49,7 +49,7 @@ pub(crate) fn write_labels<D: Files>(
     but: &[u32],
 )
     requires { IsStrictlyIncreasing but.now }
-    ensures took { Took name.now (D.seen files.old) pending.old (D.seen files.new) pending.new
+    ensures took { TakesBytes name.now (D.seen files.old) pending.old (D.seen files.new) pending.new
         (section_head 3 (8 * wires) ++ label_bytes (others count but.now)) }
     ensures none { pending.new.buffer ≡ [] }
 {
@@ -62,7 +62,7 @@ pub(crate) fn write_labels<D: Files>(
 // is appended.
 fn put_labels<D: Files>(pending: &mut Pending, files: &mut D, name: &str, count: u64, but: &[u32])
     requires { IsStrictlyIncreasing but.now }
-    ensures { Took name.now (D.seen files.old) pending.old (D.seen files.new) pending.new
+    ensures { TakesBytes name.now (D.seen files.old) pending.old (D.seen files.new) pending.new
         (label_bytes (others count but.now)) }
 {
     let mut next = 0;

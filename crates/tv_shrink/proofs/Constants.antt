@@ -117,9 +117,9 @@ split_missing w i x n point apart =
     ])
 
 -- and nowhere where the last wire is below it
-pub behind_missing : (w : ℕ) (t : ℕ × ℕ) (x : Combination) → IsNormalFrom 0 x → 0 < length x → ((d : ℕ × ℕ) → get_or x (length x - 1) d ≡ t) → t.1 < w
+pub after_missing : (w : ℕ) (t : ℕ × ℕ) (x : Combination) → IsNormalFrom 0 x → 0 < length x → ((d : ℕ × ℕ) → get_or x (length x - 1) d ≡ t) → t.1 < w
     → None ≡ cond (has_wire w x) (Some (coefficient w x)) None
-behind_missing w t x n some at below =
+after_missing w t x n some at below =
     coefficient_missing w x (λ k d h e.
     let most : (get_or x k d).1 ≤ (get_or x (length x - 1) d).1 = rising 0 x n k (length x - 1) d (omega arith) (omega arith) in
     let last = ap (λ (u : ℕ × ℕ). u.1) (at d) in

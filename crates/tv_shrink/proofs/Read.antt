@@ -137,10 +137,10 @@ wide_front [] more n e = absurd (cc)
 wide_front (d ∷ list) more n e = first_stays (wide_in d) (first_wide list) (first_wide (list ++ more)) n (λ k. wide_front list more n k) e
 
 -- what a refusal to read says of the file
-pub tells_read : (why : ReadRefusal) (file : List ℕ) → Refuses why (r1cs_system file) → FaultMeans (read_fault why) file
-tells_read (refusal.Bad at what) file refuses = refuses.bad at what refl
-tells_read refusal.Fault file refuses = tt
-tells_read refusal.Memory file refuses = tt
+pub read_means : (why : ReadRefusal) (file : List ℕ) → Refuses why (r1cs_system file) → FaultMeans (read_fault why) file
+read_means (refusal.Bad at what) file refuses = refuses.bad at what refl
+read_means refusal.Fault file refuses = tt
+read_means refusal.Memory file refuses = tt
 
 pub halted : (old new : Outside) (name : List ℕ) (why : ReadRefusal) → Stopped old new name why → Halted old new name (read_fault why)
 halted old new name (refusal.Bad at what) stopped = record { only = stopped.only; there = stopped.there; leaves = stopped.leaves }
@@ -152,11 +152,11 @@ pub wide_halted : (outside : Outside) (name : List ℕ) (why : ShrinkFault) (fou
 wide_halted outside name (fault.Bad at why) found e = absurd e
 wide_halted outside name (fault.Terms has) found e = absurd e
 wide_halted outside name (fault.Combination has) found e =
-    let here = stopped_here outside name refusal.Memory (record { told = λ is. absurd (cc) }) in
+    let here = stopped_here outside name refusal.Memory (record { known = λ is. absurd (cc) }) in
     record { only = here.only; there = here.there; leaves = refl }
 wide_halted outside name fault.Fault found e = absurd e
 wide_halted outside name fault.Memory found e = halted outside outside name refusal.Memory
-    (stopped_here outside name refusal.Memory (record { told = λ is. absurd (cc) }))
+    (stopped_here outside name refusal.Memory (record { known = λ is. absurd (cc) }))
 
 -- where reading has returned some constraints, they are the system's first
 is_front : (reached : Reached) (file : List ℕ) (done : List Constraint) (system : System) → IsAt reached file done → r1cs_system file ≡ Ok system
@@ -231,10 +231,10 @@ survey_long file counts e many =
     let found = survey_system file counts e in
     record { system = found.0; is = found.1; terms = ap (λ (c : Counts). c.terms) found.2; many = many }
 
-pub tells_survey : (why : ReadRefusal) (file : List ℕ) → Refuses why (survey_of file) → FaultMeans (read_fault why) file
-tells_survey (refusal.Bad at what) file refuses = survey_refused file at what (refuses.bad at what refl)
-tells_survey refusal.Fault file refuses = tt
-tells_survey refusal.Memory file refuses = tt
+pub survey_means : (why : ReadRefusal) (file : List ℕ) → Refuses why (survey_of file) → FaultMeans (read_fault why) file
+survey_means (refusal.Bad at what) file refuses = survey_refused file at what (refuses.bad at what refl)
+survey_means refusal.Fault file refuses = tt
+survey_means refusal.Memory file refuses = tt
 
 pub top_within : (n : ℕ) (x : Combination) → Over (λ v. v < n) x → top x ≤ n
 top_within n [] h = omega arith

@@ -1,5 +1,5 @@
 pub mod Numbers
 pub mod Range
-pub mod Narrowing
+pub mod Narrow
 pub mod Texts
 mod Worked

@@ -102,7 +102,7 @@ part_of bytes file at a size piece within =
 pub are_words : (bytes file : List ℕ) (words : List (List ℕ)) (at some : ℕ) → bytes ≡ take (length bytes) (drop at file) →
     words ≡ first_chunks 8 (length bytes / 8) bytes → some ≤ length bytes / 8 → AreWords (take some words) file at
 are_words bytes file words at some piece is enough = record {
-  spell = λ k d below.
+  words_are = λ k d below.
       let here : k < some = omega (arith, length-take some words) in
       let counted : k < length bytes / 8 = omega arith in
       let within : 8 * k + 8 ≤ length bytes = omega arith in

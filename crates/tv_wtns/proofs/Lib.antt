@@ -4,6 +4,6 @@ pub mod Sections
 pub mod ValueLaws
 pub mod Vectors
 mod Takers
-mod Finishing
+mod Finish
 pub mod Files
-pub mod Streaming
+pub mod StreamLaws

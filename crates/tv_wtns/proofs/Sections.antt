@@ -9,17 +9,17 @@ use Rattle.tv_container.proofs.Chain.{refuses_first}
 use Rattle.tv_wtns.specs.Wtns.{values_at, counted, fills, assignment_in}
 
 -- where section 2 has the size of the counted values, the assignment is those values
-pub filled : (file : List ℕ) (sections : List Section) (one two : Section) (count : ℕ) (known done : Unit {0}) →
-    wanted 1 file sections ≡ Ok one → wanted 2 file sections ≡ Ok two → this_field file 16 one ≡ Ok known →
+pub filled : (file : List ℕ) (sections : List Section) (one two : Section) (count : ℕ) (fields done : Unit {0}) →
+    wanted 1 file sections ≡ Ok one → wanted 2 file sections ≡ Ok two → this_field file 16 one ≡ Ok fields →
     counted file one ≡ count → fills count two ≡ Ok done → assignment_in file sections ≡ values_at file count two.at
 unfolding assignment_in
-filled file sections one two count known done one_is two_is field counts fit =
+filled file sections one two count fields done one_is two_is field counts fit =
     rw (one_is, two_is, field, counts, fit) refl
 
 -- a section 2 of another size is reported
-pub misfilled : (file : List ℕ) (sections : List Section) (one two : Section) (count : ℕ) (known : Unit {0}) (why : ReadRefusal) →
-    wanted 1 file sections ≡ Ok one → wanted 2 file sections ≡ Ok two → this_field file 16 one ≡ Ok known →
+pub misfilled : (file : List ℕ) (sections : List Section) (one two : Section) (count : ℕ) (fields : Unit {0}) (why : ReadRefusal) →
+    wanted 1 file sections ≡ Ok one → wanted 2 file sections ≡ Ok two → this_field file 16 one ≡ Ok fields →
     counted file one ≡ count → Refuses why (fills count two) → Refuses why (assignment_in file sections)
 unfolding assignment_in
-misfilled file sections one two count known why one_is two_is field counts refuses =
+misfilled file sections one two count fields why one_is two_is field counts refuses =
     rw (one_is, two_is, field, counts) (refuses_first why _ _ refuses)

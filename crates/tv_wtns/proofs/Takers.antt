@@ -12,7 +12,7 @@ use Rattle.tv_core.specs.Values.{GivesIn}
 use Rattle.tv_core.specs.declared.sink.SinkFault.{SinkFault}
 use Rattle.tv_core.specs.declared.field.TheConstants.{P}
 use Rattle.tv_wtns.specs.Bytes.{file_bytes, head_bytes, values_bytes}
-use Rattle.tv_wtns.specs.Takers.{Progress, Taker, Stands, Tried, taker_giving}
+use Rattle.tv_wtns.specs.Takers.{ValuesProgress, Taker, Stands, Tried, taker_giving}
 
 -- the bytes of one more value stand after those of the others
 file_bytes-more : (old new : ℕ) (values : List ℕ) (value : ℕ) → new ≡ old → file_bytes old values ++ eight_bytes value ≡ file_bytes new (values ++ value ∷ [])
@@ -27,9 +27,9 @@ pub stands_more : (old new : Taker) (values : List ℕ) (value : ℕ) → Stands
     new.progress ≡ record old.progress { held = new.progress.held } →
     Passes old.outside new.outside old.name (old.progress.held ++ eight_bytes value) new.progress.held → Stands new (values ++ value ∷ [])
 stands_more old new values value stands below name progress passes = record {
-  whole = ap (λ (p : Progress). is_err p.outcome) progress ∙ stands.whole;
+  whole = ap (λ (p : ValuesProgress). is_err p.outcome) progress ∙ stands.whole;
   canonical = All-push (λ v. v < P) values value stands.canonical below;
-  written = rw (name, ← file_bytes-more old.progress.count new.progress.count values value (ap (λ (p : Progress). p.count) progress))
+  written = rw (name, ← file_bytes-more old.progress.count new.progress.count values value (ap (λ (p : ValuesProgress). p.count) progress))
       (has_more old.outside new.outside old.name old.progress.held _ (eight_bytes value) new.progress.held stands.written passes);
 }
 
@@ -49,14 +49,14 @@ pub given : {V : Type 0} (seen : V → Taker) (old new : V) (value : ℕ) (outco
     is_err (seen old).progress.outcome ≡ false → GivesIn (taker_giving seen) old new (value ∷ []) outcome
 given seen old new value (Ok unit) borrow name below passes is unbroken =
     let first = unrefused (seen old).progress.outcome unbroken in
-    let answered = ap (λ (p : Progress). p.outcome) is in
+    let answered = ap (λ (p : ValuesProgress). p.outcome) is in
     let same : (seen new).progress ≡ record (seen old).progress { held = (seen new).progress.held } = rw first is in
     record {
       stands = λ list s. stands_more (seen old) (seen new) list value s below name same passes.done;
       keeps = record {
         borrow = borrow;
         name = name;
-        count = ap (λ (p : Progress). p.count) is;
+        count = ap (λ (p : ValuesProgress). p.count) is;
         outside = passes.only;
         cause = rw (first, answered) passes.cause;
       };
@@ -64,16 +64,16 @@ given seen old new value (Ok unit) borrow name below passes is unbroken =
       wants = rw (first, answered) (omega arith);
     }
 given seen old new value (Err fault) borrow name below passes is unbroken =
-    let count = ap (λ (p : Progress). p.count) is in
+    let count = ap (λ (p : ValuesProgress). p.count) is in
     let first = unrefused (seen old).progress.outcome unbroken in
-    let answered = ap (λ (p : Progress). p.outcome) is in
+    let answered = ap (λ (p : ValuesProgress). p.outcome) is in
     record {
       front = [];
       refused = value;
       back = [];
       at = refl;
       tried = λ list s. tried_more (seen old) (seen new) list value s name count passes.refused;
-      broken = ap (λ (p : Progress). is_err p.outcome) is;
+      broken = ap (λ (p : ValuesProgress). is_err p.outcome) is;
       keeps = record {
         borrow = borrow;
         name = name;

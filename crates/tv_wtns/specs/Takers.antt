@@ -15,13 +15,13 @@ use Rattle.tv_wtns.specs.declared.file_values.FileValues.{FileValues}
 
 -- how far writing has come: the number of values that the file's head has, the bytes that are still to be
 -- appended, and whether all was answered so far, or the refusal that broke it
-pub record Progress : Type 0 where
+pub record ValuesProgress : Type 0 where
   pub count : ℕ
   pub held : List ℕ
   pub outcome : Result (Unit {0}) SinkFault
 
 -- all that stands before the values is held
-abbrev pub begun : ℕ → Progress
+abbrev pub begun : ℕ → ValuesProgress
 begun count = record { count = count; held = head_bytes count; outcome = Ok tt }
 
 -- a taker that writes: the outside, the borrow through which it is written, the file's name, and how far
@@ -30,7 +30,7 @@ pub record Taker : Type 0 where
   pub outside : Outside
   pub borrow : GName
   pub name : List ℕ
-  pub progress : Progress
+  pub progress : ValuesProgress
 
 -- a taker, as it sees the outside
 abbrev pub taker_of : {D : Type 0} → (D → Outside) → FileValues D → Taker

@@ -6,7 +6,7 @@ use Rattle.tv_wtns.specs.Wtns.{values_at}
 
 -- words of eight bytes are those of the numbers that the file has from a place on
 pub record AreWords (words : List (List ℕ)) (file : List ℕ) (at : ℕ) : Type 0 where
-  pub spell : (k : ℕ) (d : List ℕ) → k < length words → little_endian (slice_index_or words k d) ≡ number file 8 (at + 8 * k)
+  pub words_are : (k : ℕ) (d : List ℕ) → k < length words → little_endian (slice_index_or words k d) ≡ number file 8 (at + 8 * k)
 
 -- values of which the first were read before the others
 unfoldable pub with_front : List ℕ → Result (List ℕ) Fault → Result (List ℕ) Fault

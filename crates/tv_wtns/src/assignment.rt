@@ -127,7 +127,7 @@ fn read_count<D: Files>(
 fn fills(count: u32, two: &Section) -> Result<(), ReadRefusal>
     ensures gives { ReadsAs result (fills count two.now) }
     ensures size { OnOk result (two.now.size ≡ 8 * count) }
-    ensures told { IfErr result IsNotFault }
+    ensures no_fault { IfErr result IsNotFault }
 {
     let wants = 8 * u64::from(count);
     if two.size != wants {

@@ -75,7 +75,7 @@ fn take_values(
         (λ why. Refuses why answer) }
     ensures below { All (λ v. v < P) values.old.items
         → OnOk result (All (λ v. v < P) values.new.items) }
-    ensures told { IfErr result IsNotFault }
+    ensures no_fault { IfErr result IsNotFault }
 {
     for (index, word) in words.iter().enumerate() {
         let Some(value) = F::canon(number_of(word)) else {

@@ -3,8 +3,8 @@ use Rattle.std.proofs.lemmas.List.Sorted.{IsNonDecreasingBy-from_sort}
 use Rattle.std.specs.Prelude.{IsPermutation}
 use Rattle.tv_lines.specs.Ordered.{key}
 use Rattle.tv_lines.specs.PackedLines.{unpacked}
-use Rattle.tv_argument.proofs.Ordering.{map_map}
-use Rattle.tv_argument.proofs.Rising.{rising_is}
+use Rattle.tv_argument.proofs.Order.{map_map}
+use Rattle.tv_argument.proofs.Increase.{rising_is}
 use Rattle.tv_argument.specs.Order.{rising, address_order}
 use Rattle.tv_argument.proofs.address_order.address_order.Goals as goal
 

@@ -15,9 +15,9 @@ piece checks lines last i _ = check_of (checks.kind i) (output last i) (line_in 
 
 pub loop-i-init : goal.loop-i-init
 loop-i-init g c =
-    let checks = g.L.Lines.checks c.args.lines.now in
+    let checks = g.L.CompactLines.checks c.args.lines.now in
     record {
-      puts = puts_no_turn g.S.Sink.meaning c.args.s.now (piece checks (g.L.Lines.lines c.args.lines.now) c.args.last.now) tt;
+      puts = puts_no_turn g.S.Sink.meaning c.args.s.now (piece checks (g.L.CompactLines.lines c.args.lines.now) c.args.last.now) tt;
       grows = record {
         wires = omega (arith, sum_below-zero (λ i. check_made (checks.kind i)));
         constraints = omega (arith, sum_below-zero (λ i. check_added (checks.kind i)));
@@ -27,7 +27,7 @@ loop-i-init g c =
 
 pub check-requires-clause-room : goal.check-requires-clause-room
 check-requires-clause-room g c =
-    let checks = g.L.Lines.checks c.args.lines.now in
+    let checks = g.L.CompactLines.checks c.args.lines.now in
     let i = c.loop-i.i in
     let grown = c.loop-i.invariant.grows in
     let room = c.requires.room in
@@ -43,7 +43,7 @@ check-requires-clause-room g c =
 
 pub loop-i-preserved : goal.loop-i-preserved
 loop-i-preserved g c =
-    let checks = g.L.Lines.checks c.args.lines.now in
+    let checks = g.L.CompactLines.checks c.args.lines.now in
     let i = c.loop-i.i in
     let before = c.loop-i.invariant.grows in
     let grown = c.in_ok-check.ensures.grows in
@@ -51,7 +51,7 @@ loop-i-preserved g c =
     let added : check_added c.kind.result ≡ check_added (checks.kind i) = ap check_added c.kind.ensures in
     let one = rw (c.kind.ensures, c.set_item.ensures, c.line.ensures.is) at c.in_ok-check.ensures.puts in
     record {
-      puts = puts_turn g.S.Sink.meaning i (piece checks (g.L.Lines.lines c.args.lines.now) c.args.last.now) tt tt tt _ _ _ c.loop-i.invariant.puts one;
+      puts = puts_turn g.S.Sink.meaning i (piece checks (g.L.CompactLines.lines c.args.lines.now) c.args.last.now) tt tt tt _ _ _ c.loop-i.invariant.puts one;
       grows = record {
         wires = omega (arith, before.wires, grown.wires, made, sum_next i (λ i. check_made (checks.kind i)));
         constraints = omega (arith, before.constraints, grown.constraints, added, sum_next i (λ i. check_added (checks.kind i)));
@@ -62,10 +62,10 @@ loop-i-preserved g c =
 pub returns-in_err-check-clause-puts : goal.returns-in_err-check-clause-puts
 returns-in_err-check-clause-puts g c =
     let m = g.S.Sink.meaning in
-    let checks = g.L.Lines.checks c.args.lines.now in
+    let checks = g.L.CompactLines.checks c.args.lines.now in
     let below : c.loop-i.i < checks.count = omega (arith, c.loop-i-test.true, c.checked-i-end.ensures) in
     let one = rw (c.kind.ensures, c.set_item.ensures, c.line.ensures.is) at c.in_err-check.ensures.puts in
     refused m _ _ _ c.from_residual.result c.from_residual.ensures.1
-    (turn_refused m checks.count c.loop-i.i (piece checks (g.L.Lines.lines c.args.lines.now) c.args.last.now) tt tt c.args.s.now c.loop-i.s c.check.new.s
+    (turn_refused m checks.count c.loop-i.i (piece checks (g.L.CompactLines.lines c.args.lines.now) c.args.last.now) tt tt c.args.s.now c.loop-i.s c.check.new.s
     c.in_err-check.field-0.0
     below c.loop-i.invariant.puts one)

@@ -9,7 +9,7 @@ use Rattle.tv_argument.proofs.argument.check_all.Given as goal
 abbrev pub invariant-loop-i : goal.invariant-loop-i
 invariant-loop-i g l = record {
   puts : PutsAll g.S.Sink.meaning l.initial.s l.s
-      (sequence l.i (λ i. check_of ((g.L.Lines.checks l.lines).kind i) (output l.last i) (line_in (g.L.Lines.lines l.lines) i))) tt;
-  grows : Grows g.S.Sink.meaning l.initial.s l.s (sum_below l.i (λ i. check_made ((g.L.Lines.checks l.lines).kind i)))
-      (sum_below l.i (λ i. check_added ((g.L.Lines.checks l.lines).kind i)));
+      (sequence l.i (λ i. check_of ((g.L.CompactLines.checks l.lines).kind i) (output l.last i) (line_in (g.L.CompactLines.lines l.lines) i))) tt;
+  grows : Grows g.S.Sink.meaning l.initial.s l.s (sum_below l.i (λ i. check_made ((g.L.CompactLines.checks l.lines).kind i)))
+      (sum_below l.i (λ i. check_added ((g.L.CompactLines.checks l.lines).kind i)));
 }

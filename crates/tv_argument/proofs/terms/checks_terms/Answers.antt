@@ -7,14 +7,14 @@ use Rattle.tv_argument.proofs.terms.checks_terms.Goals as goal
 
 pub loop-i-init : goal.loop-i-init
 loop-i-init g c = record {
-  is = sym (sum_below-zero (λ i. check_terms ((g.L.Lines.checks c.args.lines.now).kind i) (line_in (g.L.Lines.lines c.args.lines.now) i)));
+  is = sym (sum_below-zero (λ i. check_terms ((g.L.CompactLines.checks c.args.lines.now).kind i) (line_in (g.L.CompactLines.lines c.args.lines.now) i)));
   most = omega arith;
 }
 
 pub loop-i-preserved : goal.loop-i-preserved
 loop-i-preserved g c =
-    let checks = g.L.Lines.checks c.args.lines.now in
-    let lines = g.L.Lines.lines c.args.lines.now in
+    let checks = g.L.CompactLines.checks c.args.lines.now in
+    let lines = g.L.CompactLines.lines c.args.lines.now in
     let i = c.loop-i.i in
     let one : c.check_terms.result ≡ check_terms (checks.kind i) (line_in lines i) = rw (c.kind.ensures, c.line.ensures.is) at c.check_terms.ensures.is in
     record {

@@ -8,12 +8,12 @@ use Rattle.tv_argument.proofs.terms.column_terms.Goals as goal
 
 pub loop-j-init : goal.loop-j-init
 loop-j-init g c =
-    let lines = g.L.Lines.lines c.args.lines.now in
+    let lines = g.L.CompactLines.lines c.args.lines.now in
     record { is = sym (sum_below-zero (λ j. switch_terms (items_of lines (2 * j)) (items_of lines (2 * j + 1)))); most = omega arith }
 
 pub loop-j-preserved : goal.loop-j-preserved
 loop-j-preserved g c =
-    let lines = g.L.Lines.lines c.args.lines.now in
+    let lines = g.L.CompactLines.lines c.args.lines.now in
     let j = c.loop-j.j in
     let one : c.switch_terms.result ≡ switch_terms (items_of lines (2 * j)) (items_of lines (2 * j + 1)) =
     c.switch_terms.ensures.is

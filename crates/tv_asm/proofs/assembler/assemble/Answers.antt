@@ -9,17 +9,17 @@ loop-line-init g c =
 
 pub loop-line-preserved : goal.loop-line-preserved
 loop-line-preserved g c =
-    IsAssembled-more g.row.W c.in_ok-labels.labels c.args.most c.loop-line.number c.loop-line.words c.append.new.words c.loop-line.rest.now c.in-Some.behind.now
+    IsAssembled-more g.row.W c.in_ok-labels.labels c.args.most c.loop-line.number c.loop-line.words c.append.new.words c.loop-line.rest.now c.in-Some.remaining.now
     c.args.text.now c.in-Some.line.now
     c.loop-line.invariant c.in-Some.ensures.0 c.in-Some.ensures.1 c.in_ok-append.ensures.ok c.in_ok-append.ensures.room
 
 pub returns-in_err-append-clause-image : goal.returns-in_err-append-clause-image
 returns-in_err-append-clause-image g c =
-    let told = passed_on c.from_residual-in_err-append.result c.in_err-append.field-0.0 c.from_residual-in_err-append.ensures.1 in
+    let known = passed_on c.from_residual-in_err-append.result c.in_err-append.field-0.0 c.from_residual-in_err-append.ensures.1 in
     elim c.in_err-append.ensures.err [
-      | inl memory ↦ inr (told ∙ ap Err memory)
+      | inl memory ↦ inr (known ∙ ap Err memory)
       | inr fault ↦ inl
-          (told ∙ IsAssembled-fault g.row.W c.in_ok-labels.labels c.args.most c.loop-line.number c.loop-line.words c.loop-line.rest.now c.in-Some.behind.now
+          (known ∙ IsAssembled-fault g.row.W c.in_ok-labels.labels c.args.most c.loop-line.number c.loop-line.words c.loop-line.rest.now c.in-Some.remaining.now
           c.args.text.now c.in-Some.line.now c.in_err-append.field-0.0
           c.loop-line.invariant c.in-Some.ensures.0 fault)
     ]

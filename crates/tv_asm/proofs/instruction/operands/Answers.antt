@@ -9,12 +9,12 @@ returns-clause-first c = rw (c.trimmed.ensures, c.cut.ensures.before) (sym (oper
 pub returns-clause-second : goal.returns-clause-second
 returns-clause-second c =
     let text = c.args.text.now in
-    rw (c.trimmed-2.ensures, c.cut-2.ensures.before, c.cut.ensures.behind)
+    rw (c.trimmed-2.ensures, c.cut-2.ensures.before, c.cut.ensures.remaining)
     (sym (operand_at-suc text 0 ∙ operand_at-zero (after_first (λ b. b == 44) text)))
 
 pub returns-clause-third : goal.returns-clause-third
 returns-clause-third c =
     let text = c.args.text.now in
     let rest = after_first (λ b. b == 44) text in
-    rw (c.trimmed-3.ensures, c.cut-3.ensures.before, c.cut-2.ensures.behind, c.cut.ensures.behind)
+    rw (c.trimmed-3.ensures, c.cut-3.ensures.before, c.cut-2.ensures.remaining, c.cut.ensures.remaining)
     (sym (operand_at-suc text 1 ∙ operand_at-suc rest 0 ∙ operand_at-zero (after_first (λ b. b == 44) rest)))

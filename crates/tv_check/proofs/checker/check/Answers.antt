@@ -1,30 +1,30 @@
 use Rattle.std.proofs.Common.{◌∙◌, [], sym}
 use Rattle.std.proofs.lemmas.Option.{MatchOption-at_none}
-use Rattle.tv_check.proofs.Trying.{answers, judge-failure, judge-stays, read_holds, read_passes, verdict_of-refuses}
+use Rattle.tv_check.proofs.Trials.{answers, judge-failure, judge-stays, read_holds, read_passes, verdict_of-refuses}
 use Rattle.tv_check.proofs.checker.check.Goals.{in-Yes+in-Some, in_default}
 use Rattle.tv_check.proofs.checker.check.Goals as goal
 
 pub returns-in-Err-clause-gives : goal.returns-in-Err-clause-gives
-returns-in-Err-clause-gives g c = λ file told.
-    let refused = c.in-Err.ensures.gives file told in
+returns-in-Err-clause-gives g c = λ file known.
+    let refused = c.in-Err.ensures.gives file known in
     verdict_of-refuses file c.args.values.now c.args.publics.now _ refused.1
 
 pub public_verdict-verdict-requires : goal.public_verdict-verdict-requires
 public_verdict-verdict-requires g c = rw c.counts.ensures c.in-Ok.ensures.begun.room
 
 pub returns-in-None-clause-gives : goal.returns-in-None-clause-gives
-returns-in-None-clause-gives g c = λ file told.
-    let begun = rw (← c.in-Ok.ensures.ok_looks, ← c.in-Ok.ensures.name) at told in
+returns-in-None-clause-gives g c = λ file known.
+    let begun = rw (← c.in-Ok.ensures.ok_looks, ← c.in-Ok.ensures.name) at known in
     let tried = c.in-None.ensures.steps in
     let first = rw c.counts.ensures at c.public_verdict-verdict.ensures in
     answers _ _ _ file c.args.values.now c.args.publics.now c.ended.ensures
-    (read_holds _ file c.args.values.now c.args.publics.now _ c.in-Ok.reader.progress.header _ (tried.gives [] file begun (c.in-Ok.ensures.gives file told))
+    (read_holds _ file c.args.values.now c.args.publics.now _ c.in-Ok.reader.progress.header _ (tried.gives [] file begun (c.in-Ok.ensures.gives file known))
     tried.header (sym first ∙ c.in-Yes.is) c.in-Yes.is)
 
 pub returns-clause-gives : goal.returns-clause-gives
-returns-clause-gives g c = λ file told.
-    let begun = rw (← c.in-Ok.ensures.ok_looks, ← c.in-Ok.ensures.name) at told in
-    let start = c.in-Ok.ensures.gives file told in
+returns-clause-gives g c = λ file known.
+    let begun = rw (← c.in-Ok.ensures.ok_looks, ← c.in-Ok.ensures.name) at known in
+    let start = c.in-Ok.ensures.gives file known in
     let header = c.in-Ok.reader.progress.header in
     let z = c.args.values.now in
     let x = c.args.publics.now in

@@ -10,10 +10,10 @@ pub returns-in_err-fit-clause-reads : goal.returns-in_err-fit-clause-reads
 returns-in_err-fit-clause-reads g c = record {
   looks = search rules;
   piece = search rules;
-  gives = λ file told piece within.
+  gives = λ file known piece within.
       let room : c.args.one.now.at + 4 ≤ places file = omega (arith, within, c.if-one-lt4.false) in
       let p = err_from_is_err_and c.from_residual.result c.from_residual.ensures.1 in
-      let refuses = c.in_err-fit.ensures.reads.gives file told piece in
+      let refuses = c.in_err-fit.ensures.reads.gives file known piece in
       rw (p.1, p.2) (refuses_any _ _ _ (rw (fit-within 4 c.args.one.now.at (places file) room) at refuses));
 }
 
@@ -21,10 +21,10 @@ pub returns-in_err-fit-2-clause-reads : goal.returns-in_err-fit-2-clause-reads
 returns-in_err-fit-2-clause-reads g c = record {
   looks = search rules;
   piece = search rules;
-  gives = λ file told piece within.
+  gives = λ file known piece within.
       let room : c.args.one.now.at + 12 ≤ places file = omega (arith, within, c.if-one-wants.false, c.requires.room) in
-      let refuses = c.in_err-fit-2.ensures.reads.gives file (rw (← c.in_ok-fit.ensures.reads.looks) at told)
-      (c.in_ok-fit.ensures.reads.piece file told piece) in
+      let refuses = c.in_err-fit-2.ensures.reads.gives file (rw (← c.in_ok-fit.ensures.reads.looks) at known)
+      (c.in_ok-fit.ensures.reads.piece file known piece) in
       let p = err_from_is_err_and c.from_residual-in_err-fit-2.result c.from_residual-in_err-fit-2.ensures.1 in
       rw (p.1, p.2) (refuses_any _ _ _ (rw (fit-within 12 c.args.one.now.at (places file) room) at refuses));
 }
@@ -33,9 +33,9 @@ pub returns-then-long-clause-reads : goal.returns-then-long-clause-reads
 returns-then-long-clause-reads g c = record {
   looks = search rules;
   piece = search rules;
-  gives = λ file told piece within.
-      let held = c.in_ok-fit.ensures.reads.piece file told piece in
-      let more = c.in_ok-fit-2.ensures.reads.piece file (rw (← c.in_ok-fit.ensures.reads.looks) at told) held in
+  gives = λ file known piece within.
+      let held = c.in_ok-fit.ensures.reads.piece file known piece in
+      let more = c.in_ok-fit-2.ensures.reads.piece file (rw (← c.in_ok-fit.ensures.reads.looks) at known) held in
       refuses_wrong _ _ _ (this_field-prime file _ c.args.one.now c.if-one-lt4.false (sym (c.word.ensures file held) ∙ c.if-word-ne8.false) c.if-one-wants.false
       ∙ rw (← c.long.ensures file more) (grind (arith, nat_tests)));
 }
@@ -44,9 +44,9 @@ pub returns-clause-reads : goal.returns-clause-reads
 returns-clause-reads g c = record {
   looks = search rules;
   piece = search rules;
-  gives = λ file told piece within.
-      let held = c.in_ok-fit.ensures.reads.piece file told piece in
-      let more = c.in_ok-fit-2.ensures.reads.piece file (rw (← c.in_ok-fit.ensures.reads.looks) at told) held in
+  gives = λ file known piece within.
+      let held = c.in_ok-fit.ensures.reads.piece file known piece in
+      let more = c.in_ok-fit-2.ensures.reads.piece file (rw (← c.in_ok-fit.ensures.reads.looks) at known) held in
       this_field-prime file _ c.args.one.now c.if-one-lt4.false (sym (c.word.ensures file held) ∙ c.if-word-ne8.false) c.if-one-wants.false
       ∙ rw (← c.long.ensures file more, c.if-long.false) (grind (arith, nat_tests));
 }

@@ -9,10 +9,10 @@ pub returns-in_err-reaches_end-clause-reads : goal.returns-in_err-reaches_end-cl
 returns-in_err-reaches_end-clause-reads g c = record {
   looks = search rules;
   piece = search rules;
-  gives = λ file told piece sections found.
-      let held = c.in_ok-fit.ensures.reads.piece file told piece in
-      let room = fit-is 12 c.args.at (places file) _ (c.in_ok-fit.ensures.reads.gives file told piece) in
-      let refuses = c.in_err-reaches_end.ensures.reads.gives file (rw (← c.in_ok-fit.ensures.reads.looks) at told) held room in
+  gives = λ file known piece sections found.
+      let held = c.in_ok-fit.ensures.reads.piece file known piece in
+      let room = fit-is 12 c.args.at (places file) _ (c.in_ok-fit.ensures.reads.gives file known piece) in
+      let refuses = c.in_err-reaches_end.ensures.reads.gives file (rw (← c.in_ok-fit.ensures.reads.looks) at known) held room in
       let p = err_from_is_err_and c.from_residual-in_err-reaches_end.result c.from_residual-in_err-reaches_end.ensures.1 in
       rw (p.1, p.2) (refuses_any _ _ _ refuses);
 }
@@ -21,11 +21,11 @@ pub returns-then-not-branch-clause-reads : goal.returns-then-not-branch-clause-r
 returns-then-not-branch-clause-reads g c = record {
   looks = search rules;
   piece = search rules;
-  gives = λ file told piece sections found.
-      let fits = c.in_ok-fit.ensures.reads.gives file told piece in
-      let held = c.in_ok-fit.ensures.reads.piece file told piece in
+  gives = λ file known piece sections found.
+      let fits = c.in_ok-fit.ensures.reads.gives file known piece in
+      let held = c.in_ok-fit.ensures.reads.piece file known piece in
       let room = fit-is 12 c.args.at (places file) _ fits in
-      let ends = c.in_ok-reaches_end.ensures.reads.gives file (rw (← c.in_ok-fit.ensures.reads.looks) at told) held room in
+      let ends = c.in_ok-reaches_end.ensures.reads.gives file (rw (← c.in_ok-fit.ensures.reads.looks) at known) held room in
       refuses_wrong _ _ _ (section_at-read _ _ _ _ file sections _ false fits (sym (c.word.ensures file held)) (sym (c.long.ensures file held))
       (sym (c.doubles.ensures sections found) ∙ c.if-doubles.false) (cc ends));
 }
@@ -34,11 +34,11 @@ pub returns-clause-reads : goal.returns-clause-reads
 returns-clause-reads g c = record {
   looks = search rules;
   piece = search rules;
-  gives = λ file told piece sections found.
-      let fits = c.in_ok-fit.ensures.reads.gives file told piece in
-      let held = c.in_ok-fit.ensures.reads.piece file told piece in
+  gives = λ file known piece sections found.
+      let fits = c.in_ok-fit.ensures.reads.gives file known piece in
+      let held = c.in_ok-fit.ensures.reads.piece file known piece in
       let room = fit-is 12 c.args.at (places file) _ fits in
-      let ends = c.in_ok-reaches_end.ensures.reads.gives file (rw (← c.in_ok-fit.ensures.reads.looks) at told) held room in
+      let ends = c.in_ok-reaches_end.ensures.reads.gives file (rw (← c.in_ok-fit.ensures.reads.looks) at known) held room in
       section_at-read _ _ _ _ file sections _ true fits (sym (c.word.ensures file held)) (sym (c.long.ensures file held))
       (sym (c.doubles.ensures sections found) ∙ c.if-doubles.false) (cc ends);
 }

@@ -11,7 +11,7 @@ invariant-loop g l = record {
   outside : g.D.Files.seen l.files ≡ g.D.Files.seen l.initial.files;
   ends : AllEnd l.found;
   piece : InPiece (g.D.Files.seen l.initial.files) l.name l.initial.window (λ file. IsPiece l.window file);
-  known : InPiece (g.D.Files.seen l.initial.files) l.name l.initial.window (λ file. 12 ≤ places file →
+  so_far : InPiece (g.D.Files.seen l.initial.files) l.name l.initial.window (λ file. 12 ≤ places file →
       (l.at ≤ places file) × ((sections : List Section) × (l.found ≡ first_of sections)
       × (sections_from l.singles file l.count 12 [] ≡ sections_from l.singles file (l.count - l.counter) l.at sections)));
 }

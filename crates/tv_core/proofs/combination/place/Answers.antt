@@ -1,5 +1,5 @@
 use Rattle.std.proofs.Common.{◌≡◌, ◌<◌, ◌≤◌, ◌-◌, ap, arith, get_or}
-use Rattle.tv_core.proofs.Adding.{place_within, place_beyond, place_up_to}
+use Rattle.tv_core.proofs.Addition.{place_within, place_beyond, place_up_to}
 use Rattle.tv_core.proofs.combination.place.Goals as goal
 
 pub loop-at-init : goal.loop-at-init

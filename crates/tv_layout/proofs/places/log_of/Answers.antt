@@ -5,19 +5,19 @@ use Rattle.tv_layout.proofs.Positions.{log_some}
 use Rattle.tv_layout.specs.Places.{log_from, log_of}
 use Rattle.tv_layout.proofs.places.log_of.Goals as goal
 
-over_tells : (a b : ℕ) → b < a → nat_le a b ≡ false
-over_tells a b h = elim (leb_tells a b) [ inl fits ↦ absurd (omega (arith, fits.1)) | inr over ↦ over.0 ]
+le_false : (a b : ℕ) → b < a → nat_le a b ≡ false
+le_false a b h = elim (leb_tells a b) [ inl fits ↦ absurd (omega (arith, fits.1)) | inr over ↦ over.0 ]
 
-fits_tells : (a b : ℕ) → a ≤ b → nat_le a b ≡ true
-fits_tells a b h = elim (leb_tells a b) [ inl fits ↦ fits.0 | inr over ↦ absurd (omega (arith, over.1)) ]
+le_true : (a b : ℕ) → a ≤ b → nat_le a b ≡ true
+le_true a b h = elim (leb_tells a b) [ inl fits ↦ fits.0 | inr over ↦ absurd (omega (arith, over.1)) ]
 
 -- one more turn, and none
 log_more : (fuel k count : ℕ) → 2 ^ k < count → log_from (suc fuel) k count ≡ log_from fuel (k + 1) count
-log_more fuel k count h = rw (over_tells count (2 ^ k) h) refl
+log_more fuel k count h = rw (le_false count (2 ^ k) h) refl
 
 log_done : (fuel k count : ℕ) → count ≤ 2 ^ k → log_from fuel k count ≡ k
 log_done zero k count h = refl
-log_done (suc fuel) k count h = rw (fits_tells count (2 ^ k) h) refl
+log_done (suc fuel) k count h = rw (le_true count (2 ^ k) h) refl
 
 at_most : (k count : ℕ) → k ≤ 20 → count ≤ 2 ^ 20 → 2 ^ k < count → k < 20
 at_most k count h fits more = elim (leb_tells 20 k) [

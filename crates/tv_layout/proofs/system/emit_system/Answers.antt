@@ -9,7 +9,7 @@ use Rattle.tv_layout.proofs.MemoryCosts.{wires_are, constraints_are}
 use Rattle.tv_layout.proofs.Rooms.{system_fits, checks_short}
 use Rattle.tv_layout.specs.Checks.{checks_of}
 use Rattle.tv_argument.specs.Checks.{AreShort}
-use Rattle.tv_argument.specs.Memory.{IsMade, memory_made, memory_added}
+use Rattle.tv_argument.specs.Memory.{IsMade, argument_made, argument_added}
 use Rattle.tv_layout.specs.Layout.{words_of, zero_wires_of, steps_of, tie_of, system_lines, layout_of}
 use Rattle.tv_layout.specs.Places.{boot_count, first_at}
 use Rattle.tv_layout.specs.declared.places.TheConstants.{STATE_WIRES}
@@ -37,9 +37,9 @@ memory-requires-clause-room g c =
     record {
       whole = tie.whole;
       constant = omega (arith, tie.wires, steps.wires, zero_wires.wires, words.wires, c.requires.begins);
-      wires = subst (λ k. g.S.Sink.meaning.wires c.tie.new.s + memory_made c.args.net checks k < 2 ^ 32) is
+      wires = subst (λ k. g.S.Sink.meaning.wires c.tie.new.s + argument_made c.args.net checks k < 2 ^ 32) is
           (omega (arith, wires, fits.wires, tie.wires, steps.wires, zero_wires.wires, words.wires, c.requires.begins));
-      constraints = subst (λ k. g.S.Sink.meaning.constraints c.tie.new.s + memory_added c.args.net checks k < 2 ^ 32) is
+      constraints = subst (λ k. g.S.Sink.meaning.constraints c.tie.new.s + argument_added c.args.net checks k < 2 ^ 32) is
           (omega (arith, constraints, fits.constraints, tie.constraints, steps.constraints, zero_wires.constraints, words.constraints, c.requires.empty));
     }
 
@@ -119,8 +119,8 @@ returns-clause-grows g c =
     let checks = checks_of c.args.image.now c.args.n c.args.t in
     let wires = wires_are c.args.net c.args.image.now c.args.n c.args.t in
     let constraints = constraints_are c.args.net c.args.image.now c.args.n c.args.t in
-    let made = ap (memory_made c.args.net checks) c.log_of-k.ensures.is in
-    let added = ap (memory_added c.args.net checks) c.log_of-k.ensures.is in
+    let made = ap (argument_made c.args.net checks) c.log_of-k.ensures.is in
+    let added = ap (argument_added c.args.net checks) c.log_of-k.ensures.is in
     grown m c.args.s.now c.tie.new.s c.memory.new.s c.memory.result
     (c.args.n * w + STATE_WIRES + c.args.t * block_made w + 0) (c.args.n * (w + 1) + STATE_WIRES + c.args.t * block_added w + 2) _ _ _ _
     (record {

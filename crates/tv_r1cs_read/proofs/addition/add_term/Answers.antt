@@ -1,5 +1,5 @@
 use Rattle.std.proofs.Common.{◌≡◌, ◌+◌, ◌*◌, arith, rules, slice_index}
-use Rattle.tv_r1cs_read.proofs.Summing.{adds_one}
+use Rattle.tv_r1cs_read.proofs.Sums.{adds_one}
 use Rattle.tv_r1cs_read.proofs.addition.add_term.Goals as goal
 
 pub returns-then-this-ne0-clause-adds : goal.returns-then-this-ne0-clause-adds

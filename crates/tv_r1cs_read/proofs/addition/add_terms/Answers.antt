@@ -1,5 +1,5 @@
 use Rattle.std.proofs.Common.{arith}
-use Rattle.tv_r1cs_read.proofs.Summing.{adds_more}
+use Rattle.tv_r1cs_read.proofs.Sums.{adds_more}
 use Rattle.tv_r1cs_read.proofs.addition.add_terms.Goals as goal
 
 pub loop-good-preserved : goal.loop-good-preserved

@@ -1,7 +1,7 @@
 use Rattle.std.proofs.Common.{◌≡◌, ◌+◌, ◌-◌, ◌*◌, arith, ◌∙◌, rules, refl}
 use Rattle.std.proofs.lemmas.Result.{err_from_is_err_and}
 use Rattle.tv_r1cs_read.proofs.Ahead.{combination_at-counted, refused}
-use Rattle.tv_r1cs_read.proofs.Summing.{adds, comes_to, counted, starts, valued}
+use Rattle.tv_r1cs_read.proofs.Sums.{adds, comes_to, counted, starts, valued}
 use Rattle.tv_r1cs_read.proofs.far_trial.sum_far.Goals as goal
 
 pub loop-left-init : goal.loop-left-init
@@ -11,8 +11,8 @@ loop-left-init g c = record {
   most = omega arith;
   place = refl;
   small = omega (arith, c.new-sum.ensures);
-  piece = λ file told piece. piece;
-  sums = λ file told piece end.
+  piece = λ file known piece. piece;
+  sums = λ file known piece end.
       let none : c.in_ok-terms.terms - c.in_ok-terms.terms ≡ 0 = omega arith in
       rw (none, c.new-sum.ensures) (starts file _ _ _ _ _ _);
 }
@@ -21,13 +21,13 @@ pub returns-in_err-wire-clause-reads : goal.returns-in_err-wire-clause-reads
 returns-in_err-wire-clause-reads g c = record {
   looks = search rules;
   piece = search rules;
-  gives = λ file told piece end.
-      let seen = rw (← c.in_ok-terms.ensures.reads.looks) at told in
-      let here = c.in_ok-terms.ensures.reads.piece file told piece in
+  gives = λ file known piece end.
+      let seen = rw (← c.in_ok-terms.ensures.reads.looks) at known in
+      let here = c.in_ok-terms.ensures.reads.piece file known piece in
       let left : c.loop-left.left ≡ c.loop-left.left - 1 + 1 = omega (arith, c.loop-left-test.true) in
       let summed = c.loop-left.invariant.sums file seen here end in
       let p = err_from_is_err_and c.from_residual-in_err-wire.result c.from_residual-in_err-wire.ensures.1 in
-      rw (p.1, p.2, combination_at-counted file _ _ _ _ (c.in_ok-terms.ensures.reads.gives file told piece end))
+      rw (p.1, p.2, combination_at-counted file _ _ _ _ (c.in_ok-terms.ensures.reads.gives file known piece end))
       (refused _ _ file _ _ _ _ _ _ summed.ahead left
       (c.in_err-wire.ensures.reads.gives file (rw (← c.loop-left.invariant.outside) at seen) (c.loop-left.invariant.piece file seen here) end));
 }
@@ -61,12 +61,12 @@ pub returns-clause-reads : goal.returns-clause-reads
 returns-clause-reads g c = record {
   looks = search rules;
   piece = search rules;
-  gives = λ file told piece end.
-      let seen = rw (← c.in_ok-terms.ensures.reads.looks) at told in
-      let here = c.in_ok-terms.ensures.reads.piece file told piece in
+  gives = λ file known piece end.
+      let seen = rw (← c.in_ok-terms.ensures.reads.looks) at known in
+      let here = c.in_ok-terms.ensures.reads.piece file known piece in
       let none : c.loop-left.left ≡ 0 = omega (arith, c.loop-left-test.false) in
       let all : c.in_ok-terms.terms - 0 ≡ c.in_ok-terms.terms = omega arith in
       let done = rw (none, all) at (c.loop-left.invariant.sums file seen here end) in
-      valued _ _ _ _ _ _ (counted file _ _ _ _ _ _ _ _ (c.in_ok-terms.ensures.reads.gives file told piece end)
+      valued _ _ _ _ _ _ (counted file _ _ _ _ _ _ _ _ (c.in_ok-terms.ensures.reads.gives file known piece end)
       (comes_to _ file _ _ _ _ _ _ _ _ done refl)) c.value.ensures;
 }

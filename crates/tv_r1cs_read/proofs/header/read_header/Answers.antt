@@ -8,14 +8,14 @@ unfolding header_of
 returns-clause-reads g c = record {
   looks = search rules;
   piece = search rules;
-  gives = λ file told piece.
-      let found = c.in_ok-found.ensures.reads.gives file told piece in
-      let gives = c.header_in.ensures.reads.gives file (rw (← c.in_ok-found.ensures.reads.looks) at told) (c.in_ok-found.ensures.reads.piece file told piece)
+  gives = λ file known piece.
+      let found = c.in_ok-found.ensures.reads.gives file known piece in
+      let gives = c.header_in.ensures.reads.gives file (rw (← c.in_ok-found.ensures.reads.looks) at known) (c.in_ok-found.ensures.reads.piece file known piece)
       found.3 found.0 found.2 (sections_of-fit _ _ _ file found.0 found.1) in
       rw found.1 gives;
 }
 
 pub returns-clause-within : goal.returns-clause-within
-returns-clause-within g c = λ file told piece.
-    let found = c.in_ok-found.ensures.reads.gives file told piece in
+returns-clause-within g c = λ file known piece.
+    let found = c.in_ok-found.ensures.reads.gives file known piece in
     c.header_in.ensures.within file found.0 found.2 (sections_of-fit _ _ _ file found.0 found.1)

@@ -1,5 +1,5 @@
 use Rattle.std.proofs.Common.{◌≡◌, arith}
-use Rattle.tv_r1cs_read.proofs.Summing.{held}
+use Rattle.tv_r1cs_read.proofs.Sums.{held}
 use Rattle.tv_r1cs_read.proofs.held_trial.sum_held.Goals as goal
 
 pub returns-then-terms-eq1-clause-gives : goal.returns-then-terms-eq1-clause-gives

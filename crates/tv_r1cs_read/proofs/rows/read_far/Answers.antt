@@ -12,8 +12,8 @@ loop-init g c = record {
   place = omega arith;
   size = ap length c.clear.ensures;
   wires = rw c.clear.ensures (All-nil _);
-  piece = λ file told piece. piece;
-  ahead = λ file told piece end.
+  piece = λ file known piece. piece;
+  ahead = λ file known piece end.
       let all : c.in_ok-count.count - 0 ≡ c.in_ok-count.count = omega arith in
       rw (all, c.clear.ensures) (begins file _ _ _ _);
 }
@@ -22,12 +22,12 @@ pub returns-in_err-wire-clause-reads : goal.returns-in_err-wire-clause-reads
 returns-in_err-wire-clause-reads g c = record {
   looks = search rules;
   piece = search rules;
-  gives = λ file told piece end.
-      let seen = rw (← c.in_ok-count.ensures.reads.looks) at told in
-      let here = c.in_ok-count.ensures.reads.piece file told piece in
+  gives = λ file known piece end.
+      let seen = rw (← c.in_ok-count.ensures.reads.looks) at known in
+      let here = c.in_ok-count.ensures.reads.piece file known piece in
       let left : c.in_ok-count.count - c.loop.counter ≡ c.in_ok-count.count - (c.loop.counter + 1) + 1 = omega (arith, c.loop-test.true) in
       let p = err_from_is_err_and c.from_residual-in_err-wire.result c.from_residual-in_err-wire.ensures.1 in
-      rw (p.1, p.2, combination_at-counted file _ _ _ _ (c.in_ok-count.ensures.reads.gives file told piece end))
+      rw (p.1, p.2, combination_at-counted file _ _ _ _ (c.in_ok-count.ensures.reads.gives file known piece end))
       (refused _ _ file _ _ _ _ _ _ (c.loop.invariant.ahead file seen here end) left
       (c.in_err-wire.ensures.reads.gives file (rw (← c.loop.invariant.outside) at seen) (c.loop.invariant.piece file seen here) end));
 }
@@ -50,9 +50,9 @@ pub returns-clause-reads : goal.returns-clause-reads
 returns-clause-reads g c = record {
   looks = search rules;
   piece = search rules;
-  gives = λ file told piece end.
-      let seen = rw (← c.in_ok-count.ensures.reads.looks) at told in
-      let here = c.in_ok-count.ensures.reads.piece file told piece in
-      rw (c.held_from.ensures.from, combination_at-counted file _ _ _ _ (c.in_ok-count.ensures.reads.gives file told piece end))
+  gives = λ file known piece end.
+      let seen = rw (← c.in_ok-count.ensures.reads.looks) at known in
+      let here = c.in_ok-count.ensures.reads.piece file known piece in
+      rw (c.held_from.ensures.from, combination_at-counted file _ _ _ _ (c.in_ok-count.ensures.reads.gives file known piece end))
       (ends _ _ file _ _ _ _ (c.loop.invariant.ahead file seen here end) (omega (arith, c.loop-test.false)));
 }

@@ -3,7 +3,7 @@ use Rattle.tv_core.proofs.Chain.{puts_no_turn, puts_turn, turn_refused, refused}
 use Rattle.tv_core.specs.Circuits.{Circuit}
 use Rattle.tv_core.specs.Sinks.{PutsAll, PutsSome}
 use Rattle.tv_shrink.specs.Emission.{row_circuit, rows_circuit}
-use Rattle.tv_shrink.proofs.Putting.{row_count_few}
+use Rattle.tv_shrink.proofs.Puts.{row_count_few}
 use Rattle.tv_shrink.proofs.emission.put_rows.Goals as goal
 
 pub loop-at-init : goal.loop-at-init

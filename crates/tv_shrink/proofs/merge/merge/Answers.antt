@@ -4,7 +4,7 @@ use Rattle.tv_core.specs.Combinations.{scaled}
 use Rattle.tv_core.specs.declared.field.TheConstants.{P}
 use Rattle.tv_shrink.specs.Merge.{first_wire, head_at, leaving_out, unless_left}
 use Rattle.tv_core.specs.Normal.{normal, IsNormalFrom}
-use Rattle.tv_shrink.proofs.Merging.{either_left, empty_from, given, merge-turn, normal-rest}
+use Rattle.tv_shrink.proofs.Merges.{either_left, empty_from, given, merge-turn, normal-rest}
 use Rattle.tv_shrink.proofs.merge.merge.Goals as goal
 use Rattle.tv_shrink.proofs.merge.merge.Goals.{then-loop-left-test+else-not-is_empty, else-loop-left-test}
 

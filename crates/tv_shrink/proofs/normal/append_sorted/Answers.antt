@@ -5,7 +5,7 @@ use Rattle.std.proofs.lemmas.List.Sorted.{IsNonDecreasingBy-from_sort_by_key}
 use Rattle.std.proofs.lemmas.Result.{on_ok_weaker}
 use Rattle.tv_r1cs_read.specs.Rows.{combination_of}
 use Rattle.tv_core.specs.Normal.{normal}
-use Rattle.tv_shrink.proofs.Sorting.{normal-permuted}
+use Rattle.tv_shrink.proofs.SortLaws.{normal-permuted}
 use Rattle.tv_shrink.proofs.normal.append_sorted.Goals as goal
 
 pub append_sums-requires : goal.append_sums-requires

@@ -1,7 +1,7 @@
 use Rattle.std.proofs.Common.{◌≡◌, ◌∙◌, ◌++◌, ◌+◌, ◌<◌, ℕ, [], append-nil, append_assoc, ap, ap₂, arith, drop, get_or, length, sym}
 use Rattle.tv_core.specs.Normal.{normal, with_term}
 use Rattle.tv_shrink.proofs.Passes.{same_default}
-use Rattle.tv_shrink.proofs.Sorting.{no_sum, sum_ends, sum_goes_on, sum_past, with_sum}
+use Rattle.tv_shrink.proofs.SortLaws.{no_sum, sum_ends, sum_goes_on, sum_past, with_sum}
 use Rattle.tv_shrink.proofs.normal.append_sums.Goals as goal
 use Rattle.tv_shrink.proofs.normal.append_sums.Goals.{then-at-terms+in_ok-push_term, then-at-terms-via-then-at-terms, then-at-terms-via-else-at-terms+then-ne}
 use Rattle.tv_shrink.proofs.normal.append_sums.Goals.{else-at-terms+else-ne}

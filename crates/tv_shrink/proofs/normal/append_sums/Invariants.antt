@@ -1,6 +1,6 @@
 use Rattle.std.proofs.Common.{◌≡◌, ◌≤◌, ◌++◌, drop, length}
 use Rattle.tv_core.specs.Normal.{normal}
-use Rattle.tv_shrink.proofs.Sorting.{with_sum}
+use Rattle.tv_shrink.proofs.SortLaws.{with_sum}
 use Rattle.tv_shrink.proofs.normal.append_sums.Given as goal
 
 abbrev pub invariant-loop-at : goal.invariant-loop-at

@@ -10,7 +10,7 @@ use Rattle.tv_r1cs_read.specs.Rows.{constraint_of, IsOver}
 use Rattle.tv_shrink.specs.Answers.{counted_system, wide_in, HaltsBy}
 use Rattle.tv_core.specs.Normal.{normal_constraint}
 use Rattle.tv_shrink.specs.Tidy.{RowsAreNormal, AreWithin, RowIsWithin}
-use Rattle.tv_shrink.proofs.Read.{few_terms, halted, narrow_within, no_wide, pushed_normal, rows-push, start_more, tells_read, wide_halted, wide_more}
+use Rattle.tv_shrink.proofs.Read.{few_terms, halted, narrow_within, no_wide, pushed_normal, rows-push, start_more, read_means, wide_halted, wide_more}
 use Rattle.tv_shrink.proofs.Read.{wide_read}
 use Rattle.tv_shrink.proofs.normal_system.read.Goals as goal
 
@@ -28,13 +28,13 @@ loop-scratch-init g c = record {
 }
 
 pub returns-in_err-next_into-clause-gives : goal.returns-in_err-next_into-clause-gives
-returns-in_err-next_into-clause-gives g c = λ file told.
-    let begun = rw (← c.in-Ok.ensures.ok_looks, ← c.in-Ok.ensures.name) at told in
-    let before = c.loop-scratch.invariant.place file begun (c.in-Ok.ensures.gives file told) in
+returns-in_err-next_into-clause-gives g c = λ file known.
+    let begun = rw (← c.in-Ok.ensures.ok_looks, ← c.in-Ok.ensures.name) at known in
+    let before = c.loop-scratch.invariant.place file begun (c.in-Ok.ensures.gives file known) in
     let refuses = MatchOption-at_some _ _ _ c.in_err-next_into.ensures.tells
     (c.in_err-next_into.ensures.steps.gives before.0 file (rw (← c.loop-scratch.invariant.outside, ← c.loop-scratch.invariant.name) at begun) before.1) in
     let p = err_from_is_err_and c.from_residual.result c.from_residual.ensures.1 in
-    rw (p.1, p.2) (tells_read c.in_err-next_into.field-0.0 file refuses)
+    rw (p.1, p.2) (read_means c.in_err-next_into.field-0.0 file refuses)
 
 pub returns-in_err-next_into-clause-looks : goal.returns-in_err-next_into-clause-looks
 returns-in_err-next_into-clause-looks g c =
@@ -74,9 +74,9 @@ loop-scratch-preserved g c =
       normal = pushed_normal c.loop-scratch.rows c.add.new.self one c.in_ok-add.ensures.rows c.loop-scratch.invariant.normal;
       place = λ file begun start.
           let before = c.loop-scratch.invariant.place file begun start in
-          let told = rw (← c.loop-scratch.invariant.outside, ← c.loop-scratch.invariant.name) at begun in
+          let known = rw (← c.loop-scratch.invariant.outside, ← c.loop-scratch.invariant.name) at begun in
           let at = rw c.if-branch.true at (MatchOption-at_none _ _ c.in_ok-next_into.ensures.tells
-          (c.in_ok-next_into.ensures.steps.gives before.0 file told before.1)) in (
+          (c.in_ok-next_into.ensures.steps.gives before.0 file known before.1)) in (
             before.0 ++ one ∷ [],
             at,
             c.in_ok-add.ensures.rows ∙ ap (λ rows. rows ++ Some (normal_constraint one) ∷ []) before.2 ∙ sym (start_more before.0 one),
@@ -85,14 +85,14 @@ loop-scratch-preserved g c =
     }
 
 pub returns-in_err-add-clause-gives : goal.returns-in_err-add-clause-gives
-returns-in_err-add-clause-gives g c = λ file told.
-    let begun = rw (← c.in-Ok.ensures.ok_looks, ← c.in-Ok.ensures.name) at told in
-    let before = c.loop-scratch.invariant.place file begun (c.in-Ok.ensures.gives file told) in
+returns-in_err-add-clause-gives g c = λ file known.
+    let begun = rw (← c.in-Ok.ensures.ok_looks, ← c.in-Ok.ensures.name) at known in
+    let before = c.loop-scratch.invariant.place file begun (c.in-Ok.ensures.gives file known) in
     let at = rw c.if-branch.true at (MatchOption-at_none _ _ c.in_ok-next_into.ensures.tells
     (c.in_ok-next_into.ensures.steps.gives before.0 file (rw (← c.loop-scratch.invariant.outside, ← c.loop-scratch.invariant.name) at begun) before.1)) in
     let p = err_from_is_err_and c.from_residual-in_err-add.result c.from_residual-in_err-add.ensures.1 in
     rw (p.1, p.2) (wide_read c.in_err-add.field-0.0 c.next_into.new.self.progress file before.0 (constraint_of c.next_into.new.row)
-    (c.requires.small file told) before.3 at c.in_err-add.ensures.err)
+    (c.requires.small file known) before.3 at c.in_err-add.ensures.err)
 
 pub returns-in_err-add-clause-looks : goal.returns-in_err-add-clause-looks
 returns-in_err-add-clause-looks g c =
@@ -119,9 +119,9 @@ returns-clause-ready g c = record {
 }
 
 pub returns-clause-gives : goal.returns-clause-gives
-returns-clause-gives g c = λ file told.
-    let begun = rw (← c.in-Ok.ensures.ok_looks, ← c.in-Ok.ensures.name) at told in
-    let before = c.loop-scratch.invariant.place file begun (c.in-Ok.ensures.gives file told) in
+returns-clause-gives g c = λ file known.
+    let begun = rw (← c.in-Ok.ensures.ok_looks, ← c.in-Ok.ensures.name) at known in
+    let before = c.loop-scratch.invariant.place file begun (c.in-Ok.ensures.gives file known) in
     let all = rw c.if-branch.false at (MatchOption-at_none _ _ c.in_ok-next_into.ensures.tells
     (c.in_ok-next_into.ensures.steps.gives before.0 file (rw (← c.loop-scratch.invariant.outside, ← c.loop-scratch.invariant.name) at begun) before.1)) in
     let is : r1cs_system file ≡ Ok (counted_system c.counts-counts.result before.0) =
@@ -131,6 +131,6 @@ returns-clause-gives g c = λ file told.
       list = before.0;
       is = is;
       same = before.2;
-      few = few_terms file (counted_system c.counts-counts.result before.0) (c.requires.small file told) is;
+      few = few_terms file (counted_system c.counts-counts.result before.0) (c.requires.small file known) is;
       narrow = before.3;
     }

@@ -1,6 +1,6 @@
 use Rattle.std.proofs.Common.{◌<◌, ◌-◌, arith, get_or, length, refl}
 use Rattle.tv_shrink.proofs.Passes.{same_default}
-use Rattle.tv_shrink.proofs.Occurring.{tells_none, tells_row}
+use Rattle.tv_shrink.proofs.OccurrenceLaws.{tells_none, tells_row}
 use Rattle.tv_shrink.specs.declared.occurrences.Entry.{Entry}
 use Rattle.tv_shrink.proofs.occurrences.tells.Goals as goal
 

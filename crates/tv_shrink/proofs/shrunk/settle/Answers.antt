@@ -7,7 +7,7 @@ use Rattle.tv_shrink.specs.Renumbering.{moved_in}
 use Rattle.tv_shrink.specs.Pass.{turn}
 use Rattle.tv_shrink.specs.Tidy.{marked, pass_of, AreWithin}
 use Rattle.tv_shrink.proofs.Gone.{marks}
-use Rattle.tv_shrink.proofs.Settling.{flags_each, labels_enough, rows_within, system_is}
+use Rattle.tv_shrink.proofs.Settlement.{flags_each, labels_enough, rows_within, system_is}
 use Rattle.tv_shrink.proofs.States.{ran, ran_length}
 use Rattle.tv_shrink.proofs.shrunk.settle.Goals as goal
 use Rattle.tv_shrink.proofs.shrunk.settle.Goals.{After-into_gone}

@@ -4,6 +4,6 @@ use Rattle.tv_wtns.proofs.Firsts.{are_all}
 use Rattle.tv_wtns.proofs.assignment.read_values.Goals as goal
 
 pub returns-clause-gives : goal.returns-clause-gives
-returns-clause-gives g c = λ file told.
+returns-clause-gives g c = λ file known.
     let few : c.in_ok-first.first.count ≤ 4294967295 = omega arith in
-    are_all _ (assignment_of file) _ few (c.in_ok-first.ensures.gives file told)
+    are_all _ (assignment_of file) _ few (c.in_ok-first.ensures.gives file known)

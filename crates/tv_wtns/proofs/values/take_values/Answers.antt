@@ -11,13 +11,13 @@ pub returns-in_default-clause-gives : goal.returns-in_default-clause-gives
 returns-in_default-clause-gives c = λ file words answer n enough ahead.
     let left : n - c.loop-index.index ≡ n - (c.loop-index.index + 1) + 1 = omega (arith, c.loop-index-test.true) in
     no_residue answer _ _ file _ _ _ _ (c.loop-index.invariant.ahead file words answer n enough ahead) left
-    (sym (c.number_of.ensures ∙ words.spell c.loop-index.index _ c.loop-index-test.true)) (c.in_default.ensures.none.0 refl)
+    (sym (c.number_of.ensures ∙ words.words_are c.loop-index.index _ c.loop-index-test.true)) (c.in_default.ensures.none.0 refl)
 
 pub loop-index-preserved : goal.loop-index-preserved
 loop-index-preserved c =
     let canonical : c.number_of.result < P = ⊎_elim (λ below. below) (λ above. cc (c.in-Some.ensures.none.1 above)) (cases_lt c.number_of.result P) in
     let here = λ (file : List ℕ) (words : AreWords c.args.words.now file c.args.at). sym
-    (c.number_of.ensures ∙ words.spell c.loop-index.index _ c.loop-index-test.true) in
+    (c.number_of.ensures ∙ words.words_are c.loop-index.index _ c.loop-index-test.true) in
     let left = λ (n : ℕ) (enough : length c.args.words.now ≤ n). let one : n - c.loop-index.index
     ≡ n - (c.loop-index.index + 1) + 1 = omega (arith, c.loop-index-test.true) in one in
     let next : c.args.at + 8 * c.loop-index.index + 8 ≡ c.args.at + 8 * (c.loop-index.index + 1) = omega arith in

@@ -16,7 +16,7 @@ loop-line-init g c =
 pub loop-line-preserved-then-has_instruction : goal.loop-line-preserved-then-has_instruction
 loop-line-preserved-then-has_instruction g c =
     let said_line = c.of-statement.ensures ∙ ap code_says c.code_of.ensures in
-    IsRead-more g.row.W c.requires c.loop-line.labels c.note.new.self c.loop-line.place _ c.loop-line.rest.now c.in-Some.behind.now c.args.text.now
+    IsRead-more g.row.W c.requires c.loop-line.labels c.note.new.self c.loop-line.place _ c.loop-line.rest.now c.in-Some.remaining.now c.args.text.now
     c.in-Some.line.now true
     c.loop-line.invariant c.in-Some.ensures.0 c.in-Some.ensures.1
     (λ name. rw said_line at (c.in_ok-note.ensures name))
@@ -25,7 +25,7 @@ loop-line-preserved-then-has_instruction g c =
 pub loop-line-preserved : goal.loop-line-preserved
 loop-line-preserved g c =
     let said_line = c.of-statement.ensures ∙ ap code_says c.code_of.ensures in
-    IsRead-more g.row.W c.requires c.loop-line.labels c.note.new.self c.loop-line.place _ c.loop-line.rest.now c.in-Some.behind.now c.args.text.now
+    IsRead-more g.row.W c.requires c.loop-line.labels c.note.new.self c.loop-line.place _ c.loop-line.rest.now c.in-Some.remaining.now c.args.text.now
     c.in-Some.line.now false
     c.loop-line.invariant c.in-Some.ensures.0 c.in-Some.ensures.1
     (λ name. rw said_line at (c.in_ok-note.ensures name))

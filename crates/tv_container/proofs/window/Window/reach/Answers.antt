@@ -8,10 +8,10 @@ returns-clause-reads g c =
     let place = rw (← c.self.view_is) at c.go.ensures.at in
     record {
       looks = search rules;
-      piece = λ file told piece.
+      piece = λ file known piece.
           let start = front_of _ file _ _ _ (omega (arith, c.self.invariant)) (rw (← c.self.view_is) at (c.go.ensures.piece file piece)) place in
-          is_piece _ file _ _ _ (omega (arith, held.within)) (held.piece file told start) place;
-      gives = λ file told piece.
+          is_piece _ file _ _ _ (omega (arith, held.within)) (held.piece file known start) place;
+      gives = λ file known piece.
           let start = front_of _ file _ _ _ (omega (arith, c.self.invariant)) (rw (← c.self.view_is) at (c.go.ensures.piece file piece)) place in
-          ap Ok (there_if_read _ file _ _ _ (omega (arith, held.within)) (held.piece file told start) (held.end file told) c.requires.some (omega arith));
+          ap Ok (there_if_read _ file _ _ _ (omega (arith, held.within)) (held.piece file known start) (held.end file known) c.requires.some (omega arith));
     }

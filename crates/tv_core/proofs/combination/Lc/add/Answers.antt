@@ -1,6 +1,6 @@
 use Rattle.std.proofs.Common.{◌≡◌, ℕ, List, [], ◌∷◌, ◌++◌, ap, ◌∙◌, arith}
 use Rattle.tv_core.specs.Normal.{normal, place}
-use Rattle.tv_core.proofs.Adding.{added_apart, normal_of, length_of, top_of}
+use Rattle.tv_core.proofs.Addition.{added_apart, normal_of, length_of, top_of}
 use Rattle.tv_core.proofs.Cells.{first_cells}
 use Rattle.tv_core.proofs.combination.Lc.add.Goals as goal
 

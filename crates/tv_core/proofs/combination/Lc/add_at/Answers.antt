@@ -1,7 +1,7 @@
 use Rattle.std.proofs.Common.{◌≡◌, ◌+◌, ◌%◌, ◌<◌, get_or, ap, sym, ◌∙◌, arith}
 use Rattle.std.proofs.lemmas.List.{get_or_default}
 use Rattle.tv_core.specs.declared.field.TheConstants.{P}
-use Rattle.tv_core.proofs.Adding.{added_same, added_apart}
+use Rattle.tv_core.proofs.Addition.{added_same, added_apart}
 use Rattle.tv_core.proofs.Cells.{first_cells, read}
 use Rattle.tv_core.proofs.combination.Lc.add_at.Goals as goal
 

@@ -1,6 +1,6 @@
 use Rattle.std.proofs.Common.{refl, arith}
 use Rattle.std.proofs.lemmas.List.{append-nil}
-use Rattle.tv_core.proofs.Fitting.{IsCounted-wire}
+use Rattle.tv_core.proofs.Fits.{IsCounted-wire}
 use Rattle.tv_core.specs.Circuits.{fresh}
 use Rattle.tv_core.proofs.count_sink.CountSinkSink.fresh.Goals as goal
 

@@ -1,5 +1,5 @@
 use Rattle.std.proofs.Common.{◌≡◌, ◌≤◌, ◌+◌, length, refl, sym, ap, ap₂, subst, arith}
-use Rattle.tv_core.proofs.Fitting.{IsCounted-push}
+use Rattle.tv_core.proofs.Fits.{IsCounted-push}
 use Rattle.tv_core.specs.Circuits.{put}
 use Rattle.tv_core.specs.Combinations.{top}
 use Rattle.tv_core.specs.Constraints.{Constraint}

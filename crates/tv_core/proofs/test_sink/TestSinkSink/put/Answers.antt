@@ -1,6 +1,6 @@
 use Rattle.std.proofs.Common.{◌≡◌, ◌+◌, ◌%◌, ◌∙◌, ap, arith, refl}
 use Rattle.std.specs.Option.{option_or}
-use Rattle.tv_core.proofs.Testing.{IsTested-push}
+use Rattle.tv_core.proofs.TestLaws.{IsTested-push}
 use Rattle.tv_core.specs.Circuits.{put}
 use Rattle.tv_core.specs.Constraints.{Constraint}
 use Rattle.tv_core.specs.Meanings.{holds, product_in}

@@ -26,7 +26,7 @@ returns-in-Some-clause-appends c =
       later = search rules;
       failed = search rules;
       memory = search rules;
-      missing = λ files told gone. absurd (found_is_there name old had files found told gone);
+      missing = λ files known gone. absurd (found_is_there name old had files found known gone);
       there = λ _ _. inl refl;
     }
 

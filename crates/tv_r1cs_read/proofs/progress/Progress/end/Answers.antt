@@ -9,7 +9,7 @@ returns-then-self-rows-clause-steps c = λ outside name. record {
   header = search rules;
   again = search rules;
   looks = λ on. stopped_here outside name _ (search rules);
-  gives = λ rows file told place.
+  gives = λ rows file known place.
       let left = rw (← c.self.view_is) at c.requires.none in
       refuses_ahead file c.args.self.now rows _ place
       (rw (← c.self.view_is) (refuses_wrong _ _ _ (constraints_from-surplus file _ _ _ _ left c.if-self-rows.true)));
@@ -20,7 +20,7 @@ returns-else-self-rows-clause-steps c = λ outside name. record {
   header = refl;
   again = λ why stopped. (refl, refl);
   looks = λ on. rw on refl;
-  gives = λ rows file told place.
+  gives = λ rows file known place.
       let left = rw (← c.self.view_is) at c.requires.none in
       let end : c.self.inside.at ≡ c.self.inside.header.rows.at + c.self.inside.header.rows.size = omega
       (arith, c.if-self-rows.false, c.self.invariant.within) in

@@ -1,7 +1,7 @@
 use Rattle.std.proofs.Common.{[], ◌+◌, ◌++◌, ◌∙◌, append_assoc, append-nil, length, length-append, arith, refl, rules}
 use Rattle.std.proofs.lemmas.Option.{MatchOption-at_none}
 use Rattle.tv_r1cs_read.proofs.Done.{is_on}
-use Rattle.tv_r1cs_read.proofs.Failing.{behind_all, failed, none_failed}
+use Rattle.tv_r1cs_read.proofs.Failures.{after_all, failed, none_failed}
 use Rattle.tv_r1cs_read.proofs.progress.Progress.first_failure.Goals as goal
 
 pub loop-self-init : goal.loop-self-init
@@ -10,7 +10,7 @@ loop-self-init g c = record {
   header = refl;
   on = search rules;
   fewer = search (rules, arith);
-  place = λ rows file told start. ([], rw append-nil start, search (rules, arith), refl);
+  place = λ rows file known start. ([], rw append-nil start, search (rules, arith), refl);
 }
 
 pub returns-then-not-branch-clause-steps : goal.returns-then-not-branch-clause-steps
@@ -21,9 +21,9 @@ returns-then-not-branch-clause-steps g c =
       header = tried.steps.header ∙ c.loop-self.invariant.header;
       again = search rules;
       looks = λ on. rw tried.goes (looked ∙ c.loop-self.invariant.outside);
-      gives = λ rows file told start.
-          let before = c.loop-self.invariant.place rows file told start in
-          let seen = rw (← c.loop-self.invariant.outside) at told in
+      gives = λ rows file known start.
+          let before = c.loop-self.invariant.place rows file known start in
+          let seen = rw (← c.loop-self.invariant.outside) at known in
           let over = rw c.if-not-branch.true at (MatchOption-at_none _ _ tried.goes (tried.steps.gives (rows ++ before.0) file seen before.1)) in
           is_on file _ tried.goes (failed c.args.values.now _ _ file rows before.0 _ _ before.3 over before.2 (search (rules, arith)));
     }
@@ -36,14 +36,14 @@ loop-self-preserved g c =
       header = tried.steps.header ∙ c.loop-self.invariant.header;
       on = tried.goes;
       fewer = omega (arith, tried.left, c.loop-self.invariant.fewer);
-      place = λ rows file told start.
-          let before = c.loop-self.invariant.place rows file told start in
-          let seen = rw (← c.loop-self.invariant.outside) at told in
+      place = λ rows file known start.
+          let before = c.loop-self.invariant.place rows file known start in
+          let seen = rw (← c.loop-self.invariant.outside) at known in
           let over = rw c.if-not-branch.false at (MatchOption-at_none _ _ tried.goes (tried.steps.gives (rows ++ before.0) file seen before.1)) in (
             before.0 ++ over.more,
             rw (← append_assoc rows before.0 over.more) over.place,
             omega (arith, before.2, over.count, length-append before.0 over.more),
-            behind_all c.args.values.now 0 before.0 over.more before.3 ∙ over.is (0 + length before.0),
+            after_all c.args.values.now 0 before.0 over.more before.3 ∙ over.is (0 + length before.0),
           );
     }
 
@@ -54,7 +54,7 @@ returns-clause-steps g c =
       header = ended.header ∙ c.loop-self.invariant.header;
       again = search rules;
       looks = λ on. rw c.loop-self.invariant.outside (ended.looks c.loop-self.invariant.on);
-      gives = λ rows file told start.
-          let before = c.loop-self.invariant.place rows file told start in
-          none_failed c.args.values.now _ file rows before.0 before.3 (ended.gives (rows ++ before.0) file told before.1);
+      gives = λ rows file known start.
+          let before = c.loop-self.invariant.place rows file known start in
+          none_failed c.args.values.now _ file rows before.0 before.3 (ended.gives (rows ++ before.0) file known before.1);
     }

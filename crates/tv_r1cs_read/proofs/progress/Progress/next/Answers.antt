@@ -11,7 +11,7 @@ returns-in-Some-stopped-clause-steps g c =
       header = ended.header;
       again = ended.again;
       looks = ended.looks;
-      gives = λ rows file told is. rw stopped (rw stopped at (ended.gives rows file told is));
+      gives = λ rows file known is. rw stopped (rw stopped at (ended.gives rows file known is));
     }
 
 pub returns-in-None-clause-steps : goal.returns-in-None-clause-steps
@@ -22,14 +22,14 @@ returns-in-Ok-clause-steps g c = record {
   header = search rules;
   again = search rules;
   looks = search rules;
-  gives = λ rows file told is.
+  gives = λ rows file known is.
       let some : 0 < c.self.inside.left = omega arith in
       let place = rw (← c.self.view_is) at is in
       let on = place.follows in
       let left : c.self.inside.left ≡ c.self.inside.left - 1 + 1 = omega arith in
-      let read = rw (c.bounds-bounds.ensures.wires, c.bounds-bounds.ensures.end, ← c.self.view_is) at (c.in-Ok.ensures.reads.gives file told on.piece) in
+      let read = rw (c.bounds-bounds.ensures.wires, c.bounds-bounds.ensures.end, ← c.self.view_is) at (c.in-Ok.ensures.reads.gives file known on.piece) in
       is_on file _ on.on (next_at file _ _ rows _ place
-      (record { piece = c.in-Ok.ensures.reads.piece file told on.piece; within = on.within; on = on.on })
+      (record { piece = c.in-Ok.ensures.reads.piece file known on.piece; within = on.within; on = on.on })
       refl
       (rw c.in-Ok.ensures.size (terms_rise c.self.inside.header c.self.inside.at c.self.inside.left _ c.self.invariant some))
       (constraints_from-next file _ _ _ _ _ _ left (read on.within)));
@@ -40,10 +40,10 @@ returns-in-Err-clause-steps g c = record {
   header = search rules;
   again = search rules;
   looks = search rules;
-  gives = λ rows file told is.
+  gives = λ rows file known is.
       let place = rw (← c.self.view_is) at is in
       let left : c.self.inside.left ≡ c.self.inside.left - 1 + 1 = omega arith in
       let refuses = rw (c.bounds-bounds.ensures.wires, c.bounds-bounds.ensures.end, ← c.self.view_is) at
-      (c.in-Err.ensures.reads.gives file told place.follows.piece) in
+      (c.in-Err.ensures.reads.gives file known place.follows.piece) in
       refuses_ahead file _ rows _ place (constraints_from-refuses file _ _ _ _ _ _ left (refuses place.follows.within));
 }

@@ -1,7 +1,7 @@
 use Rattle.std.proofs.Common.{◌≡◌, ◌+◌, ◌-◌, ◌<◌, ◌++◌, ◌∙◌, ap, refl, arith, rules}
 use Rattle.tv_r1cs_read.proofs.Constraints.{constraints_from-next}
 use Rattle.tv_r1cs_read.proofs.Done.{one_more, terms_rise}
-use Rattle.tv_r1cs_read.proofs.Failing.{fewer, over_more}
+use Rattle.tv_r1cs_read.proofs.Failures.{fewer, over_more}
 use Rattle.tv_r1cs_read.specs.Progress.{terms_given}
 use Rattle.tv_r1cs_read.proofs.progress.Progress.try_rows.Goals as goal
 

@@ -3,7 +3,7 @@ use Rattle.tv_core.specs.Constraints.{Constraint}
 use Rattle.tv_r1cs_read.specs.Held.{IsHeld}
 use Rattle.tv_r1cs_read.specs.Places.{IsAt}
 use Rattle.tv_r1cs_read.specs.Progress.{IsWithin, Reached, terms_given}
-use Rattle.tv_r1cs_read.specs.Steps.{Fewer, WentOver}
+use Rattle.tv_r1cs_read.specs.Steps.{Fewer, Tried}
 use Rattle.tv_r1cs_read.specs.declared.progress.Progress.TheInside.{Inside}
 use Rattle.tv_r1cs_read.proofs.progress.Progress.try_rows.Given as goal
 
@@ -24,7 +24,7 @@ invariant-loop-holds g l = record {
   within : IsWithin l.self-inside.header l.held.from l.left;
   fewer : Fewer l.holds l.self-inside.left l.left;
   place : (file : List ℕ) (rows : List Constraint) → IsAt (reached l.self-inside l.self-inside.at l.self-inside.left) file rows →
-      WentOver l.holds l.values (reached l.self-inside l.self-inside.at l.self-inside.left) (reached l.self-inside l.held.from l.left) file rows;
+      Tried l.holds l.values (reached l.self-inside l.self-inside.at l.self-inside.left) (reached l.self-inside l.held.from l.left) file rows;
 }
 
 abbrev pub decreases-loop-holds : goal.decreases-loop-holds

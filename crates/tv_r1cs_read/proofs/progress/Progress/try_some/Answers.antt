@@ -1,7 +1,7 @@
 use Rattle.std.proofs.Common.{◌++◌, ◌∙◌, rules}
 use Rattle.std.proofs.lemmas.Option.{MatchOption-at_none}
 use Rattle.tv_r1cs_read.proofs.Done.{is_on}
-use Rattle.tv_r1cs_read.proofs.Failing.{over_over}
+use Rattle.tv_r1cs_read.proofs.Failures.{over_over}
 use Rattle.tv_r1cs_read.proofs.progress.Progress.try_some.Goals as goal
 
 pub returns-clause-steps : goal.returns-clause-steps
@@ -13,8 +13,8 @@ returns-clause-steps g c =
       header = later.header ∙ first.steps.header;
       again = search rules;
       looks = λ on. rw c.try_window.ensures.goes looked;
-      gives = λ rows file told is.
-          let over = rw c.if-not-branch.false at (MatchOption-at_none _ _ first.goes (first.steps.gives rows file told is)) in
-          let others = MatchOption-at_none _ _ c.try_window.ensures.goes (later.gives (rows ++ over.more) file told over.place) in
+      gives = λ rows file known is.
+          let over = rw c.if-not-branch.false at (MatchOption-at_none _ _ first.goes (first.steps.gives rows file known is)) in
+          let others = MatchOption-at_none _ _ c.try_window.ensures.goes (later.gives (rows ++ over.more) file known over.place) in
           is_on file _ c.try_window.ensures.goes (over_over _ _ _ _ file rows _ over others);
     }

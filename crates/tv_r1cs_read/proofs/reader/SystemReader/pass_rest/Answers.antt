@@ -10,7 +10,7 @@ loop-init g c = record {
   name = refl;
   header = refl;
   on = sym c.stopped.ensures ∙ c.in-None.is;
-  place = λ rows file told start. passed_none file _ rows start;
+  place = λ rows file known start. passed_none file _ rows start;
 }
 
 pub loop-preserved : goal.loop-preserved
@@ -20,9 +20,9 @@ loop-preserved g c = record {
   name = search rules;
   header = c.in-Some.ensures.steps.header ∙ c.loop.invariant.header;
   on = c.in-Some.ensures.goes;
-  place = λ rows file told start.
-      let before = c.loop.invariant.place rows file told start in
-      let seen = rw (← c.loop.invariant.outside, ← c.loop.invariant.name) at told in
+  place = λ rows file known start.
+      let before = c.loop.invariant.place rows file known start in
+      let seen = rw (← c.loop.invariant.outside, ← c.loop.invariant.name) at known in
       let failed = MatchOption-at_none _ _ c.in-Some.ensures.goes (c.in-Some.ensures.steps.gives (rows ++ before.0) file seen before.1) in
       (before.0 ++ failed.0, rw (← append_assoc rows before.0 failed.0) failed.1);
 }
@@ -32,8 +32,8 @@ returns-clause-steps g c = record {
   header = c.in_default-first_failure.ensures.steps.header ∙ c.loop.invariant.header;
   again = search rules;
   looks = search rules;
-  gives = λ rows file told start.
-      let before = c.loop.invariant.place rows file told start in
-      let seen = rw (← c.loop.invariant.outside, ← c.loop.invariant.name) at told in
+  gives = λ rows file known start.
+      let before = c.loop.invariant.place rows file known start in
+      let seen = rw (← c.loop.invariant.outside, ← c.loop.invariant.name) at known in
       passed_all file [] _ rows before.0 (c.in_default-first_failure.ensures.steps.gives (rows ++ before.0) file seen before.1);
 }

@@ -1,7 +1,7 @@
 use Rattle.std.proofs.lemmas.List.FromFn.{length-range_with_len}
 use Rattle.tv_container.proofs.Buffers.{unrefused}
 use Rattle.tv_r1cs_write.specs.Streams.{stream}
-use Rattle.tv_r1cs_write.proofs.Finishing.{finished_by}
+use Rattle.tv_r1cs_write.proofs.Finish.{finished_by}
 use Rattle.tv_r1cs_write.proofs.Others.{others_none}
 use Rattle.tv_r1cs_write.proofs.stream.StreamSink.finish.Goals as goal
 

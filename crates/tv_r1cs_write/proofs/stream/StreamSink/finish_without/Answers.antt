@@ -1,6 +1,6 @@
 use Rattle.tv_container.proofs.Buffers.{unrefused}
 use Rattle.tv_r1cs_write.specs.Streams.{stream}
-use Rattle.tv_r1cs_write.proofs.Finishing.{finished_by}
+use Rattle.tv_r1cs_write.proofs.Finish.{finished_by}
 use Rattle.tv_r1cs_write.proofs.stream.StreamSink.finish_without.Goals as goal
 
 pub returns : goal.returns

@@ -1,7 +1,7 @@
 use Rattle.std.proofs.Common.{◌≤◌, ◌<◌, ◌^◌, arith, sym, ◌∙◌, subst}
 use Rattle.tv_shrink.specs.Merge.{first_wire}
 use Rattle.tv_core.specs.Normal.{IsNormalFrom}
-use Rattle.tv_shrink.proofs.Merging.{append-turn, empty_from, normal-rest, nothing_left}
+use Rattle.tv_shrink.proofs.Merges.{append-turn, empty_from, normal-rest, nothing_left}
 use Rattle.tv_shrink.proofs.merge.Side.append.Goals as goal
 
 -- the first term is appended

@@ -4,7 +4,7 @@ use Rattle.std.specs.Prelude.{slice_index}
 use Rattle.std.proofs.lemmas.List.{length_push}
 use Rattle.std.proofs.lemmas.Nat.{mod_below}
 use Rattle.tv_shrink.specs.Occurrences.{rows_from, rows_of, with_row}
-use Rattle.tv_shrink.proofs.Occurring.{head_inside, linked_push, linked_set, rows_of-more, rows_of-same, rows_of-there, rows_seen}
+use Rattle.tv_shrink.proofs.OccurrenceLaws.{head_inside, linked_push, linked_set, rows_of-more, rows_of-same, rows_of-there, rows_seen}
 use Rattle.tv_shrink.proofs.occurrences.Occurrences.add.Goals as goal
 use Rattle.tv_shrink.proofs.occurrences.Occurrences.add.Goals.{After-index-next, After-self-1}
 

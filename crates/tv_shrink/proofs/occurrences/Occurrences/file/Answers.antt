@@ -2,7 +2,7 @@ use Rattle.std.proofs.Common.{◌≡◌, ℕ, true, eqb, take_all, sym, ◌∙�
 use Rattle.std.specs.List.{list_any}
 use Rattle.tv_shrink.specs.Occurrences.{rows_of}
 use Rattle.tv_shrink.specs.Substitution.{has_wire}
-use Rattle.tv_shrink.proofs.Occurring.{with_row-has}
+use Rattle.tv_shrink.proofs.OccurrenceLaws.{with_row-has}
 use Rattle.tv_shrink.proofs.Passes.{filed-more, filed-none}
 use Rattle.tv_shrink.proofs.ReplacingLaws.{none_has}
 use Rattle.tv_shrink.proofs.occurrences.Occurrences.file.Goals as goal

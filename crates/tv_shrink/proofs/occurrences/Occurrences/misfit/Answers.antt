@@ -6,7 +6,7 @@ use Rattle.tv_shrink.specs.Substitution.{Replacement}
 use Rattle.tv_shrink.specs.declared.substitution.Substitution.TheInside.{Inside}
 use Rattle.std.proofs.lemmas.Nat.{mod_below}
 use Rattle.tv_shrink.specs.Occurrences.{rows_from, rows_of}
-use Rattle.tv_shrink.proofs.Occurring.{head_inside, rows_from-at, rows_from-none, rows_seen}
+use Rattle.tv_shrink.proofs.OccurrenceLaws.{head_inside, rows_from-at, rows_from-none, rows_seen}
 use Rattle.tv_shrink.proofs.occurrences.Occurrences.misfit.Goals as goal
 use Rattle.tv_shrink.proofs.occurrences.Occurrences.misfit.Goals.{After-index-number}
 

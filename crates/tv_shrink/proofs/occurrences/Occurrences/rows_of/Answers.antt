@@ -2,7 +2,7 @@ use Rattle.std.proofs.Common.{◌≡◌, ◌++◌, ◌∷◌, ◌%◌, [], ◌�
 use Rattle.std.proofs.lemmas.List.{append_assoc}
 use Rattle.std.proofs.lemmas.Nat.{mod_below}
 use Rattle.tv_shrink.specs.Occurrences.{rows_from}
-use Rattle.tv_shrink.proofs.Occurring.{head_inside, rows_from-at, rows_from-none, rows_seen}
+use Rattle.tv_shrink.proofs.OccurrenceLaws.{head_inside, rows_from-at, rows_from-none, rows_seen}
 use Rattle.tv_shrink.proofs.occurrences.Occurrences.rows_of.Goals as goal
 
 pub loop-number-smaller : goal.loop-number-smaller

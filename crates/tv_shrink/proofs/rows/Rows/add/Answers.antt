@@ -1,7 +1,7 @@
 use Rattle.std.proofs.Common.{◌∷◌, ◌++◌, ◌∙◌, [], Some, ap, length}
 use Rattle.tv_r1cs_read.specs.Rows.{combination_of, constraint_of}
 use Rattle.tv_core.specs.Normal.{normal, normal_constraint}
-use Rattle.tv_shrink.proofs.Laying.{rows_added}
+use Rattle.tv_shrink.proofs.LayLaws.{rows_added}
 use Rattle.tv_shrink.proofs.Spans.{span_is, terms_appended}
 use Rattle.tv_shrink.proofs.rows.Rows.add.Goals as goal
 

@@ -1,7 +1,7 @@
 use Rattle.std.proofs.Common.{◌≤◌, ◌∷◌, ◌++◌, ◌∙◌, [], sym, ap, ap₂, length, subst}
 use Rattle.std.specs.Option.{option_map}
 use Rattle.tv_shrink.specs.Spans.{end_of, row_at, row_terms, AreLaid, IsInside}
-use Rattle.tv_shrink.proofs.Laying.{laid_more, laid_none, rows_added}
+use Rattle.tv_shrink.proofs.LayLaws.{laid_more, laid_none, rows_added}
 use Rattle.tv_shrink.proofs.Spans.{span_copied}
 use Rattle.tv_shrink.proofs.rows.Rows.push.Goals as goal
 

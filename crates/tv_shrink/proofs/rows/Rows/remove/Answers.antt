@@ -2,7 +2,7 @@ use Rattle.std.proofs.Common.{◌∙◌, None, ap, length, set}
 use Rattle.std.specs.Option.{option_map}
 use Rattle.std.proofs.lemmas.List.{map-set}
 use Rattle.tv_shrink.specs.Spans.{row_at}
-use Rattle.tv_shrink.proofs.Laying.{laid_dropped}
+use Rattle.tv_shrink.proofs.LayLaws.{laid_dropped}
 use Rattle.tv_shrink.proofs.rows.Rows.remove.Goals as goal
 
 pub returns : goal.returns

@@ -3,7 +3,7 @@ use Rattle.std.specs.Option.{option_map}
 use Rattle.std.proofs.lemmas.List.{length-append, set-get_or}
 use Rattle.tv_shrink.specs.Renumbering.{moved_in}
 use Rattle.tv_shrink.specs.Spans.{end_of, row_at, row_terms, IsInside}
-use Rattle.tv_shrink.proofs.Laying.{held_at, rows_laid}
+use Rattle.tv_shrink.proofs.LayLaws.{held_at, rows_laid}
 use Rattle.tv_shrink.proofs.Read.{each_at}
 use Rattle.tv_shrink.proofs.Spans.{row_found, span_moved}
 use Rattle.tv_shrink.proofs.rows.Rows.renumber_row.Goals as goal

@@ -3,7 +3,7 @@ use Rattle.std.specs.Option.{option_map}
 use Rattle.tv_shrink.specs.Substitution.{replaced_in}
 use Rattle.tv_shrink.specs.Spans.{row_at, row_terms}
 use Rattle.tv_shrink.specs.declared.arena.Span.{Span}
-use Rattle.tv_shrink.proofs.Laying.{held_at, laid_more, rows_laid}
+use Rattle.tv_shrink.proofs.LayLaws.{held_at, laid_more, rows_laid}
 use Rattle.tv_shrink.proofs.Spans.{row_found}
 use Rattle.tv_shrink.proofs.rows.Rows.replace.Goals as goal
 

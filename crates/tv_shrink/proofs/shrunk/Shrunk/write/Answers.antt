@@ -7,12 +7,12 @@ use Rattle.tv_core.specs.Constraints.{System}
 use Rattle.tv_core.specs.Sinks.{PutsAll, PutsSome}
 use Rattle.tv_core.specs.declared.lines.Counts.{Counts}
 use Rattle.tv_r1cs_write.specs.Bytes.{others}
-use Rattle.tv_r1cs_write.proofs.Streaming.{IsBegun, streamed_all, streamed_some}
-use Rattle.tv_r1cs_write.specs.Streams.{begun, stream, stream_meaning, Progress}
+use Rattle.tv_r1cs_write.proofs.StreamLaws.{IsBegun, streamed_all, streamed_some}
+use Rattle.tv_r1cs_write.specs.Streams.{begun, stream, stream_meaning, SystemProgress}
 use Rattle.tv_r1cs_write.specs.declared.stream.StreamSink.{StreamSink}
 use Rattle.tv_shrink.specs.Emission.{rows_circuit, wires_circuit}
 use Rattle.tv_shrink.specs.Output.{shrunken_bytes}
-use Rattle.tv_shrink.proofs.Putting.{circuit_of, circuit_list, circuit_next}
+use Rattle.tv_shrink.proofs.Puts.{circuit_of, circuit_list, circuit_next}
 use Rattle.tv_shrink.proofs.shrunk.Shrunk.write.Given as given
 use Rattle.tv_shrink.proofs.shrunk.Shrunk.write.Goals as goal
 use Rattle.tv_shrink.proofs.shrunk.Shrunk.write.Goals.{In-Ok}
@@ -70,7 +70,7 @@ returns g c =
     let puts = puts_then (stream_meaning seen) (wires_circuit (private_in g ok))
     (λ _. rows_circuit rows (length rows)) c.in-Ok.sink c.make_wires.new.s c.put_rows.new.s tt tt c.make_wires.ensures.puts more in
     let labels : c.put_rows.new.s.labels ≡ c.self.inside.wires = puts.keeps.labels
-    ∙ ap (λ (p : Progress). p.labels) c.in-Ok.ensures.begins.begun ∙ c.from-labels.ensures in
+    ∙ ap (λ (p : SystemProgress). p.labels) c.in-Ok.ensures.begins.begun ∙ c.from-labels.ensures in
     let written = streamed_all _ _ _ _ _ _ _ _ (λ _. others c.self.inside.wires c.self.inside.gone.items) (is_begun g ok)
     c.put_rows.new.s _ tt c.finish_without.result (sym c.self.invariant.1) puts
     (rw (ap₂ others labels c.deref.ensures.value) at c.finish_without.ensures) in

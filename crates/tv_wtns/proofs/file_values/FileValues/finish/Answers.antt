@@ -1,6 +1,6 @@
 use Rattle.tv_container.proofs.Buffers.{unrefused}
 use Rattle.tv_wtns.specs.Takers.{taker_of}
-use Rattle.tv_wtns.proofs.Finishing.{finished}
+use Rattle.tv_wtns.proofs.Finish.{finished}
 use Rattle.tv_wtns.proofs.file_values.FileValues.finish.Goals as goal
 
 pub returns : goal.returns

@@ -1,0 +1,130 @@
+-- The address order of lines whose times are their places.
+use Rattle.std.proofs.Common.{◌≡◌, ℕ, zero, suc, ◌+◌, ◌%◌, ◌<◌, ◌≤◌, ◌^◌, List, [], ◌∷◌, ◌++◌, length, map, get_or, All, IsPermutation, refl, sym, ap, ap₂}
+use Rattle.std.proofs.Common.{◌∙◌, subst, arith, add-zero, zero-add, append_assoc}
+use Rattle.std.specs.List.{range_with_len}
+use Rattle.std.proofs.lemmas.List.{get_or-append-add, length-append, length-map, get_or-map}
+use Rattle.std.proofs.lemmas.List.Elements.{All-from_get_or, All-get_or}
+use Rattle.std.proofs.lemmas.List.Sorted.{All-permutation, IsPermutation-map, length_permutation}
+use Rattle.tv_benes.specs.Through.{places}
+use Rattle.tv_core.specs.Below.{each_below}
+use Rattle.tv_core.specs.Lines.{Line, Honest}
+use Rattle.tv_lines.proofs.AddressOrder.{sorted_ordered}
+use Rattle.tv_lines.specs.Ordered.{InTimeOrder, Ordered, key}
+use Rattle.tv_lines.specs.Placed.{zero_line, number_in, LinesFrom}
+use Rattle.tv_argument.proofs.Parts.{placed}
+use Rattle.tv_argument.proofs.Increase.{rising_moves, rising_rises}
+use Rattle.tv_argument.specs.Order.{place_at, rising, address_order, AddressOrderIsRight}
+
+module _ {X Y : Type 0} (f : X → Y) (d : X) where
+  by_places : (pre ls : List X) (a : ℕ) → length pre ≡ a → map (λ i. f (get_or (pre ++ ls) i d)) (range_with_len a (length ls)) ≡ map f ls
+  by_places pre [] a e = refl
+  by_places pre (l ∷ ls) a e =
+      let here : get_or (pre ++ l ∷ ls) a d ≡ l = ap (λ n. get_or (pre ++ l ∷ ls) n d) (sym e ∙ sym (add-zero (length pre)))
+      ∙ get_or-append-add pre (l ∷ ls) 0 d in
+      let more : length (pre ++ l ∷ []) ≡ a + 1 = length-append pre (l ∷ []) ∙ omega arith in
+      let rest = by_places (pre ++ l ∷ []) ls (a + 1) more in
+      ap₂ (λ (u : Y) (us : List Y). u ∷ us) (ap f here) (ap (λ w. map (λ i. f (get_or w i d)) (range_with_len (a + 1) (length ls)))
+      (sym (append_assoc pre (l ∷ []) ls)) ∙ rest)
+
+  -- a list is what stands at its places
+  pub each_place : (ls : List X) → each_below (length ls) (λ i. f (get_or ls i d)) ≡ map f ls
+  unfolding each_below
+  each_place ls = by_places [] ls 0 refl
+
+pub map_map : {X Y Z : Type 0} (f : X → Y) (g : Y → Z) (ls : List X) → map g (map f ls) ≡ map (λ x. g (f x)) ls
+map_map f g [] = refl
+map_map f g (l ∷ ls) = ap (λ rest. g (f l) ∷ rest) (map_map f g ls)
+
+-- two functions that are the same at the places a, a + 1, ..
+same_range : {Y : Type 0} (f g : ℕ → Y) (a n : ℕ) → ((i : ℕ) → i < n → f (a + i) ≡ g (a + i)) → map f (range_with_len a n) ≡ map g (range_with_len a n)
+same_range f g a zero same = refl
+same_range {Y} f g a (suc n) same =
+    ap₂ (λ (u : Y) (us : List Y). u ∷ us) (ap f (sym (add-zero a)) ∙ same 0 (omega arith) ∙ ap g (add-zero a))
+    (same_range f g (a + 1) n (λ i h. let e : a + 1 + i ≡ a + suc i = omega arith in ap f e ∙ same (suc i) (omega arith) ∙ ap g (sym e)))
+
+same_places : {Y : Type 0} (n : ℕ) (f g : ℕ → Y) → ((i : ℕ) → i < n → f i ≡ g i) → each_below n f ≡ each_below n g
+unfolding each_below
+same_places n f g same = same_range f g 0 n (λ i h. ap f (zero-add i) ∙ same i h ∙ ap g (sym (zero-add i)))
+
+time_of_key : (l : Line) → l.time < 2 ^ 20 → key l % 2 ^ 20 ≡ l.time
+time_of_key l small = omega arith
+
+module _ (lines : List Line) (few : length lines ≤ 2 ^ 20) (from : LinesFrom 0 lines) where
+  time_is : (i : ℕ) (d : Line) → i < length lines → (get_or lines i d).time ≡ i
+  time_is i d h = (placed 0 lines from i d h).0 ∙ zero-add i
+
+  place_of_key : (i : ℕ) → i < length lines → key (number_in lines i) % 2 ^ 20 ≡ i
+  place_of_key i h = let t = time_is i zero_line h in time_of_key (number_in lines i) (omega arith) ∙ t
+
+  abbrev sorted : List Line
+  sorted = map (λ k. number_in lines (k % 2 ^ 20)) (rising (map key lines))
+
+  -- the keys determine the places
+  places_of_keys : map (λ k. k % 2 ^ 20) (map key lines) ≡ places (length lines) (λ i. i)
+  unfolding places each_below
+  places_of_keys =
+      map_map key (λ k. k % 2 ^ 20) lines ∙ sym (each_place (λ l. key l % 2 ^ 20) zero_line lines)
+      ∙ same_places (length lines) (λ i. key (number_in lines i) % 2 ^ 20) (λ i. i) place_of_key
+
+  permuted : IsPermutation (places (length lines) (λ i. i)) (address_order lines)
+  permuted = subst (λ ps. IsPermutation ps (address_order lines)) places_of_keys
+      (IsPermutation-map (λ k. k % 2 ^ 20) (map key lines) (rising (map key lines)) (rising_moves (map key lines)))
+
+  -- the lines that they determine are the lines
+  lines_of_keys : map (λ k. number_in lines (k % 2 ^ 20)) (map key lines) ≡ lines
+  lines_of_keys =
+      map_map key (λ k. number_in lines (k % 2 ^ 20)) lines ∙ sym (each_place (λ l. number_in lines (key l % 2 ^ 20)) zero_line lines)
+      ∙ same_places (length lines) (λ i. number_in lines (key (number_in lines i) % 2 ^ 20)) (number_in lines) (λ i h. ap (number_in lines) (place_of_key i h))
+      ∙ each_place (λ l. l) zero_line lines ∙ map_same lines
+    where
+      map_same : (ls : List Line) → map (λ l. l) ls ≡ ls
+      map_same [] = refl
+      map_same (l ∷ ls) = ap (λ rest. l ∷ rest) (map_same ls)
+
+  moved : IsPermutation lines sorted
+  moved = subst (λ ls. IsPermutation ls sorted) lines_of_keys
+      (IsPermutation-map (λ k. number_in lines (k % 2 ^ 20)) (map key lines) (rising (map key lines)) (rising_moves (map key lines)))
+
+  -- the line that a key determines has it
+  keeps : All (λ k. key (number_in lines (k % 2 ^ 20)) ≡ k) (rising (map key lines))
+  keeps = All-permutation (λ k. key (number_in lines (k % 2 ^ 20)) ≡ k) (map key lines) (rising (map key lines)) (rising_moves (map key lines))
+      (All-from_get_or (λ k. key (number_in lines (k % 2 ^ 20)) ≡ k) (map key lines) 0 (λ i h.
+      let n = length-map lines key in
+      let at : get_or (map key lines) i 0 ≡ key (number_in lines i) = get_or-map key lines i zero_line 0 (omega arith) in
+      ap (λ k. key (number_in lines (k % 2 ^ 20))) at ∙ ap (λ p. key (number_in lines p)) (place_of_key i (omega arith)) ∙ sym at))
+
+  long : length (rising (map key lines)) ≡ length lines
+  long = length_permutation (map key lines) (rising (map key lines)) (rising_moves (map key lines)) ∙ length-map lines key
+
+  key_at : (i : ℕ) (d : Line) → i < length lines → key (get_or sorted i d) ≡ get_or (rising (map key lines)) i 0
+  key_at i d h =
+      let n = long in
+      ap key (get_or-map (λ k. number_in lines (k % 2 ^ 20)) (rising (map key lines)) i 0 d (omega arith))
+      ∙ All-get_or (λ k. key (number_in lines (k % 2 ^ 20)) ≡ k) (rising (map key lines)) i 0 (omega arith) keeps
+
+  in_time_order : InTimeOrder lines
+  in_time_order i j d less h = omega (arith, time_is i d (omega arith), time_is j d h)
+
+  small : All (λ l. l.time < 2 ^ 20) lines
+  small = All-from_get_or (λ l. l.time < 2 ^ 20) lines zero_line (λ i h. omega (arith, time_is i zero_line h))
+
+  in_address_order : Honest lines → Ordered sorted
+  in_address_order honest =
+      let n = long in
+      let m = length-map (rising (map key lines)) (λ k. number_in lines (k % 2 ^ 20)) in
+      sorted_ordered lines sorted in_time_order small honest moved
+      (λ i j d h k. omega (arith, key_at i d (omega arith), key_at j d (omega arith), rising_rises (map key lines) i j 0 h (omega arith)))
+
+  sorted_is : each_below (length lines) (λ i. number_in lines (place_at (address_order lines) i)) ≡ sorted
+  sorted_is =
+      let n = long in
+      same_places (length lines) (λ i. number_in lines (place_at (address_order lines) i)) (λ i. number_in lines (get_or (rising (map key lines)) i 0 % 2 ^ 20))
+      (λ i h. ap (number_in lines) (get_or-map (λ k. k % 2 ^ 20) (rising (map key lines)) i 0 0 (omega arith)))
+      ∙ ap (λ m. each_below m (λ i. number_in lines (get_or (rising (map key lines)) i 0 % 2 ^ 20))) (sym n)
+      ∙ each_place (λ k. number_in lines (k % 2 ^ 20)) 0 (rising (map key lines))
+
+pub address_order_right : AddressOrderIsRight
+address_order_right = record {
+  permutes = λ lines few from. permuted lines few from;
+  ordered = λ lines few from honest. subst Ordered (sym (sorted_is lines few from)) (in_address_order lines few from honest);
+}

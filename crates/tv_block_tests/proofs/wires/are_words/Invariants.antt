@@ -1,6 +1,0 @@
-use Rattle.std.proofs.Common.{take}
-use Rattle.tv_step.specs.Range.{AreWords}
-use Rattle.tv_block_tests.proofs.wires.are_words.Given as goal
-
-abbrev pub invariant-loop-word : goal.invariant-loop-word
-invariant-loop-word g l = AreWords g.row.W (take l.word-index l.words)
