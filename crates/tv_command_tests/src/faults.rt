@@ -52,19 +52,31 @@ fn files(alloc: Global, values: &[u8]) -> Result<MemFiles, Fail> {
     Ok(files)
 }
 
-// Sees that each name that is read holds what it holds where no call fails.
-fn are_kept(rt: &impl Abort, files: &MemFiles, whole: &MemFiles, words: &str, number: u64) {
+// Whether each name that is read holds what it holds where no call fails.
+fn are_kept(files: &MemFiles, whole: &MemFiles) -> bool {
     for name in READ {
-        assert_eq!(rt;
-            files.bytes_of(name),
-            whole.bytes_of(name),
-            "{words}: {number}"
-        );
+        if files.bytes_of(name) != whole.bytes_of(name) {
+            return false;
+        }
     }
+    true
 }
 
-// Sees what is left where the call with this number fails, given the files that these words leave
-// where none does; and returns the word of the fault.
+// Whether each name that is written holds what it held before, or a prefix of what it holds where
+// no call fails.
+fn are_begun(files: &MemFiles, whole: &MemFiles) -> bool {
+    for name in WRITTEN {
+        let held = files.bytes_of(name).unwrap_or(&[]);
+        let begins = whole.bytes_of(name).unwrap_or(&[]).starts_with(held);
+        if held != BEFORE && !begins {
+            return false;
+        }
+    }
+    true
+}
+
+// Sees that the call with this number fails and is the last, and what is left then, given the files
+// that these words leave where none fails; and returns the word of the fault.
 fn fails(
     rt: &impl Abort,
     alloc: Global,
@@ -77,17 +89,12 @@ fn fails(
     let Status::FileFault { word } = call(alloc, &mut files, words)? else {
         return Err(Fail::from("no fault"));
     };
-    assert_eq!(rt; files.calls(), number, "{words}");
+    let said = whole.said_bytes().starts_with(files.said_bytes());
+    let left = are_begun(&files, whole) && are_kept(&files, whole);
     assert!(rt;
-        whole.said_bytes().starts_with(files.said_bytes()),
+        said && left && files.calls() == number,
         "{words}: {number}"
     );
-    for name in WRITTEN {
-        let held = files.bytes_of(name).unwrap_or(&[]);
-        let begins = whole.bytes_of(name).unwrap_or(&[]).starts_with(held);
-        assert!(rt; held == BEFORE || begins, "{words}: {number}");
-    }
-    are_kept(rt, &files, whole, words, number);
     Ok(word)
 }
 
@@ -101,14 +108,14 @@ fn all_fail(
 ) -> Result<(), Fail> {
     let mut whole = files(alloc, values)?;
     assert_eq!(rt; call(alloc, &mut whole, words)?, Status::Done, "{words}");
-    let mut told: Vec<u64> = Vec::new(alloc);
+    let mut reported: Vec<u64> = Vec::new(alloc);
     for done in 0..whole.calls() {
         let word = fails(rt, alloc, &whole, words, done + 1)?;
-        if told.last() != Some(&word) {
-            told.push(word)?;
+        if reported.last() != Some(&word) {
+            reported.push(word)?;
         }
     }
-    assert_eq!(rt; told.as_slice(), faults, "{words}");
+    assert_eq!(rt; reported.as_slice(), faults, "{words}");
     Ok(())
 }
 
@@ -124,26 +131,27 @@ fn each_call_fails(rt: HostRuntime) -> Result<(), Fail> {
     Ok(())
 }
 
-// The system of `answer 0` for one step: calls 1 and 2 read, 3 creates, and 4 and 5 append.
+// Whether `build` of `answer 0` for one step, of which the call with this number fails, is refused
+// for that, and after it makes no other.
+fn is_refused(alloc: Global, files: &mut MemFiles, number: u64) -> Result<bool, Fail> {
+    files.fail_at(number)?;
+    let status = call(alloc, files, "build text 0 1 system")?;
+    Ok(status == Status::FileFault { word: 4 } && files.calls() == number)
+}
+
+// Calls 1 and 2 read, 3 creates, and 4 and 5 append.
 #[test]
 fn a_system_is_written_in_pieces(rt: HostRuntime) -> Result<(), Fail> {
     let alloc = rt.alloc();
-    let words = "build text 0 1 system";
     let whole = filled(&rt, alloc)?;
     let whole = whole.bytes_of("system").unwrap_or(&[]);
     for number in [3, 5] {
         let mut files = files_of(alloc, "answer 0", "")?;
-        files.fail_at(number)?;
-        let status = call(alloc, &mut files, words)?;
-        assert_eq!(rt; status, Status::FileFault { word: 4 }, "{number}");
-        assert_eq!(rt; files.calls(), number);
+        let refused = is_refused(alloc, &mut files, number)?;
         let held = files.bytes_of("system").unwrap_or(&[]);
-        if number == 3 {
-            assert_eq!(rt; held, BEFORE);
-        } else {
-            assert!(rt; held.len() >= 4096 && held.len() < whole.len(), "{number}");
-            assert!(rt; whole.starts_with(held), "{number}");
-        }
+        let begun = held.len() >= 4096 && held.len() < whole.len() && whole.starts_with(held);
+        let left = if number == 3 { held == BEFORE } else { begun };
+        assert!(rt; refused && left, "{number}");
     }
     Ok(())
 }
@@ -173,12 +181,8 @@ fn each_command_makes_this_many_calls(rt: HostRuntime) -> Result<(), Fail> {
     for (words, code, calls) in COUNTS {
         let mut files = files(rt.alloc(), &[])?;
         files.set("long", "answer 0\n".repeat(rt.alloc(), 1_025)?.as_bytes())?;
-        assert_eq!(rt;
-            call(rt.alloc(), &mut files, words)?.code(),
-            code,
-            "{words}"
-        );
-        assert_eq!(rt; files.calls(), calls, "{words}");
+        let found = call(rt.alloc(), &mut files, words)?.code();
+        assert!(rt; found == code && files.calls() == calls, "{words}");
     }
     Ok(())
 }
@@ -197,20 +201,29 @@ const ROWS: [Row<'static>; 7] = [
     (EXTRACT, 0, 7, "aux.out", b"", b"answer 0 "),
 ];
 
+// Whether a row is so, given values that `extract` reads.
+fn is_left(alloc: Global, values: &[u8], row: &Row<'_>) -> Result<bool, Fail> {
+    let (words, after, word, name, held, said) = *row;
+    let mut whole = files(alloc, values)?;
+    let done = call(alloc, &mut whole, words)?;
+    let mut files = files(alloc, values)?;
+    files.fail_at(whole.calls().saturating_sub(after))?;
+    let status = call(alloc, &mut files, words)?;
+    Ok(
+        done == Status::Done
+            && status == Status::FileFault { word }
+            && files.bytes_of(name) == Some(held)
+            && files.said_bytes() == said,
+    )
+}
+
 #[test]
 fn the_last_calls_leave_a_part(rt: HostRuntime) -> Result<(), Fail> {
-    let alloc = rt.alloc();
-    let run = filled(&rt, alloc)?;
+    let run = filled(&rt, rt.alloc())?;
     let values = run.bytes_of("witness").unwrap_or(&[]);
-    for (words, behind, word, name, held, said) in ROWS {
-        let mut whole = files(alloc, values)?;
-        assert_eq!(rt; call(alloc, &mut whole, words)?, Status::Done, "{words}");
-        let mut files = files(alloc, values)?;
-        files.fail_at(whole.calls().saturating_sub(behind))?;
-        let status = call(alloc, &mut files, words)?;
-        assert_eq!(rt; status, Status::FileFault { word }, "{words}");
-        assert_eq!(rt; files.bytes_of(name), Some(held), "{words}");
-        assert_eq!(rt; files.said_bytes(), said, "{words}");
+    for row in &ROWS {
+        let (words, after) = (row.0, row.1);
+        assert!(rt; is_left(rt.alloc(), values, row)?, "{words}: {after}");
     }
     Ok(())
 }

@@ -22,8 +22,10 @@ fn values_are_read_in_order(rt: HostRuntime) -> Result<(), Fail> {
     let values = read_values(rt.alloc(), &mut files, "file")?;
     assert_eq!(rt; values.as_slice(), [1, 3, 5, 15].map(F::of).as_slice());
     let first = read_first_values(rt.alloc(), &mut files, "file", 2)?;
-    assert_eq!(rt; first.values.as_slice(), [1, 3].map(F::of).as_slice());
-    assert_eq!(rt; first.count, 4);
+    assert_eq!(rt;
+        (first.values.as_slice(), first.count),
+        ([1, 3].map(F::of).as_slice(), 4)
+    );
     Ok(())
 }
 

@@ -37,19 +37,13 @@ fn a_listed_call_fails_alone(rt: HostRuntime) -> Result<(), Fail> {
         files.fail_at(number)?;
         let mut into = [0; 4];
         let answer = one_of_each(&mut files, &mut into);
-        assert_eq!(rt;
-            answer.and_then(|count| into.get(..count)),
-            read,
+        let found = answer.and_then(|count| into.get(..count));
+        let other = files.bytes_of("other") == Some(b"kept".as_slice());
+        let left = files.bytes_of("file") == Some(bytes) && files.said_bytes() == said;
+        assert!(rt;
+            found == read && other && left && files.calls() == 4,
             "call {number}"
         );
-        assert_eq!(rt; files.bytes_of("file"), Some(bytes), "call {number}");
-        assert_eq!(rt;
-            files.bytes_of("other"),
-            Some(b"kept".as_slice()),
-            "call {number}"
-        );
-        assert_eq!(rt; files.said_bytes(), said, "call {number}");
-        assert_eq!(rt; files.calls(), 4, "call {number}");
     }
     Ok(())
 }
@@ -128,30 +122,42 @@ fn each_call_answers_for_itself(rt: HostRuntime) -> Result<(), Fail> {
 
 const BYTES: [u8; 8192] = [7; 8192];
 
+// A length, how many calls write so many bytes, and how many write and read them.
+const LENGTHS: [(usize, u64, u64); 5] = [
+    (0, 1, 2),
+    (1, 2, 4),
+    (4096, 2, 4),
+    (4097, 3, 6),
+    (8192, 3, 6),
+];
+
+// Whether these bytes are written and read in so many calls.
+fn come_and_go(alloc: Global, bytes: &[u8], writes: u64, calls: u64) -> Result<bool, Fail> {
+    let mut files = MemFiles::new(alloc);
+    write_file(&mut files, "file", bytes)?;
+    let written = files.calls();
+    let read = slurp(alloc, &mut files, "file", bytes.len() as u64)?;
+    Ok(written == writes && files.calls() == calls && read.as_slice() == bytes)
+}
+
 #[test]
 fn whole_files_come_and_go(rt: HostRuntime) -> Result<(), Fail> {
-    // length, calls to write, calls to write and read
-    let table = [
-        (0, 1, 2),
-        (1, 2, 4),
-        (4096, 2, 4),
-        (4097, 3, 6),
-        (8192, 3, 6),
-    ];
-    for (len, writes, calls) in table {
+    for (len, writes, calls) in LENGTHS {
         let bytes = &BYTES[..len.min(8192)];
-        let mut files = MemFiles::new(rt.alloc());
-        write_file(&mut files, "file", bytes)?;
-        assert_eq!(rt; files.calls(), writes, "{len} written");
-        let read = slurp(rt.alloc(), &mut files, "file", len as u64)?;
-        assert_eq!(rt; read.as_slice(), bytes, "{len}");
-        assert_eq!(rt; files.calls(), calls, "{len} read");
+        assert!(rt; come_and_go(rt.alloc(), bytes, writes, calls)?, "{len}");
     }
+    Ok(())
+}
+
+#[test]
+fn longer_and_missing_files_are_refused(rt: HostRuntime) -> Result<(), Fail> {
     let mut files = files_of(rt.alloc(), &BYTES)?;
     let most = 8191;
     let longer = slurp(rt.alloc(), &mut files, "file", most).err();
-    assert_eq!(rt; longer, Some(Slurp::TooLong { most }));
     let missing = slurp(rt.alloc(), &mut files, "none", most).err();
-    assert_eq!(rt; missing, Some(Slurp::Fault));
+    assert_eq!(rt;
+        (longer, missing),
+        (Some(Slurp::TooLong { most }), Some(Slurp::Fault))
+    );
     Ok(())
 }

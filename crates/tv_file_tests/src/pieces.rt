@@ -38,7 +38,7 @@ fn refused(alloc: Global, files: &mut MemFiles, form: Form) -> Option<ReadRefusa
     }
 }
 
-// Lets each of the calls that write these bytes fail, and sees that it is the last and leaves a
+// Sees that each of the calls that write these bytes, where it fails, is the last, and leaves a
 // first part of them, or of what there was.
 fn failing_writes_leave_a_first_part(
     rt: &impl Abort,
@@ -51,35 +51,32 @@ fn failing_writes_leave_a_first_part(
     for number in 1..=calls {
         let mut files = files_of(alloc, b"old")?;
         files.fail_at(number)?;
-        let answer = write(&mut files, form, count);
-        assert_eq!(rt;
-            answer,
-            Err(SinkFault::Failed),
-            "{form:?} {count}: {number}"
-        );
-        assert_eq!(rt; files.calls(), number, "{form:?} {count}");
+        let failed = write(&mut files, form, count) == Err(SinkFault::Failed);
         let left = files.bytes_of("file").unwrap_or(&[]);
         let first_part = bytes.starts_with(left) || number == 1 && left == b"old".as_slice();
-        assert!(rt; first_part, "{form:?} {count}: {number}");
+        let last = failed && files.calls() == number;
+        assert!(rt; last && first_part, "{form:?} {count}: {number}");
     }
     Ok(())
 }
 
-// Lets each of the calls that read these bytes fail, and sees that it is reported, and is the last.
-fn failing_reads_are_told(
+// Sees that each of the calls that read these bytes, where it fails, is reported, and is the last.
+fn failing_reads_are_reported(
     rt: &impl Abort,
     alloc: Global,
     form: Form,
     bytes: &[u8],
 ) -> Result<(), Fail> {
     let mut whole = files_of(alloc, bytes)?;
-    assert_eq!(rt; refused(alloc, &mut whole, form), None, "{form:?}");
+    let taken = refused(alloc, &mut whole, form).is_none();
     for number in 1..=whole.calls() {
         let mut files = files_of(alloc, bytes)?;
         files.fail_at(number)?;
-        let refusal = refused(alloc, &mut files, form);
-        assert_eq!(rt; refusal, Some(ReadRefusal::Fault), "{form:?}: {number}");
-        assert_eq!(rt; files.calls(), number, "{form:?}");
+        let reported = refused(alloc, &mut files, form) == Some(ReadRefusal::Fault);
+        assert!(rt;
+            taken && reported && files.calls() == number,
+            "{form:?}: {number}"
+        );
     }
     Ok(())
 }
@@ -97,16 +94,19 @@ const FILES: [(Form, u16, usize, u64); 8] = [
 ];
 
 #[test]
-fn files_are_written_in_pieces_and_failing_calls_are_told(rt: HostRuntime) -> Result<(), Fail> {
+fn files_are_written_in_pieces_and_failing_calls_are_reported(rt: HostRuntime) -> Result<(), Fail> {
     let alloc = rt.alloc();
     for (form, count, size, calls) in FILES {
         let mut files = MemFiles::new(alloc);
         write(&mut files, form, count)?;
-        assert_eq!(rt; files.calls(), calls, "{form:?} {count}");
         let bytes = files.bytes_of("file").unwrap_or(&[]);
-        assert_eq!(rt; bytes.len(), size, "{form:?} {count}");
+        assert_eq!(rt;
+            (files.calls(), bytes.len()),
+            (calls, size),
+            "{form:?} {count}"
+        );
         failing_writes_leave_a_first_part(&rt, alloc, form, count, calls, bytes)?;
-        failing_reads_are_told(&rt, alloc, form, bytes)?;
+        failing_reads_are_reported(&rt, alloc, form, bytes)?;
     }
     Ok(())
 }

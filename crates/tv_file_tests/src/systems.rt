@@ -3,7 +3,6 @@
 
 use crate::calls::files_of;
 use std::alloc::Global;
-use std::process::Abort;
 use std::test::Fail;
 use tv_core::{Counts, F, Lc, Put, Sink, Wire};
 use tv_files::MemFiles;
@@ -46,22 +45,21 @@ fn reader_of<'a>(
     }
 }
 
-// Sees that a row is the system's constraint.
-fn is_the_constraint(rt: &impl Abort, row: &Row) {
-    assert_eq!(rt; row.a.as_slice(), [(1, F::ONE)].as_slice());
-    assert_eq!(rt; row.b.as_slice(), [(2, F::ONE)].as_slice());
-    assert_eq!(rt; row.c.as_slice(), [(3, F::ONE)].as_slice());
+// Whether a row is the system's constraint.
+fn is_the_constraint(row: &Row) -> bool {
+    row.a.as_slice() == [(1, F::ONE)].as_slice()
+        && row.b.as_slice() == [(2, F::ONE)].as_slice()
+        && row.c.as_slice() == [(3, F::ONE)].as_slice()
 }
 
 #[test]
 fn a_system_is_read_row_by_row(rt: HostRuntime) -> Result<(), Fail> {
     let mut files = files_of(rt.alloc(), &SYSTEM)?;
     let mut reader = reader_of(rt.alloc(), &mut files)?;
-    assert_eq!(rt; reader.counts(), Counts { terms: 0, ..COUNTS });
+    let begins = reader.counts() == Counts { terms: 0, ..COUNTS };
     let row = reader.next()?.ok_or_else(|| Fail::new("no row"))?;
-    is_the_constraint(&rt, &row);
-    assert!(rt; reader.next()?.is_none());
-    assert_eq!(rt; reader.counts(), COUNTS);
+    let ends = reader.next()?.is_none() && reader.counts() == COUNTS;
+    assert!(rt; begins && is_the_constraint(&row) && ends);
     Ok(())
 }
 

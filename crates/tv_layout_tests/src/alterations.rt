@@ -44,12 +44,12 @@ static ALTERED: [(&str, usize, u32); 11] = [
     ("first wire of the first state", 35, 33),
     ("last wire of the first state", 54, 52),
     ("bit of a switch", 366, 380),
-    ("cell behind a switch", 367, 380),
-    ("time and word behind a switch", 368, 381),
-    ("cell behind the network", 441, 454),
-    ("time and word behind the network", 442, 455),
-    ("next cell behind the network", 443, 456),
-    ("next time and word behind the network", 444, 457),
+    ("cell after a switch", 367, 380),
+    ("time and word after a switch", 368, 381),
+    ("cell after the network", 441, 454),
+    ("time and word after the network", 442, 455),
+    ("next cell after the network", 443, 456),
+    ("next time and word after the network", 444, 457),
 ];
 
 // The first constraint of its system that fails where a wire has 1 less its value.
