@@ -1,22 +1,13 @@
 #!/usr/bin/env bash
 # Times `bits` of 32 into a CountSink and a TestSink, and `value_in` of 128 terms, by tv_core and tv_bits
-# and by plain Rust, in turn. It needs rustc. The first run proves the crates in a scratch repository,
-# which takes some minutes.
+# and by plain Rust, in turn. It needs rustc.
 set -euo pipefail
 bench=$(cd "$(dirname "$0")" && pwd)
-scratch=$(mktemp -d)
-trap 'rm -rf "$scratch"' EXIT
-mkdir "$scratch/crates"
-cp -r "$bench"/../crates/tv_{word,core,bits} "$scratch/crates"
-# The gate reads every .rt file of the repository, so the source has another ending here.
-mkdir -p "$scratch/crates/gadgets_bench/src"
-cp "$bench/gadgets.rattle" "$scratch/crates/gadgets_bench/src/main.rt"
-grep -E '^tv_(word|core|bits):' "$bench/../crates.txt" > "$scratch/crates.txt"
-echo 'gadgets_bench: tv_bits tv_core' >> "$scratch/crates.txt"
-(cd "$scratch/crates/gadgets_bench" && rt run > "$scratch/log" 2>&1) || { tail -20 "$scratch/log"; exit 1; }
+. "$bench/scratch.sh"
+prove gadgets tv_bits tv_core
 rustc -O -C target-cpu=x86-64-v2 -o "$scratch/plain" "$bench/gadgets.rs" 2> "$scratch/warnings"
 for turn in 1 2 3 4 5 6 7 8 9; do
-    "$scratch/crates/gadgets_bench/out/gadgets_bench" > "$scratch/proved.out"
+    "$scratch/proved" > "$scratch/proved.out"
     "$scratch/plain" > "$scratch/plain.out"
     cmp <(grep answers "$scratch/proved.out") <(grep answers "$scratch/plain.out")
     paste -d ' ' "$scratch/proved.out" "$scratch/plain.out" | grep -v answers

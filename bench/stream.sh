@@ -1,34 +1,24 @@
 #!/usr/bin/env bash
 # Times a StreamSink against stream.rs, a writer of the same constraints in plain Rust: with a buffer of 4,096 bytes,
 # which a term is written to as two numbers or put together first, and with one of 65,536; over files that forget
-# their bytes, and over the disk. Constraints have combinations of 3 terms, or of 96. It needs rustc. The first run
-# proves the crates in a scratch repository, which takes some minutes.
+# their bytes, and over the disk. Constraints have combinations of 3 terms, or of 96. It needs rustc.
 # usage: bench/stream.sh [ROUNDS]
 set -euo pipefail
 bench=$(cd "$(dirname "$0")" && pwd)
-scratch=$(mktemp -d)
-trap 'rm -rf "$scratch"' EXIT
-mkdir "$scratch/crates"
-cp -r "$bench"/../crates/tv_{word,core,files,disk,container,r1cs_read,r1cs_write} "$scratch/crates"
-grep -E '^tv_(word|core|files|disk|container|r1cs_read|r1cs_write):' "$bench/../crates.txt" > "$scratch/crates.txt"
-# The gate reads every .rt file of the repository, so the source has another ending here.
-crate=$scratch/crates/stream
-mkdir -p "$crate/src" "$crate/proofs/put_all"
-cp "$bench/stream.rattle" "$crate/src/main.rt"
-cat > "$crate/proofs/put_all/Invariants.antt" <<'END'
+. "$bench/scratch.sh"
+mkdir -p "$scratch/crates/stream/proofs/put_all"
+cat > "$scratch/crates/stream/proofs/put_all/Invariants.antt" <<'END'
 use Rattle.tv_core.specs.Sinks.{Grows}
 use Rattle.stream.proofs.put_all.Given as goal
 
 abbrev pub invariant-loop-turn : goal.invariant-loop-turn
 invariant-loop-turn g l = Grows g.S.Sink.meaning l.initial.sink l.sink 0 l._turn
 END
-echo 'stream: tv_core tv_disk tv_files tv_r1cs_write tv_word' >> "$scratch/crates.txt"
-(cd "$crate" && rt run > "$scratch/log" 2>&1) || { tail -20 "$scratch/log"; exit 1; }
+prove stream tv_core tv_disk tv_files tv_r1cs_write tv_word
 plain=(rustc --edition 2024 -O -C target-cpu=x86-64-v2 --check-cfg 'cfg(large, together)' "$bench/stream.rs")
 "${plain[@]}" -o "$scratch/small"
 "${plain[@]}" --cfg large -o "$scratch/large"
 "${plain[@]}" --cfg together -o "$scratch/together"
-mv "$crate/out/stream" "$scratch/proved"
 for row in narrow wide; do
     "$scratch/proved" "$row" "$scratch/one"
     "$scratch/small" "$row" "$scratch/two"
