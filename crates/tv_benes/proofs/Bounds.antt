@@ -1,11 +1,8 @@
 -- How far the generator's places reach.
-use Rattle.std.proofs.Common.{◌≡◌, ℕ, zero, suc, ◌+◌, ◌*◌, ◌^◌, ◌≤◌, ◌<◌, arith, ap, sym, ◌∙◌}
+use Rattle.std.proofs.Common.{◌≡◌, ℕ, suc, ◌+◌, ◌*◌, ◌^◌, ◌≤◌, ◌<◌, arith, ap, sym, ◌∙◌}
 use Rattle.std.proofs.Math.Nat.{mul-le-mul_right, mul-le-mul_left}
+use Rattle.std.proofs.lemmas.Nat.{pow_pos}
 use Rattle.tv_benes.proofs.ThroughLaws.{twice}
-
-pow_positive : (k : ℕ) → 1 ≤ 2 ^ k
-pow_positive zero = omega arith
-pow_positive (suc k) = omega (arith, twice k, pow_positive k)
 
 twice_in : (j k : ℕ) → (j + 1) * (2 * k) ≡ (2 * j + 2) * k
 twice_in j k = grind arith
@@ -19,7 +16,8 @@ nearer j b d m small near =
 
 pub near_small : (j k m : ℕ) → (j + 1) * 2 ^ k ≤ m → j < m
 near_small j k m near =
-    let more : (j + 1) * 1 ≤ (j + 1) * 2 ^ k = mul-le-mul_left (j + 1) (pow_positive k) in
+    let some : 1 ≤ 2 ^ k = omega (arith, pow_pos k) in
+    let more : (j + 1) * 1 ≤ (j + 1) * 2 ^ k = mul-le-mul_left (j + 1) some in
     omega arith
 
 twice_left : (a b : ℕ) → (2 * a) * b ≡ a * (2 * b)

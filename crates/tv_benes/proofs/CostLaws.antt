@@ -1,5 +1,5 @@
 -- What a network costs.
-use Rattle.std.proofs.Common.{◌≡◌, ◌≢◌, ℕ, zero, suc, ◌+◌, ◌-◌, ◌*◌, ◌/◌, ◌%◌, ◌<◌, ◌≤◌, ◌^◌, ◌==◌, if◌then◌else◌, Bool, true, false, [], ◌++◌, length, refl}
+use Rattle.std.proofs.Common.{◌≡◌, ◌≢◌, ℕ, zero, suc, ◌+◌, ◌-◌, ◌*◌, ◌/◌, ◌%◌, ◌<◌, ◌≤◌, ◌^◌, ◌==◌, if◌then◌else◌, Bool, true, false, length, refl}
 use Rattle.std.proofs.Common.{sym, ap, ap₂, subst, ◌∙◌, arith, inl, inr, eq-eqb, ne_eqb}
 use Rattle.std.proofs.lemmas.Bool.{cases_eq}
 use Rattle.std.proofs.lemmas.List.{append-nil, length-append}
@@ -16,11 +16,11 @@ use Rattle.tv_benes.proofs.Sizes.{HasItems, level_below}
 use Rattle.tv_benes.proofs.Sources.{last_even, last_odd}
 use Rattle.tv_benes.proofs.SwitchCosts.{switch_count, bound_switch, open_switch, wires_switch, IsSpread, firsts_switch, seconds_switch, passing_switch}
 use Rattle.tv_benes.proofs.SwitchCosts.{made_switch}
-use Rattle.tv_benes.proofs.ThroughLaws.{twice, switches-suc, missing_small, one_switch, column_fits}
+use Rattle.tv_benes.proofs.ThroughLaws.{twice, switches-suc, column_fits}
 use Rattle.tv_benes.specs.Costs.{switch_terms, column_terms, surplus, inner_terms, NetworkIsCounted}
 use Rattle.tv_benes.specs.Levels.{width, other, innermost, level_wires}
 use Rattle.tv_benes.specs.Network.{switch_of, column_of, last_column_of, level_of}
-use Rattle.tv_benes.specs.Places.{wires_at, fifth, row, switch_wire, ItemsOf, item_in, to_upper_of, to_lower_of, output, output_wire, sum_at, EndsOf}
+use Rattle.tv_benes.specs.Places.{wires_at, fifth, row, switch_wire, ItemsOf, item_in, to_upper_of, to_lower_of, output, output_wire, sum_at}
 use Rattle.tv_benes.specs.Places.{last_pair, AreBelow}
 use Rattle.tv_benes.specs.Through.{switches, missing}
 use Rattle.tv_benes.specs.declared.places.Outputs.{Outputs}

@@ -14,7 +14,7 @@ use Rattle.tv_benes.specs.declared.shape.Form.{Form}
 use Rattle.tv_benes.specs.declared.shape.Form.TheVariants.{Bound}
 use Rattle.tv_benes.specs.declared.shape.Net.{Net}
 use Rattle.tv_benes.specs.declared.shape.Net.TheVariants.{Benes, Waksman}
-use Rattle.tv_core.proofs.Chain.{chain, puts_here, puts_nothing, refused_then, puts_then_refused}
+use Rattle.tv_core.proofs.Chain.{puts_here, puts_nothing, refused_then, puts_then_refused, all_then, all_pure, some_then, some_first}
 use Rattle.tv_core.proofs.LoopLaws.{puts_here_as}
 use Rattle.tv_core.proofs.TailCalls.{puts_in_then}
 use Rattle.tv_core.specs.Circuits.{here, pure, ◌>>=◌}
@@ -90,13 +90,13 @@ module _ {S : Type 0} (m : Meaning S) (net : Net) (form : Form) (h : ℕ) (upper
   pub last_column_refused : (old new : S) (fault : SinkFault) → PutsSome m old new (column_of form (2 ^ h - missing net) (last_pair net form upper lower)) fault
       → PutsSome m old new (last_column_of net form h upper lower) fault
   unfolding last_column_of
-  last_column_refused old new fault p = let first = puts_here m old in search (chain, first, p)
+  last_column_refused old new fault p = some_then _ (puts_here m old) (some_first _ p)
 
   pub last_column_put : (old new : S) (first : ℕ) → first ≡ m.wires old
       → PutsAll m old new (column_of form (2 ^ h - missing net) (last_pair net form upper lower)) tt
       → PutsAll m old new (last_column_of net form h upper lower) (last_ends net form first upper lower)
   unfolding last_column_of
-  last_column_put old new first at p = let start = puts_here_as m old first at in search (chain, start, p)
+  last_column_put old new first at p = all_then _ (puts_here_as m old first at) (all_then _ p all_pure)
 
 -- ---- a network, by its first column
 module _ {S : Type 0} (m : Meaning S) (net : Net) (form : Form) where
@@ -109,11 +109,10 @@ module _ {S : Type 0} (m : Meaning S) (net : Net) (form : Form) where
         by : (h : ℕ) → (h ≡ 0 → innermost net form ≡ form) → PutsSome m old new (column_of form (2 ^ h) (item_in form items)) fault
             → PutsSome m old new (level_of net form h items) fault
         by zero lowest p =
-            let first = puts_here m old in
             let column : PutsSome m old new (column_of (innermost net form) 1 (item_in form items)) fault = subst
             (λ f. PutsSome m old new (column_of f 1 (item_in form items)) fault) (sym (lowest (omega arith))) p in
-            search (chain, first, column)
-        by (suc h) lowest p = let first = puts_here m old in search (chain, first, p)
+            some_then _ (puts_here m old) (some_first _ column)
+        by (suc h) lowest p = some_then _ (puts_here m old) (some_first _ p)
 
     pub network_put : (old mid new : S) (first : ℕ) (result : Result (EndsOf form) SinkFault) → first ≡ m.wires old
         → PutsAll m old mid (column_of form n (item_in form items)) tt
@@ -147,13 +146,13 @@ module _ {S : Type 0} (m : Meaning S) (net : Net) (form : Form) where
   pub two_refused : (items : ItemsOf form) (old new : S) (fault : SinkFault) → PutsSome m old new (column_of (innermost net form) 1 (item_in form items)) fault
       → PutsSome m old new (level_of net form 0 items) fault
   unfolding level_of
-  two_refused items old new fault p = let first = puts_here m old in search (chain, first, p)
+  two_refused items old new fault p = some_then _ (puts_here m old) (some_first _ p)
 
   pub two_put : (items : ItemsOf form) (old new : S) (first : ℕ) → first ≡ m.wires old
       → PutsAll m old new (column_of (innermost net form) 1 (item_in form items)) tt
       → PutsAll m old new (level_of net form 0 items) (two_ends net form first items)
   unfolding level_of
-  two_put items old new first at p = let start = puts_here_as m old first at in search (chain, start, p)
+  two_put items old new first at p = all_then _ (puts_here_as m old first at) (all_then _ p all_pure)
 
   -- what is after the first column, part by part
   module _ (h : ℕ) (up low : ItemsOf (other form)) (two : EndsOf form) where

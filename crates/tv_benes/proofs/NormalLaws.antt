@@ -1,5 +1,5 @@
 -- Over normal items a network puts normal combinations.
-use Rattle.std.proofs.Common.{◌≡◌, ℕ, zero, suc, ◌+◌, ◌-◌, ◌*◌, ◌/◌, ◌%◌, ◌^◌, ◌<◌, ◌≤◌, [], ◌∷◌, ◌++◌, sym, ◌∙◌, ap, subst, arith, inl, inr}
+use Rattle.std.proofs.Common.{ℕ, zero, suc, ◌+◌, ◌-◌, ◌*◌, ◌/◌, ◌^◌, ◌<◌, ◌≤◌, [], ◌++◌, sym, subst, arith, inl, inr}
 use Rattle.std.proofs.lemmas.Bool.{cases_lt}
 use Rattle.std.proofs.lemmas.Nat.{pow_pos}
 use Rattle.tv_bits.proofs.NormalLaws.{select_normal}
@@ -12,7 +12,7 @@ use Rattle.tv_benes.proofs.Sources.{last_even}
 use Rattle.tv_benes.proofs.ThroughLaws.{twice, missing_small, alternating_keeps}
 use Rattle.tv_benes.specs.Levels.{other, innermost}
 use Rattle.tv_benes.specs.Network.{remainder_of, switch_of, column_of, last_column_of, level_of, NetworkIsNormal}
-use Rattle.tv_benes.specs.Places.{wires_at, row, switch_wire, first_of, second_of, ItemsOf, item_in, to_upper_of, to_lower_of, output, output_wire, sum_at}
+use Rattle.tv_benes.specs.Places.{wires_at, switch_wire, first_of, second_of, ItemsOf, item_in, to_upper_of, to_lower_of, output, output_wire, sum_at}
 use Rattle.tv_benes.specs.Places.{EndsOf, last_pair, IsNormalPair}
 use Rattle.tv_benes.specs.Through.{missing, alternating}
 use Rattle.tv_benes.specs.declared.places.Sums.{Sums}
@@ -23,8 +23,7 @@ use Rattle.tv_benes.specs.declared.shape.Net.TheVariants.{Benes, Waksman}
 use Rattle.tv_core.proofs.NormalCircuits.{normal_both, normal_turns}
 use Rattle.tv_core.proofs.NormalLaws.{IsNormalFrom-normal}
 use Rattle.tv_core.specs.Circuits.{Circuit, here, fresh, put, pure, turns, ◌>>=◌}
-use Rattle.tv_core.specs.Combinations.{wire, constant, less, top}
-use Rattle.tv_core.specs.Constraints.{Combination}
+use Rattle.tv_core.specs.Combinations.{wire, less}
 use Rattle.tv_core.specs.Normal.{IsNormal, AreNormal}
 use Rattle.tv_core.specs.declared.lines.Pair.{Pair}
 

@@ -1,12 +1,11 @@
 -- Which wires the outputs of a network are: its own, and in Benes' network those of two items that pass a switch.
-use Rattle.std.proofs.Common.{◌≡◌, ◌≢◌, ℕ, zero, suc, ◌+◌, ◌-◌, ◌*◌, ◌/◌, ◌%◌, ◌^◌, ◌<◌, ◌≤◌, refl, sym, ap, subst, arith, inl, inr, ◌⊎◌}
-use Rattle.std.proofs.lemmas.Bool.{cases_eq, cases_lt}
+use Rattle.std.proofs.Common.{◌≡◌, ℕ, zero, suc, ◌+◌, ◌-◌, ◌*◌, ◌/◌, ◌%◌, ◌^◌, ◌<◌, ◌≤◌, sym, ap, subst, arith, inl, inr, ◌⊎◌}
+use Rattle.std.proofs.lemmas.Bool.{cases_eq}
 use Rattle.std.proofs.lemmas.Nat.{pow_pos}
 use Rattle.tv_benes.proofs.Ends.{output_zero, output_one, output_other}
 use Rattle.tv_benes.proofs.NetworkLaws.{column_next, level_next}
 use Rattle.tv_benes.proofs.Sizes.{HasItems, level_below}
 use Rattle.tv_benes.proofs.ThroughLaws.{twice, missing_small, alternating_keeps}
-use Rattle.tv_benes.specs.Levels.{other}
 use Rattle.tv_benes.specs.Network.{column_of, last_column_of, level_of, network_of}
 use Rattle.tv_benes.specs.Places.{fifth, row, ItemsOf, to_upper_of, to_lower_of, output_wire, column_outputs, lone, EndsOf, last_ends, last_pair, two_ends}
 use Rattle.tv_benes.specs.Through.{missing, alternating}

@@ -68,11 +68,9 @@ first_made w at wires h k = record { first = omega arith; second = omega arith; 
 second_made : (w at wires : ℕ) → w + 1 < wires → at + 2 < wires → IsPairMade (second_of Open at (wires_at w)) wires
 second_made w at wires h k = record { first = omega arith; second = omega arith; first_short = omega arith; second_short = omega arith }
 
-pub row_made : (from count wires : ℕ) → from + 5 * count ≤ wires + 3 → ArePairsMade (row from) count wires
-row_made from count wires h = made_by (row from) count wires (λ i k. wires_made (from + 5 * i) wires (omega arith))
-
 -- what an open column passes to the two networks within
-pub passed_made : (lower : Bool) (first from n wires : ℕ) → from + 10 * n ≤ wires + 3 → first + 3 * n ≤ wires → ArePairsMade (passed_to lower first from) n wires
+pub passed_made : (lower : Bool) (first from n wires : ℕ) → from + 10 * n ≤ wires + 3 → first + 3 * n ≤ wires
+    → ArePairsMade (passed_to lower first from) n wires
 passed_made true first from n wires h k = made_by (passed_to true first from) n wires
     (λ j l. second_made (from + 5 * (2 * j + 1)) (first + j * 3) wires (omega arith) (omega arith))
 passed_made false first from n wires h k = made_by (passed_to false first from) n wires

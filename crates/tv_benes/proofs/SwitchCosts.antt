@@ -1,7 +1,6 @@
 -- The terms of a switch, by its two items.
-use Rattle.std.proofs.Common.{◌≡◌, ◌≢◌, ℕ, ◌+◌, ◌-◌, ◌*◌, ◌/◌, ◌%◌, ◌<◌, ◌≤◌, ◌==◌, Bool, true, false, if◌then◌else◌, [], ◌∷◌, ◌++◌, length, refl, sym, ◌∙◌}
-use Rattle.std.proofs.Common.{ap, ap₂, arith, inl, inr}
-use Rattle.std.proofs.lemmas.List.{length-append, length-map}
+use Rattle.std.proofs.Common.{◌≡◌, ◌≢◌, ℕ, ◌+◌, ◌-◌, ◌*◌, ◌/◌, ◌%◌, ◌<◌, ◌≤◌, ◌==◌, Bool, true, false, if◌then◌else◌, [], ◌∷◌, length, refl, sym, ◌∙◌}
+use Rattle.std.proofs.Common.{ap₂, arith, inl, inr}
 use Rattle.tv_bits.specs.Bit.{bit_of}
 use Rattle.tv_bits.specs.Select.{pick_of}
 use Rattle.tv_benes.proofs.Ends.{sum_passes, sum_made}
@@ -16,9 +15,10 @@ use Rattle.tv_benes.specs.declared.places.Sums.{Sums}
 use Rattle.tv_benes.specs.declared.shape.Form.{Form}
 use Rattle.tv_benes.specs.declared.shape.Form.TheVariants.{Bound, Open}
 use Rattle.tv_benes.specs.declared.shape.Net.{Net}
+use Rattle.tv_bits.proofs.GateLaws.{length-negated}
 use Rattle.tv_core.proofs.ApartLaws.{length-normal_apart, length-normal_less}
 use Rattle.tv_core.specs.Circuits.{fresh, put, pure, ◌>>=◌}
-use Rattle.tv_core.specs.Combinations.{wire, scaled, less}
+use Rattle.tv_core.specs.Combinations.{wire, less}
 use Rattle.tv_core.specs.Constraints.{Combination}
 use Rattle.tv_core.specs.Meanings.{terms_in}
 use Rattle.tv_core.specs.Normal.{Apart, IsNormal, normal}
@@ -31,12 +31,9 @@ switch_count Bound x y next = refl
 switch_count Open x y next = refl
 
 -- ---- a bound switch
-product_length : (x : Combination) (w : ℕ) → length (scaled (P - 1) x ++ wire w) ≡ length x + 1
-product_length x w = length-append (scaled (P - 1) x) (wire w) ∙ ap (λ k. k + 1) (length-map x (λ t. ((P - 1) * t.0 % P, t.1)))
-
 pub bound_switch : (x y : Pair) (next : ℕ) → terms_in (switch_of Bound x y next).list ≡ switch_terms x y
 unfolding switch_of remainder_of bit_of pick_of pure fresh put ◌>>=◌
-bound_switch x y next = omega (arith, product_length x.first (next + 1), product_length x.second (next + 1 + 1))
+bound_switch x y next = omega (arith, length-negated x.first (next + 1), length-negated x.second (next + 1 + 1))
 
 -- of two items that are wires
 wires_apart : (v w : ℕ) → v ≢ w → Apart (wire v) (wire w)

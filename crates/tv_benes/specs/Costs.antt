@@ -1,5 +1,5 @@
 -- What a network costs, by its switches and by the terms of its items.
-use Rattle.std.specs.Prelude.{◌≡◌, ℕ, suc, ◌+◌, ◌-◌, ◌*◌, ◌/◌, ◌%◌, ◌^◌, ◌==◌, if◌then◌else◌, ◌++◌, length}
+use Rattle.std.specs.Prelude.{◌≡◌, ℕ, ◌+◌, ◌-◌, ◌*◌, ◌/◌, ◌%◌, ◌^◌, ◌==◌, if◌then◌else◌, ◌++◌, length}
 use Rattle.tv_benes.specs.Levels.{network_wires}
 use Rattle.tv_benes.specs.Network.{network_of}
 use Rattle.tv_benes.specs.Through.{switches}

@@ -2,7 +2,8 @@
 ghost use Rattle.tv_benes.specs.Costs.{NetworkIsCounted};
 ghost use Rattle.tv_benes.specs.Network.{NetworkIsSound, NetworkIsComplete, NetworkIsNormal};
 ghost use Rattle.tv_benes.specs.Network.{NetworkFills};
-ghost use Rattle.tv_benes.specs.Through.{NumbersArePermuted, PairsArePermuted, PlacesDetermineOutputs};
+ghost use Rattle.tv_benes.specs.Through.{NumbersArePermuted, PairsArePermuted};
+ghost use Rattle.tv_benes.specs.Through.{PlacesDetermineOutputs};
 
 /// Whatever the bits, the outputs of a network are a permutation of its inputs.
 #[tactic(auto, using(crate::proofs::Permutations::permuted))]

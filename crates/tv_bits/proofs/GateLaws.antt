@@ -6,7 +6,7 @@ use Rattle.tv_core.proofs.CombinationLaws.{value-below, value-less, value-empty}
 use Rattle.tv_core.proofs.DifferenceLaws.{same_of_minus}
 use Rattle.tv_core.proofs.FieldLaws.{InField-none}
 use Rattle.tv_core.specs.Circuits.{put}
-use Rattle.tv_core.specs.Combinations.{less, scaled}
+use Rattle.tv_core.specs.Combinations.{less, scaled, wire}
 use Rattle.tv_core.specs.Constraints.{Combination, Constraint, value}
 use Rattle.tv_core.specs.Meanings.{terms_in}
 use Rattle.tv_core.specs.declared.field.TheConstants.{P}
@@ -48,6 +48,9 @@ gated_sizes = record {
 -- how many terms there are in combinations and in lists that are put together
 pub length-scaled : (k : ℕ) (x : Combination) → length (scaled k x) ≡ length x
 length-scaled k x = length-map x (λ t. (k * t.0 % P, t.1))
+
+pub length-negated : (x : Combination) (w : ℕ) → length (scaled (P - 1) x ++ wire w) ≡ length x + 1
+length-negated x w = length-append (scaled (P - 1) x) (wire w) ∙ ap (λ n. n + 1) (length-scaled (P - 1) x)
 
 pub length-less : (x y : Combination) → length (less x y) ≡ length x + length y
 length-less x y = length-append x (scaled (P - 1) y) ∙ ap (λ n. length x + n) (length-scaled (P - 1) y)

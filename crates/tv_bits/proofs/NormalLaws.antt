@@ -39,6 +39,10 @@ constant_normal c some small = (omega arith, some, small, tt)
 pub less_normal : (least mid : ℕ) (x y : Combination) → IsNormalFrom least x → top x ≤ mid → least ≤ mid → IsNormalFrom mid y → IsNormalFrom least (less x y)
 less_normal least mid x y n within below m = normal_append least mid x (scaled (P - 1) y) n within below (normal_negated mid y m)
 
+-- a wire less an earlier one
+pub rise_normal : (old new : ℕ) → old < new → IsNormal ((P - 1, old) ∷ (1, new) ∷ [])
+rise_normal old new h = (omega arith, omega arith, omega arith, (omega arith, omega arith, omega arith, tt))
+
 -- a multiple by a number that is not 0 modulo P
 times_some : (k c : ℕ) → k % P ≢ 0 → 0 < c → c < P → 0 < k * c % P
 times_some k c apart some small = elim (cases_eq (k * c % P) 0) [
@@ -147,6 +151,9 @@ select_normal b x y next nb ny below =
     (record { a = nb; b = IsNormalFrom-normal (less x y); c = product }, tt)
 
 -- ---- a row of twice a word's width
+pub power_some : (w : ℕ) → IsWidth w → 0 < 2 ^ w % P
+power_some w width = (power_term w (omega (arith, width_short w width))).0
+
 pub row_number_normal : (least w : ℕ) → IsWidth w → (row : DoubleRow) → least ≤ row.low → row.low < row.high → IsNormalFrom least (row_number w row)
 row_number_normal least w width row h above =
     let power = power_term w (omega (arith, width_short w width)) in

@@ -1,5 +1,5 @@
 //! A row of bits of twice a word's width, which can hold what an operation on two words makes.
-ghost use Rattle.std.specs.Prelude.{◌≡◌, ◌+◌, ◌-◌, ◌*◌, ◌%◌, ◌^◌, ◌≤◌, ◌<◌, [], ◌∷◌, length, max};
+ghost use Rattle.std.specs.Prelude.{◌≡◌, ◌+◌, ◌-◌, ◌*◌, ◌^◌, ◌≤◌, ◌<◌, [], ◌∷◌, length, max};
 ghost use Rattle.std.specs.Prelude.{if◌then◌else◌, false, IfOk, OnOk};
 ghost use Rattle.tv_bits.specs.Bits.{bits_combination};
 ghost use Rattle.tv_bits.specs.DoubleRow.{row_number, row_wires_of, above_edge, above_edge_in};

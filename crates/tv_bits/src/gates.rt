@@ -1,5 +1,5 @@
 //! An equation that a gate turns on. A gate is a combination whose value is 0 or 1.
-ghost use Rattle.std.specs.Prelude.{◌≡◌, ◌+◌, ◌≤◌, length, IfOk};
+ghost use Rattle.std.specs.Prelude.{◌+◌, ◌≤◌, length, IfOk};
 ghost use Rattle.tv_bits.specs.Gate.{gated_of, GatedIsSound, GatedIsComplete, GatedSizes};
 ghost use Rattle.tv_bits.specs.Gate.{GatedCosts};
 ghost use Rattle.tv_core.specs.Combinations.{top};

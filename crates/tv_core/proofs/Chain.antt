@@ -1,5 +1,6 @@
--- Calls one after another put their circuits one after another. `search (chain, ..)` with what each call
--- did proves what the whole did; at the exit of a `?` it stands after `refused`.
+-- Calls one after another put their circuits one after another. What each call did, in `all_then`, `some_then` and
+-- `some_first` below, proves what the whole did; at the exit of a `?` it stands after `refused`. `search (chain, ..)`
+-- finds the same at several times the cost.
 use Rattle.std.proofs.Common.{◌≡◌, ℕ, zero, suc, ◌+◌, ◌-◌, ◌<◌, ◌≤◌, ◌++◌, Result, IsErrAnd, refl, sym, ◌∙◌, ap, subst, append_assoc, add-one, arith}
 use Rattle.std.proofs.lemmas.List.{append-nil}
 use Rattle.std.proofs.lemmas.Result.{err_from_is_err_and}
@@ -123,5 +124,23 @@ module _ {S : Type 0} (m : Meaning S) where
     faults = omega arith;
     wants = omega arith;
   }
+
+-- The same by the calls' records alone: `_` for the circuit after the first call, which antt finds in the goal.
+module _ {S : Type 0} {m : Meaning S} where
+  module _ {A B : Type 0} where
+    pub all_then : {first : Circuit A} (second : A → Circuit B) {old mid new : S} {a : A} {b : B}
+        → PutsAll m old mid first a → PutsAll m mid new (second a) b → PutsAll m old new (first >>= second) b
+    all_then second p q = puts_then _ _ second _ _ _ _ _ p q
+
+    pub some_then : {first : Circuit A} (second : A → Circuit B) {old mid new : S} {a : A} {fault : SinkFault}
+        → PutsAll m old mid first a → PutsSome m mid new (second a) fault → PutsSome m old new (first >>= second) fault
+    some_then second p q = puts_then_refused _ _ second _ _ _ _ _ p q
+
+    pub some_first : {first : Circuit A} (second : A → Circuit B) {old new : S} {fault : SinkFault}
+        → PutsSome m old new first fault → PutsSome m old new (first >>= second) fault
+    some_first second p = refused_then _ _ second _ _ _ p
+
+  pub all_pure : {A : Type 0} {s : S} {a : A} → PutsAll m s s (pure a) a
+  all_pure = puts_nothing _ _ _
 
 pub ruleset chain = (puts_then, puts_then_refused, refused_then, puts_nothing, puts_here)

@@ -1,11 +1,16 @@
--- Lists of numbers of the field.
-use Rattle.std.proofs.Common.{ℕ, zero, suc, ◌+◌, ◌<◌, List, [], ◌∷◌, ◌++◌, map, subst, sym, arith}
+-- Lists of numbers of the field, and words as its numbers.
+use Rattle.std.proofs.Common.{ℕ, zero, suc, ◌+◌, ◌^◌, ◌<◌, List, [], ◌∷◌, ◌++◌, map, subst, sym, arith}
 use Rattle.std.specs.List.{range_with_len}
 use Rattle.std.proofs.lemmas.List.Elements.{All-nil, All-cons, All-append}
 use Rattle.tv_core.proofs.JoinedLaws.{joined_below-zero, joined_below-suc}
 use Rattle.tv_core.specs.Below.{each_below, joined_below}
 use Rattle.tv_core.specs.Laws.{InField}
 use Rattle.tv_core.specs.declared.field.TheConstants.{P}
+use Rattle.tv_word.proofs.WidthLaws.{word_small}
+use Rattle.tv_word.specs.Widths.{IsWidth}
+
+pub word-below : (w : ℕ) → IsWidth w → (n : ℕ) → n < 2 ^ w → n < P
+word-below w width n h = let small = word_small w width n h in omega arith
 
 pub InField-none : InField []
 InField-none = All-nil (λ v. v < P)

@@ -1,5 +1,5 @@
--- Calls one after another give their lists one after another. `search (giving, ..)` with what each call
--- did proves what the whole did; at the exit of a `?` it stands after `gives_refused`.
+-- Calls one after another give their lists one after another. What each call did proves what the whole did; at the exit
+-- of a `?` it stands after `gives_refused`.
 use Rattle.std.proofs.Common.{◌≡◌, ℕ, List, [], ◌∷◌, ◌++◌, Result, IsErrAnd, sym, ◌∙◌, ap, subst, append_assoc, arith}
 use Rattle.std.proofs.lemmas.List.{append-nil}
 use Rattle.std.proofs.lemmas.Result.{err_from_is_err_and}
@@ -55,9 +55,6 @@ module _ {V : Type 0} (m : ValuesMeaning V) where
   }
 
   -- one value and then others
-  pub gives_one_then : (x : ℕ) (ys : List ℕ) (old mid new : V) → GivesAll m old mid (x ∷ []) → GivesAll m mid new ys → GivesAll m old new (x ∷ ys)
-  gives_one_then x ys = gives_then (x ∷ []) ys
-
   pub gives_one_then_refused : (x : ℕ) (ys : List ℕ) (old mid new : V) (fault : SinkFault) → GivesAll m old mid (x ∷ []) → GivesSome m mid new ys fault
       → GivesSome m old new (x ∷ ys) fault
   gives_one_then_refused x ys = gives_then_refused (x ∷ []) ys
@@ -71,5 +68,3 @@ module _ {V : Type 0} (m : ValuesMeaning V) where
   gives_refused old new values result {fault} r p =
       let e = err_from_is_err_and result r in
       rw (e.1, e.2) p
-
-pub ruleset giving = (gives_then, gives_then_refused, gives_refused_then, gives_nothing, gives_one_then, gives_one_then_refused, gives_one_refused_then)

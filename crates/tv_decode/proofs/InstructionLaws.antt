@@ -1,5 +1,5 @@
 -- The laws of an instruction with a row of the used opcodes.
-use Rattle.std.proofs.Common.{◌⊎◌, ◌≡◌, ◌≢◌, ℕ, zero, suc, ◌+◌, ◌-◌, ◌*◌, ◌%◌, ◌^◌, ◌<◌, ◌≤◌, ◌==◌, Bool, true, if◌then◌else◌, List, [], ◌∷◌, ◌++◌, length}
+use Rattle.std.proofs.Common.{◌⊎◌, ◌≡◌, ◌≢◌, ℕ, zero, suc, ◌+◌, ◌-◌, ◌*◌, ◌%◌, ◌^◌, ◌<◌, ◌≤◌, ◌==◌, true, if◌then◌else◌, List, [], ◌∷◌, ◌++◌, length}
 use Rattle.std.proofs.Common.{inl, inr, refl, sym, ◌∙◌, ap, ap₂, subst, arith, mod-lt, eq-eqb, mul-zero, mul-one, zero-mul}
 use Rattle.std.specs.Prelude.{slice_index}
 use Rattle.std.proofs.lemmas.Bool.{cases_eq, cases_lt}
@@ -166,9 +166,6 @@ zero_both : (a b : ℕ) → 0 * a * b ≡ 0
 zero_both a b = ap (λ n. n * b) (zero-mul a) ∙ zero-mul b
 
 module _ (z : List ℕ) (w : ℕ) (width : IsWidth w) (low op v p : ℕ) (s : HasBits z low (w - 5) v) (row : IsOneHot z op 29 p) where
-  weight_small : opcode_weight w p < P
-  weight_small = let h = at_below p row.within in grind arith
-
   short : w - 5 ≤ 63
   short = omega arith
 
@@ -296,7 +293,8 @@ instruction_met w width z next head tail assigns head_word tail_word used has =
     let v = head % 2 ^ (w - 5) in
     let p = place_of k in
     let words : List ℕ = bits_values tail w ++ head ∷ tail ∷ [] in
-    let h1 = HasFrom-after z next low.next (w - 5) (bits_values v (w - 5)) (opcode_values k ++ words) (length-bits v (w - 5)) (new_bits_next (w - 5) next) has in
+    let h1 = HasFrom-after z next low.next (w - 5) (bits_values v (w - 5)) (opcode_values k ++ words) (length-bits v (w - 5))
+    (new_bits_next (w - 5) next) has in
     let h2 = HasFrom-after z low.next row.next 29 (opcode_values k) words (length-each_below 29 (one_at p)) (new_bits_next 29 low.next) h1.1 in
     let h3 = HasFrom-after z row.next second.next w (bits_values tail w) (head ∷ tail ∷ []) (length-bits tail w) (new_bits_next w row.next) h2.1 in
     let each = has_each z low.next 29 (one_at p) h2.0 in

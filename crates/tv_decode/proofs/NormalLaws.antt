@@ -1,9 +1,8 @@
 -- An instruction's circuit puts normal combinations.
-use Rattle.std.proofs.Common.{◌≡◌, ℕ, ◌+◌, ◌-◌, ◌*◌, ◌^◌, ◌<◌, ◌≤◌, arith}
+use Rattle.std.proofs.Common.{ℕ, ◌+◌, ◌-◌, ◌*◌, ◌^◌, ◌<◌, ◌≤◌, arith}
 use Rattle.std.proofs.lemmas.Bool.Decides.{nat_tests}
 use Rattle.tv_bits.proofs.NormalLaws.{constant_normal, bits_normal, bits_top, row_normal, weighted_normal, new_bits_normal, kept_normal}
 use Rattle.tv_bits.proofs.BitsLaws.{new_bits_next}
-use Rattle.tv_bits.proofs.TimesLaws.{kept_next}
 use Rattle.tv_bits.specs.Bits.{bits_combination, new_bits_of}
 use Rattle.tv_bits.specs.OneHot.{row_sum}
 use Rattle.tv_bits.specs.Times.{kept_of}

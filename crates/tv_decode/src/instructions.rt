@@ -2,7 +2,7 @@
 //!
 //! The row is the range of the opcode too: no other combination of its bits has the sum 1, so an
 //! opcode that isn't used has no wire, and no words that decode to it meet the constraints.
-ghost use Rattle.std.specs.Prelude.{◌≡◌, ◌+◌, ◌-◌, ◌*◌, ◌%◌, ◌≤◌, ◌<◌, ◌^◌, ◌++◌, false, All};
+ghost use Rattle.std.specs.Prelude.{◌≡◌, ◌+◌, ◌-◌, ◌*◌, ◌%◌, ◌≤◌, ◌<◌, ◌^◌, ◌++◌, false};
 ghost use Rattle.std.specs.Prelude.{length, max, IfOk, OnOk};
 ghost use Rattle.tv_bits.specs.OneHot.{row_sum};
 ghost use Rattle.tv_core.specs.Below.{weighted};
@@ -10,7 +10,7 @@ ghost use Rattle.tv_core.specs.Circuits.{put};
 ghost use Rattle.tv_core.specs.Combinations.{constant, top};
 ghost use Rattle.tv_core.specs.Values.{GivesIn};
 ghost use Rattle.tv_core.specs.Sinks.{PutsIn, Grows, Room};
-ghost use Rattle.tv_decode.specs.Instructions.{opcode_weight, head_of};
+ghost use Rattle.tv_decode.specs.Instructions.{opcode_weight};
 ghost use Rattle.tv_decode.specs.Instructions.{opcode_values, instruction_of};
 ghost use Rattle.tv_decode.specs.Instructions.{instruction_wires, instruction_values};
 ghost use Rattle.tv_decode.specs.Instructions.{source_bits, dest_bits, register_bits, imm_wire};
@@ -78,7 +78,8 @@ fn plus_opcodes<const W: u32>(lc: &mut Lc, op: Wire)
     requires width { IsWidth W }
     requires within { op + opcodes < 2 ^ 32 }
     requires room { length lc.old ≤ 64 }
-    ensures terms { lc.new ≡ lc.old ++ weighted (op + 1) (opcodes - 1) (λ j. opcode_weight W (j + 1)) }
+    ensures terms { lc.new
+        ≡ lc.old ++ weighted (op + 1) (opcodes - 1) (λ j. opcode_weight W (j + 1)) }
     ensures top { top lc.new ≤ max (top lc.old) (op + opcodes) }
 {
     let second = op.offset(1);

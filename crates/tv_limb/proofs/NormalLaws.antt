@@ -1,6 +1,6 @@
 -- The rows' circuits put normal combinations.
-use Rattle.std.proofs.Common.{ℕ, ◌+◌, ◌-◌, ◌*◌, ◌%◌, ◌^◌, ◌<◌, ◌≤◌, [], ◌∷◌, ◌++◌, arith}
-use Rattle.tv_bits.specs.DoubleRow.{row_number}
+use Rattle.std.proofs.Common.{ℕ, ◌+◌, ◌-◌, ◌*◌, ◌%◌, ◌^◌, ◌<◌, ◌≤◌, [], arith}
+use Rattle.tv_bits.proofs.NormalLaws.{power_some}
 use Rattle.tv_bits.specs.Gate.{gated_of}
 use Rattle.tv_bits.specs.Times.{times_of}
 use Rattle.tv_bits.specs.declared.double_rows.DoubleRow.{DoubleRow}
@@ -16,10 +16,7 @@ use Rattle.tv_limb.specs.RowDifference.{comparing, minuend, subtrahend, row_diff
 use Rattle.tv_limb.specs.RowSum.{row_sum_of}
 use Rattle.tv_word.specs.Widths.{IsWidth}
 
--- ---- the coefficient 2 ^ w, and its negative
-power_some : (w : ℕ) → IsWidth w → 0 < 2 ^ w % P
-power_some w width = grind arith
-
+-- ---- the negative of 2 ^ w
 negated_some : (w : ℕ) → IsWidth w → 0 < (P - 1) * (2 ^ w % P) % P
 negated_some w width = grind arith
 

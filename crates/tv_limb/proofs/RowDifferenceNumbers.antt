@@ -1,5 +1,5 @@
 -- The numbers of a difference in a row.
-use Rattle.std.proofs.Common.{◌≡◌, ◌⊎◌, ℕ, ◌+◌, ◌-◌, ◌*◌, ◌%◌, ◌^◌, ◌<◌, ◌≤◌, if◌then◌else◌, Bool, true, false, not, int_lt, int_le, ℤ, ◌<ℤ◌, ◌≤ℤ◌, inl}
+use Rattle.std.proofs.Common.{◌≡◌, ◌⊎◌, ℕ, ◌+◌, ◌-◌, ◌*◌, ◌%◌, ◌^◌, ◌<◌, ◌≤◌, if◌then◌else◌, Bool, true, false, not, int_lt, int_le, ℤ, inl}
 use Rattle.std.proofs.Common.{inr, refl, sym, ◌∙◌, ap, arith, zero-mul, one-mul}
 use Rattle.std.specs.Prelude.{nat_lt}
 use Rattle.std.specs.Int.{bit_at}

@@ -1,5 +1,5 @@
 //! The sum of two words in a row of twice their width.
-ghost use Rattle.std.specs.Prelude.{◌+◌, ◌≤◌, ◌<◌, IfOk};
+ghost use Rattle.std.specs.Prelude.{◌≤◌, ◌<◌, IfOk};
 ghost use Rattle.tv_bits.specs.DoubleRow.{row_number};
 ghost use Rattle.tv_core.specs.Combinations.{top};
 ghost use Rattle.tv_core.specs.Sinks.{PutsIn, Grows, Room};

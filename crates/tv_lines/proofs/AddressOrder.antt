@@ -3,7 +3,7 @@ use Rattle.std.proofs.Common.{◌≡◌, ℕ, ◌+◌, ◌^◌, ◌<◌, ◌≤�
 use Rattle.std.proofs.Common.{IsPermutation, refl, sym, ap, ◌∙◌, arith, inl, inr}
 use Rattle.std.specs.List.{IsDistinct}
 use Rattle.std.proofs.lemmas.List.{get_or_default, take-append-drop, drop_more, get_or-take, length-take-le}
-use Rattle.std.proofs.lemmas.List.Elements.{Contains-get_or, All-contains}
+use Rattle.std.proofs.lemmas.List.Elements.{Contains-get_or}
 use Rattle.std.proofs.lemmas.List.Sorted.{All-permutation, IsPermutation-sym}
 use Rattle.std.proofs.lemmas.Map.Keys.{apart_from_distinct, IsDistinct-from_apart, IsDistinct-IsPermutation}
 use Rattle.std.proofs.lemmas.Bool.{cases_order, cases_lt, eqb-true, eqb-false, eq-eqb, ne_eqb}
@@ -133,9 +133,6 @@ sorted_ordered lines sorted t fits honest moved order = record { first = first; 
 
         small_l : l.time < 2 ^ 20
         small_l = small (k + 1) d h
-
-        small_at : (m : Line) → Contains sorted m → m.time < 2 ^ 20
-        small_at m c = All-contains (λ l. l.time < 2 ^ 20) sorted m small c
 
         rises : ((p.cell < l.cell) ⊎ (l.cell ≤ p.cell)) → (p.cell < l.cell) ⊎ ((p.cell ≡ l.cell) × (p.time < l.time))
         rises (inl c) = inl c

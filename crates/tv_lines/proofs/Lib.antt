@@ -1,6 +1,5 @@
 pub mod AddressOrder
 pub mod CompactLaws
-pub mod CostLaws
 pub mod FirstLaws
 pub mod Neighbours
 pub mod NormalLaws

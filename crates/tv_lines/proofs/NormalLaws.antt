@@ -1,18 +1,17 @@
 -- What a line's check puts is normal, and has one term more for each new wire.
-use Rattle.std.proofs.Common.{◌≡◌, ℕ, ◌+◌, ◌-◌, ◌*◌, ◌%◌, ◌^◌, ◌<◌, ◌≤◌, List, [], ◌∷◌, ◌++◌, max, length, inl, inr, refl, sym, subst, ◌∙◌, ap, ap₂, arith}
-use Rattle.std.proofs.Common.{mod-lt}
+use Rattle.std.proofs.Common.{◌≡◌, ℕ, ◌+◌, ◌-◌, ◌%◌, ◌^◌, ◌≤◌, List, [], ◌++◌, length, sym, ◌∙◌, ap, arith}
 use Rattle.std.proofs.lemmas.List.{length-append}
 use Rattle.tv_bits.specs.Bits.{bits_combination, new_bits_of}
 use Rattle.tv_bits.specs.Times.{kept_of}
 use Rattle.tv_bits.specs.declared.bit_wires.Bits.{Bits}
 use Rattle.tv_bits.proofs.NormalLaws.{wire_normal, scaled_bits_normal, new_bits_normal, kept_normal}
 use Rattle.tv_bits.proofs.BitsLaws.{new_bits_answer, new_bits_next}
-use Rattle.tv_bits.proofs.TimesLaws.{kept_answer, kept_next}
+use Rattle.tv_bits.proofs.TimesLaws.{kept_answer}
 use Rattle.tv_core.proofs.CombinationLaws.{top-append, top-scaled, value-append}
 use Rattle.tv_core.proofs.NormalCircuits.{normal_append, normal_put, normal_then}
 use Rattle.tv_core.proofs.NormalLaws.{value-normal, IsNormalFrom-normal, top-normal}
 use Rattle.tv_core.proofs.Unique.{same_values}
-use Rattle.tv_core.specs.Circuits.{put, ◌>>=◌}
+use Rattle.tv_core.specs.Circuits.{put}
 use Rattle.tv_core.specs.Combinations.{wire, constant, scaled, top}
 use Rattle.tv_core.specs.Constraints.{Combination, value}
 use Rattle.tv_core.specs.Normal.{normal, AreNormal, IsNormal}
@@ -37,9 +36,6 @@ pub length-new : (x y : Combination) (w : ℕ) → top x ≤ w → ((z : List �
 length-new x y w h same = ap length (normal_new x y w h same) ∙ length-append (normal x) (wire w)
 
 -- ---- the parts of a check, where the item is two wires after those of the line
-later_last : (a b c : ℕ) → ((a + b) % P + c) % P ≡ ((a + c) % P + b) % P
-later_last a b c = omega arith
-
 later_twice : (a b c d : ℕ) → (((a + b) % P + c) % P + d) % P ≡ (((a + c) % P + d) % P + b) % P
 later_twice a b c d = omega arith
 

@@ -38,10 +38,6 @@ pub carried_next : (apart : ℕ) (before after : LineBits) (next : ℕ) → (car
 unfolding carried_of put ◌>>=◌
 carried_next apart before after next = zero_next (wire apart) next
 
-pub size_answer : (c next : ℕ) → (size_of c next).answer ≡ next + c
-unfolding size_of times_of fresh put pure ◌>>=◌
-size_answer c next = new_bits_next c next
-
 pub size_next : (c next : ℕ) → (size_of c next).next ≡ next + c + 1
 unfolding size_of times_of fresh put pure ◌>>=◌
 size_next c next = ap (λ n. n + 1) (new_bits_next c next)

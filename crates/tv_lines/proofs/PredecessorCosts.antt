@@ -1,8 +1,9 @@
 -- How many constraints a line that follows costs, and how many terms they have.
-use Rattle.std.proofs.Common.{◌≡◌, ℕ, ◌+◌, ◌-◌, ◌*◌, ◌%◌, ◌^◌, ◌≤◌, List, [], ◌∷◌, ◌++◌, length, refl, sym, ◌∙◌, ap, arith}
+use Rattle.std.proofs.Common.{◌≡◌, ℕ, ◌+◌, ◌-◌, ◌*◌, ◌%◌, ◌^◌, ◌≤◌, length, refl, ◌∙◌, ap, arith}
 use Rattle.std.proofs.lemmas.List.{length-append}
 use Rattle.tv_bits.proofs.BitsLaws.{new_bits_answer}
-use Rattle.tv_bits.proofs.GateLaws.{length-scaled}
+use Rattle.tv_bits.proofs.DoubleRowLaws.{new_bits_constraints, new_bits_terms}
+use Rattle.tv_bits.proofs.GateLaws.{length-scaled, terms-append}
 use Rattle.tv_bits.specs.Bits.{bits_combination, new_bits_of}
 use Rattle.tv_bits.specs.Times.{times_of, kept_of}
 use Rattle.tv_bits.specs.declared.bit_wires.Bits.{Bits}
@@ -15,9 +16,8 @@ use Rattle.tv_core.specs.Meanings.{terms_in}
 use Rattle.tv_core.specs.declared.field.TheConstants.{P}
 use Rattle.tv_core.specs.declared.lines.LineLc.{LineLc}
 use Rattle.tv_core.specs.declared.lines.Pair.{Pair}
-use Rattle.tv_lines.proofs.CostLaws.{counts_add, terms_add, new_bits_cost, bit_count, bit_terms}
 use Rattle.tv_lines.proofs.NormalLaws.{length-cell_excess, length-less_above}
-use Rattle.tv_lines.specs.Predecessor.{less_above, cell_excess, excess, cell_difference, time_difference, either_of, follows_of, follows_terms, FollowsCosts}
+use Rattle.tv_lines.specs.Predecessor.{less_above, cell_excess, excess, cell_difference, either_of, follows_of, follows_terms, FollowsCosts}
 
 bits_long : (first n : ℕ) → length (bits_combination first n) ≡ n
 unfolding weighted each_below
@@ -53,11 +53,11 @@ unfolding follows_of ◌>>=◌
 follows_count m line item next =
     let reach = new_bits_of m next in
     let kept = kept_of (excess reach.answer line item) reach.next in
-    counts_add.joins reach.list _
+    length-append reach.list _
     ∙ omega (
       arith,
-      new_bits_cost (λ list. length list) counts_add m next 1 bit_count,
-      counts_add.joins kept.list (either_of kept.answer line item kept.next).list,
+      new_bits_constraints m next,
+      length-append kept.list (either_of kept.answer line item kept.next).list,
       kept_count (excess reach.answer line item) reach.next,
       either_count kept.answer line item kept.next,
     )
@@ -69,12 +69,12 @@ follows_lengths m line item next =
     let reach = new_bits_of m next in
     let kept = kept_of (excess reach.answer line item) reach.next in
     let n : reach.answer.n ≡ m = ap (λ (b : Bits). b.n) (new_bits_answer m next) in
-    terms_add.joins reach.list _
+    terms-append reach.list _
     ∙ omega (
       arith,
       n,
-      new_bits_cost terms_in terms_add m next 3 bit_terms,
-      terms_add.joins kept.list (either_of kept.answer line item kept.next).list,
+      new_bits_terms m next,
+      terms-append kept.list (either_of kept.answer line item kept.next).list,
       kept_terms (excess reach.answer line item) reach.next,
       excess_long reach.answer line item,
       either_terms kept.answer line item kept.next,

@@ -1,30 +1,28 @@
 -- The laws of a line that follows.
-use Rattle.std.proofs.Common.{◌≡◌, ◌≢◌, ◌⊎◌, ℕ, ◌+◌, ◌-◌, ◌*◌, ◌%◌, ◌^◌, ◌<◌, ◌≤◌, List, [], ◌∷◌, ◌++◌, length, inl, inr, sym, subst, ◌∙◌, ap, ap₂, arith}
+use Rattle.std.proofs.Common.{◌≡◌, ◌⊎◌, ℕ, ◌+◌, ◌-◌, ◌*◌, ◌%◌, ◌^◌, ◌<◌, ◌≤◌, List, inl, inr, sym, ◌∙◌, ap, arith}
 use Rattle.std.specs.Prelude.{slice_index}
 use Rattle.std.proofs.Math.Nat.{pow-le-pow_right}
-use Rattle.tv_bits.specs.Bits.{HasBits, binary_value, bits_values, new_bits_of}
+use Rattle.tv_bits.specs.Bits.{HasBits, binary_value, new_bits_of}
 use Rattle.tv_bits.specs.Times.{kept_of}
 use Rattle.tv_bits.specs.declared.bit_wires.Bits.{Bits}
 use Rattle.tv_bits.proofs.BitNumbers.{HasBits-below}
-use Rattle.tv_bits.proofs.BitsLaws.{new_bits_answer, new_bits_next, new_bits_sound, new_bits_complete}
-use Rattle.tv_bits.proofs.TimesLaws.{kept_answer, kept_next, kept_sound, kept_complete}
+use Rattle.tv_bits.proofs.BitsLaws.{new_bits_answer, new_bits_sound}
+use Rattle.tv_bits.proofs.TimesLaws.{kept_sound}
 use Rattle.tv_core.proofs.CombinationLaws.{value-wire, value-below, wire-below}
-use Rattle.tv_core.proofs.MeetsLaws.{Meets-split, Meets-join, HasFrom-split}
+use Rattle.tv_core.proofs.MeetsLaws.{Meets-split}
 use Rattle.tv_core.proofs.PrimeLaws.{p_zero_product_below}
 use Rattle.tv_core.specs.Circuits.{put, ◌>>=◌}
-use Rattle.tv_core.specs.Combinations.{wire}
 use Rattle.tv_core.specs.Constraints.{value}
-use Rattle.tv_core.specs.Laws.{Assigns, Meets, HasFrom}
-use Rattle.tv_core.specs.Lines.{Line, pair_value}
+use Rattle.tv_core.specs.Laws.{Assigns, Meets}
+use Rattle.tv_core.specs.Lines.{Line}
 use Rattle.tv_core.specs.declared.field.TheConstants.{P}
 use Rattle.tv_core.specs.declared.lines.LineLc.{LineLc}
 use Rattle.tv_core.specs.declared.lines.Pair.{Pair}
 use Rattle.tv_core.specs.declared.lines.PairNum.{PairNum}
 use Rattle.tv_lines.specs.Ordered.{Follows}
-use Rattle.tv_lines.specs.PackedLines.{LineInRange, line_value}
+use Rattle.tv_lines.specs.PackedLines.{LineInRange}
 use Rattle.tv_lines.proofs.PredecessorNumbers.{other_cells, same_cells, same_times}
 use Rattle.tv_lines.proofs.PredecessorValues.{value-excess, value-cells, value-times}
-use Rattle.tv_lines.specs.PackedLines.{packed_item}
 use Rattle.tv_lines.specs.Predecessor.{excess, cell_difference, time_difference, either_of, follows_of, FollowsIsSound}
 
 -- what e, the cells and the times are as numbers, and what follows from them

@@ -1,9 +1,7 @@
 -- How many bits a reach has, and that keys rise.
-use Rattle.std.proofs.Common.{◌≡◌, ℕ, ◌+◌, ◌-◌, ◌^◌, ◌<◌, ◌≤◌, inl, inr, arith}
-use Rattle.std.proofs.Math.Nat.{pow-le-pow_right}
+use Rattle.std.proofs.Common.{ℕ, ◌+◌, ◌^◌, ◌<◌, ◌≤◌, inl, inr, arith}
 use Rattle.std.proofs.lemmas.Bool.{cases_eq}
 use Rattle.tv_core.specs.Lines.{Line}
-use Rattle.tv_lines.specs.Ordered.{Follows, key}
 use Rattle.tv_lines.specs.PackedLines.{LineInRange}
 use Rattle.tv_lines.proofs.PredecessorComplete.{reach_same, reach_apart}
 use Rattle.tv_lines.specs.Predecessor.{reach_between, FollowsReaches, FollowsRises}

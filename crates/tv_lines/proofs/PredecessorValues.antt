@@ -1,10 +1,10 @@
 -- The values of the combinations.
-use Rattle.std.proofs.Common.{◌≡◌, ℕ, ◌+◌, ◌-◌, ◌*◌, ◌%◌, ◌^◌, ◌<◌, ◌≤◌, List, ◌++◌, sym, ◌∙◌, ap, ap₂, arith}
+use Rattle.std.proofs.Common.{◌≡◌, ℕ, ◌+◌, ◌-◌, ◌*◌, ◌%◌, ◌^◌, ◌<◌, ◌≤◌, List, ◌++◌, ◌∙◌, ap, ap₂, arith}
 use Rattle.std.specs.Prelude.{slice_index}
 use Rattle.tv_bits.proofs.BitNumbers.{value-bits_below}
 use Rattle.tv_bits.specs.Bits.{HasBits, bits_combination}
 use Rattle.tv_bits.specs.declared.bit_wires.Bits.{Bits}
-use Rattle.tv_core.proofs.CombinationLaws.{value-append, value-scaled, value-constant, value-wire, value-below, wire-below}
+use Rattle.tv_core.proofs.CombinationLaws.{value-append, value-scaled, value-constant, value-wire}
 use Rattle.tv_core.proofs.NormalLaws.{value-normal}
 use Rattle.tv_core.specs.Combinations.{wire, constant, scaled}
 use Rattle.tv_core.specs.Constraints.{Combination, value}

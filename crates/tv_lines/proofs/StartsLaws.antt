@@ -1,5 +1,5 @@
 -- The laws of lines that begin a cell.
-use Rattle.std.proofs.Common.{◌≡◌, ℕ, ◌+◌, ◌-◌, ◌*◌, ◌%◌, ◌^◌, ◌<◌, ◌≤◌, List, [], ◌++◌, length, inl, inr, refl, sym, ◌∙◌, ap, ap₂, arith}
+use Rattle.std.proofs.Common.{◌≡◌, ℕ, ◌+◌, ◌-◌, ◌*◌, ◌%◌, ◌^◌, ◌<◌, ◌≤◌, List, [], ◌++◌, length, inl, refl, sym, ◌∙◌, ap, arith}
 use Rattle.tv_core.proofs.CombinationLaws.{value-constant, value-below, value-once}
 use Rattle.tv_core.specs.Circuits.{put}
 use Rattle.tv_core.specs.Combinations.{constant, wire}

@@ -15,7 +15,7 @@ use Rattle.tv_core.specs.Laws.{Assigns, Meets, HasFrom}
 use Rattle.tv_core.specs.declared.lines.Pair.{Pair}
 use Rattle.tv_core.specs.declared.lines.PairNum.{PairNum}
 use Rattle.tv_lines.proofs.PackingLaws.{packed_first, packed_second}
-use Rattle.tv_lines.specs.UnpackedLines.{HasWidths, line_bits, unpack_of, unpack_values, UnpackIsSound, UnpackIsComplete, UnpackSizes}
+use Rattle.tv_lines.specs.UnpackedLines.{line_bits, unpack_of, unpack_values, UnpackIsSound, UnpackIsComplete, UnpackSizes}
 
 -- what the circuit answers, and where it ends
 pub unpack_answer : (pair : Pair) (next : ℕ) → (unpack_of pair next).answer ≡ line_bits next (next + 63)
@@ -25,9 +25,6 @@ unpack_answer pair next = rw (bits_answer pair.first 63 next, bits_next pair.fir
 pub unpack_next : (pair : Pair) (next : ℕ) → (unpack_of pair next).next ≡ next + 115
 unfolding unpack_of pure ◌>>=◌
 unpack_next pair next = rw (bits_next pair.first 63 next, bits_next pair.second 52 (next + 63)) (omega arith)
-
-pub has_widths : (first second : ℕ) → HasWidths (line_bits first second)
-has_widths first second = record { cell = refl; time = refl; old = refl; new = refl }
 
 pub unpack_sound : UnpackIsSound
 unfolding unpack_of pure ◌>>=◌

@@ -1,12 +1,11 @@
 -- Two lines that are neighbours in address order, and the first of all.
 use Rattle.std.specs.Prelude.{◌≡◌, ℕ, ◌+◌, ◌-◌, ◌*◌, ◌%◌, ◌^◌, ◌<◌, ◌==◌, nat_lt, if◌then◌else◌, List, [], ◌∷◌, ◌++◌}
-use Rattle.tv_bits.specs.Bits.{bits_combination, bits_values, new_bits_of}
+use Rattle.tv_bits.specs.Bits.{bits_values, new_bits_of}
 use Rattle.tv_bits.specs.Number.{number_of}
 use Rattle.tv_bits.specs.Order.{prefix_difference, first_difference}
 use Rattle.tv_bits.specs.Prefixes.{zero_product_of, products_values, prefix}
 use Rattle.tv_bits.specs.Times.{kept_of}
 use Rattle.tv_bits.specs.Zero.{zero_of, zero_values}
-use Rattle.tv_bits.specs.declared.bit_wires.Bits.{Bits}
 use Rattle.tv_core.specs.Below.{each_below}
 use Rattle.tv_core.specs.Circuits.{Circuit, put, ◌>>=◌}
 use Rattle.tv_core.specs.Combinations.{wire, constant, less}

@@ -132,8 +132,8 @@ fn plus_less(lc: &mut Lc, before: &Bits, after: &Bits, from: u32)
 // Assigns the values of the wires that `rises` makes.
 pub(crate) fn fill_rises<V: Values>(v: &mut V, before: &LineNum, after: &LineNum) -> Put<()>
     requires { V.giving.broken v.old ≡ false }
-    ensures gives { GivesIn V.giving v.old v.new
-        (products_values (factor_in (line_of_numbers before.now) (line_of_numbers after.now)) 5) result }
+    ensures gives { GivesIn V.giving v.old v.new (products_values
+        (factor_in (line_of_numbers before.now) (line_of_numbers after.now)) 5) result }
     ensures whole { OnOk result (V.giving.broken v.new ≡ false) }
 {
     let size = size(before, after);

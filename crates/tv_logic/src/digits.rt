@@ -3,7 +3,7 @@
 ghost use Rattle.std.specs.Prelude.{◌≡◌, ◌+◌, ◌*◌, ◌/◌, ◌^◌, ◌++◌, ◌≤◌, ◌<◌, length, max, IfOk};
 ghost use Rattle.tv_core.specs.Combinations.{top};
 ghost use Rattle.tv_core.specs.Sinks.{PutsIn, Grows, Room};
-ghost use Rattle.tv_logic.specs.Digits.{digits_combination, digit_sum, digits_of, bitwise_of};
+ghost use Rattle.tv_logic.specs.Digits.{digits_combination, digits_of, bitwise_of};
 ghost use Rattle.tv_logic.specs.Digits.{BitwiseIsSound, BitwiseIsComplete, BitwiseSizes};
 ghost use Rattle.tv_logic.specs.Digits.{BitwiseCosts};
 ghost use Rattle.tv_word.specs.Widths.{IsWidth};

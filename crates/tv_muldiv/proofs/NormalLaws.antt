@@ -1,6 +1,6 @@
 -- The rows' circuits put normal combinations.
-use Rattle.std.proofs.Common.{ℕ, ◌+◌, ◌-◌, ◌*◌, ◌%◌, ◌^◌, ◌<◌, ◌++◌, arith}
-use Rattle.tv_bits.proofs.NormalLaws.{wire_normal, less_normal, bits_normal, row_number_normal, times_normal, gated_normal}
+use Rattle.std.proofs.Common.{ℕ, ◌+◌, ◌-◌, ◌*◌, ◌<◌, ◌++◌, arith}
+use Rattle.tv_bits.proofs.NormalLaws.{wire_normal, less_normal, bits_normal, power_some, row_number_normal, times_normal, gated_normal}
 use Rattle.tv_bits.specs.Bits.{bits_combination}
 use Rattle.tv_bits.specs.DoubleRow.{row_number}
 use Rattle.tv_bits.specs.Gate.{gated_of}
@@ -22,9 +22,6 @@ use Rattle.tv_word.proofs.WidthLaws.{width_short}
 use Rattle.tv_word.specs.Widths.{IsWidth}
 
 -- ---- coefficients
-power_some : (w : ℕ) → IsWidth w → 0 < 2 ^ w % P
-power_some w width = grind arith
-
 weight_some : (w : ℕ) → IsWidth w → 0 < sign_weight w
 weight_some w width = grind arith
 

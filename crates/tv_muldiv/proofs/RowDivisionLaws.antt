@@ -15,7 +15,7 @@ use Rattle.tv_bits.specs.declared.bit_wires.Bits.{Bits}
 use Rattle.tv_bits.specs.declared.double_rows.DoubleRow.{DoubleRow}
 use Rattle.tv_core.proofs.BelowLaws.{length-weighted}
 use Rattle.tv_core.proofs.CombinationLaws.{value-below, value-append, value-cons, value-wire, value-empty, wire-below}
-use Rattle.tv_core.proofs.FieldLaws.{InField-none, InField-cons}
+use Rattle.tv_core.proofs.FieldLaws.{InField-none, InField-cons, word-below}
 use Rattle.tv_core.proofs.NormalLaws.{residue_first}
 use Rattle.tv_core.specs.Circuits.{fresh, put, pure, ◌>>=◌}
 use Rattle.tv_core.specs.Combinations.{wire}
@@ -83,9 +83,6 @@ tie_off a v h k e = omega arith
 tie_same : (a v : ℕ) → a ≡ v → 0 ≡ ((P - 1) * a + v) % P
 tie_same a v e = omega arith
 
-word_small : (w : ℕ) → IsWidth w → (v : ℕ) → v < 2 ^ w → v < P
-word_small w width v h = grind arith
-
 module _ (w : ℕ) (width : IsWidth w) (z : List ℕ) (next : ℕ) (gate : Combination) (x y by_zero : ℕ) (bits : Bits) (row : DoubleRow) (assigns : Assigns z) where
   sums : Combination
   sums = wire row.low ++ (wire next ++ wire (next + 1))
@@ -137,7 +134,7 @@ module _ (w : ℕ) (width : IsWidth w) (z : List ℕ) (next : ℕ) (gate : Combi
   off_by v none s meets =
       let nothing : value gate z * value (room_below w x y by_zero row) z % P ≡ 0 =
       ap (λ n. n * value (room_below w x y by_zero row) z % P) none ∙ ap (λ n. n % P) (zero-mul (value (room_below w x y by_zero row) z)) in
-      tie_off (slice_index z x) v (wire-below assigns x) (word_small w width v (HasBits-below s)) (sym nothing ∙ tie_is meets
+      tie_off (slice_index z x) v (wire-below assigns x) (word-below w width v (HasBits-below s)) (sym nothing ∙ tie_is meets
       ∙ value-bits_less z assigns w width x bits v s)
 
   -- ---- the other way round

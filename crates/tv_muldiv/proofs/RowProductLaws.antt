@@ -15,10 +15,10 @@ use Rattle.tv_core.proofs.CombinationLaws.{value-wire}
 use Rattle.tv_core.specs.Circuits.{fresh, put, pure, ◌>>=◌}
 use Rattle.tv_core.specs.Combinations.{wire}
 use Rattle.tv_core.specs.Constraints.{Combination, value}
-use Rattle.tv_core.specs.Laws.{Assigns, Meets, HasFrom}
+use Rattle.tv_core.specs.Laws.{Assigns}
 use Rattle.tv_core.specs.Meanings.{terms_in}
 use Rattle.tv_core.specs.declared.field.TheConstants.{P}
-use Rattle.tv_muldiv.specs.RowProduct.{IsRowProduct, row_product_of, row_product_values, RowProductIsSound, RowProductIsComplete, RowProductSizes}
+use Rattle.tv_muldiv.specs.RowProduct.{IsRowProduct, row_product_of, RowProductIsSound, RowProductIsComplete, RowProductSizes}
 use Rattle.tv_muldiv.specs.RowProduct.{RowProductCosts}
 use Rattle.tv_word.specs.Widths.{IsWidth}
 

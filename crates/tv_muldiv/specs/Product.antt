@@ -1,5 +1,5 @@
 -- The product of two words, as a low and a high word.
-use Rattle.std.specs.Prelude.{◌≡◌, ℕ, ◌+◌, ◌-◌, ◌*◌, ◌/◌, ◌%◌, ◌^◌, List, ◌++◌, slice_index}
+use Rattle.std.specs.Prelude.{◌≡◌, ℕ, ◌+◌, ◌-◌, ◌*◌, List, ◌++◌, slice_index}
 use Rattle.tv_bits.specs.Bits.{HasBits, bits_combination, new_bits_of}
 use Rattle.tv_bits.specs.declared.bit_wires.Bits.{Bits}
 use Rattle.tv_core.specs.Circuits.{Circuit, fresh, put, pure, ◌>>=◌}

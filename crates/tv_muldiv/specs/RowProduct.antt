@@ -1,5 +1,5 @@
 -- The product of two words in a row of twice their width.
-use Rattle.std.specs.Prelude.{◌≡◌, ℕ, ◌+◌, ◌*◌, ◌/◌, ◌%◌, ◌^◌, ◌<◌, List, length, slice_index}
+use Rattle.std.specs.Prelude.{◌≡◌, ℕ, ◌+◌, ◌^◌, ◌<◌, List, length, slice_index}
 use Rattle.tv_bits.specs.DoubleRow.{IsRow, row_number}
 use Rattle.tv_bits.specs.Gate.{gated_of}
 use Rattle.tv_bits.specs.Times.{times_of, times_values}

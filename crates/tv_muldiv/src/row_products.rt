@@ -1,5 +1,5 @@
 //! The product of two words in a row of twice their width.
-ghost use Rattle.std.specs.Prelude.{◌≡◌, ◌+◌, ◌≤◌, ◌<◌, false, IfOk, OnOk};
+ghost use Rattle.std.specs.Prelude.{◌≡◌, ◌≤◌, ◌<◌, false, IfOk, OnOk};
 ghost use Rattle.tv_bits.specs.DoubleRow.{row_number};
 ghost use Rattle.tv_bits.specs.Times.{times_of};
 ghost use Rattle.tv_core.specs.Combinations.{wire, top};

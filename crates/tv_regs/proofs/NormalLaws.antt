@@ -1,20 +1,18 @@
 -- What the registers' circuits put is normal.
-use Rattle.std.proofs.Common.{◌≡◌, ℕ, zero, suc, ◌+◌, ◌-◌, ◌*◌, ◌%◌, ◌<◌, ◌≤◌, ◌==◌, if◌then◌else◌, List, [], ◌∷◌, ◌++◌, length, get_or, inl, inr, sym, ◌∙◌}
+use Rattle.std.proofs.Common.{◌≡◌, ℕ, zero, suc, ◌+◌, ◌-◌, ◌*◌, ◌<◌, ◌≤◌, List, [], ◌∷◌, ◌++◌, length, inl, inr, sym}
 use Rattle.std.proofs.Common.{ap, subst, arith, eq-zero-or-pos}
 use Rattle.std.specs.Prelude.{slice_index}
 use Rattle.std.proofs.Math.Nat.{mul-pos}
 use Rattle.std.proofs.lemmas.Bool.{cases_lt}
-use Rattle.std.proofs.lemmas.List.{get_or_past, length-append, length-map}
-use Rattle.tv_bits.proofs.NormalLaws.{wire_normal, row_normal, kept_normal, times_normal, select_normal}
+use Rattle.std.proofs.lemmas.List.{get_or_past}
+use Rattle.tv_bits.proofs.NormalLaws.{wire_normal, rise_normal, row_normal, kept_normal, times_normal, select_normal}
 use Rattle.tv_bits.specs.OneHot.{row_sum}
-use Rattle.tv_bits.specs.Pairs.{negative}
 use Rattle.tv_bits.specs.Ratio.{ratio_of}
 use Rattle.tv_bits.specs.Select.{pick_of}
 use Rattle.tv_bits.specs.Times.{times_of}
 use Rattle.tv_core.proofs.BelowLaws.{each_below-zero}
 use Rattle.tv_core.proofs.CombinationLaws.{top-append, top-scaled}
 use Rattle.tv_core.proofs.NormalCircuits.{normal_append, normal_negated, normal_both, normal_turns}
-use Rattle.tv_core.proofs.NormalLaws.{IsNormalFrom-lower}
 use Rattle.tv_core.specs.Below.{each_below}
 use Rattle.tv_core.specs.Circuits.{here, fresh, put, pure, ◌>>=◌}
 use Rattle.tv_core.specs.Combinations.{wire, scaled, top}
@@ -74,9 +72,6 @@ number_normal dest i some h = elim (eq-zero-or-pos i) [
   | inr positive ↦ subst IsNormal (sym (other_branch i (wire dest) ((P - i, 0) ∷ (1, dest) ∷ []) positive))
       (omega arith, omega arith, omega arith, (omega arith, omega arith, omega arith, tt))
 ]
-
-rise_normal : (old new : ℕ) → old < new → IsNormal ((P - 1, old) ∷ (1, new) ∷ [])
-rise_normal old new h = (omega arith, omega arith, omega arith, (omega arith, omega arith, omega arith, tt))
 
 stays_normal : (dest reg i next : ℕ) → 0 < dest → i < 16 → reg < next → AreNormal (stays_of dest reg i next).list
 unfolding stays_of fresh put ◌>>=◌

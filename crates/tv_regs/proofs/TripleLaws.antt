@@ -1,13 +1,14 @@
 -- The laws of three registers read at once.
 use Rattle.std.proofs.Common.{◌≡◌, ℕ, ◌+◌, ◌-◌, ◌*◌, ◌/◌, ◌%◌, ◌<◌, ◌≤◌, ◌==◌, if◌then◌else◌, List, [], ◌∷◌, ◌++◌, length, inl, inr, refl, sym, ◌∙◌, ap, ap₂}
-use Rattle.std.proofs.Common.{subst, arith, false, eq-zero-or-pos, mod-lt, mod-eq_of_lt, zero-mul, mul-one}
+use Rattle.std.proofs.Common.{arith, false, eq-zero-or-pos, mod-lt, mod-eq_of_lt, zero-mul, mul-one}
 use Rattle.std.specs.Prelude.{slice_index}
 use Rattle.std.proofs.Math.Nat.{div-add-mod}
 use Rattle.std.proofs.lemmas.Bool.Decides.{nat_tests}
-use Rattle.std.proofs.lemmas.List.{length-append, length-map}
+use Rattle.std.proofs.lemmas.List.{length-append}
 use Rattle.tv_bits.proofs.BitLaws.{bit_cases}
+use Rattle.tv_bits.proofs.GateLaws.{length-negated}
 use Rattle.tv_bits.proofs.SelectLaws.{pick_sound, pick_complete}
-use Rattle.tv_bits.proofs.TimesLaws.{kept_sound, kept_complete, times_sound, times_complete, ratio_sound, ratio_complete}
+use Rattle.tv_bits.proofs.TimesLaws.{kept_sound, kept_complete, times_sound, times_complete, ratio_sound, ratio_complete, residue_below}
 use Rattle.tv_bits.specs.Pairs.{negative}
 use Rattle.tv_bits.specs.Ratio.{ratio_of}
 use Rattle.tv_bits.specs.Select.{selected, pick_of}
@@ -16,8 +17,9 @@ use Rattle.tv_core.proofs.BelowLaws.{has_each, length-each_below}
 use Rattle.tv_core.proofs.CombinationLaws.{value-below, value-append, value-cons, value-wire, wire-below, top-scaled}
 use Rattle.tv_core.proofs.DifferenceLaws.{same_of_minus}
 use Rattle.tv_core.proofs.FieldLaws.{InField-none, InField-cons, InField-append, InField-each_below}
+use Rattle.tv_core.proofs.HasLaws.{HasFrom-after}
 use Rattle.tv_core.proofs.LoopLaws.{turn_met, turns_met, turns-next}
-use Rattle.tv_core.proofs.MeetsLaws.{Meets-split, Meets-join, HasFrom-split}
+use Rattle.tv_core.proofs.MeetsLaws.{Meets-split, Meets-join}
 use Rattle.tv_core.proofs.NormalCircuits.{normal_append, normal_negated}
 use Rattle.tv_core.proofs.NormalLaws.{value-normal, IsNormalFrom-normal}
 use Rattle.tv_core.proofs.Unique.{same_values}
@@ -453,12 +455,6 @@ triple_sound z next stores target source named regs size assigns numbers meets =
           ∙ has.dest) m5.0 numbers.dest (root_dest o b d d (value-below target z) refl);
     }
 
--- what is had after some values of a known number
-had_after : (z : List ℕ) (at next n : ℕ) (xs rest : List ℕ) → length xs ≡ n → next ≡ at + n → HasFrom z at (xs ++ rest) → HasFrom z at xs × HasFrom z next rest
-had_after z at next n xs rest size place has =
-    let split = HasFrom-split z at xs rest has in
-    (split.0, subst (λ k. HasFrom z k rest) (ap (λ k. at + k) size ∙ sym place) split.1)
-
 pub triple_complete : TripleIsComplete
 unfolding triple_of pure ◌>>=◌
 triple_complete z next stores target source named regs size assigns numbers has =
@@ -476,13 +472,13 @@ triple_complete z next stores target source named regs size assigns numbers has 
     let points : List ℕ = point_values b through.bend words ++ point_values d through.bend words in
     let after : List ℕ = point_values o through.bend words ++ points in
     let ratios : List ℕ = passing_values o b d words ++ after in
-    let h1 = had_after z next roots.next 6 (roots_values o b d) (curve_values through ++ ratios) refl (roots_next stores target source named next) has in
-    let h2 = had_after z roots.next (roots.next + 3) 3 (curve_values through) ratios refl refl h1.1 in
-    let h3 = had_after z (roots.next + 3) curve.next 16 (passing_values o b d words) after (length-each_below 16 (passing o b d words))
+    let h1 = HasFrom-after z next roots.next 6 (roots_values o b d) (curve_values through ++ ratios) refl (roots_next stores target source named next) has in
+    let h2 = HasFrom-after z roots.next (roots.next + 3) 3 (curve_values through) ratios refl refl h1.1 in
+    let h3 = HasFrom-after z (roots.next + 3) curve.next 16 (passing_values o b d words) after (length-each_below 16 (passing o b d words))
     (past_curve roots.next curve.next (curve_next roots.answer regs roots.next)) h2.1 in
-    let h4 = had_after z curve.next other.next 2 (point_values o through.bend words) points refl
+    let h4 = HasFrom-after z curve.next other.next 2 (point_values o through.bend words) points refl
     (point_next (wire roots.answer.other) curve.answer curve.next) h3.1 in
-    let h5 = had_after z other.next third.next 2 (point_values b through.bend words) (point_values d through.bend words) refl
+    let h5 = HasFrom-after z other.next third.next 2 (point_values b through.bend words) (point_values d through.bend words) refl
     (point_next named curve.answer other.next) h4.1 in
     let m1 = roots_complete z assigns stores target source named numbers next h1.0 in
     let has_roots = roots_sound z assigns stores target source named numbers next m1 in
@@ -519,11 +515,8 @@ length-triple o b d words =
     let points = point_values o c.bend words ++ (point_values b c.bend words ++ point_values d c.bend words) in
     omega (arith, length-append ratios points, length-each_below 16 (passing o b d words))
 
-residue : (n : ℕ) → n % P < P
-residue n = mod-lt n (omega arith)
-
 point_in_field : (n g : ℕ) (words : List ℕ) → InField words → InField (point_values n g words)
-point_in_field n g words small = InField-cons (n * g % P) (slice_index words n ∷ []) (residue (n * g))
+point_in_field n g words small = InField-cons (n * g % P) (slice_index words n ∷ []) (residue_below (n * g))
     (InField-cons (slice_index words n) [] (word_below words n small) InField-none)
 
 pub triple_in_field : (o b d : ℕ) (words : List ℕ) → o < 16 → b < 16 → d < 16 → InField words → InField (triple_values o b d words)
@@ -537,9 +530,9 @@ triple_in_field o b d words ho hb hd small =
     let others = InField-cons o ((o + b + d) ∷ (o * b) ∷ (o * b + d * (o + b)) ∷ (o * b * d) ∷ []) (omega arith)
     (InField-cons (o + b + d) ((o * b) ∷ (o * b + d * (o + b)) ∷ (o * b * d) ∷ []) (omega arith) sums) in
     let roots = InField-cons d (o ∷ (o + b + d) ∷ (o * b) ∷ (o * b + d * (o + b)) ∷ (o * b * d) ∷ []) (omega arith) others in
-    let curve = InField-cons c.level (c.slope ∷ c.bend ∷ []) (residue _)
-    (InField-cons c.slope (c.bend ∷ []) (residue _) (InField-cons c.bend [] (residue _) InField-none)) in
-    let ratios = InField-each_below (passing o b d words) (λ i. residue _) 16 in
+    let curve = InField-cons c.level (c.slope ∷ c.bend ∷ []) (residue_below _)
+    (InField-cons c.slope (c.bend ∷ []) (residue_below _) (InField-cons c.bend [] (residue_below _) InField-none)) in
+    let ratios = InField-each_below (passing o b d words) (λ i. residue_below _) 16 in
     let last = InField-append (point_values b c.bend words) (point_values d c.bend words) (point_in_field b c.bend words small)
     (point_in_field d c.bend words small) in
     let points : List ℕ = point_values b c.bend words ++ point_values d c.bend words in
@@ -576,9 +569,6 @@ less_source source w is below =
     same_values 0 0 (normal (less (wire w) source)) (scaled (P - 1) source ++ wire w) (IsNormalFrom-normal (less (wire w) source)) ordered
     (λ z. value-normal z (less (wire w) source) ∙ value-append (wire w) (scaled (P - 1) source) z
     ∙ commuted (value (wire w) z) (value (scaled (P - 1) source) z) ∙ sym (value-append (scaled (P - 1) source) (wire w) z))
-
-length-negated : (source : Combination) (w : ℕ) → length (scaled (P - 1) source ++ wire w) ≡ length source + 1
-length-negated source w = length-append (scaled (P - 1) source) (wire w) ∙ ap (λ k. k + 1) (length-map source (λ t. ((P - 1) * t.0 % P, t.1)))
 
 pub triple_terms : (stores target source named : Combination) (regs : List ℕ) (next : ℕ) → IsNormal source → top source ≤ next
     → terms_in (triple_of stores target source named regs next).list ≡ length stores + length target + 2 * length source + 5 * length named + 178

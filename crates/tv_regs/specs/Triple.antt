@@ -3,13 +3,10 @@
 -- goes through the three registers' words at their numbers; each register times nothing is on it there.
 use Rattle.std.specs.Prelude.{◌≡◌, ℕ, ◌+◌, ◌-◌, ◌*◌, ◌%◌, ◌<◌, ◌≤◌, ◌==◌, if◌then◌else◌, List, [], ◌∷◌, ◌++◌, length, slice_index}
 use Rattle.tv_bits.specs.Bit.{IsBit}
-use Rattle.tv_bits.specs.Bits.{bits_combination}
-use Rattle.tv_bits.specs.Number.{number_of}
 use Rattle.tv_bits.specs.Pairs.{negative}
 use Rattle.tv_bits.specs.Ratio.{ratio, ratio_of}
 use Rattle.tv_bits.specs.Select.{selected, pick_of}
 use Rattle.tv_bits.specs.Times.{times_of, kept_of}
-use Rattle.tv_bits.specs.declared.bit_wires.Bits.{Bits}
 use Rattle.tv_core.specs.Below.{each_below}
 use Rattle.tv_core.specs.Circuits.{Circuit, fresh, put, pure, ◌>>=◌}
 use Rattle.tv_core.specs.Combinations.{wire, top}

@@ -2,8 +2,8 @@
 //!
 //! Sixteen constraints say that each register is the curve's value plus a multiple of the product
 //! of three differences, which is 0 at the numbers of the three registers; so the curve passes
-//! through their words, and three times two constraints evaluate it. These are 26 constraints, where
-//! three trees of choices take 45. Where numbers are equal the words are, and the divided
+//! through their words, and three times two constraints evaluate it. These are 26 constraints,
+//! where three trees of choices take 45. Where numbers are equal the words are, and the divided
 //! differences of the curve are 0, so one formula assigns its values.
 ghost use Rattle.std.specs.Prelude.{◌≡◌, ◌+◌, ◌*◌, ◌%◌, ◌≤◌, ◌<◌, ◌^◌, false, IfOk};
 ghost use Rattle.std.specs.Prelude.{OnOk};

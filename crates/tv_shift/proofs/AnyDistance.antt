@@ -1,7 +1,6 @@
 -- Shifts by any distance, by a word that is 0 where the distance reaches the width.
 use Rattle.std.proofs.Common.{◌≡◌, ℕ, ◌*◌, ◌/◌, ◌%◌, ◌^◌, ◌<◌, ◌≤◌, if◌then◌else◌, inl, inr, sym, ◌∙◌, ap, ap₂, arith}
 use Rattle.std.proofs.Common.{mod-eq_of_lt, zero-mul, one-mul}
-use Rattle.std.specs.Prelude.{nat_lt}
 use Rattle.std.proofs.Math.Nat.{zero-mod, zero-div}
 use Rattle.std.proofs.lemmas.Bool.{cases_lt, lt-ltb, le-ltb}
 use Rattle.std.proofs.lemmas.Bool.Decides.{nat_tests}

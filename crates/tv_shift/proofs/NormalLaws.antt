@@ -1,7 +1,6 @@
 -- The power of a distance, and the shifts on a row, put normal combinations.
-use Rattle.std.proofs.Common.{ℕ, ◌+◌, ◌-◌, ◌*◌, ◌%◌, ◌^◌, ◌<◌, ◌≤◌, [], ◌∷◌, arith}
-use Rattle.tv_bits.proofs.NormalLaws.{wire_normal, row_number_normal}
-use Rattle.tv_bits.specs.DoubleRow.{row_number}
+use Rattle.std.proofs.Common.{ℕ, ◌+◌, ◌<◌, ◌≤◌, arith}
+use Rattle.tv_bits.proofs.NormalLaws.{wire_normal, power_some, row_number_normal}
 use Rattle.tv_bits.specs.Gate.{gated_of}
 use Rattle.tv_bits.specs.Times.{times_of}
 use Rattle.tv_bits.specs.declared.bit_wires.Bits.{Bits}
@@ -9,7 +8,7 @@ use Rattle.tv_bits.specs.declared.double_rows.DoubleRow.{DoubleRow}
 use Rattle.tv_core.specs.Circuits.{fresh, put, pure, ◌>>=◌}
 use Rattle.tv_core.specs.Combinations.{wire, less}
 use Rattle.tv_core.specs.Constraints.{Combination}
-use Rattle.tv_core.specs.Normal.{IsNormal, IsNormalConstraint, AreNormal}
+use Rattle.tv_core.specs.Normal.{IsNormal, AreNormal}
 use Rattle.tv_core.specs.declared.field.TheConstants.{P}
 use Rattle.tv_shift.specs.Power.{factor_by, pair_power, low_power_of, wide_power_of, shift_power_of}
 use Rattle.tv_shift.specs.RowShift.{raised, right_shift_of}
@@ -76,16 +75,13 @@ pub shift_power_normal : (w : ℕ) → IsWidth w → (y : Bits) (next : ℕ) →
 shift_power_normal = for_widths power_at power_16 power_32
 
 -- ---- the row
-raise_some : (w : ℕ) → IsWidth w → 0 < 2 ^ w % P
-raise_some w width = grind arith
-
 pub right_shift_normal : (w : ℕ) → IsWidth w → (gate : Combination) (v power : ℕ) (row : DoubleRow) (next : ℕ) → IsNormal gate
     → row.low < row.high → v < next → AreNormal (right_shift_of w gate v power row next).list
 unfolding right_shift_of gated_of times_of fresh put pure ◌>>=◌
 right_shift_normal w width gate v power row next g rises before =
     let difference : IsNormal (less (raised w v) (wire next)) = (
       omega arith,
-      raise_some w width,
+      power_some w width,
       omega arith,
       (omega arith, omega arith, omega arith, tt),
     ) in (

@@ -4,7 +4,7 @@ use Rattle.std.proofs.Math.Nat.{pow-le-pow_right, div-div-eq-div-mul, mul-div_ca
 use Rattle.std.proofs.lemmas.Nat.{mul-le, pow-add}
 use Rattle.tv_bits.proofs.RowNumbers.{row_below, row_is, row_low, row_high, row_of, row_whole}
 use Rattle.tv_bits.specs.DoubleRow.{IsRow, whole}
-use Rattle.tv_core.proofs.BelowLaws.{below-power}
+use Rattle.std.proofs.lemmas.Nat.{pow_pos}
 use Rattle.tv_core.proofs.PrimeLaws.{p_cancels}
 use Rattle.tv_core.specs.declared.field.TheConstants.{P}
 use Rattle.tv_shift.specs.RowShift.{right_low, right_high}
@@ -13,9 +13,6 @@ use Rattle.tv_word.specs.Widths.{IsWidth}
 -- 2 ^ w is the power times that of what is left
 power_parts : (w m : ℕ) → m < w → 2 ^ w ≡ 2 ^ (w - m) * 2 ^ m
 power_parts w m h = let same : w - m + m ≡ w = omega arith in ap (λ n. 2 ^ n) (sym same) ∙ pow-add 2 (w - m) m
-
-power_some : (m : ℕ) → 1 ≤ 2 ^ m
-power_some m = omega (arith, below-power m)
 
 module _ (w : ℕ) (width : IsWidth w) (v m : ℕ) (word : v < 2 ^ w) (less : m < w) where
   power_most : 2 ^ m ≤ 2 ^ (w - 1)
@@ -27,7 +24,7 @@ module _ (w : ℕ) (width : IsWidth w) (v m : ℕ) (word : v < 2 ^ w) (less : m 
   moved_back : v * 2 ^ (w - m) / 2 ^ w ≡ right_high v m
   moved_back =
       ap (λ n. v * 2 ^ (w - m) / n) (power_parts w m less) ∙ sym (div-div-eq-div-mul (v * 2 ^ (w - m)) (2 ^ (w - m)) (2 ^ m))
-      ∙ ap (λ n. n / 2 ^ m) (mul-div_cancel v (let some = power_some (w - m) in omega arith))
+      ∙ ap (λ n. n / 2 ^ m) (mul-div_cancel v (let some = pow_pos (w - m) in omega arith))
 
   right_most : v * 2 ^ (w - m) ≤ 2 ^ w * (2 ^ w - 1)
   right_most =
@@ -47,7 +44,7 @@ module _ (w : ℕ) (width : IsWidth w) (v m : ℕ) (word : v < 2 ^ w) (less : m 
   -- the power cancels
   pub right_number : (low high : ℕ) → IsRow w low high → whole w low high * 2 ^ m % P ≡ 2 ^ w * v % P → whole w low high ≡ v * 2 ^ (w - m)
   right_number low high r e =
-      let some = power_some m in
+      let some = pow_pos m in
       let most = power_most in
       let small : v * 2 ^ (w - m) < P = (let most = right_most in grind arith) in
       let apart : 2 ^ m % P ≢ 0 = λ none. grind arith in

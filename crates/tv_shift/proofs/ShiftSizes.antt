@@ -16,7 +16,7 @@ use Rattle.tv_core.proofs.BelowLaws.{length-each_below}
 use Rattle.tv_core.specs.Circuits.{Made, pure, ◌>>=◌}
 use Rattle.tv_core.specs.Laws.{Fills, InField}
 use Rattle.tv_core.specs.declared.field.TheConstants.{P}
-use Rattle.tv_core.proofs.FieldLaws.{InField-none, InField-cons, InField-append, InField-each_below}
+use Rattle.tv_core.proofs.FieldLaws.{InField-none, InField-cons, InField-append, InField-each_below, word-below}
 use Rattle.tv_shift.proofs.HalfLaws.{halves_next}
 use Rattle.tv_shift.proofs.LevelValues.{values-none, values-more, length-values}
 use Rattle.tv_shift.proofs.MaskLaws.{masked_next}
@@ -33,7 +33,6 @@ use Rattle.tv_shift.specs.declared.masks.Part.{Part}
 use Rattle.tv_shift.specs.declared.masks.Part.TheVariants.{Low, High}
 use Rattle.tv_shift.specs.declared.masks.Parts.{Parts}
 use Rattle.tv_word.specs.Widths.{IsWidth}
-use Rattle.tv_word.proofs.WidthLaws.{word_small}
 
 -- ---- where the circuits end
 pub places_next : (w : ℕ) → IsWidth w → (x y next : ℕ) → (places_of w x y next).next ≡ next + places_made w
@@ -170,9 +169,6 @@ parts-below w width v d =
     (w / 4)))
 
 -- a word, and what is left of one
-pub word-below : (w : ℕ) → IsWidth w → (n : ℕ) → n < 2 ^ w → n < P
-word-below w width n h = let small = word_small w width n h in omega arith
-
 left-in_field : (w : ℕ) → IsWidth w → (x y : ℕ) → shifted_left w x y < P
 left-in_field w width x y = word-below w width _ (mod-lt (x * 2 ^ y) (pow_pos w))
 

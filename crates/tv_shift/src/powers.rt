@@ -1,6 +1,6 @@
 //! Two to the power of a distance, by which a word is multiplied or divided in a shift.
 ghost use Rattle.std.specs.Prelude.{◌≡◌, ◌+◌, ◌*◌, ◌/◌, ◌%◌, ◌^◌, ◌≤◌, ◌<◌, false, IfOk, OnOk};
-ghost use Rattle.std.specs.Prelude.{[], ◌∷◌, max};
+ghost use Rattle.std.specs.Prelude.{max};
 ghost use Rattle.tv_bits.specs.Times.{times_of};
 ghost use Rattle.tv_core.specs.Combinations.{top, wire};
 ghost use Rattle.tv_core.specs.Values.{GivesIn};

@@ -4,7 +4,8 @@ ghost use Rattle.std.specs.Prelude.{false, IfOk, OnOk};
 ghost use Rattle.tv_core.specs.Combinations.{top};
 ghost use Rattle.tv_core.specs.Values.{GivesIn};
 ghost use Rattle.tv_core.specs.Sinks.{PutsIn, Grows, Room};
-ghost use Rattle.tv_shift.specs.Thermometer.{products_below, both, mark, bit_level_of, thermometer_of};
+ghost use Rattle.tv_shift.specs.Thermometer.{products_below, both, mark, bit_level_of};
+ghost use Rattle.tv_shift.specs.Thermometer.{thermometer_of};
 ghost use Rattle.tv_shift.specs.Thermometer.{level_value, level_values, thermometer_values};
 ghost use Rattle.tv_shift.specs.Thermometer.{power_of};
 

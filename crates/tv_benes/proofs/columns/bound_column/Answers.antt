@@ -1,4 +1,4 @@
-use Rattle.std.proofs.Common.{◌≡◌, ℕ, ◌+◌, ◌*◌, ◌<◌, arith}
+use Rattle.std.proofs.Common.{◌≡◌, ℕ, ◌+◌, ◌*◌, arith}
 use Rattle.tv_core.proofs.Chain.{puts_no_turn, puts_turn, turn_refused, refused}
 use Rattle.tv_core.specs.Circuits.{Circuit}
 use Rattle.tv_benes.specs.Network.{switch_of, column_of}

@@ -1,4 +1,4 @@
-use Rattle.tv_core.proofs.Chain.{refused, puts_then, puts_then_refused, refused_then, puts_nothing}
+use Rattle.tv_core.proofs.Chain.{refused, all_then, all_pure, some_then, some_first}
 use Rattle.tv_core.proofs.Unique.{normal-front}
 use Rattle.tv_benes.specs.Network.{remainder_of}
 use Rattle.tv_benes.proofs.columns.remainder.Goals as goal
@@ -15,7 +15,7 @@ returns-in_err-put-clause-puts g c =
       c.set_wire-2.ensures.terms,
     ) at c.in_err-put.ensures.puts in
     let put = rw (normal-front c.args.x.now c.args.y.now) at filled in
-    refused _ _ _ _ _ c.from_residual.ensures.1 (puts_then_refused _ _ _ _ _ _ _ _ c.fresh-q.ensures.puts (refused_then _ _ _ _ _ _ put))
+    refused _ _ _ _ _ c.from_residual.ensures.1 (some_then _ c.fresh-q.ensures.puts (some_first _ put))
 
 pub returns-clause-puts : goal.returns-clause-puts
 unfolding remainder_of
@@ -29,4 +29,4 @@ returns-clause-puts g c =
       c.set_wire-2.ensures.terms,
     ) at c.in_ok-put.ensures.puts in
     let put = rw (normal-front c.args.x.now c.args.y.now) at filled in
-    puts_then _ _ _ _ _ _ _ _ c.fresh-q.ensures.puts (puts_then _ _ _ _ _ _ _ _ put (puts_nothing _ _ _))
+    all_then _ c.fresh-q.ensures.puts (all_then _ put all_pure)

@@ -1,4 +1,4 @@
-use Rattle.std.proofs.Common.{◌≡◌, ◌-◌, ◌++◌, ap, arith, length}
+use Rattle.std.proofs.Common.{◌-◌, ap, arith, length}
 use Rattle.tv_core.proofs.Unique.{normal-front}
 use Rattle.tv_core.specs.Combinations.{scaled}
 use Rattle.tv_core.specs.declared.field.TheConstants.{P}

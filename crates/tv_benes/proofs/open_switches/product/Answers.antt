@@ -1,4 +1,4 @@
-use Rattle.tv_core.proofs.Chain.{refused, puts_then, puts_then_refused, refused_then, puts_nothing}
+use Rattle.tv_core.proofs.Chain.{refused, all_then, all_pure, some_then, some_first}
 use Rattle.tv_bits.specs.Select.{pick_of}
 use Rattle.tv_benes.proofs.open_switches.product.Goals as goal
 
@@ -12,7 +12,7 @@ returns-in_err-put-clause-puts g c =
       c.neg.ensures,
       c.set_wire-3.ensures.terms,
     ) at c.in_err-put.ensures.puts in
-    refused _ _ _ _ _ c.from_residual.ensures.1 (puts_then_refused _ _ _ _ _ _ _ _ c.fresh-m.ensures.puts (refused_then _ _ _ _ _ _ held))
+    refused _ _ _ _ _ c.from_residual.ensures.1 (some_then _ c.fresh-m.ensures.puts (some_first _ held))
 
 pub returns-clause-puts : goal.returns-clause-puts
 unfolding pick_of
@@ -24,4 +24,4 @@ returns-clause-puts g c =
       c.neg.ensures,
       c.set_wire-3.ensures.terms,
     ) at c.in_ok-put.ensures.puts in
-    puts_then _ _ _ _ _ _ _ _ c.fresh-m.ensures.puts (puts_then _ _ _ _ _ _ _ _ held (puts_nothing _ _ _))
+    all_then _ c.fresh-m.ensures.puts (all_then _ held all_pure)

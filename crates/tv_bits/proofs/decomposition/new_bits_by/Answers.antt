@@ -1,5 +1,5 @@
 use Rattle.std.proofs.Common.{◌≡◌, arith}
-use Rattle.tv_core.proofs.Chain.{chain, puts_no_turn, puts_turn, turn_refused, refused}
+use Rattle.tv_core.proofs.Chain.{puts_no_turn, puts_turn, turn_refused, refused, all_then, all_pure, some_then, some_first}
 use Rattle.tv_core.proofs.LoopLaws.{puts_here_as}
 use Rattle.tv_bits.specs.Bits.{new_bit, new_bits_of}
 use Rattle.tv_bits.proofs.decomposition.new_bits_by.Goals as goal
@@ -16,7 +16,7 @@ loop-turn-preserved g c =
     let grown = c.in_ok-bit_by.ensures.grows in
     record {
       puts = puts_turn g.S.Sink.meaning _ (λ _ _. new_bit) tt _ _ _ _ _ c.loop-turn.invariant.puts
-          (search (chain, c.fresh-w.ensures.puts, c.in_ok-bit_by.ensures.puts));
+          (all_then _ c.fresh-w.ensures.puts c.in_ok-bit_by.ensures.puts);
       grows = record { wires = omega (arith, grown.wires); constraints = omega (arith, grown.constraints); whole = grown.whole };
     }
 
@@ -26,9 +26,9 @@ returns-in_err-bit_by-clause-puts g c =
     let m = g.S.Sink.meaning in
     let turn = turn_refused m c.args.n c.loop-turn._turn
     (λ _ _. new_bit) tt tt c.args.s.now c.loop-turn.s c.bit_by.new.s c.in_err-bit_by.field-0.0 c.loop-turn-test.true c.loop-turn.invariant.puts
-    (search (chain, c.fresh-w.ensures.puts, c.in_err-bit_by.ensures.puts)) in
+    (some_then _ c.fresh-w.ensures.puts c.in_err-bit_by.ensures.puts) in
     let first = puts_here_as m c.args.s.now c.wires.result c.wires.ensures in
-    refused m _ _ _ c.from_residual.result c.from_residual.ensures.1 (search (chain, first, turn))
+    refused _ _ _ _ _ c.from_residual.ensures.1 (some_then _ first (some_first _ turn))
 
 pub returns-clause-puts : goal.returns-clause-puts
 unfolding new_bits_of
@@ -36,4 +36,4 @@ returns-clause-puts g c =
     let all : c.loop-turn._turn ≡ c.args.n = omega arith in
     let first = puts_here_as g.S.Sink.meaning c.args.s.now c.wires.result c.wires.ensures in
     let turns = rw all at c.loop-turn.invariant.puts in
-    search (chain, first, turns)
+    all_then _ first (all_then _ turns all_pure)

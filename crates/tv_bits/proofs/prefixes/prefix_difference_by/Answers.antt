@@ -35,7 +35,7 @@ returns-in_err-w-clause-puts g c =
     let m = g.S.Sink.meaning in
     let factor : ℕ → Combination = λ j. prefix_less c.args.x.now c.args.y.now c.args.d.now (c.args.chunk * j) in
     let product = rw c.set_prefix_less-in-loop-i.ensures.terms at c.in_err-w.ensures.puts in
-    refused m _ _ _ c.from_residual.result c.from_residual.ensures.1
+    refused _ _ _ _ _ c.from_residual.ensures.1
     (product_refused m factor c.args.count c.loop-i.i _ _ _ _ _ (omega arith) c.loop-i.invariant.puts product)
 
 pub returns-clause-puts : goal.returns-clause-puts

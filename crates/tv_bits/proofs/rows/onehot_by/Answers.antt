@@ -1,5 +1,5 @@
 use Rattle.std.proofs.Common.{◌≡◌, ℕ, ◌^◌, ◌<◌, arith}
-use Rattle.tv_core.proofs.Chain.{puts_no_turn, puts_turn, turn_refused, refused, puts_then, puts_then_refused, refused_then, puts_nothing}
+use Rattle.tv_core.proofs.Chain.{puts_no_turn, puts_turn, turn_refused, refused, all_then, all_pure, some_then, some_first}
 use Rattle.tv_core.proofs.LoopLaws.{puts_here_as}
 use Rattle.tv_core.specs.Circuits.{Circuit}
 use Rattle.tv_bits.specs.Bits.{bits_combination}
@@ -31,7 +31,7 @@ returns-in_err-mark-clause-puts g c =
     let turn = turn_refused m
     (2 ^ c.args.x.now.n) c.loop-i.i piece tt tt c.args.s.now c.loop-i.s c.mark.new.s c.in_err-mark.field-0.0 within c.loop-i.invariant.puts
     c.in_err-mark.ensures.puts in
-    refused _ _ _ _ _ c.from_residual.ensures.1 (puts_then_refused _ _ _ _ _ _ _ _ first (refused_then _ _ _ _ _ _ turn))
+    refused _ _ _ _ _ c.from_residual.ensures.1 (some_then _ first (some_first _ turn))
 
 pub returns-in_err-put-clause-puts : goal.returns-in_err-put-clause-puts
 unfolding onehot_of
@@ -41,8 +41,7 @@ returns-in_err-put-clause-puts g c =
     let first = puts_here_as m c.args.s.now c.wires.result c.wires.ensures in
     let turns = rw all at c.loop-i.invariant.puts in
     let sum = rw (c.plus_row.ensures.terms, c.clear.ensures, c.row_len-count.ensures, c.set_wire.ensures.terms) at c.in_err-put.ensures.puts in
-    refused _ _ _ _ _ c.from_residual-in_err-put.ensures.1 (puts_then_refused _ _ _ _ _ _ _ _ first (puts_then_refused _ _ _ _ _ _ _ _ turns
-    (refused_then _ _ _ _ _ _ sum)))
+    refused _ _ _ _ _ c.from_residual-in_err-put.ensures.1 (some_then _ first (some_then _ turns (some_first _ sum)))
 
 pub returns-clause-puts : goal.returns-clause-puts
 unfolding onehot_of
@@ -51,4 +50,4 @@ returns-clause-puts g c =
     let first = puts_here_as g.S.Sink.meaning c.args.s.now c.wires.result c.wires.ensures in
     let turns = rw all at c.loop-i.invariant.puts in
     let sum = rw (c.plus_row.ensures.terms, c.clear.ensures, c.row_len-count.ensures, c.set_wire.ensures.terms) at c.in_ok-put.ensures.puts in
-    puts_then _ _ _ _ _ _ _ _ first (puts_then _ _ _ _ _ _ _ _ turns (puts_then _ _ _ _ _ _ _ _ sum (puts_nothing _ _ _)))
+    all_then _ first (all_then _ turns (all_then _ sum all_pure))

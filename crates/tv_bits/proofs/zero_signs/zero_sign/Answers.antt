@@ -1,4 +1,4 @@
-use Rattle.tv_core.proofs.Chain.{chain, refused}
+use Rattle.tv_core.proofs.Chain.{refused, some_then, some_first}
 use Rattle.tv_core.proofs.TailCalls.{puts_in_then}
 use Rattle.tv_bits.specs.ZeroSign.{zero_sign_of}
 use Rattle.tv_bits.proofs.zero_signs.zero_sign.Goals as goal
@@ -8,7 +8,7 @@ unfolding zero_sign_of
 returns-in_err-put-clause-puts g c =
     let terms = rw (c.plus_terms.ensures.terms, c.clear.ensures, c.neg.ensures) at c.plus.ensures.terms in
     let first = rw (c.set_wire.ensures.terms, c.set_wire-2.ensures.terms, terms) at c.in_err-put.ensures.puts in
-    refused g.S.Sink.meaning _ _ _ c.from_residual.result c.from_residual.ensures.1 (search (chain, c.fresh-hint.ensures.puts, first))
+    refused _ _ _ _ _ c.from_residual.ensures.1 (some_then _ c.fresh-hint.ensures.puts (some_first _ first))
 
 pub returns-clause-puts : goal.returns-clause-puts
 unfolding zero_sign_of

@@ -1,4 +1,4 @@
-use Rattle.tv_core.proofs.Chain.{refused, puts_then, puts_then_refused, refused_then, puts_nothing}
+use Rattle.tv_core.proofs.Chain.{refused, all_then, all_pure, some_then, some_first}
 use Rattle.tv_bits.specs.Zero.{zero_of}
 use Rattle.tv_bits.proofs.zeros.zero_by.Goals as goal
 
@@ -7,20 +7,18 @@ unfolding zero_of
 returns-clause-puts g c =
     let first = rw (c.set_wire.ensures.terms, c.set_difference.ensures.terms) at c.in_ok-put.ensures.puts in
     let second = rw (c.set_wire-2.ensures.terms, c.clear.ensures) at c.in_ok-put-2.ensures.puts in
-    puts_then _ _ _ _ _ _ _ _ c.fresh-flag.ensures.puts (puts_then _ _ _ _ _ _ _ _ c.fresh-hint.ensures.puts (puts_then _ _ _ _ _ _ _ _ first
-    (puts_then _ _ _ _ _ _ _ _ second (puts_nothing _ _ _))))
+    all_then _ c.fresh-flag.ensures.puts (all_then _ c.fresh-hint.ensures.puts (all_then _ first (all_then _ second all_pure)))
 
 pub returns-in_err-put-clause-puts : goal.returns-in_err-put-clause-puts
 unfolding zero_of
 returns-in_err-put-clause-puts g c =
     let first = rw (c.set_wire.ensures.terms, c.set_difference.ensures.terms) at c.in_err-put.ensures.puts in
-    refused _ _ _ _ _ c.from_residual.ensures.1 (puts_then_refused _ _ _ _ _ _ _ _ c.fresh-flag.ensures.puts
-    (puts_then_refused _ _ _ _ _ _ _ _ c.fresh-hint.ensures.puts (refused_then _ _ _ _ _ _ first)))
+    refused _ _ _ _ _ c.from_residual.ensures.1 (some_then _ c.fresh-flag.ensures.puts (some_then _ c.fresh-hint.ensures.puts (some_first _ first)))
 
 pub returns-in_err-put-2-clause-puts : goal.returns-in_err-put-2-clause-puts
 unfolding zero_of
 returns-in_err-put-2-clause-puts g c =
     let first = rw (c.set_wire.ensures.terms, c.set_difference.ensures.terms) at c.in_ok-put.ensures.puts in
     let second = rw (c.set_wire-2.ensures.terms, c.clear.ensures) at c.in_err-put-2.ensures.puts in
-    refused _ _ _ _ _ c.from_residual-in_err-put-2.ensures.1 (puts_then_refused _ _ _ _ _ _ _ _ c.fresh-flag.ensures.puts
-    (puts_then_refused _ _ _ _ _ _ _ _ c.fresh-hint.ensures.puts (puts_then_refused _ _ _ _ _ _ _ _ first (refused_then _ _ _ _ _ _ second))))
+    refused _ _ _ _ _ c.from_residual-in_err-put-2.ensures.1 (some_then _ c.fresh-flag.ensures.puts (some_then _ c.fresh-hint.ensures.puts (some_then _ first
+    (some_first _ second))))

@@ -1,4 +1,4 @@
-use Rattle.tv_core.proofs.Chain.{chain, refused}
+use Rattle.tv_core.proofs.Chain.{refused, all_then, all_pure, some_then, some_first}
 use Rattle.tv_cmp.specs.Compare.{greater_of}
 use Rattle.tv_cmp.proofs.comparison.greater.Goals as goal
 
@@ -12,7 +12,7 @@ returns-in_err-put-clause-puts g c =
       c.set_wire.ensures.terms,
       c.set_wire-2.ensures.terms,
     ) at c.in_err-put.ensures.puts in
-    refused g.S.Sink.meaning _ _ _ c.from_residual.result c.from_residual.ensures.1 (search (chain, c.fresh-greater.ensures.puts, signs))
+    refused _ _ _ _ _ c.from_residual.ensures.1 (some_then _ c.fresh-greater.ensures.puts (some_first _ signs))
 
 pub returns-clause-puts : goal.returns-clause-puts
 unfolding greater_of
@@ -24,4 +24,4 @@ returns-clause-puts g c =
       c.set_wire.ensures.terms,
       c.set_wire-2.ensures.terms,
     ) at c.in_ok-put.ensures.puts in
-    search (chain, c.fresh-greater.ensures.puts, signs)
+    all_then _ c.fresh-greater.ensures.puts (all_then _ signs all_pure)

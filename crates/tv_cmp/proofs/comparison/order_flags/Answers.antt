@@ -1,4 +1,4 @@
-use Rattle.tv_core.proofs.Chain.{chain, refused}
+use Rattle.tv_core.proofs.Chain.{refused, some_then, some_first}
 use Rattle.tv_core.proofs.TailCalls.{puts_in_then}
 use Rattle.tv_cmp.specs.Compare.{order_flags_of}
 use Rattle.tv_cmp.proofs.comparison.order_flags.Goals as goal
@@ -6,7 +6,7 @@ use Rattle.tv_cmp.proofs.comparison.order_flags.Goals as goal
 pub returns-in_err-bit_by-clause-puts : goal.returns-in_err-bit_by-clause-puts
 unfolding order_flags_of
 returns-in_err-bit_by-clause-puts g c =
-    refused g.S.Sink.meaning _ _ _ c.from_residual.result c.from_residual.ensures.1 (search (chain, c.in_err-bit_by.ensures.puts))
+    refused _ _ _ _ _ c.from_residual.ensures.1 (some_first _ c.in_err-bit_by.ensures.puts)
 
 pub returns-in_err-put-clause-puts : goal.returns-in_err-put-clause-puts
 unfolding order_flags_of
@@ -20,7 +20,7 @@ returns-in_err-put-clause-puts g c =
       c.requires.x_word.size,
       c.requires.y_word.size,
     ) at c.in_err-put.ensures.puts in
-    refused g.S.Sink.meaning _ _ _ c.from_residual-in_err-put.result c.from_residual-in_err-put.ensures.1 (search (chain, c.in_ok-bit_by.ensures.puts, same))
+    refused _ _ _ _ _ c.from_residual-in_err-put.ensures.1 (some_then _ c.in_ok-bit_by.ensures.puts (some_first _ same))
 
 pub returns-clause-puts : goal.returns-clause-puts
 unfolding order_flags_of

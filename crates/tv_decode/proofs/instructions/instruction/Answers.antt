@@ -1,5 +1,5 @@
 use Rattle.std.proofs.Common.{◌∙◌}
-use Rattle.tv_core.proofs.Chain.{chain, refused}
+use Rattle.tv_core.proofs.Chain.{refused, all_then, all_pure, some_then, some_first}
 use Rattle.tv_decode.proofs.InstructionLaws.{instruction_answer}
 use Rattle.tv_decode.specs.Instructions.{instruction_of}
 use Rattle.tv_decode.proofs.instructions.instruction.Goals as goal
@@ -8,14 +8,14 @@ pub returns-in_err-low-clause-puts : goal.returns-in_err-low-clause-puts
 unfolding instruction_of
 returns-in_err-low-clause-puts g c =
     let low = c.in_err-low.ensures.puts in
-    refused g.S.Sink.meaning _ _ _ c.from_residual.result c.from_residual.ensures.1 (search (chain, low) depth 4)
+    refused _ _ _ _ _ c.from_residual.ensures.1 (some_first _ low)
 
 pub returns-in_err-row-clause-puts : goal.returns-in_err-row-clause-puts
 unfolding instruction_of
 returns-in_err-row-clause-puts g c =
     let low = c.in_ok-low.ensures.puts in
     let row = c.in_err-row.ensures.puts in
-    refused g.S.Sink.meaning _ _ _ c.from_residual-in_err-row.result c.from_residual-in_err-row.ensures.1 (search (chain, low, row) depth 5)
+    refused _ _ _ _ _ c.from_residual-in_err-row.ensures.1 (some_then _ low (some_first _ row))
 
 pub returns-in_err-second-clause-puts : goal.returns-in_err-second-clause-puts
 unfolding instruction_of
@@ -23,7 +23,7 @@ returns-in_err-second-clause-puts g c =
     let low = c.in_ok-low.ensures.puts in
     let row = c.in_ok-row.ensures.puts in
     let second = c.in_err-second.ensures.puts in
-    refused g.S.Sink.meaning _ _ _ c.from_residual-in_err-second.result c.from_residual-in_err-second.ensures.1 (search (chain, low, row, second) depth 6)
+    refused _ _ _ _ _ c.from_residual-in_err-second.ensures.1 (some_then _ low (some_then _ row (some_first _ second)))
 
 pub returns-in_err-one_opcode-clause-puts : goal.returns-in_err-one_opcode-clause-puts
 unfolding instruction_of
@@ -32,8 +32,7 @@ returns-in_err-one_opcode-clause-puts g c =
     let row = c.in_ok-row.ensures.puts in
     let second = c.in_ok-second.ensures.puts in
     let one_opcode = c.in_err-one_opcode.ensures.puts in
-    refused g.S.Sink.meaning _ _ _ c.from_residual-in_err-one_opcode.result c.from_residual-in_err-one_opcode.ensures.1
-    (search (chain, low, row, second, one_opcode) depth 7)
+    refused _ _ _ _ _ c.from_residual-in_err-one_opcode.ensures.1 (some_then _ low (some_then _ row (some_then _ second (some_first _ one_opcode))))
 
 pub returns-in_err-head-clause-puts : goal.returns-in_err-head-clause-puts
 unfolding instruction_of
@@ -43,8 +42,8 @@ returns-in_err-head-clause-puts g c =
     let second = c.in_ok-second.ensures.puts in
     let one_opcode = c.in_ok-one_opcode.ensures.puts in
     let head = rw (c.plus_opcodes.ensures.terms, c.set_number.ensures.terms, c.in_ok-low.ensures.size) at c.in_err-head.ensures.puts in
-    refused g.S.Sink.meaning _ _ _ c.from_residual-in_err-head.result c.from_residual-in_err-head.ensures.1
-    (search (chain, low, row, second, one_opcode, head) depth 8)
+    refused _ _ _ _ _ c.from_residual-in_err-head.ensures.1 (some_then _ low (some_then _ row (some_then _ second (some_then _ one_opcode
+    (some_first _ head)))))
 
 pub returns-in_err-tail-clause-puts : goal.returns-in_err-tail-clause-puts
 unfolding instruction_of
@@ -55,8 +54,8 @@ returns-in_err-tail-clause-puts g c =
     let one_opcode = c.in_ok-one_opcode.ensures.puts in
     let head = rw (c.plus_opcodes.ensures.terms, c.set_number.ensures.terms, c.in_ok-low.ensures.size) at c.in_ok-head.ensures.puts in
     let tail = rw (c.set_number-2.ensures.terms) at c.in_err-tail.ensures.puts in
-    refused g.S.Sink.meaning _ _ _ c.from_residual-in_err-tail.result c.from_residual-in_err-tail.ensures.1
-    (search (chain, low, row, second, one_opcode, head, tail) depth 9)
+    refused _ _ _ _ _ c.from_residual-in_err-tail.ensures.1 (some_then _ low (some_then _ row (some_then _ second (some_then _ one_opcode (some_then _ head
+    (some_first _ tail))))))
 
 pub returns-clause-puts : goal.returns-clause-puts
 unfolding instruction_of
@@ -67,7 +66,7 @@ returns-clause-puts g c =
     let one_opcode = c.in_ok-one_opcode.ensures.puts in
     let head = rw (c.plus_opcodes.ensures.terms, c.set_number.ensures.terms, c.in_ok-low.ensures.size) at c.in_ok-head.ensures.puts in
     let tail = rw (c.set_number-2.ensures.terms) at c.in_ok-tail.ensures.puts in
-    search (chain, low, row, second, one_opcode, head, tail) depth 10
+    all_then _ low (all_then _ row (all_then _ second (all_then _ one_opcode (all_then _ head (all_then _ tail all_pure)))))
 
 pub returns-clause-places : goal.returns-clause-places
 returns-clause-places g c = (returns-clause-puts g c).answers ∙ instruction_answer g.row.W _

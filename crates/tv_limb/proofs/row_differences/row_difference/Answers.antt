@@ -1,6 +1,6 @@
 use Rattle.tv_bits.specs.Gate.{gated_of}
 use Rattle.tv_bits.specs.Times.{times_of}
-use Rattle.tv_core.proofs.Chain.{chain, refused}
+use Rattle.tv_core.proofs.Chain.{refused, some_first}
 use Rattle.tv_core.proofs.TailCalls.{puts_in_then}
 use Rattle.tv_limb.specs.RowDifference.{sign_difference, minuend, subtrahend, row_difference_of}
 use Rattle.tv_limb.proofs.row_differences.row_difference.Goals as goal
@@ -8,7 +8,7 @@ use Rattle.tv_limb.proofs.row_differences.row_difference.Goals as goal
 pub returns-in_err-signs-clause-puts : goal.returns-in_err-signs-clause-puts
 unfolding row_difference_of
 returns-in_err-signs-clause-puts g c =
-    refused g.S.Sink.meaning _ _ _ c.from_residual.result c.from_residual.ensures.1 (search (chain, c.in_err-signs.ensures.puts))
+    refused _ _ _ _ _ c.from_residual.ensures.1 (some_first _ c.in_err-signs.ensures.puts)
 
 pub returns-clause-puts : goal.returns-clause-puts
 unfolding row_difference_of gated_of

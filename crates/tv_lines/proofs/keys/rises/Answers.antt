@@ -33,7 +33,7 @@ returns-in_err-w-clause-puts g c =
     let m = g.S.Sink.meaning in
     let factor : ℕ → Combination = λ j. less (prefix_less c.args.apart c.args.before.now c.args.after.now j) (wire c.args.size) in
     let product = rw c.set_key_factor-in-loop-i.ensures.terms at c.in_err-w.ensures.puts in
-    refused m _ _ _ c.from_residual.result c.from_residual.ensures.1
+    refused _ _ _ _ _ c.from_residual.ensures.1
     (product_refused m factor 5 c.loop-i.i _ _ _ _ _ (omega arith) c.loop-i.invariant.puts product)
 
 pub returns-clause-puts : goal.returns-clause-puts

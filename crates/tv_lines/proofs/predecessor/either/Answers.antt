@@ -1,4 +1,4 @@
-use Rattle.tv_core.proofs.Chain.{chain, refused}
+use Rattle.tv_core.proofs.Chain.{refused, some_first}
 use Rattle.tv_core.proofs.TailCalls.{puts_in_then}
 use Rattle.tv_lines.specs.Predecessor.{either_of}
 use Rattle.tv_lines.proofs.predecessor.either.Goals as goal
@@ -7,7 +7,7 @@ pub returns-in_err-put-clause-puts : goal.returns-in_err-put-clause-puts
 unfolding either_of
 returns-in_err-put-clause-puts g c =
     let cells = rw (c.set_either.ensures.a, c.set_either.ensures.b, c.set_either.ensures.c) at c.in_err-put.ensures.puts in
-    refused g.S.Sink.meaning _ _ _ c.from_residual.result c.from_residual.ensures.1 (search (chain, cells))
+    refused _ _ _ _ _ c.from_residual.ensures.1 (some_first _ cells)
 
 pub returns-clause-puts : goal.returns-clause-puts
 unfolding either_of

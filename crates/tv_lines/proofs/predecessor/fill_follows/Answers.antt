@@ -1,4 +1,4 @@
-use Rattle.std.proofs.Common.{◌≡◌, ◌%◌, ◌∙◌, ap, arith}
+use Rattle.std.proofs.Common.{◌≡◌, ◌∙◌, ap, arith}
 use Rattle.tv_core.proofs.ValuesChain.{gives_refused_then, gives_refused}
 use Rattle.tv_core.proofs.ValuesTails.{gives_in_then}
 use Rattle.tv_lines.specs.PackedLines.{unpacked}

@@ -1,4 +1,4 @@
-use Rattle.tv_core.proofs.Chain.{chain, refused}
+use Rattle.tv_core.proofs.Chain.{refused, some_then, some_first}
 use Rattle.tv_core.proofs.TailCalls.{puts_in_then}
 use Rattle.tv_lines.specs.Predecessor.{follows_of}
 use Rattle.tv_lines.proofs.predecessor.follows.Goals as goal
@@ -6,14 +6,13 @@ use Rattle.tv_lines.proofs.predecessor.follows.Goals as goal
 pub returns-in_err-reach-clause-puts : goal.returns-in_err-reach-clause-puts
 unfolding follows_of
 returns-in_err-reach-clause-puts g c =
-    refused g.S.Sink.meaning _ _ _ c.from_residual.result c.from_residual.ensures.1 (search (chain, c.in_err-reach.ensures.puts))
+    refused _ _ _ _ _ c.from_residual.ensures.1 (some_first _ c.in_err-reach.ensures.puts)
 
 pub returns-in_err-e-clause-puts : goal.returns-in_err-e-clause-puts
 unfolding follows_of
 returns-in_err-e-clause-puts g c =
     let kept = rw c.set_excess.ensures.terms at c.in_err-e.ensures.puts in
-    refused g.S.Sink.meaning _ _ _ c.from_residual-in_err-e.result c.from_residual-in_err-e.ensures.1
-    (search (chain, c.in_ok-reach.ensures.puts, kept))
+    refused _ _ _ _ _ c.from_residual-in_err-e.ensures.1 (some_then _ c.in_ok-reach.ensures.puts (some_first _ kept))
 
 pub returns-clause-puts : goal.returns-clause-puts
 unfolding follows_of

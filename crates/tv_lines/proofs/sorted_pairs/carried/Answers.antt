@@ -1,4 +1,4 @@
-use Rattle.tv_core.proofs.Chain.{chain, refused}
+use Rattle.tv_core.proofs.Chain.{refused, some_first}
 use Rattle.tv_core.proofs.TailCalls.{puts_in_then}
 use Rattle.tv_lines.specs.SortedPair.{carried_of}
 use Rattle.tv_lines.proofs.sorted_pairs.carried.Goals as goal
@@ -7,7 +7,7 @@ pub returns-in_err-same-clause-puts : goal.returns-in_err-same-clause-puts
 unfolding carried_of
 returns-in_err-same-clause-puts g c =
     let flag = rw c.set_wire.ensures.terms at c.in_err-same.ensures.puts in
-    refused g.S.Sink.meaning _ _ _ c.from_residual.result c.from_residual.ensures.1 (search (chain, flag))
+    refused _ _ _ _ _ c.from_residual.ensures.1 (some_first _ flag)
 
 pub returns-clause-puts : goal.returns-clause-puts
 unfolding carried_of

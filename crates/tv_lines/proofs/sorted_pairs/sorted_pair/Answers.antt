@@ -1,4 +1,4 @@
-use Rattle.tv_core.proofs.Chain.{chain, refused}
+use Rattle.tv_core.proofs.Chain.{refused, some_then, some_first}
 use Rattle.tv_core.proofs.TailCalls.{puts_in_then}
 use Rattle.tv_lines.specs.SortedPair.{sorted_pair_of}
 use Rattle.tv_lines.proofs.sorted_pairs.sorted_pair.Goals as goal
@@ -6,19 +6,18 @@ use Rattle.tv_lines.proofs.sorted_pairs.sorted_pair.Goals as goal
 pub returns-in_err-apart-clause-puts : goal.returns-in_err-apart-clause-puts
 unfolding sorted_pair_of
 returns-in_err-apart-clause-puts g c =
-    refused g.S.Sink.meaning _ _ _ c.from_residual.result c.from_residual.ensures.1 (search (chain, c.in_err-apart.ensures.puts))
+    refused _ _ _ _ _ c.from_residual.ensures.1 (some_first _ c.in_err-apart.ensures.puts)
 
 pub returns-in_err-carried-clause-puts : goal.returns-in_err-carried-clause-puts
 unfolding sorted_pair_of
 returns-in_err-carried-clause-puts g c =
-    refused g.S.Sink.meaning _ _ _ c.from_residual-in_err-carried.result c.from_residual-in_err-carried.ensures.1
-    (search (chain, c.in_ok-apart.ensures.puts, c.in_err-carried.ensures.puts))
+    refused _ _ _ _ _ c.from_residual-in_err-carried.ensures.1 (some_then _ c.in_ok-apart.ensures.puts (some_first _ c.in_err-carried.ensures.puts))
 
 pub returns-in_err-size-clause-puts : goal.returns-in_err-size-clause-puts
 unfolding sorted_pair_of
 returns-in_err-size-clause-puts g c =
-    refused g.S.Sink.meaning _ _ _ c.from_residual-in_err-size.result c.from_residual-in_err-size.ensures.1
-    (search (chain, c.in_ok-apart.ensures.puts, c.in_ok-carried.ensures.puts, c.in_err-size.ensures.puts))
+    refused _ _ _ _ _ c.from_residual-in_err-size.ensures.1 (some_then _ c.in_ok-apart.ensures.puts (some_then _ c.in_ok-carried.ensures.puts
+    (some_first _ c.in_err-size.ensures.puts)))
 
 pub returns-clause-puts : goal.returns-clause-puts
 unfolding sorted_pair_of

@@ -1,5 +1,5 @@
 use Rattle.std.proofs.Common.{◌≡◌, ℕ, ◌-◌, ◌/◌, ◌<◌, arith}
-use Rattle.tv_core.proofs.Chain.{chain, puts_no_turn, puts_turn, turn_refused, refused}
+use Rattle.tv_core.proofs.Chain.{puts_no_turn, puts_turn, turn_refused, refused, all_then, all_pure, some_then, some_first}
 use Rattle.tv_core.proofs.LoopLaws.{puts_here_as}
 use Rattle.tv_core.specs.Circuits.{Circuit}
 use Rattle.tv_logic.specs.Ands.{new_and_pair_of, and_of}
@@ -30,7 +30,7 @@ returns-in_err-new_pair-clause-puts g c =
     let turn = turn_refused m
     (g.row.W / 2 - 1) c.loop-i.i piece tt tt c.fresh-word.new.self c.loop-i.s c.new_pair.new.s c.in_err-new_pair.field-0.0 within c.loop-i.invariant.puts
     c.in_err-new_pair.ensures.puts in
-    refused m _ _ _ c.from_residual.result c.from_residual.ensures.1 (search (chain, c.fresh-word.ensures.puts, first, turn))
+    refused _ _ _ _ _ c.from_residual.ensures.1 (some_then _ c.fresh-word.ensures.puts (some_then _ first (some_first _ turn)))
 
 pub returns-in_err-pair-clause-puts : goal.returns-in_err-pair-clause-puts
 unfolding and_of
@@ -40,7 +40,7 @@ returns-in_err-pair-clause-puts g c =
     let first = puts_here_as m c.fresh-word.new.self c.wires.result c.wires.ensures in
     let turns = rw all at c.loop-i.invariant.puts in
     let last = rw (c.terms.ensures.terms, c.lowest_pair-lowest.ensures.terms) at c.in_err-pair.ensures.puts in
-    refused m _ _ _ c.from_residual-in_err-pair.result c.from_residual-in_err-pair.ensures.1 (search (chain, c.fresh-word.ensures.puts, first, turns, last))
+    refused _ _ _ _ _ c.from_residual-in_err-pair.ensures.1 (some_then _ c.fresh-word.ensures.puts (some_then _ first (some_then _ turns (some_first _ last))))
 
 pub returns-clause-puts : goal.returns-clause-puts
 unfolding and_of
@@ -49,4 +49,4 @@ returns-clause-puts g c =
     let first = puts_here_as g.S.Sink.meaning c.fresh-word.new.self c.wires.result c.wires.ensures in
     let turns = rw all at c.loop-i.invariant.puts in
     let last = rw (c.terms.ensures.terms, c.lowest_pair-lowest.ensures.terms) at c.in_ok-pair.ensures.puts in
-    search (chain, c.fresh-word.ensures.puts, first, turns, last)
+    all_then _ c.fresh-word.ensures.puts (all_then _ first (all_then _ turns (all_then _ last all_pure)))

@@ -1,4 +1,4 @@
-use Rattle.tv_core.proofs.Chain.{chain, refused}
+use Rattle.tv_core.proofs.Chain.{refused, some_first}
 use Rattle.tv_core.proofs.TailCalls.{puts_in_then}
 use Rattle.tv_logic.specs.Digits.{bitwise_of}
 use Rattle.tv_logic.proofs.digits.bitwise.Goals as goal
@@ -6,7 +6,7 @@ use Rattle.tv_logic.proofs.digits.bitwise.Goals as goal
 pub returns-in_err-digits-clause-puts : goal.returns-in_err-digits-clause-puts
 unfolding bitwise_of
 returns-in_err-digits-clause-puts g c =
-    refused g.S.Sink.meaning _ _ _ c.from_residual.result c.from_residual.ensures.1 (search (chain, c.in_err-digits.ensures.puts))
+    refused _ _ _ _ _ c.from_residual.ensures.1 (some_first _ c.in_err-digits.ensures.puts)
 
 pub returns-clause-puts : goal.returns-clause-puts
 unfolding bitwise_of

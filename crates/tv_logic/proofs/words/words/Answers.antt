@@ -1,26 +1,24 @@
-use Rattle.tv_core.proofs.Chain.{chain, refused}
+use Rattle.tv_core.proofs.Chain.{refused, all_then, all_pure, some_then, some_first}
 use Rattle.tv_logic.specs.Words.{logic_words_of}
 use Rattle.tv_logic.proofs.words.words.Goals as goal
 
 pub returns-in_err-and_word-clause-puts : goal.returns-in_err-and_word-clause-puts
 unfolding logic_words_of
 returns-in_err-and_word-clause-puts g c =
-    refused g.S.Sink.meaning _ _ _ c.from_residual.result c.from_residual.ensures.1 (search (chain, c.in_err-and_word.ensures.puts))
+    refused _ _ _ _ _ c.from_residual.ensures.1 (some_first _ c.in_err-and_word.ensures.puts)
 
 pub returns-in_err-or_word-clause-puts : goal.returns-in_err-or_word-clause-puts
 unfolding logic_words_of
 returns-in_err-or_word-clause-puts g c =
     let ors = rw c.set_sum_less.ensures.terms at c.in_err-or_word.ensures.puts in
-    refused g.S.Sink.meaning _ _ _ c.from_residual-in_err-or_word.result c.from_residual-in_err-or_word.ensures.1
-    (search (chain, c.in_ok-and_word.ensures.puts, ors))
+    refused _ _ _ _ _ c.from_residual-in_err-or_word.ensures.1 (some_then _ c.in_ok-and_word.ensures.puts (some_first _ ors))
 
 pub returns-in_err-xor_word-clause-puts : goal.returns-in_err-xor_word-clause-puts
 unfolding logic_words_of
 returns-in_err-xor_word-clause-puts g c =
     let ors = rw c.set_sum_less.ensures.terms at c.in_ok-or_word.ensures.puts in
     let xors = rw (c.set_sum_less-2.ensures.terms, c.of.ensures) at c.in_err-xor_word.ensures.puts in
-    refused g.S.Sink.meaning _ _ _ c.from_residual-in_err-xor_word.result c.from_residual-in_err-xor_word.ensures.1
-    (search (chain, c.in_ok-and_word.ensures.puts, ors, xors))
+    refused _ _ _ _ _ c.from_residual-in_err-xor_word.ensures.1 (some_then _ c.in_ok-and_word.ensures.puts (some_then _ ors (some_first _ xors)))
 
 pub returns-in_err-not_word-clause-puts : goal.returns-in_err-not_word-clause-puts
 unfolding logic_words_of
@@ -28,8 +26,8 @@ returns-in_err-not_word-clause-puts g c =
     let ors = rw c.set_sum_less.ensures.terms at c.in_ok-or_word.ensures.puts in
     let xors = rw (c.set_sum_less-2.ensures.terms, c.of.ensures) at c.in_ok-xor_word.ensures.puts in
     let nots = rw c.set_complement.ensures.terms at c.in_err-not_word.ensures.puts in
-    refused g.S.Sink.meaning _ _ _ c.from_residual-in_err-not_word.result c.from_residual-in_err-not_word.ensures.1
-    (search (chain, c.in_ok-and_word.ensures.puts, ors, xors, nots))
+    refused _ _ _ _ _ c.from_residual-in_err-not_word.ensures.1 (some_then _ c.in_ok-and_word.ensures.puts (some_then _ ors (some_then _ xors
+    (some_first _ nots))))
 
 pub returns-clause-puts : goal.returns-clause-puts
 unfolding logic_words_of
@@ -37,4 +35,4 @@ returns-clause-puts g c =
     let ors = rw c.set_sum_less.ensures.terms at c.in_ok-or_word.ensures.puts in
     let xors = rw (c.set_sum_less-2.ensures.terms, c.of.ensures) at c.in_ok-xor_word.ensures.puts in
     let nots = rw c.set_complement.ensures.terms at c.in_ok-not_word.ensures.puts in
-    search (chain, c.in_ok-and_word.ensures.puts, ors, xors, nots)
+    all_then _ c.in_ok-and_word.ensures.puts (all_then _ ors (all_then _ xors (all_then _ nots all_pure)))

@@ -1,5 +1,5 @@
 use Rattle.std.proofs.Common.{◌≡◌, ◌*◌, ◌/◌, ◌%◌, ◌^◌, arith}
-use Rattle.tv_core.proofs.ValuesChain.{giving, gives_refused}
+use Rattle.tv_core.proofs.ValuesChain.{gives_refused, gives_refused_then}
 use Rattle.tv_muldiv.proofs.ProductLaws.{product_small}
 use Rattle.tv_core.specs.declared.field.TheConstants.{P}
 use Rattle.tv_core.proofs.ValuesTails.{gives_in_then}
@@ -8,7 +8,7 @@ use Rattle.tv_muldiv.proofs.products.fill_product.Goals as goal
 pub returns-in_err-fill_halves-clause-gives : goal.returns-in_err-fill_halves-clause-gives
 returns-in_err-fill_halves-clause-gives g c =
     let halves = rw (c.from.ensures, c.from-2.ensures) at c.in_err-fill_halves.ensures.gives in
-    gives_refused _ _ _ _ _ c.from_residual.ensures.1 (search (giving, halves))
+    gives_refused _ _ _ _ _ c.from_residual.ensures.1 (gives_refused_then _ _ _ _ _ _ halves)
 
 pub returns-clause-gives : goal.returns-clause-gives
 returns-clause-gives g c =

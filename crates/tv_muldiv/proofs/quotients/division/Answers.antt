@@ -1,4 +1,4 @@
-use Rattle.tv_core.proofs.Chain.{chain, refused}
+use Rattle.tv_core.proofs.Chain.{refused, some_first}
 use Rattle.tv_core.proofs.TailCalls.{puts_in_then}
 use Rattle.tv_muldiv.specs.Quotient.{division_of}
 use Rattle.tv_muldiv.proofs.quotients.division.Goals as goal
@@ -6,7 +6,7 @@ use Rattle.tv_muldiv.proofs.quotients.division.Goals as goal
 pub returns-in_err-gate-clause-puts : goal.returns-in_err-gate-clause-puts
 unfolding division_of
 returns-in_err-gate-clause-puts g c =
-    refused _ _ _ _ _ c.from_residual.ensures.1 (search (chain, c.in_err-gate.ensures.puts))
+    refused _ _ _ _ _ c.from_residual.ensures.1 (some_first _ c.in_err-gate.ensures.puts)
 
 pub returns-clause-puts : goal.returns-clause-puts
 unfolding division_of

@@ -1,5 +1,5 @@
 use Rattle.std.proofs.Common.{◌≡◌, ◌-◌, ◌/◌, ◌^◌, ◌<◌, ◌∙◌, ap₂, arith}
-use Rattle.tv_core.proofs.ValuesChain.{giving, gives_refused}
+use Rattle.tv_core.proofs.ValuesChain.{gives_refused, gives_refused_then}
 use Rattle.tv_bits.specs.Order.{first_difference}
 use Rattle.tv_core.proofs.ValuesTails.{gives_in_then}
 use Rattle.tv_muldiv.proofs.QuotientNumbers.{above-below}
@@ -16,7 +16,7 @@ returns-in_err-fill_bits-clause-gives g c =
     let small : above_in g.row.W c.args.x c.args.y < 2 ^ 8 = grind arith in
     let one_less : c.of.result ≡ above_in g.row.W c.args.x c.args.y - 1 = omega (arith, c.of.ensures, c.saturating_sub.ensures) in
     let bits = rw one_less at c.in_err-fill_bits.ensures.gives in
-    gives_refused _ _ _ _ _ c.from_residual.ensures.1 (search (giving, bits))
+    gives_refused _ _ _ _ _ c.from_residual.ensures.1 (gives_refused_then _ _ _ _ _ _ bits)
 
 pub returns-clause-gives : goal.returns-clause-gives
 returns-clause-gives g c =

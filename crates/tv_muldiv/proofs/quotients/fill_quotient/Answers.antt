@@ -1,11 +1,11 @@
-use Rattle.tv_core.proofs.ValuesChain.{giving, gives_then_refused, gives_refused_then, gives_refused}
+use Rattle.tv_core.proofs.ValuesChain.{gives_then_refused, gives_refused_then, gives_refused}
 use Rattle.tv_core.proofs.ValuesTails.{gives_in_then}
 use Rattle.tv_muldiv.specs.Quotient.{above_values}
 use Rattle.tv_muldiv.proofs.quotients.fill_quotient.Goals as goal
 
 pub returns-in_err-fill_words-clause-gives : goal.returns-in_err-fill_words-clause-gives
 returns-in_err-fill_words-clause-gives g c =
-    gives_refused _ _ _ _ _ c.from_residual.ensures.1 (search (giving, c.in_err-fill_words.ensures.gives))
+    gives_refused _ _ _ _ _ c.from_residual.ensures.1 (gives_refused_then _ _ _ _ _ _ c.in_err-fill_words.ensures.gives)
 
 pub returns-in_err-give_values-clause-gives : goal.returns-in_err-give_values-clause-gives
 returns-in_err-give_values-clause-gives g c =

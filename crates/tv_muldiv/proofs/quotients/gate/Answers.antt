@@ -1,4 +1,4 @@
-use Rattle.tv_core.proofs.Chain.{refused, puts_then, puts_then_refused, refused_then, puts_nothing}
+use Rattle.tv_core.proofs.Chain.{refused, all_then, all_pure, some_then, some_first}
 use Rattle.tv_muldiv.specs.Quotient.{gate_of}
 use Rattle.tv_muldiv.proofs.quotients.gate.Goals as goal
 
@@ -13,7 +13,7 @@ returns-in_err-put-clause-puts g c =
       c.requires.x_word.size,
       c.requires.made.quot.size,
     ) at c.in_err-put.ensures.puts in
-    refused _ _ _ _ _ c.from_residual.ensures.1 (puts_then_refused _ _ _ _ _ _ _ _ c.fresh-gate.ensures.puts (refused_then _ _ _ _ _ _ gate))
+    refused _ _ _ _ _ c.from_residual.ensures.1 (some_then _ c.fresh-gate.ensures.puts (some_first _ gate))
 
 pub returns-clause-puts : goal.returns-clause-puts
 unfolding gate_of
@@ -26,4 +26,4 @@ returns-clause-puts g c =
       c.requires.x_word.size,
       c.requires.made.quot.size,
     ) at c.in_ok-put.ensures.puts in
-    puts_then _ _ _ _ _ _ _ _ c.fresh-gate.ensures.puts (puts_then _ _ _ _ _ _ _ _ gate (puts_nothing _ _ _))
+    all_then _ c.fresh-gate.ensures.puts (all_then _ gate all_pure)

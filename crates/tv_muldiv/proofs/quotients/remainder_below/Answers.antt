@@ -1,4 +1,4 @@
-use Rattle.tv_core.proofs.Chain.{chain, refused}
+use Rattle.tv_core.proofs.Chain.{refused, some_first}
 use Rattle.tv_core.proofs.TailCalls.{puts_in_then}
 use Rattle.tv_bits.proofs.BitNumbers.{bits_sized}
 use Rattle.tv_muldiv.specs.Quotient.{remainder_below_of}
@@ -7,7 +7,7 @@ use Rattle.tv_muldiv.proofs.quotients.remainder_below.Goals as goal
 pub returns-in_err-above-clause-puts : goal.returns-in_err-above-clause-puts
 unfolding remainder_below_of
 returns-in_err-above-clause-puts g c =
-    refused _ _ _ _ _ c.from_residual.ensures.1 (search (chain, c.in_err-above.ensures.puts))
+    refused _ _ _ _ _ c.from_residual.ensures.1 (some_first _ c.in_err-above.ensures.puts)
 
 pub returns-clause-puts : goal.returns-clause-puts
 unfolding remainder_below_of

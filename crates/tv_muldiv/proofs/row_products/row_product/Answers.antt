@@ -1,7 +1,7 @@
 use Rattle.tv_bits.specs.DoubleRow.{row_number}
 use Rattle.tv_bits.specs.Gate.{gated_of}
 use Rattle.tv_bits.specs.Times.{times_of}
-use Rattle.tv_core.proofs.Chain.{chain, refused}
+use Rattle.tv_core.proofs.Chain.{refused, some_first}
 use Rattle.tv_core.proofs.TailCalls.{puts_in_then}
 use Rattle.tv_core.specs.Combinations.{wire}
 use Rattle.tv_muldiv.specs.RowProduct.{row_product_of}
@@ -10,7 +10,7 @@ use Rattle.tv_muldiv.proofs.row_products.row_product.Goals as goal
 pub returns-in_err-product-clause-puts : goal.returns-in_err-product-clause-puts
 unfolding row_product_of
 returns-in_err-product-clause-puts g c =
-    refused _ _ _ _ _ c.from_residual.ensures.1 (search (chain, c.in_err-product.ensures.puts))
+    refused _ _ _ _ _ c.from_residual.ensures.1 (some_first _ c.in_err-product.ensures.puts)
 
 pub returns-clause-puts : goal.returns-clause-puts
 unfolding row_product_of

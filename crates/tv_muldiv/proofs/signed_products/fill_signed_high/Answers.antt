@@ -1,11 +1,11 @@
-use Rattle.tv_core.proofs.ValuesChain.{giving, gives_refused}
+use Rattle.tv_core.proofs.ValuesChain.{gives_refused, gives_refused_then}
 use Rattle.tv_core.proofs.ValuesTails.{gives_in_then}
 use Rattle.tv_muldiv.proofs.signed_products.fill_signed_high.Goals as goal
 
 pub returns-in_err-fill_halves-clause-gives : goal.returns-in_err-fill_halves-clause-gives
 returns-in_err-fill_halves-clause-gives g c =
     let halves = rw (c.product_twos-product.ensures) at c.in_err-fill_halves.ensures.gives in
-    gives_refused _ _ _ _ _ c.from_residual.ensures.1 (search (giving, halves))
+    gives_refused _ _ _ _ _ c.from_residual.ensures.1 (gives_refused_then _ _ _ _ _ _ halves)
 
 pub returns-clause-gives : goal.returns-clause-gives
 returns-clause-gives g c =

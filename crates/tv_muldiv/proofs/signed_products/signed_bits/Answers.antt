@@ -1,11 +1,11 @@
-use Rattle.tv_core.proofs.Chain.{chain, refused}
+use Rattle.tv_core.proofs.Chain.{refused, all_then, all_pure, some_then, some_first}
 use Rattle.tv_muldiv.specs.SignedHigh.{signed_bits_of}
 use Rattle.tv_muldiv.proofs.signed_products.signed_bits.Goals as goal
 
 pub returns-in_err-made-clause-puts : goal.returns-in_err-made-clause-puts
 unfolding signed_bits_of
 returns-in_err-made-clause-puts g c =
-    refused _ _ _ _ _ c.from_residual.ensures.1 (search (chain, c.in_err-made.ensures.puts))
+    refused _ _ _ _ _ c.from_residual.ensures.1 (some_first _ c.in_err-made.ensures.puts)
 
 pub returns-in_err-put-clause-puts : goal.returns-in_err-put-clause-puts
 unfolding signed_bits_of
@@ -15,7 +15,7 @@ returns-in_err-put-clause-puts g c =
       c.set_signed_number-2.ensures.terms,
       c.set_signed_number-3.ensures.terms,
     ) at c.in_err-put.ensures.puts in
-    refused _ _ _ _ _ c.from_residual-in_err-put.ensures.1 (search (chain, c.in_ok-made.ensures.puts, product))
+    refused _ _ _ _ _ c.from_residual-in_err-put.ensures.1 (some_then _ c.in_ok-made.ensures.puts (some_first _ product))
 
 pub returns-clause-puts : goal.returns-clause-puts
 unfolding signed_bits_of
@@ -25,4 +25,4 @@ returns-clause-puts g c =
       c.set_signed_number-2.ensures.terms,
       c.set_signed_number-3.ensures.terms,
     ) at c.in_ok-put.ensures.puts in
-    search (chain, c.in_ok-made.ensures.puts, product)
+    all_then _ c.in_ok-made.ensures.puts (all_then _ product all_pure)

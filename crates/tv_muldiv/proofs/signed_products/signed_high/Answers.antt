@@ -1,5 +1,5 @@
 use Rattle.std.proofs.Common.{◌≡◌, ℕ, ap₂, arith}
-use Rattle.tv_core.proofs.Chain.{chain, refused}
+use Rattle.tv_core.proofs.Chain.{refused, all_then, all_pure, some_then, some_first}
 use Rattle.tv_bits.specs.declared.bit_wires.Bits.{Bits}
 use Rattle.tv_muldiv.specs.SignedHigh.{signed_high_of}
 use Rattle.tv_muldiv.proofs.signed_products.signed_high.Goals as goal
@@ -7,13 +7,13 @@ use Rattle.tv_muldiv.proofs.signed_products.signed_high.Goals as goal
 pub returns-in_err-made-clause-puts : goal.returns-in_err-made-clause-puts
 unfolding signed_high_of
 returns-in_err-made-clause-puts g c =
-    refused _ _ _ _ _ c.from_residual.ensures.1 (search (chain, c.in_err-made.ensures.puts))
+    refused _ _ _ _ _ c.from_residual.ensures.1 (some_first _ c.in_err-made.ensures.puts)
 
 pub returns-in_err-over-clause-puts : goal.returns-in_err-over-clause-puts
 unfolding signed_high_of
 returns-in_err-over-clause-puts g c =
     let over = rw (c.set_high_excess.ensures.terms) at c.in_err-over.ensures.puts in
-    refused _ _ _ _ _ c.from_residual-in_err-over.ensures.1 (search (chain, c.in_ok-made.ensures.puts, over))
+    refused _ _ _ _ _ c.from_residual-in_err-over.ensures.1 (some_then _ c.in_ok-made.ensures.puts (some_first _ over))
 
 row_is : (x : Bits) (f k : ℕ) → x.first ≡ f → x.n ≡ k → x ≡ record { first = f; n = k }
 row_is x f k first n = ap₂ (λ f k. record { first = f; n = k }) first n
@@ -23,4 +23,4 @@ unfolding signed_high_of
 returns-clause-puts g c =
     let over = rw (c.set_high_excess.ensures.terms) at c.in_ok-over.ensures.puts in
     let size : c.above-high.result.n ≡ g.row.W = omega (arith, c.above-high.ensures.n, c.in_ok-made.ensures.below.size) in
-    rw (row_is c.above-high.result _ g.row.W c.above-high.ensures.first size) (search (chain, c.in_ok-made.ensures.puts, over))
+    rw (row_is c.above-high.result _ g.row.W c.above-high.ensures.first size) (all_then _ c.in_ok-made.ensures.puts (all_then _ over all_pure))

@@ -1,6 +1,6 @@
 use Rattle.std.proofs.Common.{◌≡◌, ℕ, ◌<◌, length, arith}
 use Rattle.std.proofs.lemmas.Grind.{get_or_default_zero}
-use Rattle.tv_core.proofs.Chain.{chain, puts_no_turn, puts_turn, turn_refused, refused}
+use Rattle.tv_core.proofs.Chain.{puts_no_turn, puts_turn, turn_refused, refused, all_then, all_pure, some_then, some_first}
 use Rattle.tv_core.specs.Circuits.{Circuit}
 use Rattle.tv_regs.proofs.Gates.{wires_top-at}
 use Rattle.tv_regs.specs.Reads.{read_turn, read_reg_of}
@@ -33,14 +33,14 @@ returns-in_err-read-clause-puts g c =
     let read = rw (c.offset.ensures, get_or_default_zero c.args.regs.now c.loop-i.i c.index-regs-i.result inside) at c.in_err-read.ensures.puts in
     let turn = turn_refused m 16 c.loop-i.i piece tt tt c.fresh-w.new.self c.loop-i.s c.read.new.s c.in_err-read.field-0.0 within c.loop-i.invariant.puts read
     in
-    refused m _ _ _ c.from_residual.result c.from_residual.ensures.1 (search (chain, c.fresh-w.ensures.puts, turn))
+    refused _ _ _ _ _ c.from_residual.ensures.1 (some_then _ c.fresh-w.ensures.puts (some_first _ turn))
 
 pub returns-clause-puts : goal.returns-clause-puts
 unfolding read_reg_of
 returns-clause-puts g c =
     let all : c.loop-i.i ≡ 16 = omega arith in
     let turns = rw all at c.loop-i.invariant.puts in
-    search (chain, c.fresh-w.ensures.puts, turns)
+    all_then _ c.fresh-w.ensures.puts (all_then _ turns all_pure)
 
 pub read-requires-clause-reg_made : goal.read-requires-clause-reg_made
 read-requires-clause-reg_made g c =

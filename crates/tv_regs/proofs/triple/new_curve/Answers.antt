@@ -1,6 +1,6 @@
 use Rattle.std.proofs.Common.{◌≡◌, ℕ, ◌<◌, length, arith}
 use Rattle.std.proofs.lemmas.Grind.{get_or_default_zero}
-use Rattle.tv_core.proofs.Chain.{puts_no_turn, puts_turn, turn_refused, refused, puts_then, puts_then_refused, refused_then, puts_nothing}
+use Rattle.tv_core.proofs.Chain.{puts_no_turn, puts_turn, turn_refused, refused, all_then, all_pure, some_then, some_first}
 use Rattle.tv_core.specs.Circuits.{Circuit}
 use Rattle.tv_regs.proofs.Gates.{wires_top-at}
 use Rattle.tv_regs.specs.Triple.{passes_turn, curve_of}
@@ -38,14 +38,12 @@ returns-in_err-passes-clause-puts g c =
     let passes = rw (get_or_default_zero c.args.regs.now c.loop-i.i c.index-regs-i.result inside) at c.in_err-passes.ensures.puts in
     let turn = turn_refused m 16 c.loop-i.i piece tt tt c.fresh-bend.new.self c.loop-i.s c.passes.new.s c.in_err-passes.field-0.0 within c.loop-i.invariant.puts
     passes in
-    refused _ _ _ _ _ c.from_residual.ensures.1 (puts_then_refused _ _ _ _ _ _ _ _ c.fresh-curve.ensures.puts
-    (puts_then_refused _ _ _ _ _ _ _ _ c.fresh-slope.ensures.puts (puts_then_refused _ _ _ _ _ _ _ _ c.fresh-bend.ensures.puts
-    (refused_then _ _ _ _ _ _ turn))))
+    refused _ _ _ _ _ c.from_residual.ensures.1 (some_then _ c.fresh-curve.ensures.puts (some_then _ c.fresh-slope.ensures.puts
+    (some_then _ c.fresh-bend.ensures.puts (some_first _ turn))))
 
 pub returns-clause-puts : goal.returns-clause-puts
 unfolding curve_of
 returns-clause-puts g c =
     let all : c.loop-i.i ≡ 16 = omega arith in
     let turns = rw all at c.loop-i.invariant.puts in
-    puts_then _ _ _ _ _ _ _ _ c.fresh-curve.ensures.puts (puts_then _ _ _ _ _ _ _ _ c.fresh-slope.ensures.puts
-    (puts_then _ _ _ _ _ _ _ _ c.fresh-bend.ensures.puts (puts_then _ _ _ _ _ _ _ _ turns (puts_nothing _ _ _))))
+    all_then _ c.fresh-curve.ensures.puts (all_then _ c.fresh-slope.ensures.puts (all_then _ c.fresh-bend.ensures.puts (all_then _ turns all_pure)))

@@ -1,4 +1,4 @@
-use Rattle.tv_core.proofs.Chain.{chain, refused}
+use Rattle.tv_core.proofs.Chain.{refused, all_then, all_pure, some_first}
 use Rattle.tv_regs.specs.Triple.{passes_of}
 use Rattle.tv_regs.proofs.triple.passes.Goals as goal
 
@@ -6,10 +6,10 @@ pub returns-in_err-ratio_by-clause-puts : goal.returns-in_err-ratio_by-clause-pu
 unfolding passes_of
 returns-in_err-ratio_by-clause-puts g c =
     let sides = rw (c.set_cubic.ensures.terms, c.set_departure.ensures.terms) at c.in_err-ratio_by.ensures.puts in
-    refused g.S.Sink.meaning _ _ _ c.from_residual.result c.from_residual.ensures.1 (search (chain, sides))
+    refused _ _ _ _ _ c.from_residual.ensures.1 (some_first _ sides)
 
 pub returns-clause-puts : goal.returns-clause-puts
 unfolding passes_of
 returns-clause-puts g c =
     let sides = rw (c.set_cubic.ensures.terms, c.set_departure.ensures.terms) at c.in_ok-ratio_by.ensures.puts in
-    search (chain, sides)
+    all_then _ sides all_pure

@@ -1,4 +1,4 @@
-use Rattle.tv_core.proofs.Chain.{refused, puts_then, puts_then_refused, refused_then, puts_nothing}
+use Rattle.tv_core.proofs.Chain.{refused, all_then, all_pure, some_then, some_first}
 use Rattle.tv_regs.specs.Triple.{point_of}
 use Rattle.tv_regs.proofs.triple.point.Goals as goal
 
@@ -6,7 +6,7 @@ pub returns-in_err-bend-clause-puts : goal.returns-in_err-bend-clause-puts
 unfolding point_of
 returns-in_err-bend-clause-puts g c =
     let bend = rw (c.set_wire.ensures.terms, c.offset.ensures) at c.in_err-bend.ensures.puts in
-    refused _ _ _ _ _ c.from_residual.ensures.1 (refused_then _ _ _ _ _ _ bend)
+    refused _ _ _ _ _ c.from_residual.ensures.1 (some_first _ bend)
 
 pub returns-in_err-put-clause-puts : goal.returns-in_err-put-clause-puts
 unfolding point_of
@@ -21,8 +21,7 @@ returns-in_err-put-clause-puts g c =
       c.clear.ensures,
       c.neg.ensures,
     ) at c.in_err-put.ensures.puts in
-    refused _ _ _ _ _ c.from_residual-in_err-put.ensures.1 (puts_then_refused _ _ _ _ _ _ _ _ bend (puts_then_refused _ _ _ _ _ _ _ _ c.fresh-word.ensures.puts
-    (refused_then _ _ _ _ _ _ sides)))
+    refused _ _ _ _ _ c.from_residual-in_err-put.ensures.1 (some_then _ bend (some_then _ c.fresh-word.ensures.puts (some_first _ sides)))
 
 pub returns-clause-puts : goal.returns-clause-puts
 unfolding point_of
@@ -37,4 +36,4 @@ returns-clause-puts g c =
       c.clear.ensures,
       c.neg.ensures,
     ) at c.in_ok-put.ensures.puts in
-    puts_then _ _ _ _ _ _ _ _ bend (puts_then _ _ _ _ _ _ _ _ c.fresh-word.ensures.puts (puts_then _ _ _ _ _ _ _ _ sides (puts_nothing _ _ _)))
+    all_then _ bend (all_then _ c.fresh-word.ensures.puts (all_then _ sides all_pure))

@@ -1,6 +1,6 @@
 use Rattle.std.proofs.Common.{◌≡◌, ℕ, ◌<◌, length, arith}
 use Rattle.std.proofs.lemmas.Grind.{get_or_default_zero}
-use Rattle.tv_core.proofs.Chain.{puts_no_turn, puts_turn, turn_refused, refused, puts_then, puts_then_refused, refused_then, puts_nothing}
+use Rattle.tv_core.proofs.Chain.{puts_no_turn, puts_turn, turn_refused, refused, all_then, all_pure, some_then, some_first}
 use Rattle.tv_core.proofs.LoopLaws.{puts_here_as}
 use Rattle.tv_core.specs.Circuits.{Circuit}
 use Rattle.tv_regs.proofs.Gates.{wires_top-at}
@@ -39,7 +39,7 @@ returns-in_err-stays-clause-puts g c =
     let stays = rw (get_or_default_zero c.args.regs.now c.loop-i.i c.index-regs-i.result inside) at c.in_err-stays.ensures.puts in
     let first = puts_here_as m c.args.s.now c.wires.result c.wires.ensures in
     let turn = turn_refused m 16 c.loop-i.i piece tt tt c.args.s.now c.loop-i.s c.stays.new.s c.in_err-stays.field-0.0 within c.loop-i.invariant.puts stays in
-    refused _ _ _ _ _ c.from_residual.ensures.1 (puts_then_refused _ _ _ _ _ _ _ _ first (refused_then _ _ _ _ _ _ turn))
+    refused _ _ _ _ _ c.from_residual.ensures.1 (some_then _ first (some_first _ turn))
 
 pub returns-in_err-put-clause-puts : goal.returns-in_err-put-clause-puts
 unfolding update_of
@@ -49,8 +49,7 @@ returns-in_err-put-clause-puts g c =
     let first = puts_here_as m c.args.s.now c.wires.result c.wires.ensures in
     let turns = rw all at c.loop-i.invariant.puts in
     let last = rw (c.set_wire.ensures.terms, c.set_rise.ensures.terms, c.set_sum_rise.ensures.terms, c.set_sum.ensures.terms) at c.in_err-put.ensures.puts in
-    refused _ _ _ _ _ c.from_residual-in_err-put.ensures.1 (puts_then_refused _ _ _ _ _ _ _ _ first (puts_then_refused _ _ _ _ _ _ _ _ turns
-    (refused_then _ _ _ _ _ _ last)))
+    refused _ _ _ _ _ c.from_residual-in_err-put.ensures.1 (some_then _ first (some_then _ turns (some_first _ last)))
 
 pub returns-clause-puts : goal.returns-clause-puts
 unfolding update_of
@@ -60,5 +59,4 @@ returns-clause-puts g c =
     let first = puts_here_as m c.args.s.now c.wires.result c.wires.ensures in
     let turns = rw all at c.loop-i.invariant.puts in
     let last = rw (c.set_wire.ensures.terms, c.set_rise.ensures.terms, c.set_sum_rise.ensures.terms, c.set_sum.ensures.terms) at c.in_ok-put.ensures.puts in
-    rw c.wires_from.ensures.wires (puts_then _ _ _ _ _ _ _ _ first (puts_then _ _ _ _ _ _ _ _ turns (puts_then _ _ _ _ _ _ _ _ last
-    (puts_nothing _ _ _))))
+    rw c.wires_from.ensures.wires (all_then _ first (all_then _ turns (all_then _ last all_pure)))

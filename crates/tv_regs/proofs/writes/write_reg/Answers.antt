@@ -1,6 +1,6 @@
 use Rattle.std.proofs.Common.{◌≡◌, ℕ, ◌<◌, length, arith}
 use Rattle.std.proofs.lemmas.Grind.{get_or_default_zero}
-use Rattle.tv_core.proofs.Chain.{chain, puts_no_turn, puts_turn, turn_refused, refused}
+use Rattle.tv_core.proofs.Chain.{puts_no_turn, puts_turn, turn_refused, refused, all_then, all_pure, some_then, some_first}
 use Rattle.tv_core.proofs.LoopLaws.{puts_here_as}
 use Rattle.tv_core.specs.Circuits.{Circuit}
 use Rattle.tv_regs.proofs.Gates.{wires_top-at}
@@ -21,7 +21,7 @@ loop-i-preserved g c =
     let within : c.loop-i.i < length c.args.regs.now = omega arith in
     let turn = rw (c.offset.ensures, get_or_default_zero c.args.regs.now c.loop-i.i c.index-regs-i.result within) at c.in_ok-select_wires.ensures.puts in
     record {
-      puts = puts_turn g.S.Sink.meaning _ piece tt _ _ _ _ _ c.loop-i.invariant.puts (search (chain, turn));
+      puts = puts_turn g.S.Sink.meaning _ piece tt _ _ _ _ _ c.loop-i.invariant.puts (all_then _ turn all_pure);
       grows = record { wires = omega (arith, grown.wires); constraints = omega (arith, grown.constraints); whole = grown.whole };
     }
 
@@ -40,8 +40,8 @@ returns-in_err-select_wires-clause-puts g c =
     let write = rw (c.offset.ensures, get_or_default_zero c.args.regs.now c.loop-i.i c.index-regs-i.result inside) at c.in_err-select_wires.ensures.puts in
     let first = puts_here_as m c.fresh-v.new.self c.wires.result c.wires.ensures in
     let turn = turn_refused m 16 c.loop-i.i piece tt tt c.fresh-v.new.self c.loop-i.s c.select_wires.new.s c.in_err-select_wires.field-0.0 within
-    c.loop-i.invariant.puts (search (chain, write)) in
-    refused m _ _ _ c.from_residual.result c.from_residual.ensures.1 (search (chain, c.fresh-v.ensures.puts, first, turn))
+    c.loop-i.invariant.puts (some_first _ write) in
+    refused _ _ _ _ _ c.from_residual.ensures.1 (some_then _ c.fresh-v.ensures.puts (some_then _ first (some_first _ turn)))
 
 pub returns-in_err-tie-clause-puts : goal.returns-in_err-tie-clause-puts
 unfolding write_reg_of
@@ -50,8 +50,8 @@ returns-in_err-tie-clause-puts g c =
     let all : c.loop-i.i ≡ 16 = omega arith in
     let first = puts_here_as m c.fresh-v.new.self c.wires.result c.wires.ensures in
     let turns = rw all at c.loop-i.invariant.puts in
-    refused m _ _ _ c.from_residual-in_err-tie.result c.from_residual-in_err-tie.ensures.1
-    (search (chain, c.fresh-v.ensures.puts, first, turns, c.in_err-tie.ensures.puts))
+    refused _ _ _ _ _ c.from_residual-in_err-tie.ensures.1 (some_then _ c.fresh-v.ensures.puts (some_then _ first (some_then _ turns
+    (some_first _ c.in_err-tie.ensures.puts))))
 
 pub returns-clause-puts : goal.returns-clause-puts
 unfolding write_reg_of
@@ -60,4 +60,4 @@ returns-clause-puts g c =
     let all : c.loop-i.i ≡ 16 = omega arith in
     let first = puts_here_as m c.fresh-v.new.self c.wires.result c.wires.ensures in
     let turns = rw all at c.loop-i.invariant.puts in
-    rw c.wires_from.ensures.wires (search (chain, c.fresh-v.ensures.puts, first, turns, c.in_ok-tie.ensures.puts) depth 8)
+    rw c.wires_from.ensures.wires (all_then _ c.fresh-v.ensures.puts (all_then _ first (all_then _ turns (all_then _ c.in_ok-tie.ensures.puts all_pure))))

@@ -1,4 +1,4 @@
-use Rattle.tv_core.proofs.Chain.{puts_then, puts_then_refused, refused_then, puts_nothing, refused}
+use Rattle.tv_core.proofs.Chain.{refused, all_then, all_pure, some_then, some_first}
 use Rattle.tv_shift.specs.Shift.{by_half_of}
 use Rattle.tv_shift.proofs.ends.by_half.Goals as goal
 
@@ -7,7 +7,7 @@ unfolding by_half_of
 returns-in_err-left-clause-puts g c =
     let m = g.S.Sink.meaning in
     let left = rw (c.terms.ensures.terms, c.set_times_half.ensures.terms, c.terms-2.ensures.terms, c.lc-x.ensures.terms) at c.in_err-left.ensures.puts in
-    refused _ _ _ _ _ c.from_residual.ensures.1 (refused_then m _ _ _ _ _ left)
+    refused _ _ _ _ _ c.from_residual.ensures.1 (some_first _ left)
 
 pub returns-in_err-right-clause-puts : goal.returns-in_err-right-clause-puts
 unfolding by_half_of
@@ -21,7 +21,7 @@ returns-in_err-right-clause-puts g c =
       c.lc-x.ensures.terms,
       c.offset.ensures,
     ) at c.in_err-right.ensures.puts in
-    refused _ _ _ _ _ c.from_residual-in_err-right.ensures.1 (puts_then_refused m _ _ _ _ _ _ _ left (refused_then m _ _ _ _ _ right))
+    refused _ _ _ _ _ c.from_residual-in_err-right.ensures.1 (some_then _ left (some_first _ right))
 
 pub returns-clause-puts : goal.returns-clause-puts
 unfolding by_half_of
@@ -35,4 +35,4 @@ returns-clause-puts g c =
       c.lc-x.ensures.terms,
       c.offset.ensures,
     ) at c.in_ok-right.ensures.puts in
-    puts_then m _ _ _ _ _ _ _ left (puts_then m _ _ _ _ _ _ _ right (puts_nothing m _ _))
+    all_then _ left (all_then _ right all_pure)

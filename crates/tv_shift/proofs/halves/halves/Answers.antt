@@ -1,5 +1,5 @@
 use Rattle.std.proofs.Common.{◌≡◌, ℕ, arith}
-use Rattle.tv_core.proofs.Chain.{puts_no_turn, puts_turn, turn_refused, refused, puts_then, puts_then_refused, refused_then, puts_nothing}
+use Rattle.tv_core.proofs.Chain.{puts_no_turn, puts_turn, turn_refused, refused, all_then, all_pure, some_then, some_first}
 use Rattle.tv_core.proofs.LoopLaws.{puts_here_as}
 use Rattle.tv_core.specs.Circuits.{Circuit}
 use Rattle.tv_shift.specs.Halves.{half_bit_of, halves_of}
@@ -18,7 +18,7 @@ loop-i-preserved g c =
     let grown = c.in_ok-select_wires.ensures.grows in
     let one = rw (c.offset.ensures, c.offset-in-loop-i.ensures) at c.in_ok-select_wires.ensures.puts in
     record {
-      puts = puts_turn g.S.Sink.meaning _ piece tt _ _ _ _ _ c.loop-i.invariant.puts (puts_then _ _ _ _ _ _ _ _ one (puts_nothing _ _ _));
+      puts = puts_turn g.S.Sink.meaning _ piece tt _ _ _ _ _ c.loop-i.invariant.puts (all_then _ one all_pure);
       grows = record { wires = omega (arith, grown.wires); constraints = omega (arith, grown.constraints); whole = grown.whole };
     }
 
@@ -29,9 +29,9 @@ returns-in_err-select_wires-clause-puts g c =
     let piece : ℕ → Unit {0} → Circuit (Unit {0}) = λ i _. half_bit_of c.args.n c.args.b c.args.word i in
     let one = rw (c.offset.ensures, c.offset-in-loop-i.ensures) at c.in_err-select_wires.ensures.puts in
     let turn = turn_refused m c.args.n c.loop-i.i piece tt tt c.args.s.now c.loop-i.s c.select_wires.new.s c.in_err-select_wires.field-0.0 c.loop-i-test.true
-    c.loop-i.invariant.puts (refused_then _ _ _ _ _ _ one) in
+    c.loop-i.invariant.puts (some_first _ one) in
     let first = puts_here_as m c.args.s.now c.wires.result c.wires.ensures in
-    refused _ _ _ _ _ c.from_residual.ensures.1 (puts_then_refused _ _ _ _ _ _ _ _ first (refused_then _ _ _ _ _ _ turn))
+    refused _ _ _ _ _ c.from_residual.ensures.1 (some_then _ first (some_first _ turn))
 
 pub returns-clause-puts : goal.returns-clause-puts
 unfolding halves_of
@@ -39,4 +39,4 @@ returns-clause-puts g c =
     let all : c.loop-i.i ≡ c.args.n = omega arith in
     let first = puts_here_as g.S.Sink.meaning c.args.s.now c.wires.result c.wires.ensures in
     let turns = rw all at c.loop-i.invariant.puts in
-    puts_then _ _ _ _ _ _ _ _ first (puts_then _ _ _ _ _ _ _ _ turns (puts_nothing _ _ _))
+    all_then _ first (all_then _ turns all_pure)

@@ -1,4 +1,4 @@
-use Rattle.tv_core.proofs.Chain.{chain, refused}
+use Rattle.tv_core.proofs.Chain.{refused, all_then, all_pure, some_then, some_first}
 use Rattle.tv_shift.specs.Power.{wide_power_of}
 use Rattle.tv_shift.proofs.powers.wide_power.Goals as goal
 
@@ -6,18 +6,18 @@ pub returns-in_err-low-clause-puts : goal.returns-in_err-low-clause-puts
 unfolding wide_power_of
 returns-in_err-low-clause-puts g c =
     let p0 = c.in_err-low.ensures.puts in
-    refused _ _ _ _ _ c.from_residual.ensures.1 (search (chain, p0) depth 4)
+    refused _ _ _ _ _ c.from_residual.ensures.1 (some_first _ p0)
 
 pub returns-in_err-power-clause-puts : goal.returns-in_err-power-clause-puts
 unfolding wide_power_of
 returns-in_err-power-clause-puts g c =
     let p0 = c.in_ok-low.ensures.puts in
     let p1 = rw (c.set_wire.ensures.terms, c.set_factor.ensures.terms, c.offset.ensures) at c.in_err-power.ensures.puts in
-    refused _ _ _ _ _ c.from_residual-in_err-power.ensures.1 (search (chain, p0, p1) depth 5)
+    refused _ _ _ _ _ c.from_residual-in_err-power.ensures.1 (some_then _ p0 (some_first _ p1))
 
 pub returns-clause-puts : goal.returns-clause-puts
 unfolding wide_power_of
 returns-clause-puts g c =
     let p0 = c.in_ok-low.ensures.puts in
     let p1 = rw (c.set_wire.ensures.terms, c.set_factor.ensures.terms, c.offset.ensures) at c.in_ok-power.ensures.puts in
-    search (chain, p0, p1) depth 5
+    all_then _ p0 (all_then _ p1 all_pure)

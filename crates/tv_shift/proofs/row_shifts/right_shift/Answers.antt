@@ -3,7 +3,7 @@ use Rattle.std.proofs.lemmas.Bool.Decides.{nat_tests}
 use Rattle.tv_bits.specs.DoubleRow.{row_number}
 use Rattle.tv_bits.specs.Gate.{gated_of}
 use Rattle.tv_bits.specs.Times.{times_of}
-use Rattle.tv_core.proofs.Chain.{refused, refused_then}
+use Rattle.tv_core.proofs.Chain.{refused, some_first}
 use Rattle.tv_core.proofs.TailCalls.{puts_in_then}
 use Rattle.tv_core.specs.Circuits.{Circuit}
 use Rattle.tv_core.specs.Combinations.{wire}
@@ -15,7 +15,7 @@ pub returns-in_err-product-clause-puts : goal.returns-in_err-product-clause-puts
 unfolding right_shift_of
 returns-in_err-product-clause-puts g c =
     let product = rw (c.plus_terms.ensures.terms, c.clear.ensures, c.number.ensures, c.set_wire.ensures.terms) at c.in_err-product.ensures.puts in
-    refused _ _ _ _ _ c.from_residual.ensures.1 (refused_then _ _ _ _ _ _ product)
+    refused _ _ _ _ _ c.from_residual.ensures.1 (some_first _ product)
 
 pub returns-clause-puts : goal.returns-clause-puts
 unfolding right_shift_of

@@ -1,4 +1,4 @@
-use Rattle.tv_core.proofs.Chain.{refused, puts_then_refused, refused_then}
+use Rattle.tv_core.proofs.Chain.{refused, some_then, some_first}
 use Rattle.tv_core.proofs.TailCalls.{puts_in_then}
 use Rattle.tv_shift.specs.Shift.{shift_of}
 use Rattle.tv_shift.proofs.shifts.shift.Goals as goal
@@ -6,20 +6,20 @@ use Rattle.tv_shift.proofs.shifts.shift.Goals as goal
 pub returns-in_err-parts-clause-puts : goal.returns-in_err-parts-clause-puts
 unfolding shift_of
 returns-in_err-parts-clause-puts g c =
-    refused _ _ _ _ _ c.from_residual.ensures.1 (refused_then _ _ _ _ _ _ c.in_err-parts.ensures.puts)
+    refused _ _ _ _ _ c.from_residual.ensures.1 (some_first _ c.in_err-parts.ensures.puts)
 
 pub returns-in_err-half-clause-puts : goal.returns-in_err-half-clause-puts
 unfolding shift_of
 returns-in_err-half-clause-puts g c =
     let half = rw (c.offset.ensures, c.half_log-k.ensures) at c.in_err-half.ensures.puts in
-    refused _ _ _ _ _ c.from_residual-in_err-half.ensures.1 (puts_then_refused _ _ _ _ _ _ _ _ c.in_ok-parts.ensures.puts (refused_then _ _ _ _ _ _ half))
+    refused _ _ _ _ _ c.from_residual-in_err-half.ensures.1 (some_then _ c.in_ok-parts.ensures.puts (some_first _ half))
 
 pub returns-in_err-near-clause-puts : goal.returns-in_err-near-clause-puts
 unfolding shift_of
 returns-in_err-near-clause-puts g c =
     let half = rw (c.offset.ensures, c.half_log-k.ensures) at c.in_ok-half.ensures.puts in
-    refused _ _ _ _ _ c.from_residual-in_err-near.ensures.1 (puts_then_refused _ _ _ _ _ _ _ _ c.in_ok-parts.ensures.puts
-    (puts_then_refused _ _ _ _ _ _ _ _ half (refused_then _ _ _ _ _ _ c.in_err-near.ensures.puts)))
+    refused _ _ _ _ _ c.from_residual-in_err-near.ensures.1 (some_then _ c.in_ok-parts.ensures.puts (some_then _ half
+    (some_first _ c.in_err-near.ensures.puts)))
 
 pub returns-in_err-in_range-clause-puts : goal.returns-in_err-in_range-clause-puts
 unfolding shift_of
@@ -32,8 +32,8 @@ returns-in_err-in_range-clause-puts g c =
       c.requires.y_word.size,
       c.half_log-k.ensures,
     ) at c.in_err-in_range.ensures.puts in
-    refused _ _ _ _ _ c.from_residual-in_err-in_range.ensures.1 (puts_then_refused _ _ _ _ _ _ _ _ c.in_ok-parts.ensures.puts
-    (puts_then_refused _ _ _ _ _ _ _ _ half (puts_then_refused _ _ _ _ _ _ _ _ c.in_ok-near.ensures.puts (refused_then _ _ _ _ _ _ in_range))))
+    refused _ _ _ _ _ c.from_residual-in_err-in_range.ensures.1 (some_then _ c.in_ok-parts.ensures.puts (some_then _ half (some_then _ c.in_ok-near.ensures.puts
+    (some_first _ in_range))))
 
 pub returns-clause-puts : goal.returns-clause-puts
 unfolding shift_of

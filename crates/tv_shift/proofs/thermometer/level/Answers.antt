@@ -1,5 +1,5 @@
 use Rattle.std.proofs.Common.{◌≡◌, ℕ, ◌-◌, ◌^◌, ◌<◌, arith}
-use Rattle.tv_core.proofs.Chain.{puts_no_turn, puts_turn, turn_refused, refused, refused_then, puts_then, puts_nothing}
+use Rattle.tv_core.proofs.Chain.{puts_no_turn, puts_turn, turn_refused, refused, all_then, all_pure, some_first}
 use Rattle.tv_core.specs.Circuits.{Circuit}
 use Rattle.tv_shift.specs.Thermometer.{level_product_of, bit_level_of}
 use Rattle.tv_shift.proofs.thermometer.level.Goals as goal
@@ -17,7 +17,7 @@ loop-j-preserved g c =
     let grown = c.in_ok-times_by.ensures.grows in
     let one = rw (c.set_wire.ensures.terms, c.offset.ensures, c.set_mark.ensures.terms) at c.in_ok-times_by.ensures.puts in
     record {
-      puts = puts_turn g.S.Sink.meaning _ piece tt _ _ _ _ _ c.loop-j.invariant.puts (puts_then _ _ _ _ _ _ _ _ one (puts_nothing _ _ _));
+      puts = puts_turn g.S.Sink.meaning _ piece tt _ _ _ _ _ c.loop-j.invariant.puts (all_then _ one all_pure);
       grows = record { wires = omega (arith, grown.wires); constraints = omega (arith, grown.constraints); whole = grown.whole };
     }
 
@@ -30,7 +30,7 @@ returns-in_err-times_by-clause-puts g c =
     let one = rw (c.set_wire.ensures.terms, c.offset.ensures, c.set_mark.ensures.terms) at c.in_err-times_by.ensures.puts in
     let turn = turn_refused m
     (2 ^ c.args.k - 1) c.loop-j.j piece tt tt c.args.s.now c.loop-j.s c.times_by.new.s c.in_err-times_by.field-0.0 within c.loop-j.invariant.puts
-    (refused_then _ _ _ _ _ _ one) in
+    (some_first _ one) in
     refused _ _ _ _ _ c.from_residual.ensures.1 turn
 
 pub returns-clause-puts : goal.returns-clause-puts

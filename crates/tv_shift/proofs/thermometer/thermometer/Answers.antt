@@ -1,5 +1,5 @@
 use Rattle.std.proofs.Common.{◌≡◌, ℕ, ◌+◌, arith}
-use Rattle.tv_core.proofs.Chain.{chain, puts_no_turn, puts_turn, turn_refused, refused}
+use Rattle.tv_core.proofs.Chain.{puts_no_turn, puts_turn, turn_refused, refused, all_then, all_pure, some_then, some_first}
 use Rattle.tv_core.proofs.LoopLaws.{puts_here_as}
 use Rattle.tv_core.specs.Circuits.{Circuit}
 use Rattle.tv_shift.proofs.MarkTerms.{products-more, products-up}
@@ -33,7 +33,7 @@ returns-in_err-level-clause-puts g c =
     let turn = turn_refused m c.args.k c.loop-i.i piece tt tt c.args.s.now c.loop-i.s c.level.new.s c.in_err-level.field-0.0 c.loop-i-test.true
     c.loop-i.invariant.puts c.in_err-level.ensures.puts in
     let first = puts_here_as m c.args.s.now c.wires.result c.wires.ensures in
-    refused _ _ _ _ _ c.from_residual.ensures.1 (search (chain, first, turn))
+    refused _ _ _ _ _ c.from_residual.ensures.1 (some_then _ first (some_first _ turn))
 
 pub returns-clause-puts : goal.returns-clause-puts
 unfolding thermometer_of
@@ -41,7 +41,7 @@ returns-clause-puts g c =
     let all : c.loop-i.i ≡ c.args.k = omega arith in
     let first = puts_here_as g.S.Sink.meaning c.args.s.now c.wires.result c.wires.ensures in
     let turns = rw all at c.loop-i.invariant.puts in
-    search (chain, first, turns)
+    all_then _ first (all_then _ turns all_pure)
 
 pub level-requires-clause-room : goal.level-requires-clause-room
 level-requires-clause-room g c =

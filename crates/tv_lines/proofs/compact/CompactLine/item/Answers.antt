@@ -4,7 +4,6 @@ use Rattle.tv_core.specs.Combinations.{constant, scaled}
 use Rattle.tv_core.specs.Constraints.{Combination}
 use Rattle.tv_core.specs.Normal.{normal}
 use Rattle.tv_core.specs.declared.field.TheConstants.{P}
-use Rattle.tv_core.specs.declared.lines.Pair.{Pair}
 use Rattle.tv_lines.specs.Compact.{word_lc}
 use Rattle.tv_lines.specs.PackedLines.{packed_terms}
 use Rattle.tv_lines.proofs.compact.CompactLine.item.Goals as goal
