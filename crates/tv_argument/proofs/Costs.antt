@@ -1,5 +1,5 @@
 -- What the memory argument costs: how many constraints it puts, and how many terms they have.
-use Rattle.std.proofs.Common.{◌≡◌, ℕ, zero, suc, ◌+◌, ◌-◌, ◌*◌, ◌^◌, ◌<◌, ◌≤◌, List, length, All, refl, sym, subst, ap, ap₂, ◌∙◌, arith}
+use Rattle.std.proofs.Common.{◌≡◌, ℕ, suc, ◌+◌, ◌-◌, ◌^◌, ◌≤◌, List, length, All, refl, sym, subst, ap, ap₂, ◌∙◌, arith}
 use Rattle.tv_benes.proofs.CostLaws.{network_counted}
 use Rattle.tv_benes.proofs.Measures.{lengths, terms, turns_cost}
 use Rattle.tv_benes.proofs.Placed.{network_from}
@@ -9,9 +9,8 @@ use Rattle.tv_benes.specs.Network.{network_of}
 use Rattle.tv_benes.specs.Places.{output, output_wire}
 use Rattle.tv_benes.specs.declared.places.Outputs.{Outputs}
 use Rattle.tv_benes.specs.declared.shape.Net.{Net}
-use Rattle.tv_core.proofs.BelowLaws.{sum_below-zero, sum_below-suc}
 use Rattle.tv_core.specs.Below.{sum_below}
-use Rattle.tv_core.specs.Circuits.{Circuit, pure, turns, ◌>>=◌}
+use Rattle.tv_core.specs.Circuits.{pure, ◌>>=◌}
 use Rattle.tv_core.specs.Combinations.{top, wire}
 use Rattle.tv_core.specs.Meanings.{terms_in}
 use Rattle.tv_core.specs.declared.lines.LineLc.{LineLc}

@@ -1,23 +1,21 @@
 -- The memory argument has at most 2 ^ 10 terms a line.
-use Rattle.std.proofs.Common.{◌≡◌, ℕ, suc, ◌+◌, ◌-◌, ◌*◌, ◌/◌, ◌%◌, ◌^◌, ◌<◌, ◌≤◌, List, [], ◌++◌, length, All, sym, ap, ◌∙◌, arith, subst, eqb}
+use Rattle.std.proofs.Common.{◌≡◌, ℕ, suc, ◌+◌, ◌-◌, ◌*◌, ◌/◌, ◌%◌, ◌^◌, ◌≤◌, List, [], ◌++◌, length, All, sym, ap, ◌∙◌, arith, eqb}
 use Rattle.std.proofs.Math.Nat.{mul-le-mul_right}
 use Rattle.std.proofs.lemmas.Bool.{cond_both}
 use Rattle.std.proofs.lemmas.List.{length-append}
 use Rattle.tv_benes.proofs.Most.{switches_most}
 use Rattle.tv_benes.specs.Costs.{number_terms, switch_terms, column_terms, surplus, inner_terms}
-use Rattle.tv_benes.specs.Through.{switches}
 use Rattle.tv_benes.specs.declared.shape.Net.{Net}
 use Rattle.tv_benes.specs.declared.shape.Net.TheVariants.{Benes, Waksman}
 use Rattle.tv_bits.proofs.GateLaws.{length-scaled}
 use Rattle.tv_core.proofs.NormalLaws.{length-normal}
-use Rattle.tv_core.specs.Below.{sum_below}
 use Rattle.tv_core.specs.Combinations.{constant, less, scaled}
 use Rattle.tv_core.specs.Constraints.{Combination}
 use Rattle.tv_core.specs.declared.field.TheConstants.{P}
 use Rattle.tv_core.specs.declared.lines.LineLc.{LineLc}
 use Rattle.tv_core.specs.declared.lines.Pair.{Pair}
 use Rattle.tv_lines.specs.Placed.{line_in}
-use Rattle.tv_lines.specs.Predecessor.{less_above, cell_excess}
+use Rattle.tv_lines.specs.Predecessor.{less_above}
 use Rattle.tv_argument.proofs.CheckCosts.{sum_few}
 use Rattle.tv_argument.proofs.Made.{at, are_made}
 use Rattle.tv_argument.specs.Checks.{Checks, check_terms, AreShort, IsShortKind}
@@ -64,7 +62,8 @@ inner_few net h few =
 above_few : (x y : Combination) → length (less_above x y) ≤ length x + length y
 above_few x y = omega (arith, length-normal (x ++ scaled (P - 2 ^ 32) y), length-append x (scaled (P - 2 ^ 32) y), length-scaled (P - 2 ^ 32) y)
 
-check_few : (kind : Kind) (line : LineLc) → IsShortKind kind → length line.cell ≤ 32 → length line.time ≤ 32 → length line.old ≤ 32 → check_terms kind line ≤ 265
+check_few : (kind : Kind) (line : LineLc) → IsShortKind kind → length line.cell ≤ 32 → length line.time ≤ 32 → length line.old ≤ 32
+    → check_terms kind line ≤ 265
 check_few ZeroOld line short cell time old = omega arith
 check_few Least line short cell time old = omega (arith, length-normal line.old)
 check_few (Boot c) line short cell time old = omega (arith, above_few [] (constant c))

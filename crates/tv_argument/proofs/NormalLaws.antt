@@ -1,5 +1,5 @@
 -- What the memory argument puts is normal.
-use Rattle.std.proofs.Common.{◌≡◌, ℕ, suc, ◌+◌, ◌-◌, ◌*◌, ◌%◌, ◌^◌, ◌<◌, ◌≤◌, List, length, All, refl, sym, ap, ◌∙◌, arith, subst}
+use Rattle.std.proofs.Common.{◌≡◌, ℕ, suc, ◌+◌, ◌-◌, ◌%◌, ◌^◌, ◌<◌, ◌≤◌, List, length, All, refl, sym, ap, ◌∙◌, arith, subst}
 use Rattle.tv_benes.proofs.NetworkLaws.{network_next}
 use Rattle.tv_benes.proofs.NormalLaws.{network_normal}
 use Rattle.tv_benes.proofs.Sizes.{network_sizes}
@@ -22,7 +22,7 @@ use Rattle.tv_argument.proofs.Made.{at, are_made}
 use Rattle.tv_argument.proofs.Parts.{turns_end}
 use Rattle.tv_argument.proofs.Sizes.{check_next}
 use Rattle.tv_argument.specs.Checks.{Checks, check_of, check_made, AreShort, IsShortKind}
-use Rattle.tv_argument.specs.Memory.{IsMade, items_of, checked_network_of, argument_of, MemoryIsNormal}
+use Rattle.tv_argument.specs.Memory.{IsMade, items_of, checked_network_of, MemoryIsNormal}
 use Rattle.tv_argument.specs.declared.kinds.Kind.{Kind}
 use Rattle.tv_argument.specs.declared.kinds.Kind.TheVariants.{ZeroOld, Least, Boot, Within}
 

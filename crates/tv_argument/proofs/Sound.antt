@@ -35,8 +35,8 @@ use Rattle.tv_argument.specs.declared.kinds.Kind.TheVariants.{ZeroOld, Least, Bo
 -- a checked line follows that of the item, but the least line
 pub follows_kind : (z : List ℕ) (kind : Kind) (least i next : ℕ) (item : Pair) (line : LineLc) (before : Line) → Assigns z
     → IsOfKind least i (line_value z line) kind → i ≢ least
-    → LineInRange before → LineInRange (line_value z line) → pair_value z item ≡ packed_item before → Meets z (check_of kind item line next).list → Follows before
-    (line_value z line)
+    → LineInRange before → LineInRange (line_value z line) → pair_value z item ≡ packed_item before → Meets z (check_of kind item line next).list
+    → Follows before (line_value z line)
 follows_kind z ZeroOld least i next item line before assigns suits other r s is met = absurd (other suits.0)
 follows_kind z Least least i next item line before assigns suits other r s is met = absurd (other suits)
 follows_kind z (Boot c) least i next item line before assigns suits other r s is met =

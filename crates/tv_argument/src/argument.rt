@@ -1,5 +1,5 @@
 //! The argument's constraints, and its laws.
-ghost use Rattle.std.specs.Prelude.{◌≡◌, ◌^◌, ◌≤◌, ◌<◌, length, All, IfOk};
+ghost use Rattle.std.specs.Prelude.{◌≡◌, ◌^◌, ◌≤◌, length, All, IfOk};
 ghost use Rattle.tv_benes.specs.Places.{output, AreBelow};
 ghost use Rattle.tv_benes.specs.declared.shape.Net.{Net};
 ghost use Rattle.tv_core.specs.Below.{sum_below};
@@ -9,7 +9,8 @@ ghost use Rattle.tv_lines.specs.Placed.{line_in};
 ghost use Rattle.tv_lines.specs.Predecessor.{IsLineMade, IsItemMade};
 ghost use Rattle.tv_lines.specs.Compact.{line_lc};
 ghost use Rattle.tv_argument.specs.Argument.{ArgumentIsSound, ArgumentIsComplete};
-ghost use Rattle.tv_argument.specs.Checks.{AreShort, IsShortKind, check_of, check_made, check_added};
+ghost use Rattle.tv_argument.specs.Checks.{AreShort, IsShortKind, check_of, check_made};
+ghost use Rattle.tv_argument.specs.Checks.{check_added};
 ghost use Rattle.tv_argument.specs.Memory.{IsMade, argument_of, argument_made, argument_added};
 ghost use Rattle.tv_argument.specs.Memory.{ArgumentCosts, MemoryIsNormal};
 ghost use Rattle.tv_argument.specs.Order.{argument_values};
@@ -91,7 +92,7 @@ fn check<S: Sink>(
     }
 }
 
-/// CompactLines at the times 0, 1, 2, .. that are of their kinds are honest in every assignment that
+/// Lines at the times 0, 1, 2, .. that are of their kinds are honest in every assignment that
 /// satisfies the constraints of `memory`, whatever it has at the wires of the network and of the
 /// checks.
 pub fn argument_is_sound()

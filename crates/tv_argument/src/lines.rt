@@ -1,4 +1,4 @@
-//! CompactLines by their indexes: in compact form for the constraints, in numbers for their values.
+//! Lines by their indexes: in compact form for the constraints, in numbers for their values.
 ghost use Rattle.std.specs.Prelude.{◌≡◌, ◌<◌, List, length};
 ghost use Rattle.tv_core.specs.Lines.{Line};
 ghost use Rattle.tv_core.specs.declared.lines.LineLc.{LineLc};
@@ -12,7 +12,7 @@ use tv_benes::Inputs;
 use tv_core::{Line, Pair};
 use tv_lines::CompactLine;
 
-/// CompactLines by their indexes, and how each is checked. Contracts see them as a list and as `Checks`.
+/// Lines by their indexes, and how each is checked. Contracts see them as a list and as `Checks`.
 pub trait CompactLines {
     ghost lines: { Self → List LineLc };
 

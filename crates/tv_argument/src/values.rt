@@ -1,5 +1,5 @@
 //! The values of the argument's wires.
-ghost use Rattle.std.specs.Prelude.{◌≡◌, ◌^◌, ◌≤◌, ◌<◌, false, length, OnOk};
+ghost use Rattle.std.specs.Prelude.{◌≡◌, ◌^◌, ◌≤◌, false, length, OnOk};
 ghost use Rattle.tv_benes.specs.Items.{bit_at, pair_at};
 ghost use Rattle.tv_core.specs.Values.{GivesIn};
 ghost use Rattle.tv_lines.specs.PackedLines.{unpacked};

@@ -78,20 +78,20 @@ test_by w n v i low high takes k =
     sign_at_zero (tested_number w k (operand_word v i) low high result) (sign_at k)
 
 test_shift : (w n : ℕ) (v : View) (i : Instr) (low high : ℕ) (takes : Bool) → IsWidth w → among shift_ops i.op ≡ true
-    → test_in w n v i low high takes ≡ flag_of (nat_lt (operand_word v i) w)
+    → test_in w (input_of n v i low) high takes ≡ flag_of (nat_lt (operand_word v i) w)
 test_shift w n v i low high takes width e =
     among_each (λ k. test_by w n v i low high takes k ≡ (if operand_word v i / 2 ^ place_bits w == 0 then 1 else 0)) shift_ops (refl, (refl, tt)) i.op e
     ∙ below_width w width (operand_word v i)
 
 test_division : (w n : ℕ) (v : View) (i : Instr) (low high : ℕ) (takes : Bool) → among division_ops i.op ≡ true
-    → test_in w n v i low high takes ≡ flag_of (operand_word v i == 0)
+    → test_in w (input_of n v i low) high takes ≡ flag_of (operand_word v i == 0)
 test_division w n v i low high takes =
     among_each (λ k. test_by w n v i low high takes k ≡ (if operand_word v i == 0 then 1 else 0)) division_ops (refl, (refl, tt)) i.op
 
 -- ---- the parts up to the arithmetic
 -- the values of the parts after it, from the halves of the row and the test
 abbrev later_values : ℕ → ℕ → View → Instr → Bool → ℕ → ℕ → ℕ → List ℕ
-later_values w n v i takes low high f = tapes_values w n v i low takes ++ effects_values w n v i low high takes f
+later_values w n v i takes low high f = tapes_values w n v i low takes ++ effects_values w (input_of n v i low) high takes f
 
 had_later : (w n : ℕ) (v : View) (i : Instr) (takes : Bool) (z : List ℕ) (at l h f low high test : ℕ) → low ≡ l → high ≡ h → test ≡ f
     → HasFrom z at (later_values w n v i takes l h f) → HasFrom z at (later_values w n v i takes low high test)
@@ -129,7 +129,7 @@ module _ (w : ℕ) (z : List ℕ) (n : ℕ) (state : StateWires) (at head tail :
     pub row : IsOpcode z (op w n state at) instr.op
     pub are : AreRegisters z (triple w n state at).answer now instr
     pub is : IsOperand w z (operand w n state at).answer a_of
-    pub tests : slice_index z (test w n state at) ≡ test_in w n now instr low_at high_at takes
+    pub tests : slice_index z (test w n state at) ≡ test_in w (input_of n now instr low_at) high_at takes
     pub does : IsArithmetic w z (made w n state at).answer (test w n state at) (operand w n state at).answer (operation_of instr.op x_of a_of)
     pub decomposed : HasBits z (made w n state at).answer.x.first w (decomposed_word w instr.op x_of a_of)
     pub low : low_at ≡ row_low w now instr o
@@ -146,7 +146,7 @@ front w width z n state at head tail o takes assigns in_range has =
     let a = operand_word v i in
     let low = row_low w v i o in
     let high = row_high w v i in
-    let f = test_in w n v i low high takes in
+    let f = test_in w (input_of n v i low) high takes in
     let known : Before w z n state = record { width = width; assigns = assigns; short = in_range.short; range = range } in
     let size = state_sixteen w z n state range in
     let r4 : List ℕ = later_values w n v i takes low high f in
@@ -229,7 +229,7 @@ front w width z n state at head tail o takes assigns in_range has =
       row = row;
       are = are;
       is = is;
-      tests = f_is ∙ ap₂ (λ l h. test_in w n v i l h takes) (sym m4.1) (sym m4.2);
+      tests = f_is ∙ ap₂ (λ l h. test_in w (input_of n v i l) h takes) (sym m4.1) (sym m4.2);
       does = does;
       decomposed = subst (λ k. HasBits z k w (decomposed_word w i.op x a)) (sym (ap (λ m. m.x.first) first_is)) bits_from;
       low = m4.1;
@@ -287,7 +287,7 @@ back w width z n state at head tail o takes assigns in_range fore =
     let decomposed = decomposed_word w i.op x a in
     let x_word = other_below w n v head tail range in
     let t = tapes w n state at in
-    let h5 = some_had z arith_made.next t.next (tapes_values w n v i low takes) (effects_values w n v i low high takes f)
+    let h5 = some_had z arith_made.next t.next (tapes_values w n v i low takes) (effects_values w (input_of n v i low) high takes f)
     (tapes_sizes.fills w n state row_op taken.answer v i low takes arith_made.next) fore.rest in
     let m5 = tapes_filled w width z arith_made.next n state row_op taken.answer v i low takes (record {
       assigns = assigns;
@@ -301,11 +301,12 @@ back w width z n state at head tail o takes assigns in_range fore =
     }) in_range.asked h5.0 in
     let b = took z t.answer in
     let are_tapes = tapes_in known head tail fore.row fore.is arith_made.next m5.0 in
-    let rest : HasFrom z t.next (effects_values w n v i low high b f) = subst (λ k. HasFrom z t.next (effects_values w n v i low high k f)) (sym m5.1) h5.1 in
-    let tests : f ≡ test_in w n v i low high b = fore.tests ∙ ap (λ k. test_in w n v i low high k) (sym m5.1) in
+    let rest : HasFrom z t.next (effects_values w (input_of n v i low) high b f) =
+    subst (λ k. HasFrom z t.next (effects_values w (input_of n v i low) high k f)) (sym m5.1) h5.1 in
+    let tests : f ≡ test_in w (input_of n v i low) high b = fore.tests ∙ ap (λ k. test_in w (input_of n v i low) high k) (sym m5.1) in
     let finds = found w n v i low b in
     let result = result_number w i.op a low high finds in
-    let y = tested_in w n v i low high b in
+    let y = tested_in w (input_of n v i low) high b in
     let r6 : List ℕ = pc_values w v i in
     let r5 : List ℕ = flag_values w (input_of n v i low) b f ++ r6 in
     let r4 : List ℕ = written_values w n v i low b ++ r5 in
@@ -313,8 +314,8 @@ back w width z n state at head tail o takes assigns in_range fore =
     let r2 : List ℕ = results_values w i.op a low high finds ++ r3 in
     let d = data_of arith_made.answer regs.answer.other_word in
     let mem = memory w n state at in
-    let h6 = some_had z t.next mem.next (memory_values w (input_of n v i low) decomposed b) r2
-    (memory_sizes.fills w width n state row_op taken.answer d t.answer v i decomposed low b t.next) rest in
+    let h6 = some_had z t.next mem.next (memory_values w (input_of n v i low) decomposed) r2
+    (memory_sizes.fills w width n state row_op taken.answer d t.answer v i decomposed low t.next) rest in
     let m6 = memory_complete w width z t.next n state row_op taken.answer d t.answer v i decomposed low (record {
       assigns = assigns;
       short = in_range.short;

@@ -188,7 +188,7 @@ module _ {w : ℕ} {z : List ℕ} {n : ℕ} {state : StateWires} (known : Before
       input = input_of n v i low
 
       pub memory_in : (next other : ℕ) → slice_index z other ≡ x → Meets z (memory_of w state op taken (data_of made other) t next).list
-          → AreStored w z (memory_of w state op taken (data_of made other) t next).answer input (took z t)
+          → AreStored w z (memory_of w state op taken (data_of made other) t next).answer input
       memory_in next other held meets =
           memory_sound w known.width z next n state op taken (data_of made other) t v i does.bits.0 low (record {
             assigns = known.assigns;

@@ -8,7 +8,7 @@ use Rattle.tv_numbers.specs.Numbers.{operand_word, other_word, found, step_words
 use Rattle.tv_numbers.specs.Views.{View}
 use Rattle.tv_parts.specs.Arithmetic.{arithmetic_values}
 use Rattle.tv_parts.specs.Flag.{sign_at}
-use Rattle.tv_parts.specs.Inputs.{operation_of}
+use Rattle.tv_parts.specs.Inputs.{input_of, operation_of}
 use Rattle.tv_parts.specs.Operand.{operand_values}
 use Rattle.tv_parts.specs.Results.{result_number, tested_number}
 use Rattle.tv_parts.specs.Tapes.{tapes_values}
@@ -35,7 +35,7 @@ computed_by w v head tail step test =
 
 abbrev pub effects_by : ℕ → View → StepNumbers → ℕ → List ℕ
 effects_by w v step test =
-    tapes_values w step.n v step.instr step.low step.aux ++ effects_values w step.n v step.instr step.low step.high step.aux test
+    tapes_values w step.n v step.instr step.low step.aux ++ effects_values w (input_of step.n v step.instr step.low) step.high step.aux test
 
 -- the test by the opcode k, the operand, the halves of the row, and whether a read finds a word
 abbrev pub test_by : ℕ → ℕ → ℕ → ℕ → ℕ → Bool → ℕ
@@ -47,7 +47,7 @@ module _ (w n : ℕ) (v : View) (head tail word : ℕ) (takes : Bool) (step : St
       instruction_values w head tail
       ++ (triple_values (other_register i) (tail % 16) i.dest v.regs
       ++ (operand_values w a
-      ++ f ∷ (arithmetic_values w (operation_of i.op x a) f low high ++ (tapes_values w m v i low b ++ effects_values w m v i low high b f))))
+      ++ f ∷ (arithmetic_values w (operation_of i.op x a) f low high ++ (tapes_values w m v i low b ++ effects_values w (input_of m v i low) high b f))))
 
   abbrev test_at : ℕ → Instr → Bool → ℕ → ℕ → ℕ
   test_at m i b low high = test_by w i.op (operand_word v i) low high (found w m v i low b)

@@ -12,7 +12,8 @@ use Rattle.tv_isa.specs.declared.instr.Instr.{Instr}
 use Rattle.tv_isa.specs.declared.opcode.TheConstants.{STORE_B, STORE_W, READ}
 use Rattle.tv_mem.proofs.WordLaws.{words_are_small}
 use Rattle.tv_numbers.proofs.ShownLaws.{machine_shows, seen_in_range}
-use Rattle.tv_numbers.specs.Numbers.{other_word, operand_word, touches, takes_primary, asks, with_byte_in, data_line, Transition, transition_of, lines_in, step_words}
+use Rattle.tv_numbers.specs.Numbers.{other_word, operand_word, touches, takes_primary, asks, with_byte_in, data_line}
+use Rattle.tv_numbers.specs.Numbers.{Transition, transition_of, lines_in, step_words}
 use Rattle.tv_numbers.specs.Shown.{data_word_of, head_at, tail_at, data_at}
 use Rattle.tv_numbers.specs.Views.{View, seen}
 use Rattle.tv_step.proofs.CellLaws.{lines_in_range}
@@ -73,12 +74,12 @@ no_word : (touched primary sw sb : Bool) (cell time x r b low o : ℕ) → touch
     → line_by touched primary sw sb cell time x r b low ≡ line_by touched primary sw sb cell time x r b o
 no_word touched primary sw sb cell time x r b low o e f g h = rw (e, f, g, h) refl
 
-same_data_line : (w n : ℕ) (v : View) (i : Instr) (o : ℕ) (takes : Bool) (time : ℕ)
-    → data_line w n v i (row_low w v i o) takes time ≡ data_line w n v i o takes time
-same_data_line w n v i o takes time = by (among data_ops i.op) refl
+same_data_line : (w n : ℕ) (v : View) (i : Instr) (o time : ℕ)
+    → data_line w n v i (row_low w v i o) time ≡ data_line w n v i o time
+same_data_line w n v i o time = by (among data_ops i.op) refl
   where
-    by : (b : Bool) → among data_ops i.op ≡ b → data_line w n v i (row_low w v i o) takes time ≡ data_line w n v i o takes time
-    by true e = ap (λ k. data_line w n v i k takes time) (low_is_data w v i o e)
+    by : (b : Bool) → among data_ops i.op ≡ b → data_line w n v i (row_low w v i o) time ≡ data_line w n v i o time
+    by true e = ap (λ k. data_line w n v i k time) (low_is_data w v i o e)
     by false e =
         let none = has_none i.op e in
         no_word (touches v i) (takes_primary v i n) (i.op == STORE_W) (i.op == STORE_B) _ time (other_word v i) _ _ (row_low w v i o) o
@@ -89,7 +90,7 @@ same_lines : (w n time : ℕ) (v : View) (head tail o : ℕ) (takes : Bool)
     ≡ lines_in (transition_of w n time v (step_words head tail o takes))
 same_lines w n time v head tail o takes =
     let b = transition_of w n time v (step_words head tail o takes) in
-    ap (λ (line : Line). b.first ∷ b.second ∷ line ∷ []) (same_data_line w n v (decode w head tail) o takes (time + 2))
+    ap (λ (line : Line). b.first ∷ b.second ∷ line ∷ []) (same_data_line w n v (decode w head tail) o (time + 2))
 
 -- ---- the machine's step
 pub machine_step_met : MachineStepIsMet

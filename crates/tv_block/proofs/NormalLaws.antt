@@ -1,5 +1,5 @@
 -- A step's constraints are of normal combinations.
-use Rattle.std.proofs.Common.{◌≡◌, ℕ, ◌+◌, ◌-◌, ◌*◌, ◌/◌, ◌^◌, ◌<◌, ◌≤◌, [], ◌∷◌, ◌++◌, refl, ◌∙◌, ap, arith}
+use Rattle.std.proofs.Common.{◌≡◌, ℕ, ◌+◌, ◌-◌, ◌*◌, ◌^◌, ◌<◌, ◌≤◌, [], refl, ◌∙◌, ap, arith}
 use Rattle.tv_bits.proofs.NormalLaws.{bits_normal_plain, bits_top, zero_sign_normal}
 use Rattle.tv_bits.specs.Number.{number_of}
 use Rattle.tv_core.proofs.NormalCircuits.{normal_both}

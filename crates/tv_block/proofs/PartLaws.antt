@@ -1,8 +1,8 @@
 -- What the parts of a step that are made of gadgets alone say: opcode, registers, test and registers written.
-use Rattle.std.proofs.Common.{◌≡◌, ℕ, zero, suc, ◌+◌, ◌-◌, ◌*◌, ◌/◌, ◌%◌, ◌^◌, ◌<◌, ◌==◌, nat_lt, Bool, true, false, if◌then◌else◌, List, [], ◌∷◌}
+use Rattle.std.proofs.Common.{◌≡◌, ℕ, ◌+◌, ◌-◌, ◌*◌, ◌%◌, ◌<◌, ◌==◌, Bool, true, false, if◌then◌else◌, List, [], ◌∷◌}
 use Rattle.std.proofs.Common.{◌++◌, length, inl, inr, refl, sym, ◌∙◌, ap, ap₂, subst, arith, true≢false}
 use Rattle.std.specs.List.{AllByRecursion, list_all}
-use Rattle.std.specs.Prelude.{slice_index, slice_set}
+use Rattle.std.specs.Prelude.{slice_index}
 use Rattle.std.proofs.lemmas.Bool.{cases_eq, ne_eqb, eqb-true, and_parts}
 use Rattle.std.proofs.lemmas.Bool.Decides.{nat_tests}
 use Rattle.tv_bits.specs.Bit.{IsBit}
@@ -18,7 +18,7 @@ use Rattle.tv_decode.proofs.InstructionLaws.{opcode_wire}
 use Rattle.tv_decode.specs.Instructions.{dest_bits, source_bits, register_bits, IsOpcodeRow, IsDecoded}
 use Rattle.tv_decode.specs.declared.records.InstructionWires.{InstructionWires}
 use Rattle.tv_isa.specs.Instruction.{decode}
-use Rattle.tv_isa.specs.Opcodes.{among, is_used, unused_ops, store_ops, writer_ops, place_of}
+use Rattle.tv_isa.specs.Opcodes.{among, is_used, unused_ops, store_ops, writer_ops}
 use Rattle.tv_isa.specs.declared.instr.Instr.{Instr}
 use Rattle.tv_isa.specs.declared.opcode.TheConstants.{CMOV, USED}
 use Rattle.tv_numbers.specs.Numbers.{other_word, result_in, stepped}
@@ -30,18 +30,17 @@ use Rattle.tv_regs.specs.Triple.{AreNumbers}
 use Rattle.tv_regs.specs.Writes.{written_regs}
 use Rattle.tv_regs.specs.declared.triple.Triple.{Triple}
 use Rattle.tv_word.proofs.FlagLaws.{flag_small}
-use Rattle.tv_word.proofs.WidthLaws.{for_widths}
 use Rattle.tv_word.specs.Widths.{IsWidth}
 use Rattle.tv_parts.proofs.AccumulationLaws.{accumulated_sound}
 use Rattle.tv_parts.proofs.OpcodeLaws.{opcode_terms_sound, opcode_sum_sound}
 use Rattle.tv_parts.proofs.TapeFills.{flag_test}
 use Rattle.tv_parts.proofs.TapeLaws.{among_one}
-use Rattle.tv_parts.proofs.WrittenFills.{on_number, writes_among, written_where, none_of}
+use Rattle.tv_parts.proofs.WrittenFills.{on_number, writes_among, regs_where, none_of}
 use Rattle.tv_parts.specs.Accumulation.{accumulated_of}
 use Rattle.tv_parts.specs.Arithmetic.{shift_ops, division_ops}
 use Rattle.tv_parts.specs.Flag.{sign_at}
 use Rattle.tv_parts.specs.OpcodeSums.{opcode_sum, opcode_terms, distinct, IsOpcode}
-use Rattle.tv_parts.specs.Results.{place_bits, sign_of}
+use Rattle.tv_parts.specs.Results.{sign_of}
 use Rattle.tv_parts.specs.States.{state_in}
 use Rattle.tv_parts.specs.Written.{written_of}
 use Rattle.tv_parts.specs.declared.records.StateWires.{StateWires}
@@ -146,7 +145,7 @@ written_sound w z next n state op regs result v i o takes size assigns row withi
       old = are.dest_word ∙ ap (λ l. slice_index l i.dest) (sym words);
     }) m1.1
     ∙ ap₂ (λ b l. written_regs b (slice_index z result) i.dest l) (ap (λ k. k == 1) on_at ∙ flag_test writes) words
-    ∙ written_where writes (slice_index z result) (result_in w n v i o takes) i.dest v.regs (λ e. is (writes_among i.op v.flag e))
+    ∙ regs_where writes (slice_index z result) (result_in w n v i o takes) i.dest v.regs (λ e. is (writes_among i.op v.flag e))
 
 -- ---- the sign of the test
 abbrev term_at : ℕ → List ℕ → ℕ → ℕ

@@ -27,12 +27,12 @@ use Rattle.tv_step.proofs.RangeLaws.{word_at}
 use Rattle.tv_word.specs.Widths.{IsWidth}
 use Rattle.tv_parts.proofs.ArithmeticCounts.{arithmetic_sizes}
 use Rattle.tv_parts.proofs.ArithmeticNumbers.{numbers_are_words}
+use Rattle.tv_parts.proofs.FieldNumbers.{small_word}
 use Rattle.tv_parts.proofs.FlagFills.{flag_sizes}
 use Rattle.tv_parts.proofs.MemoryFills.{memory_sizes}
 use Rattle.tv_parts.proofs.OperandLaws.{operand_sizes}
 use Rattle.tv_parts.proofs.PcFills.{pc_sizes}
 use Rattle.tv_parts.proofs.ResultFills.{results_sizes}
-use Rattle.tv_parts.proofs.ResultLaws.{small_word}
 use Rattle.tv_parts.proofs.TapeFills.{tapes_sizes}
 use Rattle.tv_parts.proofs.WrittenFills.{written_sizes}
 use Rattle.tv_parts.specs.Arithmetic.{decomposed_word, arithmetic_of, arithmetic_values}
@@ -79,9 +79,9 @@ block_length w width n state v head tail o takes size =
     let a = operand_word v i in
     let low = row_low w v i o in
     let high = row_high w v i in
-    let f = test_in w n v i low high takes in
+    let f = test_in w (input_of n v i low) high takes in
     let finds : Bool = found w n v i low takes in
-    let y = tested_in w n v i low high takes in
+    let y = tested_in w (input_of n v i low) high takes in
     let regs : Triple = (triple_of [] [] [] [] [] 0).answer in
     let b : OperandWires = (operand_of w 0 0 0 0).answer in
     let m : ArithmeticWires = (arithmetic_of w 0 0 0 b 0).answer in
@@ -100,9 +100,9 @@ block_length w width n state v head tail o takes size =
     counted (tapes_of w n state 0 b) (tapes_values w n v i low takes) 7 (tapes_sizes.end w n state 0 b)
     (tapes_sizes.fills w n state 0 b v i low takes) in
     let e6 =
-    counted (memory_of w state 0 b (data_of m 0) t) (memory_values w (input_of n v i low) (decomposed_word w i.op x a) takes) (w / 8 + 5)
+    counted (memory_of w state 0 b (data_of m 0) t) (memory_values w (input_of n v i low) (decomposed_word w i.op x a)) (w / 8 + 5)
     (memory_sizes.end w width state 0 b (data_of m 0) t)
-    (memory_sizes.fills w width n state 0 b (data_of m 0) t v i (decomposed_word w i.op x a) low takes) in
+    (memory_sizes.fills w width n state 0 b (data_of m 0) t v i (decomposed_word w i.op x a) low) in
     let e7 =
     counted (results_of w state 0 b (sources_of w m 0) t) (results_values w i.op a low high finds) 5
     (results_sizes.end w state 0 b (sources_of w m 0) t)
@@ -142,9 +142,9 @@ block_in_field w width n v head tail o takes short range head_word tail_word o_w
     let a = operand_word v i in
     let low = row_low w v i o in
     let high = row_high w v i in
-    let f = test_in w n v i low high takes in
+    let f = test_in w (input_of n v i low) high takes in
     let finds : Bool = found w n v i low takes in
-    let y = tested_in w n v i low high takes in
+    let y = tested_in w (input_of n v i low) high takes in
     let register : (j : ℕ) → slice_index v.regs j < 2 ^ w = λ j. word_at w width v.regs j range.words in
     let field : (k : ℕ) → k < 2 ^ w → k < P = small_word w width in
     let a_word : a < 2 ^ w =
@@ -165,7 +165,7 @@ block_in_field w width n v head tail o takes short range head_word tail_word o_w
     let r9 : List ℕ = written_values w n v i low takes ++ r10 in
     let r8 : List ℕ = zero_sign_values y (sign_at i.op) ++ r9 in
     let r7 : List ℕ = results_values w i.op a low high finds ++ r8 in
-    let r6 : List ℕ = memory_values w (input_of n v i low) (decomposed_word w i.op x a) takes ++ r7 in
+    let r6 : List ℕ = memory_values w (input_of n v i low) (decomposed_word w i.op x a) ++ r7 in
     let r5 : List ℕ = tapes_values w n v i low takes ++ r6 in
     let r4 : List ℕ = arithmetic_values w (operation_of i.op x a) f low high ++ r5 in
     let r3 : List ℕ = operand_values w a ++ f ∷ r4 in
@@ -178,8 +178,8 @@ block_in_field w width n v head tail o takes short range head_word tail_word o_w
     (InField-append (arithmetic_values w (operation_of i.op x a) f low high) r5
     (arithmetic_sizes.in_field w width i.op x a f low high (field low halves.0) (field high halves.1))
     (InField-append (tapes_values w n v i low takes) r6 (tapes_sizes.in_field w n v i low takes short range.taken range.ended)
-    (InField-append (memory_values w (input_of n v i low) (decomposed_word w i.op x a) takes) r7
-    (memory_sizes.in_field w width n v i (decomposed_word w i.op x a) low takes short range.taken a_word x_word halves.0)
+    (InField-append (memory_values w (input_of n v i low) (decomposed_word w i.op x a)) r7
+    (memory_sizes.in_field w width n v i (decomposed_word w i.op x a) low short range.taken a_word x_word halves.0)
     (InField-append (results_values w i.op a low high finds) r8 (results_sizes.in_field w width i.op a low high finds a_word halves.0 halves.1)
     (InField-append (zero_sign_values y (sign_at i.op)) r9 (zero_sign_sizes.in_field y (sign_at i.op))
     (InField-append (written_values w n v i low takes) r10 (InField-cons _ (stepped w n v i low takes).regs on after)

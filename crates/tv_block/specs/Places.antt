@@ -19,14 +19,14 @@ abbrev pub registers_at : ℕ → ℕ
 registers_at w = 2 * w + 26
 
 abbrev pub operand_at : ℕ → ℕ
-operand_at w = 2 * w + 57
+operand_at w = registers_at w + 31
 
 abbrev pub arithmetic_at : ℕ → ℕ
-arithmetic_at w = 3 * w + 59
+arithmetic_at w = operand_at w + w + 2
 
 -- the tapes, memory, the result, the registers written, the flag, and the program counter
 abbrev pub tapes_at : ℕ → ℕ
-tapes_at w = 6 * w + w / 16 + 71
+tapes_at w = arithmetic_at w + 3 * w + w / 16 + 12
 
 abbrev pub memory_at : ℕ → ℕ
 memory_at w = tapes_at w + 7

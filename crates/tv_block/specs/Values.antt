@@ -11,7 +11,7 @@ use Rattle.tv_numbers.specs.Views.{View}
 use Rattle.tv_regs.specs.Triple.{triple_values}
 use Rattle.tv_parts.specs.Arithmetic.{decomposed_word, low_number, high_number, arithmetic_values}
 use Rattle.tv_parts.specs.Flag.{sign_at, flag_values}
-use Rattle.tv_parts.specs.Inputs.{input_of, operation_of}
+use Rattle.tv_parts.specs.Inputs.{StepInput, input_of, operation_of}
 use Rattle.tv_parts.specs.Memory.{memory_values}
 use Rattle.tv_parts.specs.Operand.{operand_values}
 use Rattle.tv_parts.specs.Pc.{pc_values}
@@ -47,27 +47,29 @@ pub record AreBy (w n : ℕ) (v : View) (by : StepWords) (step : StepNumbers) : 
   pub low : step.low ≡ row_low w v (decode w by.head by.tail) by.word
   pub high : step.high ≡ row_high w v (decode w by.head by.tail)
 
--- from a view by an instruction, with a row of these halves, and whether a word of the auxiliary tape is taken
-module _ (w n : ℕ) (v : View) (i : Instr) (low high : ℕ) (takes : Bool) where
+-- from a step in numbers, with the high half of its row, and whether a word of the auxiliary tape is taken
+module _ (w : ℕ) (step : StepInput) (high : ℕ) (takes : Bool) where
   -- the number that is tested, and the test
   abbrev pub tested_in : ℕ
   tested_in =
-      let finds = found w n v i low takes in
-      tested_number w i.op (operand_word v i) low high (result_number w i.op (operand_word v i) low high finds)
+      let a = operand_word step.view step.instr in
+      let finds = found w step.words step.view step.instr step.low takes in
+      tested_number w step.instr.op a step.low high (result_number w step.instr.op a step.low high finds)
 
   abbrev pub test_in : ℕ
-  test_in = sign_at_zero tested_in (sign_at i.op)
+  test_in = sign_at_zero tested_in (sign_at step.instr.op)
 
   -- the values of the parts after the tapes, f being the test: memory, the result, the sign of the test, the registers
   -- written, the flag and the program counter
   abbrev pub effects_values : ℕ → List ℕ
   effects_values f =
-      memory_values w (input_of n v i low) (decomposed_word w i.op (other_word v i) (operand_word v i)) takes
-      ++ (results_values w i.op (operand_word v i) low high (found w n v i low takes)
-      ++ (zero_sign_values tested_in (sign_at i.op)
-      ++ (written_values w n v i low takes
-      ++ (flag_values w (input_of n v i low) takes f
-      ++ pc_values w v i))))
+      let a = operand_word step.view step.instr in
+      memory_values w step (decomposed_word w step.instr.op (other_word step.view step.instr) a)
+      ++ (results_values w step.instr.op a step.low high (found w step.words step.view step.instr step.low takes)
+      ++ (zero_sign_values tested_in (sign_at step.instr.op)
+      ++ (written_values w step.words step.view step.instr step.low takes
+      ++ (flag_values w step takes f
+      ++ pc_values w step.view step.instr))))
 
 -- the number of the other register
 abbrev pub other_register : Instr → ℕ
@@ -80,10 +82,10 @@ block_values w n v by =
     let i = decode w by.head by.tail in
     let low = row_low w v i by.word in
     let high = row_high w v i in
-    let f = test_in w n v i low high by.takes in
+    let f = test_in w (input_of n v i low) high by.takes in
     instruction_values w by.head by.tail
     ++ (triple_values (other_register i) (by.tail % 16) i.dest v.regs
     ++ (operand_values w (operand_word v i)
     ++ f ∷ (arithmetic_values w (operation_of i.op (other_word v i) (operand_word v i)) f low high
     ++ (tapes_values w n v i low by.takes
-    ++ effects_values w n v i low high by.takes f))))
+    ++ effects_values w (input_of n v i low) high by.takes f))))

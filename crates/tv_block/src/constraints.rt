@@ -50,7 +50,8 @@ pub fn step<const W: u32, S: Sink>(s: &mut S, state: &StateWires, n: u32) -> Put
     requires width { IsWidth W }
     requires room { Room S.meaning s.old (block_made W) (block_added W) }
     requires state_made { StateUnder (S.meaning.wires s.old) state.now }
-    ensures puts { (time : ℕ) → PutsIn S.meaning s.old s.new (reached_of W n state.now time) result }
+    ensures puts { (time : ℕ) →
+        PutsIn S.meaning s.old s.new (reached_of W n state.now time) result }
     ensures grows { IfOk result (λ _. Grows S.meaning s.old s.new (block_made W) (block_added W)) }
     ensures next_below { IfOk result (λ made. StateUnder (S.meaning.wires s.new) made.next) }
     ensures answers_below { IfOk result (λ made. made.answers < S.meaning.wires s.new) }

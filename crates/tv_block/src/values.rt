@@ -15,7 +15,7 @@ ghost use Rattle.tv_parts.specs.Inputs.{operation_of};
 ghost use Rattle.tv_parts.specs.Operand.{operand_values};
 ghost use Rattle.tv_parts.specs.Results.{results_values};
 ghost use Rattle.tv_parts.specs.Tapes.{tapes_values};
-ghost use Rattle.tv_parts.specs.Traced.{traced_view, AreNumbers};
+ghost use Rattle.tv_parts.specs.Traced.{traced_view, traced_input, AreNumbers};
 ghost use Rattle.tv_regs.specs.Triple.{triple_values};
 ghost use Rattle.tv_word.specs.Widths.{IsWidth};
 
@@ -195,8 +195,8 @@ fn fill_effects<const W: u32, V: Values>(
     requires whole { V.giving.broken v.old ≡ false }
     ensures gives { GivesIn V.giving v.old v.new
         (tapes_values W step.now.n (traced_view state.now) step.now.instr step.now.low step.now.aux
-        ++ effects_values W step.now.n (traced_view state.now) step.now.instr step.now.low
-        step.now.high step.now.aux test) result }
+        ++ effects_values W (traced_input state.now step.now) step.now.high step.now.aux test)
+        result }
     ensures whole { OnOk result (V.giving.broken v.new ≡ false) }
 {
     fill_tapes::<W, V>(v, state, step)?;

@@ -17,10 +17,12 @@ abbrev line : ℕ → ℕ → ℕ → ℕ → Line
 line cell time old new = record { cell = cell; time = time; old = old; new = new }
 
 -- `add r1, r2, 2` carries, at the last place of memory with words of 16 bits
-adds : (transition_of 32 0 10 (view 8 (regs_with 2 4294967295) 0 0 0) (step_words 608698368 2 0 false)).after ≡ view 16 (slice_set (regs_with 2 4294967295) 1 1) 1 0 0
+adds : (transition_of 32 0 10 (view 8 (regs_with 2 4294967295) 0 0 0) (step_words 608698368 2 0 false)).after
+    ≡ view 16 (slice_set (regs_with 2 4294967295) 1 1) 1 0 0
 adds = refl
 
-adds_in_16_bits : (transition_of 16 0 10 (view 65532 (regs_with 2 65535) 0 0 0) (step_words 9288 2 0 false)).after ≡ view 0 (slice_set (regs_with 2 65535) 1 1) 1 0 0
+adds_in_16_bits : (transition_of 16 0 10 (view 65532 (regs_with 2 65535) 0 0 0) (step_words 9288 2 0 false)).after
+    ≡ view 0 (slice_set (regs_with 2 65535) 1 1) 1 0 0
 adds_in_16_bits = refl
 
 -- its lines: the instruction's two words, and none

@@ -34,7 +34,7 @@ module _ (w : ℕ) (x : List ℕ) (gone ended o : ℕ) (takes : Bool) (st : Stat
   abbrev RowHolds : ℕ → Type 0
   RowHolds k = (imm : Bool) (dest source a time : ℕ) → among unused_ops k ≡ false → Fits w x gone ended o takes st (instr k imm dest source a)
       → fetched w st ≡ instr k imm dest source a
-      → data_line w (length x) (seen st gone ended) (instr k imm dest source a) o takes time
+      → data_line w (length x) (seen st gone ended) (instr k imm dest source a) o time
       ≡ touched_line w (length x) (op_of k) st (operand st (instr k imm dest source a)) time
 
   unused : (k : ℕ) → among unused_ops k ≡ true → RowHolds k
@@ -255,5 +255,5 @@ module _ (w : ℕ) (x : List ℕ) (gone ended o : ℕ) (takes : Bool) (st : Stat
   )
 
   pub line_row : (i : Instr) (time : ℕ) → i.op < 32 → among unused_ops i.op ≡ false → Fits w x gone ended o takes st i → fetched w st ≡ i
-      → data_line w (length x) (seen st gone ended) i o takes time ≡ touched_line w (length x) (op_of i.op) st (operand st i) time
+      → data_line w (length x) (seen st gone ended) i o time ≡ touched_line w (length x) (op_of i.op) st (operand st i) time
   line_row i time small = below 32 RowHolds each i.op small i.imm i.dest i.source i.a time

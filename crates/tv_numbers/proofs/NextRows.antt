@@ -42,7 +42,7 @@ module _ (w : ℕ) (x : List ℕ) (gone ended o : ℕ) (takes : Bool) where
     pub primary : st.primary ≡ drop gone x
     pub operand_fits : operand st i < 2 ^ w
     pub dest_fits : reg st i.dest < 2 ^ w
-    pub old : (data_line w (length x) (seen st gone ended) i o takes 0).old ≡ cells_of w x st (data_line w (length x) (seen st gone ended) i o takes 0).cell
+    pub old : (data_line w (length x) (seen st gone ended) i o 0).old ≡ cells_of w x st (data_line w (length x) (seen st gone ended) i o 0).cell
     pub asked : takes ≡ true → asks (seen st gone ended) i ≡ true
 
   -- the word of memory that a step looks at is the data word

@@ -23,11 +23,11 @@ pub record SameOld (l m : Line) : Type 0 where
   pub cell : l.cell ≡ m.cell
   pub old : l.old ≡ m.old
 
-module _ (w : ℕ) (x : List ℕ) (gone ended time : ℕ) (takes : Bool) (st : State) (within : gone ≤ length x) (primary : st.primary ≡ drop gone x) where
+module _ (w : ℕ) (x : List ℕ) (gone ended time : ℕ) (st : State) (within : gone ≤ length x) (primary : st.primary ≡ drop gone x) where
   abbrev RowHolds : ℕ → Type 0
   RowHolds k = (imm : Bool) (dest source a : ℕ) → among unused_ops k ≡ false
       → SameOld (data_line w (length x) (seen st gone ended) (instr k imm dest source a)
-      (touched_line w (length x) (op_of k) st (operand st (instr k imm dest source a)) time).old takes time)
+      (touched_line w (length x) (op_of k) st (operand st (instr k imm dest source a)) time).old time)
       (touched_line w (length x) (op_of k) st (operand st (instr k imm dest source a)) time)
 
   unused : (k : ℕ) → among unused_ops k ≡ true → RowHolds k
@@ -210,6 +210,6 @@ module _ (w : ℕ) (x : List ℕ) (gone ended time : ℕ) (takes : Bool) (st : S
   )
 
   pub old_row : (i : Instr) → i.op < 32 → among unused_ops i.op ≡ false
-      → SameOld (data_line w (length x) (seen st gone ended) i (touched_line w (length x) (op_of i.op) st (operand st i) time).old takes time)
+      → SameOld (data_line w (length x) (seen st gone ended) i (touched_line w (length x) (op_of i.op) st (operand st i) time).old time)
       (touched_line w (length x) (op_of i.op) st (operand st i) time)
   old_row i small used = below 32 RowHolds each i.op small i.imm i.dest i.source i.a used

@@ -25,7 +25,6 @@ use Rattle.tv_numbers.specs.Numbers.{operand_word, other_word, touches, asks, ta
 use Rattle.tv_numbers.specs.Numbers.{step_words}
 use Rattle.tv_numbers.specs.Tables.{results, flags, pcs, next_pc, target}
 use Rattle.tv_numbers.specs.Views.{View, ViewInRange}
-use Rattle.tv_word.specs.Word.{flag_of}
 
 module _ (w : ℕ) (width : IsWidth w) where
   abbrev Word : ℕ → Type 0
@@ -196,7 +195,7 @@ module _ (w : ℕ) (width : IsWidth w) where
       ended = cond_both (asks v i && not takes) 1 v.ended (λ e. e < 2) (λ _. omega arith) (λ _. is.range.ended);
     }
 
-    pub old_small : Word (old_in w n v i o takes)
+    pub old_small : Word (old_in n v i o)
     old_small = cond_both (touches v i || takes_primary v i n) o 0 Word (λ _. is.data_word) (λ _. some_words)
 
     -- the cells of the lines
@@ -212,7 +211,7 @@ module _ (w : ℕ) (width : IsWidth w) where
         let next = word_cell v.pc is.range.pc_fits in
         (record { cell = omega arith; old = is.head_word; new = is.head_word }, record { cell = next; old = is.tail_word; new = is.tail_word })
 
-    pub data_is_line : (time : ℕ) → IsLine w (data_line w n v i o takes time)
+    pub data_is_line : (time : ℕ) → IsLine w (data_line w n v i o time)
     data_is_line time =
         let short = is.short in
         let within = is.range.taken in
@@ -225,8 +224,8 @@ module _ (w : ℕ) (width : IsWidth w) where
               (λ _. omega (arith, short, within))
               (λ _. cond_both (touches v i) (operand_word v i / (w / 8)) NULL_CELL Cell (λ _. omega (arith, next)) (λ _. omega arith));
           old = old_small;
-          new = cond_both (i.op == 28) (other_word v i) (if i.op == 26 then with_byte_in o r byte else old_in w n v i o takes) Word (λ _. other_small)
-              (λ _. cond_both (i.op == 26) (with_byte_in o r byte) (old_in w n v i o takes) Word
+          new = cond_both (i.op == 28) (other_word v i) (if i.op == 26 then with_byte_in o r byte else old_in n v i o) Word (λ _. other_small)
+              (λ _. cond_both (i.op == 26) (with_byte_in o r byte) (old_in n v i o) Word
               (λ _. with_byte_small o r byte place is.data_word (mod-lt (other_word v i) (omega arith))) (λ _. old_small));
         }
 

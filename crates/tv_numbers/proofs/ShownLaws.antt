@@ -148,7 +148,7 @@ module _ (w : ℕ) (width : IsWidth w) (x : List ℕ) (time : ℕ) (st : State) 
   holds : HoldsOlds w x (transition_at w x time now st word) st
   holds =
       let olds = olds_are_in_cells w width x st time on in
-      let same = old_row w x gone ended (time + 2) (is_some word) st view.taken primary i small (defined_used w st defined) in
+      let same = old_row w x gone ended (time + 2) st view.taken primary i small (defined_used w st defined) in
       record {
         first = olds 0 line (omega arith);
         second = olds 1 line (omega arith);

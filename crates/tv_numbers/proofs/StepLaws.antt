@@ -145,11 +145,11 @@ module _ (w : ℕ) (width : IsWidth w) (x : List ℕ) (time : ℕ) (st : State) 
 
   traced : lines_in transition_in ≡ step_lines w (length x) st time
   traced =
-      let third : data_line w (length x) now i o takes (time + 2) ≡ touched_line w (length x) (op_of (fetched w st).op) st (operand st (fetched w st)) (time + 2) =
+      let third : data_line w (length x) now i o (time + 2) ≡ touched_line w (length x) (op_of (fetched w st).op) st (operand st (fetched w st)) (time + 2) =
       line_row w x gone ended o takes st i (time + 2) (op_small w head tail) is.used fits instruction
       ∙ ap (λ (j : Instr). touched_line w (length x) (op_of j.op) st (operand st j) (time + 2)) (sym instruction) in
       let j : ℕ = st.pc / (w / 8) in
-      ap₂ (λ h t. looked_at j time h ∷ looked_at (j + 1) (time + 1) t ∷ data_line w (length x) now i o takes (time + 2) ∷ []) head_is tail_is
+      ap₂ (λ h t. looked_at j time h ∷ looked_at (j + 1) (time + 1) t ∷ data_line w (length x) now i o (time + 2) ∷ []) head_is tail_is
       ∙ ap (λ l. looked_at j time (word_in w st.memory j) ∷ looked_at (j + 1) (time + 1) (word_in w st.memory (j + 1)) ∷ l ∷ []) third
 
   sets : reads_aux w st ≡ true → takes ≡ false → after.ended ≡ 1

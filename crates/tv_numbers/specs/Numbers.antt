@@ -71,19 +71,19 @@ module _ (w n : ℕ) (v : View) (i : Instr) (o : ℕ) (takes : Bool) where
     ended = if asks v i && not takes then 1 else v.ended;
   }
 
-  -- the word in the cell of its data line, which is 0 in the null cell
-  abbrev pub old_in : ℕ
-  old_in = if touches v i || takes_primary v i n then o else 0
+-- the word in the cell of its data line, which is 0 in the null cell
+abbrev pub old_in : ℕ → View → Instr → ℕ → ℕ
+old_in n v i o = if touches v i || takes_primary v i n then o else 0
 
-  -- the data line: the word of memory of a load or store, the cell of a primary word that is taken, or else the
-  -- null cell; only a store changes it
-  abbrev pub data_line : ℕ → Line
-  data_line time = record {
-    cell = if takes_primary v i n then tape_cell v.taken else if touches v i then operand_word v i / word_size w else NULL_CELL;
-    time = time;
-    old = old_in;
-    new = if i.op == STORE_W then other_word v i else if i.op == STORE_B then with_byte_in o (operand_word v i % word_size w) (other_word v i % 256) else old_in;
-  }
+-- the data line: the word of memory of a load or store, the cell of a primary word that is taken, or else the null cell;
+-- only a store changes it
+abbrev pub data_line : ℕ → ℕ → View → Instr → ℕ → ℕ → Line
+data_line w n v i o time = record {
+  cell = if takes_primary v i n then tape_cell v.taken else if touches v i then operand_word v i / word_size w else NULL_CELL;
+  time = time;
+  old = old_in n v i o;
+  new = if i.op == STORE_W then other_word v i else if i.op == STORE_B then with_byte_in o (operand_word v i % word_size w) (other_word v i % 256) else old_in n v i o;
+}
 
 -- ---- all that a step does
 -- the views before and after it, its three lines, whether it takes an auxiliary word, and the data word, and whether
@@ -122,7 +122,7 @@ transition_of w n time v by = record {
   after = stepped w n v (decode w by.head by.tail) by.word by.takes;
   first = looked_at (v.pc / word_size w) time by.head;
   second = looked_at (v.pc / word_size w + 1) (time + 1) by.tail;
-  data_line = data_line w n v (decode w by.head by.tail) by.word by.takes (time + 2);
+  data_line = data_line w n v (decode w by.head by.tail) by.word (time + 2);
   takes = by.takes;
   word = by.word;
   answers = (decode w by.head by.tail).op == ANSWER;

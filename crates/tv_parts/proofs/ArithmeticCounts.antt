@@ -30,7 +30,7 @@ use Rattle.tv_shift.specs.Power.{shift_power_of, shift_power_values}
 use Rattle.tv_shift.specs.RowShift.{right_shift_of, right_shift_values}
 use Rattle.tv_shift.specs.declared.powers.ShiftPower.{ShiftPower}
 use Rattle.tv_word.specs.Widths.{IsWidth}
-use Rattle.tv_parts.proofs.Sized.{Sized, sized_then, sized_pure, sized_as}
+use Rattle.tv_parts.proofs.Sized.{Sized, sized_then, none_more, sized_pure, sized_as}
 use Rattle.tv_parts.specs.Arithmetic.{bitwise_ops, difference_ops, strict_ops, signed_ops, product_ops, division_ops, with_sign, rows_of, sums_of}
 use Rattle.tv_parts.specs.Arithmetic.{products_of, shifts_of, arithmetic_of, decomposed_word}
 use Rattle.tv_parts.specs.Arithmetic.{rows_values, sums_values, products_values, shifts_values, arithmetic_values, ArithmeticSizes, ArithmeticCosts}
@@ -40,9 +40,6 @@ use Rattle.tv_parts.specs.declared.records.ArithmeticWires.{ArithmeticWires}
 use Rattle.tv_parts.specs.declared.records.OperandWires.{OperandWires}
 use Rattle.tv_parts.specs.declared.records.RowWires.{RowWires}
 use Rattle.tv_word.specs.Word.{flag_of}
-
-none_more : (next : ℕ) → next ≡ next + 0
-none_more next = omega arith
 
 module _ (w : ℕ) (width : IsWidth w) (op other f : ℕ) (operand : OperandWires) where
   pub rows_sized : Sized (rows_of w op) (3 * w + 3) (3 * w + 3) (11 * w + 9)

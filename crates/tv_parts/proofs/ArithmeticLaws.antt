@@ -36,6 +36,7 @@ use Rattle.tv_word.proofs.FlagLaws.{flag_small}
 use Rattle.tv_word.proofs.WidthLaws.{width_short}
 use Rattle.tv_word.specs.Widths.{IsWidth}
 use Rattle.tv_parts.proofs.ArithmeticNumbers.{apart_is, halves_by, shifted_below, place_below, power_below}
+use Rattle.tv_parts.proofs.FieldNumbers.{small_word}
 use Rattle.tv_parts.proofs.OpcodeLaws.{opcode_sum_sound}
 use Rattle.tv_parts.specs.Arithmetic.{bitwise_ops, difference_ops, strict_ops, signed_ops, product_ops, division_ops, shift_ops, with_sign, rows_of}
 use Rattle.tv_parts.specs.Arithmetic.{sums_of, products_of, shifts_of, arithmetic_of, HasArithmetic, ArithmeticIsSound}
@@ -45,9 +46,6 @@ use Rattle.tv_parts.specs.declared.records.OperandWires.{OperandWires}
 use Rattle.tv_parts.specs.declared.records.RowWires.{RowWires}
 use Rattle.tv_word.specs.Word.{flag_of}
 
-pub word_small : (w : ℕ) → IsWidth w → (v : ℕ) → v < 2 ^ w → v < P
-word_small w width v h = grind arith
-
 bits_product : (m n : ℕ) → m < 2 → n < 2 → m * n % P ≡ m * n
 bits_product m n h k = mod-eq_of_lt (grind arith)
 
@@ -56,7 +54,7 @@ pub kept_word : (w : ℕ) → IsWidth w → (x a : ℕ) → x < 2 ^ w → flag_o
 kept_word w width x a h = by_test (nat_lt a w)
   where
     small : x < P
-    small = word_small w width x h
+    small = small_word w width x h
 
     by_test : (b : Bool) → flag_of b * x % P ≡ (if b then x else 0)
     by_test true = ap (λ n. n % P) (one-mul x) ∙ mod-eq_of_lt small

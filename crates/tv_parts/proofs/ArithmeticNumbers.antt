@@ -1,10 +1,9 @@
 -- What the double row holds by the operation of an opcode, and the halves that this makes.
-use Rattle.std.proofs.Common.{◌≡◌, ℕ, ◌+◌, ◌-◌, ◌*◌, ◌/◌, ◌%◌, ◌^◌, ◌<◌, ◌==◌, nat_lt, not, Bool, true, false, if◌then◌else◌, List, [], ◌∷◌, refl, sym}
-use Rattle.std.proofs.Common.{◌∙◌, ap, subst, arith, mod-lt, mod-eq_of_lt, zero-mul, true≢false}
+use Rattle.std.proofs.Common.{◌≡◌, ℕ, ◌+◌, ◌-◌, ◌/◌, ◌%◌, ◌^◌, ◌<◌, ◌==◌, nat_lt, not, Bool, true, false, if◌then◌else◌, List, [], ◌∷◌, refl, sym}
+use Rattle.std.proofs.Common.{◌∙◌, ap, subst, arith, mod-lt, true≢false}
 use Rattle.std.proofs.Math.Pow.{pow-lt}
-use Rattle.std.proofs.Math.Nat.{zero-div}
 use Rattle.std.specs.Prelude.{◌&&◌, slice_index, bit_and, bit_xor}
-use Rattle.std.proofs.lemmas.Bool.{and_parts, ltb-true, eqb-true, not-true}
+use Rattle.std.proofs.lemmas.Bool.{and_parts, eqb-true, not-true}
 use Rattle.std.proofs.lemmas.Bool.Decides.{nat_tests}
 use Rattle.tv_bits.specs.DoubleRow.{IsRow}
 use Rattle.tv_bits.specs.declared.double_rows.DoubleRow.{DoubleRow}
@@ -23,7 +22,7 @@ use Rattle.tv_muldiv.specs.RowProduct.{IsRowProduct}
 use Rattle.tv_muldiv.specs.RowSignedProduct.{IsRowSignedProduct}
 use Rattle.tv_shift.proofs.AnyDistance.{any_distance}
 use Rattle.tv_shift.proofs.RowShiftLaws.{right_shift_complete}
-use Rattle.tv_shift.specs.RowShift.{right_high, IsRightShift, shifted_word}
+use Rattle.tv_shift.specs.RowShift.{IsRightShift, shifted_word}
 use Rattle.tv_word.proofs.WidthLaws.{width_short}
 use Rattle.tv_word.specs.Widths.{IsWidth}
 use Rattle.tv_parts.proofs.OpcodeCases.{for_opcode, unused}

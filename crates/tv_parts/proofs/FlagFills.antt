@@ -25,9 +25,9 @@ use Rattle.tv_numbers.specs.Views.{View}
 use Rattle.tv_word.proofs.FlagLaws.{flag_small}
 use Rattle.tv_word.specs.Widths.{IsWidth}
 use Rattle.tv_parts.proofs.AccumulationLaws.{accumulated_sound, accumulated_complete}
+use Rattle.tv_parts.proofs.FieldNumbers.{flag_in_field, either}
 use Rattle.tv_parts.proofs.FlagLaws.{raised_ops, flag_sum, FlagCase, flag_number}
 use Rattle.tv_parts.proofs.OpcodeLaws.{opcode_sum_sound}
-use Rattle.tv_parts.proofs.TapeFills.{flag_in_field, either}
 use Rattle.tv_parts.proofs.TapeGates.{value-two}
 use Rattle.tv_parts.proofs.TapeLaws.{among_one}
 use Rattle.tv_parts.specs.Accumulation.{closed_of}

@@ -20,7 +20,7 @@ use Rattle.tv_word.specs.Widths.{IsWidth}
 use Rattle.tv_word.specs.Word.{has_bit, signed, flag_of}
 use Rattle.tv_parts.proofs.OpcodeCases.{for_opcode, unused}
 use Rattle.tv_parts.specs.Flag.{sign_at}
-use Rattle.tv_parts.specs.Results.{zero_ops, place_bits, tested_numbers}
+use Rattle.tv_parts.specs.Results.{zero_ops, tested_numbers}
 use Rattle.tv_parts.specs.Rows.{covers, AreHalves}
 
 -- ---- tests
@@ -72,13 +72,6 @@ bit_is x i = by_parity (bit_at x i) (omega arith)
 
 pub bit_small : (x i : ℕ) → bit_at x i < 2
 bit_small x i = omega arith
-
-below_is : (w : ℕ) → IsWidth w → (a : ℕ) → a < 2 ^ w → (if a / 2 ^ place_bits w == 0 then 1 else 0) < 2
-below_is w width a h = lower (a / 2 ^ place_bits w == 0)
-  where
-    lower : (b : Bool) → (if b then 1 else 0) < 2
-    lower true = omega arith
-    lower false = omega arith
 
 -- the number that smulh tests, of the product's halves
 excess_is : (w : ℕ) → IsWidth w → (n : ℕ) → (n / 2 ^ w + (P - (2 ^ w - 1) * bit_at (n % 2 ^ w) (w - 1))) % P ≡ excess_in w n

@@ -3,6 +3,7 @@ pub mod ArithmeticCounts
 pub mod ArithmeticFills
 pub mod ArithmeticLaws
 pub mod ArithmeticNumbers
+pub mod FieldNumbers
 pub mod FlagFills
 pub mod FlagLaws
 pub mod MemoryFills

@@ -28,19 +28,19 @@ use Rattle.tv_step.specs.Trace.{tape_cell}
 use Rattle.tv_word.proofs.WidthLaws.{for_widths, word_small}
 use Rattle.tv_word.specs.Widths.{IsWidth}
 use Rattle.tv_parts.proofs.AccumulationLaws.{accumulated_sound, accumulated_complete, accumulated_next}
-use Rattle.tv_parts.proofs.MemoryLaws.{located_is, line_cell, line_old, word_below, flag_times, power_two, power_four, put_in_by, place_small, byte_value}
+use Rattle.tv_parts.proofs.FieldNumbers.{small_word, byte_small, either, flag_times}
+use Rattle.tv_parts.proofs.MemoryLaws.{located_is, line_cell, line_old, word_below, power_two, power_four, put_in_by, place_small, byte_value}
 use Rattle.tv_parts.proofs.MemoryLaws.{low_bit, next_bit, parity_bit, new_by, byte_laws}
 use Rattle.tv_parts.proofs.OpcodeLaws.{opcode_sum_sound}
-use Rattle.tv_parts.proofs.ResultLaws.{small_word}
 use Rattle.tv_parts.proofs.TapeGates.{value-two, value-four}
 use Rattle.tv_parts.proofs.TapeLaws.{among_one}
 use Rattle.tv_parts.specs.Accumulation.{closed_of, accumulated_of}
 use Rattle.tv_parts.specs.Inputs.{input_of}
-use Rattle.tv_parts.specs.Memory.{located_line, byte_of_pair, byte_of_four, byte_at_of, power_in, new_of, memory_of, line_values, byte_values, gained, new_values}
-use Rattle.tv_parts.specs.Memory.{memory_values, HasMemory, MemoryIsSound, MemoryIsComplete, MemorySizes, MemoryCosts}
+use Rattle.tv_parts.specs.Memory.{located_line, byte_of_pair, byte_of_four, byte_at_of, power_in, new_of, memory_of, line_values, byte_values, gained}
+use Rattle.tv_parts.specs.Memory.{new_values, memory_values, HasMemory, MemoryIsSound, MemoryIsComplete, MemorySizes, MemoryCosts}
 use Rattle.tv_parts.specs.OpcodeSums.{opcode_sum}
 use Rattle.tv_parts.specs.Operand.{upper_of}
-use Rattle.tv_parts.specs.Tapes.{primary_in, took}
+use Rattle.tv_parts.specs.Tapes.{primary_in}
 use Rattle.tv_parts.specs.declared.records.DataWires.{DataWires}
 use Rattle.tv_parts.specs.declared.records.LineWires.{LineWires}
 use Rattle.tv_parts.specs.declared.records.OperandWires.{OperandWires}
@@ -75,9 +75,6 @@ module _ (w : ℕ) (width : IsWidth w) (z : List ℕ) (n : ℕ) (state : StateWi
   abbrev j : ℕ
   j = at % word_size w
 
-  abbrev takes : Bool
-  takes = took z t
-
   abbrev change_terms : ℕ → Combination
   change_terms byte = bits_combination d.x.first 8 ++ (P - 1, byte) ∷ []
 
@@ -88,11 +85,8 @@ module _ (w : ℕ) (width : IsWidth w) (z : List ℕ) (n : ℕ) (state : StateWi
       ∙ ap₂ (λ m k. (m + k) % P) (byte_value z w d.x.first d.x.first x 0 (w - 8) (omega arith) (omega (arith, width)) has.decomposed
       ∙ (let e : x / 2 ^ (8 * 0) % 2 ^ 8 ≡ x % 256 = omega arith in e))
       (value-cons (P - 1) byte [] z ∙ ap (λ k. ((P - 1) * k + 0) % P) is)
-      ∙ less (x % 256) (byte_of o j) (byte_small o j))
+      ∙ less (x % 256) (byte_of o j) (omega arith))
     where
-      byte_small : (o j : ℕ) → byte_of o j < 256
-      byte_small o j = omega arith
-
       less : (m b : ℕ) → b < 256 → (m + ((P - 1) * b + 0) % P) % P ≡ (m + (P - b)) % P
       less m b h = omega arith
 
@@ -101,15 +95,15 @@ module _ (w : ℕ) (width : IsWidth w) (z : List ℕ) (n : ℕ) (state : StateWi
   changed_is change is = ap₂ (λ m k. m * k % P) (opcode_sum_sound z op i.op (26 ∷ []) has.opcode refl ∙ ap flag_of (among_one 26 i.op))
       (value-wire has.assigns change ∙ is) ∙ flag_times (i.op == 26) (gained o j (x % 256)) (mod-lt _ (omega arith))
 
-  new_is : (old changed : ℕ) → slice_index z old ≡ old_in w n v i o takes → slice_index z changed ≡ (if i.op == 26 then gained o j (x % 256) else 0)
+  new_is : (old changed : ℕ) → slice_index z old ≡ old_in n v i o → slice_index z changed ≡ (if i.op == 26 then gained o j (x % 256) else 0)
       → (value (wire old ++ wire changed) z + value (opcode_sum op (28 ∷ [])) z * value ((1, d.other) ∷ (P - 1, d.word) ∷ []) z) % P
-      ≡ (data_line w n v i o takes 0).new
+      ≡ (data_line w n v i o 0).new
   new_is old changed is_old is_changed =
       ap₂ (λ m k. (m + k) % P)
       (value-append (wire old) (wire changed) z ∙ ap₂ (λ m k. (m + k) % P) (value-wire has.assigns old ∙ is_old) (value-wire has.assigns changed ∙ is_changed))
       (ap₂ (λ m k. m * k) (opcode_sum_sound z op i.op (28 ∷ []) has.opcode refl ∙ ap flag_of (among_one 28 i.op))
       (value-two z 1 (P - 1) d.other d.word ∙ ap₂ (λ m k. (1 * m + (P - 1) * k) % P) has.other has.word))
-      ∙ new_by (i.op == 28) (i.op == 26) (other_word v i) o (old_in w n v i o takes) (gained o j (x % 256)) (with_byte_in o j (other_word v i % 256))
+      ∙ new_by (i.op == 28) (i.op == 26) (other_word v i) o (old_in n v i o) (gained o j (x % 256)) (with_byte_in o j (other_word v i % 256))
       (subst (λ k. k < P) has.other (wire-below has.assigns d.other)) o_small (mod-lt _ (omega arith)) (subst (λ k. k < P) is_old (wire-below has.assigns old))
       (λ e. ne_eqb i.op 26 (λ k. other (eqb-true i.op 28 e) k)) (λ e. kept 28 (eqb-true i.op 28 e) refl) (λ e. kept 26 (eqb-true i.op 26 e) refl)
       (λ e. ap (λ k. (o + gained o j (k % 256)) % P) (has.stored (eqb-true i.op 26 e))
@@ -121,18 +115,14 @@ module _ (w : ℕ) (width : IsWidth w) (z : List ℕ) (n : ℕ) (state : StateWi
       other : i.op ≡ 28 → i.op ≡ 26 → ⊥
       other e f = absurd (omega arith)
 
-      kept : (k : ℕ) → i.op ≡ k → among memory_ops k ≡ true → old_in w n v i o takes ≡ o
+      kept : (k : ℕ) → i.op ≡ k → among memory_ops k ≡ true → old_in n v i o ≡ o
       kept k e f = ap (λ b. if b || takes_primary v i n then o else 0) (ap (among memory_ops) e ∙ f)
 
 -- ---- where the parts end
-line_next : (w : ℕ) (state : StateWires) (op : ℕ) (a : OperandWires) (word : ℕ) (t : TapeWires) (next : ℕ) → (located_line w state op a word t next).next ≡ next + 3
+line_next : (w : ℕ) (state : StateWires) (op : ℕ) (a : OperandWires) (word : ℕ) (t : TapeWires) (next : ℕ)
+    → (located_line w state op a word t next).next ≡ next + 3
 unfolding located_line times_of closed_of fresh put pure ◌>>=◌
 line_next w state op a word t next = omega arith
-
-line_answer : (w : ℕ) (state : StateWires) (op : ℕ) (a : OperandWires) (word : ℕ) (t : TapeWires) (next : ℕ)
-    → (located_line w state op a word t next).answer ≡ record { cell = next + 1; old = next + 1 + 1 }
-unfolding located_line times_of closed_of fresh put pure ◌>>=◌
-line_answer w state op a word t next = refl
 
 two_next : (bits a next : ℕ) → (byte_at_of 16 bits a next).next ≡ next + 1
 unfolding byte_at_of byte_of_pair closed_of fresh put pure ◌>>=◌
@@ -145,23 +135,15 @@ four_next bits a next = omega arith
 byte_next : (w : ℕ) → IsWidth w → (bits a next : ℕ) → (byte_at_of w bits a next).next ≡ next + (w / 8 - 1)
 byte_next w width = for_widths (λ w. (bits a next : ℕ) → (byte_at_of w bits a next).next ≡ next + (w / 8 - 1)) two_next four_next w width
 
-new_next : (w op : ℕ) (d : DataWires) (a : OperandWires) (line : LineWires) (byte next : ℕ) → (new_of w op d a line byte next).next ≡ next + 3
-unfolding new_of times_of closed_of fresh put pure ◌>>=◌
-new_next w op d a line byte next = omega arith
-
-new_answer : (w op : ℕ) (d : DataWires) (a : OperandWires) (line : LineWires) (byte next : ℕ) → (new_of w op d a line byte next).answer ≡ next + 2
-unfolding new_of times_of closed_of fresh put pure ◌>>=◌
-new_answer w op d a line byte next = omega arith
-
 -- ---- the parts
-record AreLine (w : ℕ) (z : List ℕ) (line : LineWires) (n : ℕ) (v : View) (i : Instr) (o : ℕ) (takes : Bool) : Type 0 where
-  pub cell : slice_index z line.cell ≡ (data_line w n v i o takes 0).cell
-  pub old : slice_index z line.old ≡ old_in w n v i o takes
+record AreLine (w : ℕ) (z : List ℕ) (line : LineWires) (n : ℕ) (v : View) (i : Instr) (o : ℕ) : Type 0 where
+  pub cell : slice_index z line.cell ≡ (data_line w n v i o 0).cell
+  pub old : slice_index z line.old ≡ old_in n v i o
 
 line_sound : (w : ℕ) (width : IsWidth w) (z : List ℕ) (next n : ℕ) (state : StateWires) (op : ℕ) (a : OperandWires) (d : DataWires) (t : TapeWires) (v : View)
     (i : Instr) (x o : ℕ)
     → HasMemory w z (record { state = state; op = op; operand = a; tapes = t }) d (input_of n v i o) x
-    → Meets z (located_line w state op a d.word t next).list → AreLine w z (located_line w state op a d.word t next).answer n v i o (took z t)
+    → Meets z (located_line w state op a d.word t next).list → AreLine w z (located_line w state op a d.word t next).answer n v i o
 unfolding located_line pure ◌>>=◌
 line_sound w width z next n state op a d t v i x o has meets =
     let assigns = has.assigns in
@@ -184,7 +166,7 @@ line_sound w width z next n state op a d t v i x o has meets =
 line_complete : (w : ℕ) (width : IsWidth w) (z : List ℕ) (next n : ℕ) (state : StateWires) (op : ℕ) (a : OperandWires) (d : DataWires) (t : TapeWires)
     (v : View) (i : Instr) (x o : ℕ)
     → HasMemory w z (record { state = state; op = op; operand = a; tapes = t }) d (input_of n v i o) x
-    → HasFrom z next (line_values w n v i o (took z t)) → Meets z (located_line w state op a d.word t next).list
+    → HasFrom z next (line_values w n v i o) → Meets z (located_line w state op a d.word t next).list
 unfolding located_line pure ◌>>=◌
 line_complete w width z next n state op a d t v i x o has values =
     let assigns = has.assigns in
@@ -208,8 +190,8 @@ line_complete w width z next n state op a d t v i x o has values =
 new_sound : (w : ℕ) (width : IsWidth w) (z : List ℕ) (next n : ℕ) (state : StateWires) (op : ℕ) (a : OperandWires) (d : DataWires) (t : TapeWires) (v : View)
     (i : Instr) (x o : ℕ)
     → HasMemory w z (record { state = state; op = op; operand = a; tapes = t }) d (input_of n v i o) x
-    → (line : LineWires) (byte : ℕ) → slice_index z line.old ≡ old_in w n v i o (took z t) → slice_index z byte ≡ byte_of o (operand_word v i % word_size w)
-    → Meets z (new_of w op d a line byte next).list → slice_index z (new_of w op d a line byte next).answer ≡ (data_line w n v i o (took z t) 0).new
+    → (line : LineWires) (byte : ℕ) → slice_index z line.old ≡ old_in n v i o → slice_index z byte ≡ byte_of o (operand_word v i % word_size w)
+    → Meets z (new_of w op d a line byte next).list → slice_index z (new_of w op d a line byte next).answer ≡ (data_line w n v i o 0).new
 unfolding new_of ◌>>=◌
 new_sound w width z next n state op a d t v i x o has line byte is_old is_byte meets =
     let assigns = has.assigns in
@@ -227,8 +209,8 @@ new_sound w width z next n state op a d t v i x o has line byte is_old is_byte m
 new_complete : (w : ℕ) (width : IsWidth w) (z : List ℕ) (next n : ℕ) (state : StateWires) (op : ℕ) (a : OperandWires) (d : DataWires) (t : TapeWires) (v : View)
     (i : Instr) (x o : ℕ)
     → HasMemory w z (record { state = state; op = op; operand = a; tapes = t }) d (input_of n v i o) x
-    → (line : LineWires) (byte : ℕ) → slice_index z line.old ≡ old_in w n v i o (took z t) → slice_index z byte ≡ byte_of o (operand_word v i % word_size w)
-    → HasFrom z next (new_values w (input_of n v i o) x (took z t)) → Meets z (new_of w op d a line byte next).list
+    → (line : LineWires) (byte : ℕ) → slice_index z line.old ≡ old_in n v i o → slice_index z byte ≡ byte_of o (operand_word v i % word_size w)
+    → HasFrom z next (new_values w (input_of n v i o) x) → Meets z (new_of w op d a line byte next).list
 unfolding new_of ◌>>=◌
 new_complete w width z next n state op a d t v i x o has line byte is_old is_byte values =
     let assigns = has.assigns in
@@ -280,15 +262,15 @@ memory_complete w width z next n state op a d t v i x o has values =
     let e1 : line.next ≡ next + 3 = line_next w state op a d.word t next in
     let e2 : byte.next ≡ next + 3 + length (byte_values w o at) = byte_next w width d.bits a.bits.first line.next
     ∙ ap₂ (λ m k. m + k) e1 (sym (byte_length w width o at)) in
-    let first = HasFrom-split z next (line_values w n v i o (took z t)) (byte_values w o at ++ new_values w (input_of n v i o) x (took z t)) values in
-    let second = HasFrom-split z (next + 3) (byte_values w o at) (new_values w (input_of n v i o) x (took z t)) first.1 in
+    let first = HasFrom-split z next (line_values w n v i o) (byte_values w o at ++ new_values w (input_of n v i o) x) values in
+    let second = HasFrom-split z (next + 3) (byte_values w o at) (new_values w (input_of n v i o) x) first.1 in
     let m1 = line_complete w width z next n state op a d t v i x o has first.0 in
     let are = line_sound w width z next n state op a d t v i x o has m1 in
     let laws = byte_laws z line.next d.bits a.bits.first o at has.assigns w width has.bits has.operand.bits in
     let m2 = laws.1 (subst (λ k. HasFrom z k (byte_values w o at)) (sym e1) second.0) in
     let is_byte = laws.0 m2 in
     let m3 = new_complete w width z byte.next n state op a d t v i x o has line.answer byte.answer are.old is_byte
-    (subst (λ k. HasFrom z k (new_values w (input_of n v i o) x (took z t))) (sym e2) second.1) in
+    (subst (λ k. HasFrom z k (new_values w (input_of n v i o) x)) (sym e2) second.1) in
     Meets-join z line.list _ m1 (Meets-join z byte.list _ m2 (Meets-join z new.list _ m3 tt))
 
 -- ---- sizes and costs
@@ -325,55 +307,48 @@ ends_four state op a d t next = omega arith
 memory_next : (w : ℕ) → IsWidth w → EndsAt w
 memory_next w width = for_widths EndsAt ends_two ends_four w width
 
-values_length : (w : ℕ) → IsWidth w → (n : ℕ) (v : View) (i : Instr) (x o : ℕ) (takes : Bool) → length (memory_values w (input_of n v i o) x takes) ≡ w / 8 + 5
-values_length w width n v i x o takes = for_widths (λ w. length (memory_values w (input_of n v i o) x takes) ≡ w / 8 + 5) refl refl w width
-
-either : (b : Bool) (x y : ℕ) → x < P → y < P → (if b then x else y) < P
-either true x y h k = h
-either false x y h k = k
-
-byte_below : (o j : ℕ) → byte_of o j < P
-byte_below o j = omega arith
+values_length : (w : ℕ) → IsWidth w → (n : ℕ) (v : View) (i : Instr) (x o : ℕ) → length (memory_values w (input_of n v i o) x) ≡ w / 8 + 5
+values_length w width n v i x o = for_widths (λ w. length (memory_values w (input_of n v i o) x) ≡ w / 8 + 5) refl refl w width
 
 bytes_below : (w o a : ℕ) → InField (byte_values w o a)
 bytes_below w o a = by_test (w == 16)
   where
     by_test : (b : Bool) → InField (if b then byte_of o (a % 2) ∷ [] else byte_of o (a % 2) ∷ byte_of o (2 + a % 2) ∷ byte_of o (a % 4) ∷ [])
-    by_test true = InField-cons (byte_of o (a % 2)) [] (byte_below o (a % 2)) InField-none
+    by_test true = InField-cons (byte_of o (a % 2)) [] (byte_small o (a % 2)) InField-none
     by_test false =
-        InField-cons (byte_of o (a % 2)) (byte_of o (2 + a % 2) ∷ byte_of o (a % 4) ∷ []) (byte_below o (a % 2))
-        (InField-cons (byte_of o (2 + a % 2)) (byte_of o (a % 4) ∷ []) (byte_below o (2 + a % 2))
-        (InField-cons (byte_of o (a % 4)) [] (byte_below o (a % 4)) InField-none))
+        InField-cons (byte_of o (a % 2)) (byte_of o (2 + a % 2) ∷ byte_of o (a % 4) ∷ []) (byte_small o (a % 2))
+        (InField-cons (byte_of o (2 + a % 2)) (byte_of o (a % 4) ∷ []) (byte_small o (2 + a % 2))
+        (InField-cons (byte_of o (a % 4)) [] (byte_small o (a % 4)) InField-none))
 
-with_byte_below : (o j b : ℕ) → j < 4 → o < 2 ^ 32 → b < 256 → with_byte_in o j b < P
-with_byte_below o j b h k l = subst (λ m. m < P) (put_in_by o j b h k l) (mod-lt _ (omega arith))
+with_byte_small : (o j b : ℕ) → j < 4 → o < 2 ^ 32 → b < 256 → with_byte_in o j b < P
+with_byte_small o j b h k l = subst (λ m. m < P) (put_in_by o j b h k l) (mod-lt _ (omega arith))
 
-memory_in_field : (w : ℕ) → IsWidth w → (n : ℕ) (v : View) (i : Instr) (x o : ℕ) (takes : Bool) → n < 2 ^ 29 → v.taken ≤ n → operand_word v i < 2 ^ w
+memory_in_field : (w : ℕ) → IsWidth w → (n : ℕ) (v : View) (i : Instr) (x o : ℕ) → n < 2 ^ 29 → v.taken ≤ n → operand_word v i < 2 ^ w
     → other_word v i < 2 ^ w → o < 2 ^ w
-    → InField (memory_values w (input_of n v i o) x takes)
-memory_in_field w width n v i x o takes short within word other o_word =
+    → InField (memory_values w (input_of n v i o) x)
+memory_in_field w width n v i x o short within word other o_word =
     let at : ℕ = operand_word v i in
     let located : ℕ = if touches v i then at / word_size w else NULL_CELL in
     let located_small : located < P = either (touches v i) (at / word_size w) NULL_CELL (divided w width at word) (omega arith) in
     let o_small : o < P = small_word w width o o_word in
-    let old_small : old_in w n v i o takes < P = either (touches v i || takes_primary v i n) o 0 o_small (omega arith) in
+    let old_small : old_in n v i o < P = either (touches v i || takes_primary v i n) o 0 o_small (omega arith) in
     let change : ℕ = gained o (at % word_size w) (x % 256) in
     let change_small : change < P = mod-lt _ (omega arith) in
-    let new_small : (data_line w n v i o takes 0).new < P =
+    let new_small : (data_line w n v i o 0).new < P =
     either (i.op == 28) (other_word v i) _ (small_word w width (other_word v i) other)
-    (either (i.op == 26) _ (old_in w n v i o takes)
-    (with_byte_below o (at % word_size w) (other_word v i % 256) (place_small w width at) (word_small w width o o_word) (omega arith)) old_small) in
-    let l2 : List ℕ = old_in w n v i o takes ∷ [] in
-    let l1 : List ℕ = (data_line w n v i o takes 0).cell ∷ l2 in
-    let n2 : List ℕ = (data_line w n v i o takes 0).new ∷ [] in
+    (either (i.op == 26) _ (old_in n v i o)
+    (with_byte_small o (at % word_size w) (other_word v i % 256) (place_small w width at) (word_small w width o o_word) (omega arith)) old_small) in
+    let l2 : List ℕ = old_in n v i o ∷ [] in
+    let l1 : List ℕ = (data_line w n v i o 0).cell ∷ l2 in
+    let n2 : List ℕ = (data_line w n v i o 0).new ∷ [] in
     let n1 : List ℕ = (if i.op == 26 then change else 0) ∷ n2 in
-    InField-append (line_values w n v i o takes) (byte_values w o at ++ new_values w (input_of n v i o) x takes)
-    (InField-cons located l1 located_small (InField-cons (data_line w n v i o takes 0).cell l2
+    InField-append (line_values w n v i o) (byte_values w o at ++ new_values w (input_of n v i o) x)
+    (InField-cons located l1 located_small (InField-cons (data_line w n v i o 0).cell l2
     (either (takes_primary v i n) (tape_cell v.taken) located (omega arith) located_small)
-    (InField-cons (old_in w n v i o takes) [] old_small InField-none)))
-    (InField-append (byte_values w o at) (new_values w (input_of n v i o) x takes) (bytes_below w o at)
+    (InField-cons (old_in n v i o) [] old_small InField-none)))
+    (InField-append (byte_values w o at) (new_values w (input_of n v i o) x) (bytes_below w o at)
     (InField-cons change n1 change_small (InField-cons (if i.op == 26 then change else 0) n2 (either (i.op == 26) change 0 change_small (omega arith))
-    (InField-cons (data_line w n v i o takes 0).new [] new_small InField-none))))
+    (InField-cons (data_line w n v i o 0).new [] new_small InField-none))))
   where
     divided : (w : ℕ) → IsWidth w → (a : ℕ) → a < 2 ^ w → a / word_size w < P
     divided w width = for_widths (λ w. (a : ℕ) → a < 2 ^ w → a / word_size w < P) (λ a h. omega arith) (λ a h. omega arith) w width
@@ -382,8 +357,8 @@ pub memory_sizes : MemorySizes
 memory_sizes = record {
   answer = for_widths MadeAt made_two made_four;
   end = memory_next;
-  fills = λ w width n state op a d t v i x o takes next. memory_next w width state op a d t next
-      ∙ ap (λ k. next + k) (sym (values_length w width n v i x o takes));
+  fills = λ w width n state op a d t v i x o next. memory_next w width state op a d t next
+      ∙ ap (λ k. next + k) (sym (values_length w width n v i x o));
   in_field = memory_in_field;
 }
 

@@ -26,9 +26,9 @@ use Rattle.tv_step.specs.Trace.{tape_cell}
 use Rattle.tv_word.proofs.WidthLaws.{width_short, for_widths}
 use Rattle.tv_word.specs.Widths.{IsWidth}
 use Rattle.tv_parts.proofs.AccumulationLaws.{accumulated_sound, accumulated_complete, accumulated_next}
+use Rattle.tv_parts.proofs.FieldNumbers.{small_word, byte_small, flag_times}
 use Rattle.tv_parts.proofs.FlagFills.{no_primary}
 use Rattle.tv_parts.proofs.OpcodeLaws.{opcode_sum_sound}
-use Rattle.tv_parts.proofs.ResultLaws.{small_word}
 use Rattle.tv_parts.proofs.TapeGates.{value-two, value-three}
 use Rattle.tv_parts.proofs.UpperLaws.{upper_once}
 use Rattle.tv_parts.specs.Accumulation.{accumulated_of}
@@ -36,7 +36,7 @@ use Rattle.tv_parts.specs.Inputs.{input_of}
 use Rattle.tv_parts.specs.Memory.{byte_of_pair, byte_of_four, byte_at_of, byte_values, gained, HasMemory}
 use Rattle.tv_parts.specs.OpcodeSums.{opcode_sum}
 use Rattle.tv_parts.specs.Operand.{upper_of}
-use Rattle.tv_parts.specs.Tapes.{primary_in, took}
+use Rattle.tv_parts.specs.Tapes.{primary_in}
 use Rattle.tv_parts.specs.declared.records.DataWires.{DataWires}
 use Rattle.tv_parts.specs.declared.records.OperandWires.{OperandWires}
 use Rattle.tv_parts.specs.declared.records.StateWires.{StateWires}
@@ -65,10 +65,6 @@ held_is true p b t h e none = rw (e, none refl) (omega arith)
 held_is false true b t h e none = rw e (omega arith)
 held_is false false b t h e none = rw e (omega arith)
 
-pub flag_times : (b : Bool) (n : ℕ) → n < P → flag_of b * n % P ≡ (if b then n else 0)
-flag_times true n h = omega arith
-flag_times false n h = omega arith
-
 word_power : (w : ℕ) → IsWidth w → 2 ^ (w / 16) ≡ w / 8
 word_power w width = for_widths (λ w. 2 ^ (w / 16) ≡ w / 8) refl refl w width
 
@@ -78,9 +74,6 @@ picked_by bit x y s h k = elim (bit_cases bit s) [
   | inl none ↦ rw none (let d : (y + 0 * (((P - 1) * y % P + x) % P)) % P ≡ y = omega arith in d)
   | inr one ↦ rw one (let d : (y + 1 * (((P - 1) * y % P + x) % P)) % P ≡ x = omega arith in d)
 ]
-
-pub byte_small : (o j : ℕ) → byte_of o j < P
-byte_small o j = omega arith
 
 -- ---- the power
 pub power_two : (a b0 : ℕ) → IsBit b0 → a % 2 ≡ b0 → (1 * 1 + 255 * b0) % P ≡ 256 ^ (a % 2)
@@ -136,9 +129,6 @@ module _ (w : ℕ) (width : IsWidth w) (z : List ℕ) (n : ℕ) (state : StateWi
   abbrev m : Bool
   m = touches v i
 
-  abbrev takes : Bool
-  takes = took z t
-
   abbrev located_number : ℕ
   located_number = if m then at / word_size w else NULL_CELL
 
@@ -178,7 +168,7 @@ module _ (w : ℕ) (width : IsWidth w) (z : List ℕ) (n : ℕ) (state : StateWi
 
   pub line_cell : (located : ℕ) → slice_index z located ≡ located_number
       → (value (wire located) z + value (primary_in state t) z * value ((TAPE_CELLS, 0) ∷ (1, state.taken_of_primary) ∷ (P - 1, located) ∷ []) z) % P
-      ≡ (data_line w n v i o takes 0).cell
+      ≡ (data_line w n v i o 0).cell
   line_cell located is =
       ap₂ (λ c k. (c + k) % P) (value-wire has.assigns located ∙ is)
       (ap₂ (λ g k. g * k)
@@ -195,7 +185,7 @@ module _ (w : ℕ) (width : IsWidth w) (z : List ℕ) (n : ℕ) (state : StateWi
     | inr other ↦ no_primary v i n (ne_eqb i.op 30 other)
   ]
 
-  pub line_old : value ((P - 1, state.taken_of_primary) ∷ (opcode_sum op memory_ops ++ wire t.taken)) z * value (wire d.word) z % P ≡ old_in w n v i o takes
+  pub line_old : value ((P - 1, state.taken_of_primary) ∷ (opcode_sum op memory_ops ++ wire t.taken)) z * value (wire d.word) z % P ≡ old_in n v i o
   line_old =
       ap₂ (λ g k. g * k % P)
       (value-cons (P - 1) state.taken_of_primary (opcode_sum op memory_ops ++ wire t.taken) z

@@ -1,10 +1,9 @@
 -- The arithmetic of a step is put by normal combinations.
-use Rattle.std.proofs.Common.{◌≡◌, ℕ, ◌+◌, ◌-◌, ◌*◌, ◌/◌, ◌<◌, ◌≤◌, true, List, [], ◌∷◌, refl, ap, arith}
+use Rattle.std.proofs.Common.{◌≡◌, ℕ, ◌+◌, ◌*◌, ◌<◌, ◌≤◌, true, List, [], ◌∷◌, refl, ap, arith}
 use Rattle.tv_bits.proofs.NormalLaws.{new_bits_normal, double_row_normal}
 use Rattle.tv_bits.proofs.BitsLaws.{new_bits_next}
 use Rattle.tv_bits.specs.Bits.{new_bits_of}
 use Rattle.tv_bits.specs.DoubleRow.{double_row_of}
-use Rattle.tv_bits.specs.declared.signed_words.SignedWord.{SignedWord}
 use Rattle.tv_core.proofs.NormalCircuits.{normal_both}
 use Rattle.tv_core.proofs.NormalLaws.{IsNormalFrom-lower}
 use Rattle.tv_core.specs.Circuits.{pure, ◌>>=◌}
@@ -12,7 +11,6 @@ use Rattle.tv_core.specs.Combinations.{top}
 use Rattle.tv_core.specs.Normal.{IsNormal, IsNormalFrom, AreNormal}
 use Rattle.tv_isa.specs.declared.opcode.TheConstants.{ADD, SMULH, SHL, SHR}
 use Rattle.tv_limb.proofs.NormalLaws.{row_sum_normal, row_difference_normal}
-use Rattle.tv_limb.proofs.RowDifferenceLaws.{row_difference_sizes}
 use Rattle.tv_limb.proofs.RowSumLaws.{row_sum_sizes}
 use Rattle.tv_limb.specs.RowDifference.{comparing, row_difference_of}
 use Rattle.tv_limb.specs.RowSum.{row_sum_of}
@@ -28,7 +26,7 @@ use Rattle.tv_shift.specs.Power.{shift_power_of}
 use Rattle.tv_shift.specs.RowShift.{right_shift_of}
 use Rattle.tv_word.specs.Widths.{IsWidth}
 use Rattle.tv_parts.proofs.ArithmeticCounts.{rows_sized, sums_sized, products_sized, rows_answer}
-use Rattle.tv_parts.proofs.NormalOpcodes.{rises_from, places_below, opcodes_normal, opcodes_top}
+use Rattle.tv_parts.proofs.NormalOpcodes.{rises_from, opcodes_normal, opcodes_top}
 use Rattle.tv_parts.specs.Arithmetic.{bitwise_ops, difference_ops, strict_ops, signed_ops, product_ops, division_ops, with_sign}
 use Rattle.tv_parts.specs.Arithmetic.{rows_of, sums_of, products_of, shifts_of, arithmetic_of}
 use Rattle.tv_parts.specs.OpcodeSums.{opcode_sum}

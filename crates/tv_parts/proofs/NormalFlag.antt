@@ -1,5 +1,5 @@
 -- The flag after a step is put by normal combinations.
-use Rattle.std.proofs.Common.{◌≡◌, ℕ, ◌+◌, ◌-◌, ◌<◌, ◌≤◌, List, [], ◌∷◌, ◌++◌, refl, arith}
+use Rattle.std.proofs.Common.{ℕ, ◌+◌, ◌-◌, ◌<◌, ◌≤◌, List, [], ◌∷◌, ◌++◌, refl, arith}
 use Rattle.tv_bits.proofs.NormalLaws.{wire_normal, times_normal}
 use Rattle.tv_bits.specs.Times.{times_of}
 use Rattle.tv_bits.specs.declared.bit_wires.Bits.{Bits}
@@ -12,7 +12,6 @@ use Rattle.tv_core.specs.Normal.{IsNormal, IsNormalFrom, AreNormal}
 use Rattle.tv_core.specs.declared.field.TheConstants.{P}
 use Rattle.tv_isa.specs.Opcodes.{keeper_ops}
 use Rattle.tv_isa.specs.declared.opcode.TheConstants.{ADD, MULL, UMULH, SMULH, SHL, SHR, CMPA, CMPAE, CMPG, CMPGE, READ}
-use Rattle.tv_word.specs.Widths.{IsWidth}
 use Rattle.tv_parts.proofs.NormalAccumulation.{accumulated_normal}
 use Rattle.tv_parts.proofs.NormalOpcodes.{opcode_sum_normal, opcodes_then, opcodes_top}
 use Rattle.tv_parts.specs.Accumulation.{closed_of}

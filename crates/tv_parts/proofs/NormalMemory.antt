@@ -1,5 +1,5 @@
 -- What a step does to memory is put by normal combinations.
-use Rattle.std.proofs.Common.{◌≡◌, ℕ, ◌+◌, ◌-◌, ◌/◌, ◌<◌, ◌≤◌, [], ◌∷◌, ◌++◌, refl, arith}
+use Rattle.std.proofs.Common.{ℕ, ◌+◌, ◌-◌, ◌/◌, ◌<◌, ◌≤◌, [], ◌∷◌, ◌++◌, refl, arith}
 use Rattle.tv_bits.proofs.NormalLaws.{wire_normal, constant_normal, bits_normal, bits_top, scaled_bits_top, times_normal}
 use Rattle.tv_bits.specs.Bits.{bits_combination}
 use Rattle.tv_bits.specs.Times.{times_of}
@@ -14,7 +14,7 @@ use Rattle.tv_isa.specs.Opcodes.{memory_ops}
 use Rattle.tv_isa.specs.declared.opcode.TheConstants.{STORE_B, STORE_W}
 use Rattle.tv_word.proofs.WidthLaws.{for_widths}
 use Rattle.tv_word.specs.Widths.{IsWidth}
-use Rattle.tv_parts.proofs.NormalAccumulation.{accumulated_normal}
+use Rattle.tv_parts.proofs.NormalAccumulation.{accumulated_normal, rise_normal}
 use Rattle.tv_parts.proofs.NormalOpcodes.{opcode_sum_normal, opcodes_then}
 use Rattle.tv_parts.proofs.UpperLaws.{upper_normal}
 use Rattle.tv_parts.specs.Accumulation.{closed_of}
@@ -28,10 +28,7 @@ use Rattle.tv_parts.specs.declared.records.OperandWires.{OperandWires}
 use Rattle.tv_parts.specs.declared.records.StateWires.{StateWires}
 use Rattle.tv_parts.specs.declared.records.TapeWires.{TapeWires}
 
--- a wire less an older one, and a wire and a newer one less
-rise_normal : (old new : ℕ) → old < new → IsNormal ((P - 1, old) ∷ (1, new) ∷ [])
-rise_normal old new h = (omega arith, omega arith, omega arith, (omega arith, omega arith, omega arith, tt))
-
+-- a wire less a newer one
 fall_normal : (old new : ℕ) → old < new → IsNormal ((1, old) ∷ (P - 1, new) ∷ [])
 fall_normal old new h = (omega arith, omega arith, omega arith, (omega arith, omega arith, omega arith, tt))
 
@@ -57,7 +54,8 @@ held_normal before op after h k =
     (omega arith, omega arith, omega arith, IsNormalFrom-lower (before + 1) (op + 0) (opcode_sum op memory_ops ++ wire after) (omega arith) rest)
 
 line_normal : (w : ℕ) → IsWidth w → (state : StateWires) (op : ℕ) (a : OperandWires) (word : ℕ) (t : TapeWires) (next : ℕ) → 0 < state.taken_of_primary
-    → state.taken_of_primary < op → op + 29 ≤ t.taken → t.taken < next → 0 < a.word → a.word < a.bits.first → AreNormal (located_line w state op a word t next).list
+    → state.taken_of_primary < op → op + 29 ≤ t.taken → t.taken < next → 0 < a.word → a.word < a.bits.first
+    → AreNormal (located_line w state op a word t next).list
 unfolding located_line times_of closed_of fresh put pure ◌>>=◌
 line_normal w width state op a word t next some before row within operand rise =
     let cells = (P - NULL_CELL, 0) ∷ upper_of 1 a (w / 16) in

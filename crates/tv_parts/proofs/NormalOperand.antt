@@ -1,12 +1,12 @@
 -- The operand is put by normal combinations.
-use Rattle.std.proofs.Common.{◌≡◌, ℕ, ◌+◌, ◌-◌, ◌<◌, ◌≤◌, [], ◌∷◌, arith}
+use Rattle.std.proofs.Common.{ℕ, ◌-◌, ◌<◌, ◌≤◌, [], ◌∷◌, arith}
 use Rattle.tv_bits.proofs.NormalLaws.{wire_normal, bits_of_normal}
 use Rattle.tv_bits.specs.Bits.{bits_of}
 use Rattle.tv_core.proofs.NormalCircuits.{normal_both}
 use Rattle.tv_core.specs.Circuits.{pure, ◌>>=◌}
 use Rattle.tv_core.specs.Combinations.{wire, top}
 use Rattle.tv_core.specs.Constraints.{Combination}
-use Rattle.tv_core.specs.Normal.{IsNormal, AreNormal}
+use Rattle.tv_core.specs.Normal.{AreNormal}
 use Rattle.tv_core.specs.declared.field.TheConstants.{P}
 use Rattle.tv_word.proofs.WidthLaws.{width_short}
 use Rattle.tv_word.specs.Widths.{IsWidth}

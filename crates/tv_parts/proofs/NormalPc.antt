@@ -1,5 +1,5 @@
 -- The program counter after a step is put by normal combinations.
-use Rattle.std.proofs.Common.{◌≡◌, ◌≢◌, ℕ, ◌+◌, ◌-◌, ◌*◌, ◌/◌, ◌%◌, ◌^◌, ◌<◌, ◌≤◌, [], ◌∷◌, ◌++◌, arith}
+use Rattle.std.proofs.Common.{◌≢◌, ℕ, ◌+◌, ◌-◌, ◌%◌, ◌^◌, ◌<◌, ◌≤◌, [], ◌∷◌, ◌++◌, arith}
 use Rattle.tv_bits.proofs.NormalLaws.{wire_normal, times_normal}
 use Rattle.tv_bits.specs.Times.{times_of}
 use Rattle.tv_core.proofs.NormalCircuits.{normal_append}

@@ -1,5 +1,5 @@
 -- The result of a step, and the sign of its test, are put by normal combinations.
-use Rattle.std.proofs.Common.{◌≡◌, ℕ, ◌+◌, ◌-◌, ◌*◌, ◌/◌, ◌^◌, ◌<◌, ◌≤◌, [], ◌∷◌, ◌++◌, refl, arith}
+use Rattle.std.proofs.Common.{ℕ, ◌+◌, ◌-◌, ◌^◌, ◌<◌, ◌≤◌, [], ◌∷◌, ◌++◌, refl, arith}
 use Rattle.tv_bits.specs.Times.{times_of}
 use Rattle.tv_core.proofs.NormalCircuits.{normal_append, normal_both}
 use Rattle.tv_core.proofs.NormalLaws.{IsNormalFrom-lower}
@@ -13,7 +13,7 @@ use Rattle.tv_isa.specs.declared.opcode.TheConstants.{AND, OR, XOR, NOT, ADD, SU
 use Rattle.tv_isa.specs.declared.opcode.TheConstants.{MOV, CMOV, LOAD_B}
 use Rattle.tv_word.proofs.WidthLaws.{width_short, for_widths}
 use Rattle.tv_word.specs.Widths.{IsWidth}
-use Rattle.tv_parts.proofs.NormalAccumulation.{accumulated_normal}
+use Rattle.tv_parts.proofs.NormalAccumulation.{accumulated_normal, rise_normal}
 use Rattle.tv_parts.proofs.NormalOpcodes.{opcodes_normal, opcodes_then, opcode_sum_normal}
 use Rattle.tv_parts.proofs.ResultFills.{result_answer, result_next}
 use Rattle.tv_parts.proofs.UpperLaws.{upper_normal, upper_top}
@@ -29,10 +29,6 @@ use Rattle.tv_parts.specs.declared.records.TapeWires.{TapeWires}
 -- a word of the greatest value
 largest : (w : ℕ) → IsWidth w → (0 < 2 ^ w - 1) × (2 ^ w - 1 < P)
 largest w width = for_widths (λ w. (0 < 2 ^ w - 1) × (2 ^ w - 1 < P)) (omega arith, omega arith) (omega arith, omega arith) w width
-
--- one wire less another, that is before it
-rise_normal : (old new : ℕ) → old < new → IsNormal ((P - 1, old) ∷ (1, new) ∷ [])
-rise_normal old new h = (omega arith, omega arith, omega arith, (omega arith, omega arith, omega arith, tt))
 
 -- the sign of the test, in the order of the row
 pub sign_normal : (op : ℕ) → IsNormalFrom op (sign_of op)

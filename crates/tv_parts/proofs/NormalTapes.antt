@@ -1,5 +1,5 @@
 -- What a step does to the tapes is put by normal combinations.
-use Rattle.std.proofs.Common.{◌≡◌, ℕ, ◌+◌, ◌-◌, ◌^◌, ◌<◌, ◌≤◌, ◌≢◌, ◌==◌, if◌then◌else◌, List, [], ◌∷◌, ◌++◌, inl, inr, refl, sym, subst, arith}
+use Rattle.std.proofs.Common.{ℕ, ◌+◌, ◌-◌, ◌^◌, ◌<◌, ◌≤◌, if◌then◌else◌, List, [], ◌∷◌, ◌++◌, inl, inr, refl, sym, subst, arith}
 use Rattle.std.proofs.lemmas.Bool.{cases_eq, eq-eqb, ne_eqb}
 use Rattle.tv_bits.specs.Times.{times_of}
 use Rattle.tv_core.proofs.NormalCircuits.{normal_append, normal_both}
@@ -72,7 +72,11 @@ auxiliary_normal taken aux before next some h = (
     c = (omega arith, omega arith, omega arith, (omega arith, omega arith, omega arith, (omega arith, omega arith, omega arith, tt)));
   },
   (
-    record { a = (omega arith, omega arith, omega arith, tt); b = (omega arith, omega arith, omega arith, (omega arith, omega arith, omega arith, tt)); c = tt },
+    record {
+      a = (omega arith, omega arith, omega arith, tt);
+      b = (omega arith, omega arith, omega arith, (omega arith, omega arith, omega arith, tt));
+      c = tt;
+    },
     tt,
   ),
 )

@@ -1,5 +1,5 @@
 -- The registers written are put by normal combinations.
-use Rattle.std.proofs.Common.{◌≡◌, ℕ, ◌+◌, ◌-◌, ◌<◌, ◌≤◌, List, [], ◌∷◌, refl, arith}
+use Rattle.std.proofs.Common.{ℕ, ◌+◌, ◌<◌, ◌≤◌, [], ◌∷◌, refl, arith}
 use Rattle.std.specs.Prelude.{slice_index}
 use Rattle.tv_core.proofs.NormalCircuits.{normal_both}
 use Rattle.tv_core.specs.Circuits.{◌>>=◌}
@@ -9,7 +9,7 @@ use Rattle.tv_isa.specs.Opcodes.{writer_ops}
 use Rattle.tv_isa.specs.declared.opcode.TheConstants.{CMOV}
 use Rattle.tv_regs.proofs.NormalLaws.{reg_below, update_normal}
 use Rattle.tv_regs.specs.declared.triple.Triple.{Triple}
-use Rattle.tv_parts.proofs.AccumulationLaws.{accumulated_answer, accumulated_next}
+use Rattle.tv_parts.proofs.AccumulationLaws.{accumulated_next}
 use Rattle.tv_parts.proofs.NormalAccumulation.{accumulated_normal}
 use Rattle.tv_parts.proofs.NormalOpcodes.{opcode_sum_normal, opcodes_top}
 use Rattle.tv_parts.specs.Accumulation.{accumulated_of}

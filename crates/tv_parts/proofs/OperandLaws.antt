@@ -19,15 +19,13 @@ use Rattle.tv_core.specs.declared.field.TheConstants.{P}
 use Rattle.tv_word.proofs.WidthLaws.{width_short}
 use Rattle.tv_word.specs.Widths.{IsWidth}
 use Rattle.tv_parts.proofs.AccumulationLaws.{accumulated_sound, accumulated_complete, accumulated_next}
+use Rattle.tv_parts.proofs.FieldNumbers.{small_word}
 use Rattle.tv_parts.proofs.Sized.{Sized, sized_then, sized_pure, sized_as, sized_put}
 use Rattle.tv_parts.proofs.TapeGates.{value-two}
 use Rattle.tv_parts.specs.Accumulation.{closed_of, accumulated_of}
 use Rattle.tv_parts.specs.Operand.{operand_of, HasOperand, OperandIsSound, OperandIsComplete, OperandSizes, OperandCosts}
 use Rattle.tv_parts.specs.declared.records.OperandWires.{OperandWires}
 use Rattle.tv_word.specs.Word.{flag_of}
-
-word_small : (w : ℕ) → IsWidth w → (v : ℕ) → v < 2 ^ w → v < P
-word_small w width v h = grind arith
 
 word_below : (w : ℕ) (b : Bool) (m n : ℕ) → m < 2 ^ w → n < 2 ^ w → (if b then m else n) < 2 ^ w
 word_below w true m n h k = h
@@ -43,7 +41,7 @@ module _ (w : ℕ) (width : IsWidth w) (z : List ℕ) (imm tail register : ℕ) 
   sum_is =
       let parts = value-two z 1 (P - 1) tail register ∙ ap₂ (λ m n. (1 * m + (P - 1) * n) % P) has.whole has.held in
       ap₂ (λ m n. (m + n) % P) (value-wire has.assigns register ∙ has.held) (ap₂ (λ m n. m * n) (value-wire has.assigns imm ∙ has.bit) parts)
-      ∙ picked immediate second named (word_small w width second has.second_word) (word_small w width named has.named_word)
+      ∙ picked immediate second named (small_word w width second has.second_word) (small_word w width named has.named_word)
 
 pub operand_sound : OperandIsSound
 unfolding operand_of pure ◌>>=◌

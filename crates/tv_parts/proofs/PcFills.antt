@@ -27,7 +27,8 @@ use Rattle.tv_parts.proofs.AccumulationLaws.{accumulated_sound, accumulated_comp
 use Rattle.tv_parts.proofs.OpcodeLaws.{opcode_wire_is}
 use Rattle.tv_numbers.proofs.Cases.{chosen_in}
 use Rattle.tv_parts.proofs.PcLaws.{distance, wrap_of, after_of, flag_jump, jump_gate, target_by, jump_number, pc_number}
-use Rattle.tv_parts.proofs.TapeFills.{flag_in_field, either}
+use Rattle.tv_parts.proofs.FieldNumbers.{flag_in_field, either}
+use Rattle.tv_parts.proofs.TapeFills.{if_zero_next}
 use Rattle.tv_parts.proofs.TapeGates.{value-two, value-three, value-four, if_zero_sound, if_zero_complete}
 use Rattle.tv_parts.proofs.UpperLaws.{upper_is, length-upper}
 use Rattle.tv_parts.specs.Accumulation.{closed_of}
@@ -132,10 +133,6 @@ module _ (w : ℕ) (width : IsWidth w) (z : List ℕ) (state : StateWires) (op :
 
       first : (c n : ℕ) → (c * 1 + n) % P ≡ (c + n) % P
       first c n = omega arith
-
-if_zero_next : (g x : Combination) (next : ℕ) → (if_zero_of g x next).next ≡ next + 1 + 1
-unfolding if_zero_of fresh put pure ◌>>=◌
-if_zero_next g x next = refl
 
 -- ---- the laws
 pub pc_sound : PcIsSound

@@ -26,9 +26,10 @@ use Rattle.tv_step.specs.Rows.{word_size}
 use Rattle.tv_word.proofs.WidthLaws.{for_widths}
 use Rattle.tv_word.specs.Widths.{IsWidth}
 use Rattle.tv_parts.proofs.AccumulationLaws.{accumulated_sound, accumulated_complete}
+use Rattle.tv_parts.proofs.FieldNumbers.{small_word, byte_small, either, flag_times}
 use Rattle.tv_parts.proofs.FlagFills.{no_primary, no_auxiliary, one_tape}
 use Rattle.tv_parts.proofs.OpcodeLaws.{opcode_sum_sound, opcode_wire_is}
-use Rattle.tv_parts.proofs.ResultLaws.{ResultCase, result_is, compared_is, tested_is, small_word, either}
+use Rattle.tv_parts.proofs.ResultLaws.{ResultCase, result_is, compared_is, tested_is}
 use Rattle.tv_parts.proofs.TapeGates.{value-two, value-three, value-four}
 use Rattle.tv_parts.proofs.TapeLaws.{among_one}
 use Rattle.tv_parts.proofs.UpperLaws.{upper_is, length-upper}
@@ -49,10 +50,6 @@ use Rattle.tv_parts.specs.declared.records.TapeWires.{TapeWires}
 use Rattle.tv_word.specs.Word.{flag_of}
 
 -- ---- numbers
-flag_times : (b : Bool) (n : ℕ) → n < P → flag_of b * n % P ≡ (if b then n else 0)
-flag_times true n h = omega arith
-flag_times false n h = omega arith
-
 -- the gate of the low half: an opcode that has it, or a word that is found
 low_gate : (g p t : Bool) (b taken : ℕ) → b < 2 ^ 29 → taken ≡ (if p then b + 1 else b) → (p ≡ true → t ≡ false) → (g ≡ true → (p ≡ false) × (t ≡ false))
     → ((P - 1) * b + (flag_of g + (1 * taken + 1 * flag_of t) % P) % P) % P ≡ flag_of (g || (p || t))
@@ -135,9 +132,6 @@ module _ (w : ℕ) (width : IsWidth w) (z : List ℕ) (n : ℕ) (state : StateWi
   high_small : high < P
   high_small = small_word w width high has.halves.high_word
 
-  byte_small : byte < P
-  byte_small = omega arith
-
   pub case_of : ResultCase w width (other_word v i) at low high finds (HasBits-below has.operand.bits) i.op
   case_of = record {
     reads = λ e. ap₂ (λ p q. p || q) (no_primary v i n e) (no_auxiliary v i (took z t) has.tapes.asked e);
@@ -201,7 +195,7 @@ module _ (w : ℕ) (width : IsWidth w) (z : List ℕ) (n : ℕ) (state : StateWi
       (ap₂ (λ p q. p * q) (opcode_sum_sound z op i.op (27 ∷ []) has.opcode refl ∙ ap flag_of (among_one 27 i.op)) (value-wire has.assigns from.byte ∙ has.byte))
       ∙ sum_is (i.op == 3) (i.op == 27) (low_part i.op low finds) (high_part i.op high) (moved_part i.op at) (2 ^ w - 1) byte
       (part_small (among low_ops i.op || finds) low low_small) (part_small (among high_ops i.op) high high_small) moved_small
-      (small_word w width (2 ^ w - 1) (omega (arith, width))) byte_small
+      (small_word w width (2 ^ w - 1) (omega (arith, width))) (byte_small low (at % word_size w))
       (λ e. ne_eqb i.op 27 (λ k. other (eqb-true i.op 3 e) k))
     where
       other : i.op ≡ 3 → i.op ≡ 27 → ⊥

@@ -10,6 +10,7 @@ use Rattle.tv_numbers.specs.Tables.{results}
 use Rattle.tv_step.specs.Rows.{word_size}
 use Rattle.tv_word.proofs.WidthLaws.{for_widths}
 use Rattle.tv_word.specs.Widths.{IsWidth}
+use Rattle.tv_parts.proofs.FieldNumbers.{small_word, byte_small, either}
 use Rattle.tv_parts.proofs.OpcodeCases.{for_opcode, unused}
 use Rattle.tv_parts.specs.Results.{zero_ops, carry_ops, result_number, tested_number, place_bits}
 use Rattle.tv_parts.specs.Rows.{AreHalves}
@@ -17,9 +18,6 @@ use Rattle.tv_parts.specs.Rows.{AreHalves}
 -- or is and + xor
 or-sum : (a b : ℕ) → bit_or a b ≡ bit_and a b + bit_xor a b
 or-sum a b = omega (arith, or_add_and a b, xor_add_and a b)
-
-pub small_word : (w : ℕ) → IsWidth w → (v : ℕ) → v < 2 ^ w → v < P
-small_word w width = for_widths (λ w. (v : ℕ) → v < 2 ^ w → v < P) (λ v h. omega arith) (λ v h. omega arith) w width
 
 two_words : (w : ℕ) → IsWidth w → (u v : ℕ) → u < 2 ^ w → v < 2 ^ w → (u + v + 0 + 0) % P ≡ u + v
 two_words w width = for_widths (λ w. (u v : ℕ) → u < 2 ^ w → v < 2 ^ w → (u + v + 0 + 0) % P ≡ u + v) (λ u v h k. omega arith) (λ u v h k. omega arith) w width
@@ -39,13 +37,6 @@ one_moved u h = omega arith
 
 one_byte : (u : ℕ) → u < P → (0 + 0 + 0 + u) % P ≡ u
 one_byte u h = omega arith
-
-byte_small : (o j : ℕ) → byte_of o j < P
-byte_small o j = omega arith
-
-pub either : (b : Bool) (x y : ℕ) → x < P → y < P → (if b then x else y) < P
-either true x y h k = h
-either false x y h k = k
 
 module _ (w : ℕ) (width : IsWidth w) (x a low high : ℕ) (found : Bool) (a_word : a < 2 ^ w) where
   -- what is known at an opcode

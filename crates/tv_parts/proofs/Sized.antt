@@ -25,7 +25,7 @@ sized_then first second m c t n d u p q = record {
       ∙ ap₂ (λ i j. i + j) (p.size next) ((q next).size (first next).next);
 }
 
-none_more : (next : ℕ) → next ≡ next + 0
+pub none_more : (next : ℕ) → next ≡ next + 0
 none_more next = omega arith
 
 pub sized_pure : {A : Type 0} (a : A) → Sized (pure a) 0 0 0

@@ -23,6 +23,7 @@ use Rattle.tv_numbers.specs.Views.{View}
 use Rattle.tv_word.proofs.FlagLaws.{flag_small}
 use Rattle.tv_word.proofs.WidthLaws.{width_short}
 use Rattle.tv_word.specs.Widths.{IsWidth}
+use Rattle.tv_parts.proofs.FieldNumbers.{flag_in_field, either}
 use Rattle.tv_parts.proofs.OpcodeLaws.{opcode_sum_sound}
 use Rattle.tv_parts.proofs.TapeGates.{if_zero_sound, if_zero_complete, primary_complete, auxiliary_complete}
 use Rattle.tv_parts.proofs.TapeLaws.{among_one, reading_by, more_by}
@@ -40,17 +41,13 @@ flag_test true = refl
 flag_test false = refl
 
 -- ---- where the parts end
-if_zero_next : (g x : Combination) (next : ℕ) → (if_zero_of g x next).next ≡ next + 1 + 1
+pub if_zero_next : (g x : Combination) (next : ℕ) → (if_zero_of g x next).next ≡ next + 1 + 1
 unfolding if_zero_of fresh put pure ◌>>=◌
 if_zero_next g x next = refl
 
 primary_next : (n before reads aux next : ℕ) → (primary_of n before reads aux next).next ≡ next + 1 + 1
 unfolding primary_of fresh put pure ◌>>=◌
 primary_next n before reads aux next = refl
-
-primary_answer : (n before reads aux next : ℕ) → (primary_of n before reads aux next).answer ≡ next
-unfolding primary_of fresh put pure ◌>>=◌
-primary_answer n before reads aux next = refl
 
 auxiliary_takes : (taken aux before next : ℕ) → (auxiliary_of taken aux before next).answer.takes ≡ next
 unfolding auxiliary_of fresh put pure ◌>>=◌
@@ -122,14 +119,6 @@ tapes_answer w n state op a next = same_wires _ _ _ _ _ _ (omega arith) (omega a
 tapes_next : (w n : ℕ) (state : StateWires) (op : ℕ) (a : OperandWires) (next : ℕ) → (tapes_of w n state op a next).next ≡ next + 7
 unfolding tapes_of if_zero_of times_of primary_of auxiliary_of fresh put pure ◌>>=◌
 tapes_next w n state op a next = omega arith
-
-pub flag_in_field : (b : Bool) → flag_of b < P
-flag_in_field true = omega arith
-flag_in_field false = omega arith
-
-pub either : (b : Bool) (x y : ℕ) → x < P → y < P → (if b then x else y) < P
-either true x y h k = h
-either false x y h k = k
 
 tapes_in_field : (w n : ℕ) (v : View) (i : Instr) (o : ℕ) (takes : Bool) → n < 2 ^ 29 → v.taken ≤ n → v.ended < 2 → InField (tapes_values w n v i o takes)
 tapes_in_field w n v i o takes short within bit =

@@ -100,7 +100,8 @@ if_zero_complete z next g x assigns w h =
     by_cases = elim (cases_eq (value x z) 0) [
       | inl none ↦ (
         times_zero (value x z) _ none
-            ∙ sym (itself (value g z) (slice_index z next) (wire-below assigns next) (sym (w ∙ ap (λ b. if b then value g z else 0) (eq-eqb (value x z) 0 none)))),
+            ∙ sym (itself (value g z) (slice_index z next) (wire-below assigns next)
+            (sym (w ∙ ap (λ b. if b then value g z else 0) (eq-eqb (value x z) 0 none)))),
         times_zero (value x z) _ none,
       )
       | inr some ↦

@@ -12,7 +12,7 @@ use Rattle.tv_core.proofs.CombinationLaws.{value-wire}
 use Rattle.tv_core.proofs.MeetsLaws.{Meets-split}
 use Rattle.tv_core.specs.Circuits.{fresh, put, pure, ◌>>=◌}
 use Rattle.tv_core.specs.Combinations.{wire}
-use Rattle.tv_core.specs.Constraints.{Combination, value}
+use Rattle.tv_core.specs.Constraints.{value}
 use Rattle.tv_core.specs.declared.field.TheConstants.{P}
 use Rattle.tv_isa.specs.Opcodes.{among}
 use Rattle.tv_numbers.specs.Numbers.{operand_word, asks, takes_primary}
@@ -101,19 +101,6 @@ ends_by : (q t : Bool) (before ended : ℕ) → ended ≡ (if q then (if t then 
 ends_by true true before ended e = e
 ends_by true false before ended e = e
 ends_by false t before ended e = e
-
--- ---- where the parts end
-pub if_zero_next : (g x : Combination) (next : ℕ) → (if_zero_of g x next).next ≡ next + 2
-unfolding if_zero_of fresh put pure ◌>>=◌
-if_zero_next g x next = omega arith
-
-pub if_zero_answer : (g x : Combination) (next : ℕ) → (if_zero_of g x next).answer ≡ next
-unfolding if_zero_of fresh put pure ◌>>=◌
-if_zero_answer g x next = refl
-
-pub auxiliary_answer : (taken aux before next : ℕ) → (auxiliary_of taken aux before next).answer ≡ record { taken = taken; takes = next; ended = next + 1 }
-unfolding auxiliary_of fresh put pure ◌>>=◌
-auxiliary_answer taken aux before next = refl
 
 -- ---- the tapes
 pub tapes_sound : TapesAreSound

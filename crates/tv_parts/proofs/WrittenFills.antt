@@ -52,9 +52,9 @@ writes_among k f e = elim (cases_eq k 19) [
       ∙ (sym (ap (λ b. if b then f == 1 else among writer_ops k) (ne_eqb k 19 apart)) ∙ e)
 ]
 
-pub written_where : (b : Bool) (x y d : ℕ) (words : List ℕ) → (b ≡ true → x ≡ y) → written_regs b x d words ≡ (if b then slice_set words d y else words)
-written_where true x y d words e = ap (slice_set words d) (e refl)
-written_where false x y d words e = refl
+pub regs_where : (b : Bool) (x y d : ℕ) (words : List ℕ) → (b ≡ true → x ≡ y) → written_regs b x d words ≡ (if b then slice_set words d y else words)
+regs_where true x y d words e = ap (slice_set words d) (e refl)
+regs_where false x y d words e = refl
 
 pub none_of : (k : ℕ) → (k == 19) ≡ true → among writer_ops k ≡ false
 none_of k e = elim (cases_eq k 19) [ inl same ↦ ap (among writer_ops) same | inr apart ↦ absurd (true≢false (sym e ∙ ne_eqb k 19 apart)) ]
@@ -73,7 +73,7 @@ written_complete w z next n state op regs result v i o takes has from =
     let first = accumulated_complete z next (opcode_sum op writer_ops) (opcode_sum op (19 ∷ [])) (wire state.flag) has.assigns (from.0 ∙ sym on_is, tt) in
     let after : written_regs (slice_index z on.answer == 1) (slice_index z result) i.dest (words_at z state.regs) ≡ (stepped w n v i o takes).regs =
     ap₂ (λ b l. written_regs b (slice_index z result) i.dest l) (ap (λ k. k == 1) on_at ∙ flag_test does) has.words
-    ∙ written_where does (slice_index z result) (result_in w n v i o takes) i.dest v.regs (λ e. has.word (writes_among i.op v.flag e)) in
+    ∙ regs_where does (slice_index z result) (result_in w n v i o takes) i.dest v.regs (λ e. has.word (writes_among i.op v.flag e)) in
     let rest : HasFrom z on.next (written_regs (slice_index z on.answer == 1) (slice_index z result) i.dest (words_at z state.regs)) =
     subst (λ l. HasFrom z on.next l) (sym after)
     (subst (λ k. HasFrom z k (stepped w n v i o takes).regs)

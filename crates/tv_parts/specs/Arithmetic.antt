@@ -1,6 +1,6 @@
 -- The arithmetic of a step: one double row that holds what each operation makes of two words.
 use Rattle.std.specs.Prelude.{◌≡◌, ℕ, ◌+◌, ◌-◌, ◌*◌, ◌/◌, ◌%◌, ◌^◌, ◌<◌, true, false, ◌==◌, nat_lt, if◌then◌else◌, List, [], ◌∷◌, ◌++◌, length}
-use Rattle.std.specs.Prelude.{slice_index, bit_and, bit_xor}
+use Rattle.std.specs.Prelude.{slice_index}
 use Rattle.std.specs.Int.{bit_at}
 use Rattle.tv_bits.specs.Bit.{IsBit}
 use Rattle.tv_bits.specs.Bits.{HasBits, bits_values, new_bits_of}

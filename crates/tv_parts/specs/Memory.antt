@@ -1,5 +1,5 @@
 -- The data line of a step, and the bytes of its word.
-use Rattle.std.specs.Prelude.{◌≡◌, ℕ, ◌+◌, ◌-◌, ◌*◌, ◌/◌, ◌%◌, ◌^◌, ◌<◌, ◌≤◌, Bool, ◌==◌, if◌then◌else◌, List, [], ◌∷◌, ◌++◌, length, slice_index}
+use Rattle.std.specs.Prelude.{◌≡◌, ℕ, ◌+◌, ◌-◌, ◌*◌, ◌/◌, ◌%◌, ◌^◌, ◌<◌, ◌≤◌, ◌==◌, if◌then◌else◌, List, [], ◌∷◌, ◌++◌, length, slice_index}
 use Rattle.tv_bits.specs.Bits.{HasBits, bits_combination}
 use Rattle.tv_bits.specs.Times.{times_of}
 use Rattle.tv_core.specs.Circuits.{Circuit, pure, ◌>>=◌}
@@ -21,7 +21,7 @@ use Rattle.tv_parts.specs.Accumulation.{accumulated_of}
 use Rattle.tv_parts.specs.Inputs.{TapedWires, StepInput, input_of}
 use Rattle.tv_parts.specs.OpcodeSums.{opcode_sum, IsOpcode}
 use Rattle.tv_parts.specs.Operand.{upper_of, IsOperand}
-use Rattle.tv_parts.specs.Tapes.{primary_in, took, AreTapes}
+use Rattle.tv_parts.specs.Tapes.{primary_in, AreTapes}
 use Rattle.tv_parts.specs.declared.records.DataWires.{DataWires}
 use Rattle.tv_parts.specs.declared.records.LineWires.{LineWires}
 use Rattle.tv_parts.specs.declared.records.OperandWires.{OperandWires}
@@ -77,9 +77,9 @@ memory_of w state op a d t = do
   pure (record { line = line; byte = byte; new = new })
 
 -- the values of the wires that are made: the cell of a load or store, or the null cell; the cell; the word in it
-abbrev pub line_values : ℕ → ℕ → View → Instr → ℕ → Bool → List ℕ
-line_values w n v i o takes =
-    (if touches v i then operand_word v i / word_size w else NULL_CELL) ∷ (data_line w n v i o takes 0).cell ∷ old_in w n v i o takes ∷ []
+abbrev pub line_values : ℕ → ℕ → View → Instr → ℕ → List ℕ
+line_values w n v i o =
+    (if touches v i then operand_word v i / word_size w else NULL_CELL) ∷ (data_line w n v i o 0).cell ∷ old_in n v i o ∷ []
 
 -- of words of four bytes the bytes that the lowest bit chooses in either half, and in all words the byte
 abbrev pub byte_values : ℕ → ℕ → ℕ → List ℕ
@@ -89,16 +89,16 @@ byte_values w o a = if w == 16 then byte_of o (a % 2) ∷ [] else byte_of o (a %
 abbrev pub gained : ℕ → ℕ → ℕ → ℕ
 gained o j b = 256 ^ j * ((b + (P - byte_of o j)) % P) % P
 
-abbrev pub new_values : ℕ → StepInput → ℕ → Bool → List ℕ
-new_values w step x takes =
+abbrev pub new_values : ℕ → StepInput → ℕ → List ℕ
+new_values w step x =
     let change : ℕ = gained step.low (operand_word step.view step.instr % word_size w) (x % 256) in
-    change ∷ (if step.instr.op == STORE_B then change else 0) ∷ (data_line w step.words step.view step.instr step.low takes 0).new ∷ []
+    change ∷ (if step.instr.op == STORE_B then change else 0) ∷ (data_line w step.words step.view step.instr step.low 0).new ∷ []
 
 -- all of them, x being the word whose lowest byte is stored
-abbrev pub memory_values : ℕ → StepInput → ℕ → Bool → List ℕ
-memory_values w step x takes =
-    line_values w step.words step.view step.instr step.low takes
-    ++ (byte_values w step.low (operand_word step.view step.instr) ++ new_values w step x takes)
+abbrev pub memory_values : ℕ → StepInput → ℕ → List ℕ
+memory_values w step x =
+    line_values w step.words step.view step.instr step.low
+    ++ (byte_values w step.low (operand_word step.view step.instr) ++ new_values w step x)
 
 -- ---- the laws
 -- z has what memory is read and written by: the data word with its bits, a word x whose lowest byte is stored, and which
@@ -119,33 +119,33 @@ pub record HasMemory (w : ℕ) (z : List ℕ) (wires : TapedWires) (d : DataWire
   pub tapes : AreTapes z wires.tapes step.words step.view step.instr
 
 -- the wires are those of the data line, and of the byte at the operand's address
-pub record AreStored (w : ℕ) (z : List ℕ) (s : StoreWires) (step : StepInput) (takes : Bool) : Type 0 where
-  pub cell : slice_index z s.line.cell ≡ (data_line w step.words step.view step.instr step.low takes 0).cell
-  pub old : slice_index z s.line.old ≡ (data_line w step.words step.view step.instr step.low takes 0).old
-  pub new : slice_index z s.new ≡ (data_line w step.words step.view step.instr step.low takes 0).new
+pub record AreStored (w : ℕ) (z : List ℕ) (s : StoreWires) (step : StepInput) : Type 0 where
+  pub cell : slice_index z s.line.cell ≡ (data_line w step.words step.view step.instr step.low 0).cell
+  pub old : slice_index z s.line.old ≡ (data_line w step.words step.view step.instr step.low 0).old
+  pub new : slice_index z s.new ≡ (data_line w step.words step.view step.instr step.low 0).new
   pub byte : slice_index z s.byte ≡ byte_of step.low (operand_word step.view step.instr % word_size w)
 
 -- an assignment that satisfies the constraints has them at the returned wires
 abbrev pub MemoryIsSound : Type 0
 MemoryIsSound = (w : ℕ) → IsWidth w → (z : List ℕ) (next n : ℕ) (state : StateWires) (op : ℕ) (a : OperandWires) (d : DataWires) (t : TapeWires) (v : View) (i : Instr) (x o : ℕ)
     → HasMemory w z (record { state = state; op = op; operand = a; tapes = t }) d (input_of n v i o) x → Meets z (memory_of w state op a d t next).list
-    → AreStored w z (memory_of w state op a d t next).answer (input_of n v i o) (took z t)
+    → AreStored w z (memory_of w state op a d t next).answer (input_of n v i o)
 
 -- an assignment that has these values at the wires that are made meets the constraints
 abbrev pub MemoryIsComplete : Type 0
 MemoryIsComplete = (w : ℕ) → IsWidth w → (z : List ℕ) (next n : ℕ) (state : StateWires) (op : ℕ) (a : OperandWires) (d : DataWires) (t : TapeWires) (v : View) (i : Instr) (x o : ℕ)
     → HasMemory w z (record { state = state; op = op; operand = a; tapes = t }) d (input_of n v i o) x
-    → HasFrom z next (memory_values w (input_of n v i o) x (took z t)) → Meets z (memory_of w state op a d t next).list
+    → HasFrom z next (memory_values w (input_of n v i o) x) → Meets z (memory_of w state op a d t next).list
 
 -- which wires are returned, and that the values are one number of the field for each wire that is made
 pub record MemorySizes : Type 0 where
   pub answer : (w : ℕ) → IsWidth w → (state : StateWires) (op : ℕ) (a : OperandWires) (d : DataWires) (t : TapeWires) (next : ℕ) → (memory_of w state op a d t next).answer
       ≡ record { line = record { cell = next + 1; old = next + 2 }; byte = next + (w / 8 + 1); new = next + (w / 8 + 4) }
   pub end : (w : ℕ) → IsWidth w → (state : StateWires) (op : ℕ) (a : OperandWires) (d : DataWires) (t : TapeWires) (next : ℕ) → (memory_of w state op a d t next).next ≡ next + (w / 8 + 5)
-  pub fills : (w : ℕ) → IsWidth w → (n : ℕ) (state : StateWires) (op : ℕ) (a : OperandWires) (d : DataWires) (t : TapeWires) (v : View) (i : Instr) (x o : ℕ) (takes : Bool)
-      → Fills (memory_of w state op a d t) (memory_values w (input_of n v i o) x takes)
-  pub in_field : (w : ℕ) → IsWidth w → (n : ℕ) (v : View) (i : Instr) (x o : ℕ) (takes : Bool) → n < 2 ^ 29 → v.taken ≤ n → operand_word v i < 2 ^ w → other_word v i < 2 ^ w → o < 2 ^ w
-      → InField (memory_values w (input_of n v i o) x takes)
+  pub fills : (w : ℕ) → IsWidth w → (n : ℕ) (state : StateWires) (op : ℕ) (a : OperandWires) (d : DataWires) (t : TapeWires) (v : View) (i : Instr) (x o : ℕ)
+      → Fills (memory_of w state op a d t) (memory_values w (input_of n v i o) x)
+  pub in_field : (w : ℕ) → IsWidth w → (n : ℕ) (v : View) (i : Instr) (x o : ℕ) → n < 2 ^ 29 → v.taken ≤ n → operand_word v i < 2 ^ w → other_word v i < 2 ^ w → o < 2 ^ w
+      → InField (memory_values w (input_of n v i o) x)
 
 -- nine constraints, or seven for words of two bytes, of 2 w + w / 8 + 37 terms
 pub record MemoryCosts : Type 0 where

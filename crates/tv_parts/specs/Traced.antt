@@ -24,7 +24,7 @@ pub record AreNumbers (w : ℕ) (v : View) (step : StepNumbers) : Type 0 where
   pub other : step.other ≡ other_word v step.instr
   pub primary : step.primary ≡ takes_primary v step.instr step.n
   pub finds : step.found ≡ found w step.n v step.instr step.low step.aux
-  pub old : step.old ≡ old_in w step.n v step.instr step.low step.aux
+  pub old : step.old ≡ old_in step.n v step.instr step.low
   pub operand_word : step.operand < 2 ^ w
   pub other_word : step.other < 2 ^ w
   pub low_word : step.low < 2 ^ w

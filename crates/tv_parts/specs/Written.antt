@@ -1,4 +1,4 @@
--- The registers that a step writes.
+-- The registers after a step.
 use Rattle.std.specs.Prelude.{◌≡◌, ℕ, ◌+◌, ◌<◌, Bool, true, List, [], ◌∷◌, length, slice_index}
 use Rattle.std.specs.List.{range_with_len}
 use Rattle.tv_bits.specs.Bit.{IsBit}

@@ -1,7 +1,7 @@
 //! The data line of a step, and the bytes of its word.
-ghost use Rattle.std.specs.Prelude.{◌≡◌, ◌+◌, ◌-◌, ◌*◌, ◌/◌, ◌%◌, ◌≤◌, ◌<◌, ◌^◌, ◌++◌, false};
-ghost use Rattle.std.specs.Prelude.{length, max, IfOk, OnOk};
-ghost use Rattle.tv_core.specs.Combinations.{wire, scaled, top};
+ghost use Rattle.std.specs.Prelude.{◌≡◌, ◌+◌, ◌-◌, ◌*◌, ◌/◌, ◌%◌, ◌≤◌, ◌<◌, ◌^◌, false};
+ghost use Rattle.std.specs.Prelude.{max, IfOk, OnOk};
+ghost use Rattle.tv_core.specs.Combinations.{top};
 ghost use Rattle.tv_core.specs.Values.{GivesIn};
 ghost use Rattle.tv_core.specs.Sinks.{PutsIn, Grows, Room};
 ghost use Rattle.tv_parts.specs.Memory.{located_line, byte_of_pair, byte_of_four, byte_at_of};
@@ -14,7 +14,6 @@ ghost use Rattle.tv_parts.specs.Traced.{traced_view, traced_input, AreNumbers};
 ghost use Rattle.tv_isa.specs.Opcodes.{among, memory_ops};
 ghost use Rattle.tv_mem.specs.Bytes.{byte_of};
 ghost use Rattle.tv_numbers.specs.Numbers.{with_byte_in};
-ghost use Rattle.tv_step.specs.Rows.{word_size};
 ghost use Rattle.tv_word.specs.Widths.{IsWidth};
 
 use crate::accumulation::accumulated;
@@ -22,12 +21,15 @@ use crate::opcode_sums::{opcode_wire, plus_opcodes, set_opcodes};
 use crate::operand::plus_upper;
 use crate::records::{DataWires, LineWires, OperandWires, StateWires, StoreWires, TapeWires};
 use crate::step_numbers::StepNumbers;
-use crate::tapes::set_terms;
+use crate::tapes::{set_negated, set_terms};
 use tv_bits::{Bits, times_by};
 use tv_core::limits::{NULL_CELL, TAPE_CELLS};
 use tv_core::{F, Lc, Put, Scratch, Sink, Values, Wire, give_values};
 use tv_isa::opcode::{LOAD_B, LOAD_W, STORE_B, STORE_W};
 use tv_step::TraceState;
+
+// The opcodes that load or store.
+const MEMORY_OPS: [u8; 4] = [STORE_B, LOAD_B, STORE_W, LOAD_W];
 
 /// Constrains the data line of a step and the byte at its operand's address: `op` is the row of its
 /// opcode, and `a` its operand. Makes 9 wires and 9 constraints for words of 32 bits, and 7 of each
@@ -86,14 +88,12 @@ fn put_line<const W: u32, S: Sink>(
     ensures below { IfOk result (λ made. LineUnder (S.meaning.wires s.new) made) }
 {
     let minus = -F::ONE;
+    let null = F::from(NULL_CELL);
     let before = state.taken_of_primary;
-    set_opcodes(&mut scratch.a, op, &[STORE_B, LOAD_B, STORE_W, LOAD_W]);
-    set_terms(&mut scratch.b, &[(-F::from(NULL_CELL), Wire(0))]);
+    set_opcodes(&mut scratch.a, op, &MEMORY_OPS);
+    set_terms(&mut scratch.b, &[(-null, Wire(0))]);
     plus_upper(&mut scratch.b, F::ONE, a, W / 16);
-    scratch.c.clear();
-    scratch
-        .c
-        .plus_scaled(minus, &[(F::from(NULL_CELL), Wire(0))]);
+    set_negated(&mut scratch.c, &[(null, Wire(0))]);
     let located = accumulated(s, &mut scratch.c, &scratch.a, &scratch.b)?;
     set_terms(&mut scratch.a, &[(minus, before), (F::ONE, tapes.taken)]);
     set_terms(
@@ -104,16 +104,10 @@ fn put_line<const W: u32, S: Sink>(
             (minus, located),
         ],
     );
-    scratch.c.clear();
-    scratch.c.plus_scaled(minus, &[(F::ONE, located)]);
+    set_negated(&mut scratch.c, &[(F::ONE, located)]);
     let cell = accumulated(s, &mut scratch.c, &scratch.a, &scratch.b)?;
     set_terms(&mut scratch.a, &[(minus, before)]);
-    plus_opcodes(
-        &mut scratch.a,
-        F::ONE,
-        op,
-        &[STORE_B, LOAD_B, STORE_W, LOAD_W],
-    );
+    plus_opcodes(&mut scratch.a, F::ONE, op, &MEMORY_OPS);
     scratch.a.plus(F::ONE, tapes.taken);
     scratch.b.set_wire(word);
     let old = times_by(s, &mut scratch.c, &scratch.a, &scratch.b)?;
@@ -180,8 +174,7 @@ fn byte_of_four<S: Sink>(s: &mut S, scratch: &mut Scratch, bits: Wire, a: Wire) 
     let high = byte_of_pair(s, scratch, bits.offset(16), a)?;
     scratch.a.set_wire(a.offset(1));
     set_terms(&mut scratch.b, &[(minus, low), (F::ONE, high)]);
-    scratch.c.clear();
-    scratch.c.plus_scaled(minus, &[(F::ONE, low)]);
+    set_negated(&mut scratch.c, &[(F::ONE, low)]);
     accumulated(s, &mut scratch.c, &scratch.a, &scratch.b)
 }
 
@@ -218,10 +211,7 @@ fn put_new<const W: u32, S: Sink>(
     let changed = times_by(s, &mut scratch.c, &scratch.a, &scratch.b)?;
     scratch.a.set_wire(opcode_wire(op, STORE_W));
     set_terms(&mut scratch.b, &[(F::ONE, d.other), (minus, d.word)]);
-    scratch.c.clear();
-    scratch
-        .c
-        .plus_scaled(minus, &[(F::ONE, line.old), (F::ONE, changed)]);
+    set_negated(&mut scratch.c, &[(F::ONE, line.old), (F::ONE, changed)]);
     accumulated(s, &mut scratch.c, &scratch.a, &scratch.b)
 }
 
@@ -251,7 +241,7 @@ pub fn fill_memory<const W: u32, V: Values>(
     requires taken { state.now.primary ≤ step.now.n }
     requires whole { V.giving.broken v.old ≡ false }
     ensures gives { GivesIn V.giving v.old v.new
-        (memory_values W (traced_input state.now step.now) step.now.decomposed step.now.aux) result }
+        (memory_values W (traced_input state.now step.now) step.now.decomposed) result }
     ensures whole { OnOk result (V.giving.broken v.new ≡ false) }
 {
     give_values(v, &line_values::<W>(state, step))?;
@@ -265,8 +255,8 @@ fn line_values<const W: u32>(state: &TraceState, step: &StepNumbers) -> [F; 3]
     requires step { AreNumbers W (traced_view state.now) step.now }
     requires short { step.now.n < 2 ^ 29 }
     requires taken { state.now.primary ≤ step.now.n }
-    ensures { result ≡ line_values W step.now.n (traced_view state.now) step.now.instr step.now.low
-        step.now.aux }
+    ensures { result ≡ line_values W step.now.n (traced_view state.now) step.now.instr
+        step.now.low }
 {
     let located = if touches(step.instr.op) {
         step.operand / (W / 8)
@@ -312,8 +302,7 @@ fn fill_bytes<const W: u32, V: Values>(v: &mut V, word: u32, at: u32) -> Put<()>
 fn new_values<const W: u32>(state: &TraceState, step: &StepNumbers) -> [F; 3]
     requires width { IsWidth W }
     requires step { AreNumbers W (traced_view state.now) step.now }
-    ensures { result ≡ new_values W (traced_input state.now step.now) step.now.decomposed
-        step.now.aux }
+    ensures { result ≡ new_values W (traced_input state.now step.now) step.now.decomposed }
 {
     let change = gained(step.low, step.operand % (W / 8), step.decomposed % 256);
     let changed = if step.instr.op == STORE_B {

@@ -1,8 +1,7 @@
 //! The operand of an instruction.
 ghost use Rattle.std.specs.Prelude.{◌≡◌, ◌+◌, ◌-◌, ◌≤◌, ◌<◌, ◌^◌, ◌++◌, false, length, max, IfOk};
 ghost use Rattle.std.specs.Prelude.{OnOk};
-ghost use Rattle.tv_bits.specs.Bits.{bits_of};
-ghost use Rattle.tv_core.specs.Combinations.{wire, scaled, top};
+ghost use Rattle.tv_core.specs.Combinations.{top};
 ghost use Rattle.tv_core.specs.Values.{GivesIn};
 ghost use Rattle.tv_core.specs.Sinks.{PutsIn, Grows, Room};
 ghost use Rattle.tv_core.specs.declared.field.TheConstants.{P};
@@ -14,8 +13,8 @@ ghost use Rattle.tv_word.specs.Widths.{IsWidth};
 
 use crate::accumulation::accumulated;
 use crate::records::OperandWires;
-use crate::tapes::set_terms;
-use tv_bits::{Bits, fill_bits, new_bits_by};
+use crate::tapes::{set_negated, set_terms};
+use tv_bits::{Bits, bits_by, fill_bits};
 use tv_core::{F, Lc, P, Put, Scratch, Sink, Values, Wire};
 
 /// Constrains the operand of an instruction, with its bits: the second word `tail` where the
@@ -37,32 +36,14 @@ pub fn put_operand<const W: u32, S: Sink>(
     ensures grows { IfOk result (λ _. Grows S.meaning s.old s.new (W + 1) (W + 2)) }
     ensures below { IfOk result (λ made. OperandUnder W (S.meaning.wires s.new) made) }
 {
-    let minus = -F::ONE;
     scratch.a.set_wire(imm);
-    set_terms(&mut scratch.b, &[(F::ONE, tail), (minus, register)]);
-    scratch.c.clear();
-    scratch.c.plus_scaled(minus, &[(F::ONE, register)]);
+    set_terms(&mut scratch.b, &[(F::ONE, tail), (-F::ONE, register)]);
+    set_negated(&mut scratch.c, &[(F::ONE, register)]);
     let word = accumulated(s, &mut scratch.c, &scratch.a, &scratch.b)?;
-    let bits = bits_of_wire::<W, S>(s, scratch, word)?;
+    let mut number = Lc::empty();
+    number.set_wire(word);
+    let bits = bits_by(s, scratch, &number, W)?;
     Ok(OperandWires { word, bits })
-}
-
-// The bits of the word at a wire.
-fn bits_of_wire<const W: u32, S: Sink>(s: &mut S, scratch: &mut Scratch, word: Wire) -> Put<Bits>
-    requires width { IsWidth W }
-    requires room { Room S.meaning s.old W (W + 1) }
-    requires word_made { word < S.meaning.wires s.old }
-    ensures puts { PutsIn S.meaning s.old s.new (bits_of (wire word) W) result }
-    ensures grows { IfOk result (λ _. Grows S.meaning s.old s.new W (W + 1)) }
-    ensures size { IfOk result (λ bits. bits.n ≡ W) }
-    ensures below { IfOk result (λ bits. bits.first + W ≤ S.meaning.wires s.new) }
-{
-    let bits = new_bits_by(s, &mut scratch.a, W)?;
-    bits.set_number(&mut scratch.a);
-    scratch.b.set_wire(Wire(0));
-    scratch.c.set_wire(word);
-    s.put(&scratch.a, &scratch.b, &scratch.c)?;
-    Ok(bits)
 }
 
 /// Appends `factor` times the number of the operand's bits from number `k` on, `k` being at most

@@ -1,7 +1,7 @@
 //! The program counter after a step.
-ghost use Rattle.std.specs.Prelude.{◌≡◌, ◌+◌, ◌-◌, ◌*◌, ◌/◌, ◌≤◌, ◌<◌, ◌^◌, ◌++◌, ◌%◌, ◌==◌};
+ghost use Rattle.std.specs.Prelude.{◌≡◌, ◌+◌, ◌-◌, ◌*◌, ◌/◌, ◌≤◌, ◌<◌, ◌^◌, ◌%◌, ◌==◌};
 ghost use Rattle.std.specs.Prelude.{if◌then◌else◌, false, length, max, IfOk, OnOk};
-ghost use Rattle.tv_core.specs.Combinations.{wire, scaled, top};
+ghost use Rattle.tv_core.specs.Combinations.{scaled, top};
 ghost use Rattle.tv_core.specs.Sinks.{PutsIn, Grows, Room};
 ghost use Rattle.tv_core.specs.declared.field.TheConstants.{P};
 ghost use Rattle.tv_parts.specs.Pc.{from_last, after_in, jump_in, pc_of, PcIsSound};
@@ -9,7 +9,6 @@ ghost use Rattle.tv_parts.specs.Pc.{PcIsComplete, PcSizes, PcCosts, pc_values};
 ghost use Rattle.tv_parts.specs.Traced.{traced_view, AreNumbers};
 ghost use Rattle.tv_isa.specs.Opcodes.{chosen};
 ghost use Rattle.tv_numbers.specs.Tables.{next_pc, target, pcs};
-ghost use Rattle.tv_core.specs.Inverse.{inverse_of};
 ghost use Rattle.tv_core.specs.Values.{GivesIn};
 ghost use Rattle.tv_parts.specs.States.{StateUnder, OperandUnder};
 ghost use Rattle.tv_word.specs.Widths.{IsWidth};
@@ -20,7 +19,7 @@ use crate::opcode_sums::opcode_wire;
 use crate::operand::plus_upper;
 use crate::records::{OperandWires, StateWires};
 use crate::step_numbers::StepNumbers;
-use crate::tapes::{if_zero, inverse_where, set_terms};
+use crate::tapes::{if_zero, inverse_where, set_negated, set_terms};
 use tv_bits::times_by;
 use tv_core::{F, Lc, Put, Scratch, Sink, Values, Wire, give_values};
 use tv_isa::opcode::{AND, ANSWER, CJMP, CMOV, CNJMP, JMP, READ, STORE_B};
@@ -70,14 +69,29 @@ pub fn put_pc<const W: u32, S: Sink>(
     accumulated(s, &mut scratch.c, &scratch.a, &scratch.b)
 }
 
+// The place of the last instruction.
+fn last_place<const W: u32>() -> F
+    requires width { IsWidth W }
+    ensures { result ≡ 2 ^ W - W / 4 }
+{
+    F::of((1 << W) - u64::from(W / 4))
+}
+
+// The number of words of `W` bits.
+fn word_count<const W: u32>() -> F
+    requires width { IsWidth W }
+    ensures { result ≡ 2 ^ W }
+{
+    F::of(1 << W)
+}
+
 // Sets `lc` to the program counter less the last instruction's.
 fn set_from_last<const W: u32>(lc: &mut Lc, pc: Wire)
     requires width { IsWidth W }
     ensures terms { lc.new ≡ from_last W pc }
     ensures top { top lc.new ≡ pc + 1 }
 {
-    let last = F::of((1 << W) - u64::from(W / 4));
-    set_terms(lc, &[(-last, Wire(0)), (F::ONE, pc)]);
+    set_terms(lc, &[(-last_place::<W>(), Wire(0)), (F::ONE, pc)]);
 }
 
 // Sets `lc` to the place to which a jump goes less the place after the instruction.
@@ -91,7 +105,7 @@ fn set_jump<const W: u32>(lc: &mut Lc, pc: Wire, answers: Wire, a: &OperandWires
     let size = F::from(W / 4);
     set_terms(lc, &[(-size, Wire(0)), (-F::ONE, pc), (size, answers)]);
     plus_upper(lc, size, a, W / 16 + 1);
-    lc.plus(F::of(1 << W), wraps);
+    lc.plus(word_count::<W>(), wraps);
 }
 
 // Sets `lc` to the place after the instruction, with its coefficients negated.
@@ -102,14 +116,13 @@ fn set_after<const W: u32>(lc: &mut Lc, pc: Wire, answers: Wire, wraps: Wire)
     ensures len { length lc.new ≡ 4 }
 {
     let size = F::from(W / 4);
-    lc.clear();
-    lc.plus_scaled(
-        -F::ONE,
+    set_negated(
+        lc,
         &[
             (size, Wire(0)),
             (F::ONE, pc),
             (-size, answers),
-            (-F::of(1 << W), wraps),
+            (-word_count::<W>(), wraps),
         ],
     );
 }
@@ -152,7 +165,7 @@ fn less_last<const W: u32>(pc: u32) -> F
     requires width { IsWidth W }
     ensures { result ≡ (pc + (P - (2 ^ W - W / 4))) % P }
 {
-    F::from(pc) - F::of((1 << W) - u64::from(W / 4))
+    F::from(pc) - last_place::<W>()
 }
 
 // The place after an instruction, which is the first one after the last.

@@ -1,8 +1,8 @@
 //! The result of a step, and the number whose test for 0 is its flag.
-ghost use Rattle.std.specs.Prelude.{◌≡◌, ◌+◌, ◌-◌, ◌*◌, ◌/◌, ◌%◌, ◌≤◌, ◌<◌, ◌^◌, ◌++◌, ◌==◌, ◌||◌};
+ghost use Rattle.std.specs.Prelude.{◌≡◌, ◌+◌, ◌-◌, ◌*◌, ◌/◌, ◌%◌, ◌≤◌, ◌<◌, ◌^◌, ◌==◌};
 ghost use Rattle.std.specs.Prelude.{if◌then◌else◌, length, max, IfOk};
 ghost use Rattle.std.specs.Int.{bit_at};
-ghost use Rattle.tv_core.specs.Combinations.{wire, scaled, top};
+ghost use Rattle.tv_core.specs.Combinations.{scaled, top};
 ghost use Rattle.tv_core.specs.Sinks.{PutsIn, Grows, Room};
 ghost use Rattle.tv_core.specs.declared.field.TheConstants.{P};
 ghost use Rattle.tv_parts.specs.Results.{parts_in, signs_in, result_of, tested_of, results_of};
@@ -11,8 +11,8 @@ ghost use Rattle.tv_parts.specs.Results.{ResultsAreSound, ResultsAreComplete, Re
 ghost use Rattle.tv_parts.specs.Results.{ResultsCosts};
 ghost use Rattle.tv_parts.specs.States.{TapedUnder, OperationUnder, SourcesUnder};
 ghost use Rattle.tv_parts.specs.States.{ResultUnder};
-ghost use Rattle.tv_parts.specs.Results.{low_part, high_part, moved_part, result_number};
-ghost use Rattle.tv_parts.specs.Results.{tested_number, results_values, place_bits};
+ghost use Rattle.tv_parts.specs.Results.{low_part, high_part, moved_part};
+ghost use Rattle.tv_parts.specs.Results.{tested_number, results_values};
 ghost use Rattle.tv_isa.specs.declared.opcode.TheConstants.{NOT, LOAD_B};
 ghost use Rattle.tv_mem.specs.Bytes.{byte_of};
 ghost use Rattle.tv_step.specs.Rows.{word_size};
@@ -24,7 +24,7 @@ use crate::opcode_sums::{opcode_wire, plus_opcodes, set_opcodes};
 use crate::operand::plus_upper;
 use crate::records::{OperandWires, ResultWires, Sources, StateWires, TapeWires};
 use crate::step_numbers::StepNumbers;
-use crate::tapes::set_terms;
+use crate::tapes::{set_negated, set_terms};
 use tv_bits::times_by;
 use tv_core::{F, Lc, Put, Scratch, Sink, Wire};
 use tv_isa::opcode::{
@@ -114,6 +114,14 @@ fn put_result<const W: u32, S: Sink>(
     accumulated(s, &mut scratch.c, &scratch.a, &scratch.b)
 }
 
+// The greatest word of `W` bits.
+fn greatest_word<const W: u32>() -> F
+    requires width { IsWidth W }
+    ensures { result ≡ 2 ^ W - 1 }
+{
+    F::of((1 << W) - 1)
+}
+
 // Sets `lc` to the parts of the result but the byte, with their coefficients negated.
 fn set_parts<const W: u32>(lc: &mut Lc, not: Wire, low: Wire, high: Wire, moved: Wire)
     requires width { IsWidth W }
@@ -121,11 +129,10 @@ fn set_parts<const W: u32>(lc: &mut Lc, not: Wire, low: Wire, high: Wire, moved:
     ensures top { top lc.new ≤ max (max (not + 1) (low + 1)) (max (high + 1) (moved + 1)) }
     ensures len { length lc.new ≡ 4 }
 {
-    lc.clear();
-    lc.plus_scaled(
-        -F::ONE,
+    set_negated(
+        lc,
         &[
-            (F::of((1 << W) - 1), not),
+            (greatest_word::<W>(), not),
             (F::ONE, low),
             (F::ONE, high),
             (F::ONE, moved),
@@ -140,8 +147,8 @@ fn set_signs<const W: u32>(lc: &mut Lc, sign: Wire, high: Wire, y: Wire)
     ensures top { top lc.new ≤ max (sign + 1) (max (high + 1) (y + 1)) }
     ensures len { length lc.new ≡ 3 }
 {
-    let largest = F::of((1 << W) - 1);
-    set_terms(lc, &[(largest, sign), (-F::ONE, high), (F::ONE, y)]);
+    let greatest = greatest_word::<W>();
+    set_terms(lc, &[(greatest, sign), (-F::ONE, high), (F::ONE, y)]);
 }
 
 // Constrains the number that is tested.
@@ -260,7 +267,7 @@ fn rest_part<const W: u32>(op: u8, a: u32, low: u32) -> F
         word_size W) else 0) }
 {
     match op {
-        NOT => F::of((1 << W) - 1),
+        NOT => greatest_word::<W>(),
         LOAD_B => F::from(byte_of(low, a % (W / 8))),
         _ => F::ZERO,
     }
@@ -287,7 +294,7 @@ fn signs<const W: u32>(low: u32, high: u32) -> F
     ensures { result ≡ (high + (P - (2 ^ W - 1) * bit_at low (W - 1))) % P }
 {
     if sign_bit::<W>(low) {
-        F::from(high) - F::of((1 << W) - 1)
+        F::from(high) - greatest_word::<W>()
     } else {
         F::from(high)
     }

@@ -1,7 +1,7 @@
 //! What a step does to the tapes.
-ghost use Rattle.std.specs.Prelude.{◌≡◌, ◌+◌, ◌-◌, ◌*◌, ◌%◌, ◌≤◌, ◌<◌, ◌^◌, false, length};
-ghost use Rattle.std.specs.Prelude.{max, IfOk, OnOk};
-ghost use Rattle.tv_core.specs.Combinations.{wire, less, top};
+ghost use Rattle.std.specs.Prelude.{◌≡◌, ◌+◌, ◌-◌, ◌*◌, ◌%◌, ◌≤◌, ◌<◌, false, length};
+ghost use Rattle.std.specs.Prelude.{IfOk, OnOk};
+ghost use Rattle.tv_core.specs.Combinations.{scaled, top};
 ghost use Rattle.tv_core.specs.Values.{GivesIn};
 ghost use Rattle.tv_core.specs.Inverse.{inverse_of};
 ghost use Rattle.tv_core.specs.Sinks.{PutsIn, Grows, Room};
@@ -181,6 +181,17 @@ pub(crate) fn set_terms(lc: &mut Lc, terms: &[(F, Wire)])
 {
     lc.clear();
     lc.plus_terms(terms);
+}
+
+/// Sets `lc` to these terms with their coefficients negated.
+pub(crate) fn set_negated(lc: &mut Lc, terms: &[(F, Wire)])
+    requires { length terms.now ≤ 128 }
+    ensures terms { lc.new ≡ scaled (P - 1) terms.now }
+    ensures len { length lc.new ≡ length terms.now }
+    ensures top { top lc.new ≡ top terms.now }
+{
+    lc.clear();
+    lc.plus_scaled(-F::ONE, terms);
 }
 
 /// Assigns the 7 values of the wires that `put_tapes` makes.

@@ -61,7 +61,8 @@ number_at [] i d e h = absurd (omega arith)
 number_at (l ∷ ls) zero d e h = refl
 number_at (l ∷ ls) (suc i) d e h = number_at ls i d e (omega arith)
 
-module _ (ls : List LineNum) (line item : LineNum) (i word : ℕ) (h : i < length (map line_of_numbers ls)) (there : get_or (map line_of_numbers ls) i zero_line ≡ line_of_numbers item)
+module _ (ls : List LineNum) (line item : LineNum) (i word : ℕ) (h : i < length (map line_of_numbers ls))
+    (there : get_or (map line_of_numbers ls) i zero_line ≡ line_of_numbers item)
     (is : word ≡ word_after (map line_of_numbers ls) (line_of_numbers line) i) where
   pub next_word : (if item.cell == line.cell then item.new else word) ≡ word_after (map line_of_numbers ls) (line_of_numbers line) (i + 1)
   next_word =

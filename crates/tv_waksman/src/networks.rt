@@ -1,5 +1,5 @@
 //! Waksman's network, and the values of its wires.
-ghost use Rattle.std.specs.Prelude.{◌≡◌, ◌-◌, ◌*◌, ◌^◌, ◌≤◌, false, IfOk, OnOk};
+ghost use Rattle.std.specs.Prelude.{◌≡◌, ◌-◌, ◌^◌, ◌≤◌, false, IfOk, OnOk};
 ghost use Rattle.tv_benes.specs.Items.{bit_at, pair_at};
 ghost use Rattle.tv_benes.specs.Levels.{network_wires};
 ghost use Rattle.tv_benes.specs.Network.{network_of, network_values};

@@ -5,24 +5,16 @@ use Rattle.tv_block.proofs.constraints.step.Goals as goal
 pub returns-in_err-computed-clause-puts : goal.returns-in_err-computed-clause-puts
 unfolding block_of
 returns-in_err-computed-clause-puts g c time =
-    let m = g.S.Sink.meaning in
-    let p0 = c.in_err-computed.ensures.puts in
-    refused m _ _ _ c.from_residual.result c.from_residual.ensures.1 (refused_then m _ _ _ _ _ (refused_then m _ _ _ _ _ p0))
+    refused _ _ _ _ _ c.from_residual.ensures.1 (refused_then _ _ _ _ _ _ (refused_then _ _ _ _ _ _ c.in_err-computed.ensures.puts))
 
 pub returns-in_err-acted-clause-puts : goal.returns-in_err-acted-clause-puts
 unfolding block_of
 returns-in_err-acted-clause-puts g c time =
-    let m = g.S.Sink.meaning in
-    let p0 = c.in_ok-computed.ensures.puts in
-    let p1 = c.in_err-acted.ensures.puts in
-    refused m _ _ _ c.from_residual-in_err-acted.result c.from_residual-in_err-acted.ensures.1
-    (refused_then m _ _ _ _ _ (puts_then_refused m _ _ _ _ _ _ _ p0 (refused_then m _ _ _ _ _ p1)))
+    refused _ _ _ _ _ c.from_residual-in_err-acted.ensures.1 (refused_then _ _ _ _ _ _
+    (puts_then_refused _ _ _ _ _ _ _ _ c.in_ok-computed.ensures.puts (refused_then _ _ _ _ _ _ c.in_err-acted.ensures.puts)))
 
 pub returns-clause-puts : goal.returns-clause-puts
 unfolding block_of
 returns-clause-puts g c time =
-    let m = g.S.Sink.meaning in
-    let p0 = c.in_ok-computed.ensures.puts in
-    let p1 = c.in_ok-acted.ensures.puts in
-    rw c.opcode_wire.ensures
-    (puts_then m _ _ _ _ _ _ _ (puts_then m _ _ _ _ _ _ _ p0 (puts_then m _ _ _ _ _ _ _ p1 (puts_nothing m _ _))) (puts_nothing m _ _))
+    rw c.opcode_wire.ensures (puts_then _ _ _ _ _ _ _ _ (puts_then _ _ _ _ _ _ _ _ c.in_ok-computed.ensures.puts
+    (puts_then _ _ _ _ _ _ _ _ c.in_ok-acted.ensures.puts (puts_nothing _ _ _))) (puts_nothing _ _ _))

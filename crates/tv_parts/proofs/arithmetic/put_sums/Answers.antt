@@ -6,14 +6,12 @@ use Rattle.tv_parts.proofs.arithmetic.put_sums.Goals as goal
 pub returns-in_err-row_sum-clause-puts : goal.returns-in_err-row_sum-clause-puts
 unfolding sums_of
 returns-in_err-row_sum-clause-puts g c =
-    let m = g.S.Sink.meaning in
     let p0 = rw c.set_opcodes.ensures.terms at c.in_err-row_sum.ensures.puts in
-    refused m _ _ _ c.from_residual.result c.from_residual.ensures.1 (refused_then m _ _ _ _ _ p0)
+    refused _ _ _ _ _ c.from_residual.ensures.1 (refused_then _ _ _ _ _ _ p0)
 
 pub returns-in_err-row_difference-clause-puts : goal.returns-in_err-row_difference-clause-puts
 unfolding sums_of
 returns-in_err-row_difference-clause-puts g c =
-    let m = g.S.Sink.meaning in
     let p0 = rw c.set_opcodes.ensures.terms at c.in_ok-row_sum.ensures.puts in
     let p1 = rw (
       c.set_opcodes-2.ensures.terms,
@@ -23,13 +21,11 @@ returns-in_err-row_difference-clause-puts g c =
       c.with_sign-left.ensures,
       c.with_sign-right.ensures,
     ) at c.in_err-row_difference.ensures.puts in
-    refused m _ _ _ c.from_residual-in_err-row_difference.result c.from_residual-in_err-row_difference.ensures.1
-    (puts_then_refused m _ _ _ _ _ _ _ p0 (refused_then m _ _ _ _ _ p1))
+    refused _ _ _ _ _ c.from_residual-in_err-row_difference.ensures.1 (puts_then_refused _ _ _ _ _ _ _ _ p0 (refused_then _ _ _ _ _ _ p1))
 
 pub returns-clause-puts : goal.returns-clause-puts
 unfolding sums_of
 returns-clause-puts g c =
-    let m = g.S.Sink.meaning in
     let p0 = rw c.set_opcodes.ensures.terms at c.in_ok-row_sum.ensures.puts in
     let p1 = rw (
       c.set_opcodes-2.ensures.terms,
@@ -40,4 +36,4 @@ returns-clause-puts g c =
       c.with_sign-right.ensures,
     ) at c.in_ok-row_difference.ensures.puts in
     let p2 = rw c.set_opcodes-4.ensures.terms at c.bitwise.ensures.puts in
-    puts_in_then m _ _ _ _ _ _ _ p0 (puts_in_then m _ _ _ _ _ _ _ p1 p2)
+    puts_in_then _ _ _ _ _ _ _ _ p0 (puts_in_then _ _ _ _ _ _ _ _ p1 p2)

@@ -6,28 +6,18 @@ use Rattle.tv_parts.proofs.memory.byte_of_four.Goals as goal
 pub returns-in_err-low-clause-puts : goal.returns-in_err-low-clause-puts
 unfolding byte_of_four
 returns-in_err-low-clause-puts g c =
-    let m = g.S.Sink.meaning in
-    refused m _ _ _ c.from_residual.result c.from_residual.ensures.1 (refused_then m _ _ _ _ _ c.in_err-low.ensures.puts)
+    refused _ _ _ _ _ c.from_residual.ensures.1 (refused_then _ _ _ _ _ _ c.in_err-low.ensures.puts)
 
 pub returns-in_err-high-clause-puts : goal.returns-in_err-high-clause-puts
 unfolding byte_of_four
 returns-in_err-high-clause-puts g c =
-    let m = g.S.Sink.meaning in
     let p1 = rw c.offset.ensures at c.in_err-high.ensures.puts in
-    refused m _ _ _ c.from_residual-in_err-high.result c.from_residual-in_err-high.ensures.1
-    (puts_then_refused m _ _ _ _ _ _ _ c.in_ok-low.ensures.puts (refused_then m _ _ _ _ _ p1))
+    refused _ _ _ _ _ c.from_residual-in_err-high.ensures.1 (puts_then_refused _ _ _ _ _ _ _ _ c.in_ok-low.ensures.puts (refused_then _ _ _ _ _ _ p1))
 
 pub returns-clause-puts : goal.returns-clause-puts
 unfolding byte_of_four
 returns-clause-puts g c =
-    let m = g.S.Sink.meaning in
     let p1 = rw c.offset.ensures at c.in_ok-high.ensures.puts in
-    let p2 = rw (
-      c.set_wire.ensures.terms,
-      c.offset-2.ensures,
-      c.set_terms.ensures.terms,
-      c.plus_scaled.ensures.terms,
-      c.clear.ensures,
-      c.neg-minus.ensures,
-    ) at c.accumulated.ensures.puts in
-    puts_in_then m _ _ _ _ _ _ _ c.in_ok-low.ensures.puts (puts_in_then m _ _ _ _ _ _ _ p1 p2)
+    let p2 = rw (c.set_wire.ensures.terms, c.offset-2.ensures, c.set_terms.ensures.terms, c.set_negated.ensures.terms, c.neg-minus.ensures)
+    at c.accumulated.ensures.puts in
+    puts_in_then _ _ _ _ _ _ _ _ c.in_ok-low.ensures.puts (puts_in_then _ _ _ _ _ _ _ _ p1 p2)

@@ -11,7 +11,7 @@ returns-in_err-give_values-clause-gives g c =
     let m = g.V.Values.giving in
     let s = c.args.step.now in
     let v = traced_view c.args.state.now in
-    let news : List ℕ = new_values g.row.W (traced_input c.args.state.now s) s.decomposed s.aux in
+    let news : List ℕ = new_values g.row.W (traced_input c.args.state.now s) s.decomposed in
     let part0 = rw c.line_values.ensures at c.in_err-give_values.ensures.gives in
     gives_refused m _ _ _ c.from_residual.result c.from_residual.ensures.1
     (gives_refused_then m _ (byte_values g.row.W s.low (operand_word v s.instr) ++ news) _ _ _ part0)
@@ -21,7 +21,7 @@ returns-in_err-fill_bytes-clause-gives g c =
     let m = g.V.Values.giving in
     let s = c.args.step.now in
     let v = traced_view c.args.state.now in
-    let news : List ℕ = new_values g.row.W (traced_input c.args.state.now s) s.decomposed s.aux in
+    let news : List ℕ = new_values g.row.W (traced_input c.args.state.now s) s.decomposed in
     let part0 = rw c.line_values.ensures at c.in_ok-give_values.ensures.gives in
     let part1 = rw c.requires.step.operand at c.in_err-fill_bytes.ensures.gives in
     gives_refused m _ _ _ c.from_residual-in_err-fill_bytes.result c.from_residual-in_err-fill_bytes.ensures.1
@@ -32,7 +32,7 @@ returns-clause-gives g c =
     let m = g.V.Values.giving in
     let s = c.args.step.now in
     let v = traced_view c.args.state.now in
-    let news : List ℕ = new_values g.row.W (traced_input c.args.state.now s) s.decomposed s.aux in
+    let news : List ℕ = new_values g.row.W (traced_input c.args.state.now s) s.decomposed in
     let part0 = rw c.line_values.ensures at c.in_ok-give_values.ensures.gives in
     let part1 = rw c.requires.step.operand at c.in_ok-fill_bytes.ensures.gives in
     let part2 = rw c.new_values.ensures at c.give_values-2.ensures.gives in

@@ -5,27 +5,22 @@ use Rattle.tv_parts.proofs.memory.put_memory.Goals as goal
 pub returns-in_err-line-clause-puts : goal.returns-in_err-line-clause-puts
 unfolding memory_of
 returns-in_err-line-clause-puts g c =
-    let m = g.S.Sink.meaning in
-    refused m _ _ _ c.from_residual.result c.from_residual.ensures.1 (refused_then m _ _ _ _ _ c.in_err-line.ensures.puts)
+    refused _ _ _ _ _ c.from_residual.ensures.1 (refused_then _ _ _ _ _ _ c.in_err-line.ensures.puts)
 
 pub returns-in_err-byte-clause-puts : goal.returns-in_err-byte-clause-puts
 unfolding memory_of
 returns-in_err-byte-clause-puts g c =
-    let m = g.S.Sink.meaning in
-    refused m _ _ _ c.from_residual-in_err-byte.result c.from_residual-in_err-byte.ensures.1
-    (puts_then_refused m _ _ _ _ _ _ _ c.in_ok-line.ensures.puts (refused_then m _ _ _ _ _ c.in_err-byte.ensures.puts))
+    refused _ _ _ _ _ c.from_residual-in_err-byte.ensures.1 (puts_then_refused _ _ _ _ _ _ _ _ c.in_ok-line.ensures.puts
+    (refused_then _ _ _ _ _ _ c.in_err-byte.ensures.puts))
 
 pub returns-in_err-new-clause-puts : goal.returns-in_err-new-clause-puts
 unfolding memory_of
 returns-in_err-new-clause-puts g c =
-    let m = g.S.Sink.meaning in
-    refused m _ _ _ c.from_residual-in_err-new.result c.from_residual-in_err-new.ensures.1
-    (puts_then_refused m _ _ _ _ _ _ _ c.in_ok-line.ensures.puts
-    (puts_then_refused m _ _ _ _ _ _ _ c.in_ok-byte.ensures.puts (refused_then m _ _ _ _ _ c.in_err-new.ensures.puts)))
+    refused _ _ _ _ _ c.from_residual-in_err-new.ensures.1 (puts_then_refused _ _ _ _ _ _ _ _ c.in_ok-line.ensures.puts
+    (puts_then_refused _ _ _ _ _ _ _ _ c.in_ok-byte.ensures.puts (refused_then _ _ _ _ _ _ c.in_err-new.ensures.puts)))
 
 pub returns-clause-puts : goal.returns-clause-puts
 unfolding memory_of
 returns-clause-puts g c =
-    let m = g.S.Sink.meaning in
-    puts_then m _ _ _ _ _ _ _ c.in_ok-line.ensures.puts
-    (puts_then m _ _ _ _ _ _ _ c.in_ok-byte.ensures.puts (puts_then m _ _ _ _ _ _ _ c.in_ok-new.ensures.puts (puts_nothing m _ _)))
+    puts_then _ _ _ _ _ _ _ _ c.in_ok-line.ensures.puts (puts_then _ _ _ _ _ _ _ _ c.in_ok-byte.ensures.puts
+    (puts_then _ _ _ _ _ _ _ _ c.in_ok-new.ensures.puts (puts_nothing _ _ _)))

@@ -5,41 +5,19 @@ use Rattle.tv_parts.proofs.operand.put_operand.Goals as goal
 pub returns-in_err-word-clause-puts : goal.returns-in_err-word-clause-puts
 unfolding operand_of
 returns-in_err-word-clause-puts g c =
-    let m = g.S.Sink.meaning in
-    let p0 = rw (
-      c.set_wire.ensures.terms,
-      c.set_terms.ensures.terms,
-      c.plus_scaled.ensures.terms,
-      c.clear.ensures,
-      c.neg-minus.ensures,
-    ) at c.in_err-word.ensures.puts in
-    refused m _ _ _ c.from_residual.result c.from_residual.ensures.1 (refused_then m _ _ _ _ _ p0)
+    let p0 = rw (c.set_wire.ensures.terms, c.set_terms.ensures.terms, c.set_negated.ensures.terms, c.neg.ensures) at c.in_err-word.ensures.puts in
+    refused _ _ _ _ _ c.from_residual.ensures.1 (refused_then _ _ _ _ _ _ p0)
 
 pub returns-in_err-bits-clause-puts : goal.returns-in_err-bits-clause-puts
 unfolding operand_of
 returns-in_err-bits-clause-puts g c =
-    let m = g.S.Sink.meaning in
-    let p0 = rw (
-      c.set_wire.ensures.terms,
-      c.set_terms.ensures.terms,
-      c.plus_scaled.ensures.terms,
-      c.clear.ensures,
-      c.neg-minus.ensures,
-    ) at c.in_ok-word.ensures.puts in
-    let p1 = c.in_err-bits.ensures.puts in
-    refused m _ _ _ c.from_residual-in_err-bits.result c.from_residual-in_err-bits.ensures.1
-    (puts_then_refused m _ _ _ _ _ _ _ p0 (refused_then m _ _ _ _ _ p1))
+    let p0 = rw (c.set_wire.ensures.terms, c.set_terms.ensures.terms, c.set_negated.ensures.terms, c.neg.ensures) at c.in_ok-word.ensures.puts in
+    let p1 = rw c.set_wire-2.ensures.terms at c.in_err-bits.ensures.puts in
+    refused _ _ _ _ _ c.from_residual-in_err-bits.ensures.1 (puts_then_refused _ _ _ _ _ _ _ _ p0 (refused_then _ _ _ _ _ _ p1))
 
 pub returns-clause-puts : goal.returns-clause-puts
 unfolding operand_of
 returns-clause-puts g c =
-    let m = g.S.Sink.meaning in
-    let p0 = rw (
-      c.set_wire.ensures.terms,
-      c.set_terms.ensures.terms,
-      c.plus_scaled.ensures.terms,
-      c.clear.ensures,
-      c.neg-minus.ensures,
-    ) at c.in_ok-word.ensures.puts in
-    let p1 = c.in_ok-bits.ensures.puts in
-    puts_then m _ _ _ _ _ _ _ p0 (puts_then m _ _ _ _ _ _ _ p1 (puts_nothing m _ _))
+    let p0 = rw (c.set_wire.ensures.terms, c.set_terms.ensures.terms, c.set_negated.ensures.terms, c.neg.ensures) at c.in_ok-word.ensures.puts in
+    let p1 = rw c.set_wire-2.ensures.terms at c.in_ok-bits.ensures.puts in
+    puts_then _ _ _ _ _ _ _ _ p0 (puts_then _ _ _ _ _ _ _ _ p1 (puts_nothing _ _ _))

@@ -6,37 +6,23 @@ use Rattle.tv_parts.proofs.pc.put_pc.Goals as goal
 pub returns-in_err-wraps-clause-puts : goal.returns-in_err-wraps-clause-puts
 unfolding pc_of
 returns-in_err-wraps-clause-puts g c =
-    let m = g.S.Sink.meaning in
     let p0 = rw (c.set_from_last.ensures.terms, c.neg-minus.ensures, c.opcode_wire-answers.ensures) at c.in_err-wraps.ensures.puts in
-    refused m _ _ _ c.from_residual.result c.from_residual.ensures.1 (refused_then m _ _ _ _ _ p0)
+    refused _ _ _ _ _ c.from_residual.ensures.1 (refused_then _ _ _ _ _ _ p0)
 
 pub returns-in_err-by_flag-clause-puts : goal.returns-in_err-by_flag-clause-puts
 unfolding pc_of
 returns-in_err-by_flag-clause-puts g c =
-    let m = g.S.Sink.meaning in
     let p0 = rw (c.set_from_last.ensures.terms, c.neg-minus.ensures, c.opcode_wire-answers.ensures) at c.in_ok-wraps.ensures.puts in
-    let p1 = rw (
-      c.set_wire.ensures.terms,
-      c.set_terms.ensures.terms,
-      c.neg-minus.ensures,
-      c.opcode_wire.ensures,
-      c.opcode_wire-unless.ensures,
-    ) at c.in_err-by_flag.ensures.puts in
-    refused m _ _ _ c.from_residual-in_err-by_flag.result c.from_residual-in_err-by_flag.ensures.1
-    (puts_then_refused m _ _ _ _ _ _ _ p0 (refused_then m _ _ _ _ _ p1))
+    let p1 = rw (c.set_wire.ensures.terms, c.set_terms.ensures.terms, c.neg-minus.ensures, c.opcode_wire.ensures, c.opcode_wire-unless.ensures)
+    at c.in_err-by_flag.ensures.puts in
+    refused _ _ _ _ _ c.from_residual-in_err-by_flag.ensures.1 (puts_then_refused _ _ _ _ _ _ _ _ p0 (refused_then _ _ _ _ _ _ p1))
 
 pub returns-clause-puts : goal.returns-clause-puts
 unfolding pc_of
 returns-clause-puts g c =
-    let m = g.S.Sink.meaning in
     let p0 = rw (c.set_from_last.ensures.terms, c.neg-minus.ensures, c.opcode_wire-answers.ensures) at c.in_ok-wraps.ensures.puts in
-    let p1 = rw (
-      c.set_wire.ensures.terms,
-      c.set_terms.ensures.terms,
-      c.neg-minus.ensures,
-      c.opcode_wire.ensures,
-      c.opcode_wire-unless.ensures,
-    ) at c.in_ok-by_flag.ensures.puts in
+    let p1 = rw (c.set_wire.ensures.terms, c.set_terms.ensures.terms, c.neg-minus.ensures, c.opcode_wire.ensures, c.opcode_wire-unless.ensures)
+    at c.in_ok-by_flag.ensures.puts in
     let p2 = rw (
       c.set_terms-2.ensures.terms,
       c.set_jump.ensures.terms,
@@ -45,4 +31,4 @@ returns-clause-puts g c =
       c.opcode_wire-unless.ensures,
       c.opcode_wire-answers.ensures,
     ) at c.accumulated.ensures.puts in
-    puts_in_then m _ _ _ _ _ _ _ p0 (puts_in_then m _ _ _ _ _ _ _ p1 p2)
+    puts_in_then _ _ _ _ _ _ _ _ p0 (puts_in_then _ _ _ _ _ _ _ _ p1 p2)

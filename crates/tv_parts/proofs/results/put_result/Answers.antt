@@ -6,77 +6,37 @@ use Rattle.tv_parts.proofs.results.put_result.Goals as goal
 pub returns-in_err-low-clause-puts : goal.returns-in_err-low-clause-puts
 unfolding result_of
 returns-in_err-low-clause-puts g c =
-    let m = g.S.Sink.meaning in
-    let p0 = rw (
-      c.plus_terms.ensures.terms,
-      c.plus_opcodes.ensures.terms,
-      c.set_terms.ensures.terms,
-      c.set_wire.ensures.terms,
-      c.neg-minus.ensures,
-    ) at c.in_err-low.ensures.puts in
-    refused m _ _ _ c.from_residual.result c.from_residual.ensures.1 (refused_then m _ _ _ _ _ p0)
+    let p0 = rw (c.plus_terms.ensures.terms, c.plus_opcodes.ensures.terms, c.set_terms.ensures.terms, c.set_wire.ensures.terms, c.neg-minus.ensures)
+    at c.in_err-low.ensures.puts in
+    refused _ _ _ _ _ c.from_residual.ensures.1 (refused_then _ _ _ _ _ _ p0)
 
 pub returns-in_err-high-clause-puts : goal.returns-in_err-high-clause-puts
 unfolding result_of
 returns-in_err-high-clause-puts g c =
-    let m = g.S.Sink.meaning in
-    let p0 = rw (
-      c.plus_terms.ensures.terms,
-      c.plus_opcodes.ensures.terms,
-      c.set_terms.ensures.terms,
-      c.set_wire.ensures.terms,
-      c.neg-minus.ensures,
-    ) at c.in_ok-low.ensures.puts in
+    let p0 = rw (c.plus_terms.ensures.terms, c.plus_opcodes.ensures.terms, c.set_terms.ensures.terms, c.set_wire.ensures.terms, c.neg-minus.ensures)
+    at c.in_ok-low.ensures.puts in
     let p1 = rw (c.set_opcodes.ensures.terms, c.set_wire-2.ensures.terms) at c.in_err-high.ensures.puts in
-    refused m _ _ _ c.from_residual-in_err-high.result c.from_residual-in_err-high.ensures.1
-    (puts_then_refused m _ _ _ _ _ _ _ p0 (refused_then m _ _ _ _ _ p1))
+    refused _ _ _ _ _ c.from_residual-in_err-high.ensures.1 (puts_then_refused _ _ _ _ _ _ _ _ p0 (refused_then _ _ _ _ _ _ p1))
 
 pub returns-in_err-moved-clause-puts : goal.returns-in_err-moved-clause-puts
 unfolding result_of
 returns-in_err-moved-clause-puts g c =
-    let m = g.S.Sink.meaning in
-    let p0 = rw (
-      c.plus_terms.ensures.terms,
-      c.plus_opcodes.ensures.terms,
-      c.set_terms.ensures.terms,
-      c.set_wire.ensures.terms,
-      c.neg-minus.ensures,
-    ) at c.in_ok-low.ensures.puts in
+    let p0 = rw (c.plus_terms.ensures.terms, c.plus_opcodes.ensures.terms, c.set_terms.ensures.terms, c.set_wire.ensures.terms, c.neg-minus.ensures)
+    at c.in_ok-low.ensures.puts in
     let p1 = rw (c.set_opcodes.ensures.terms, c.set_wire-2.ensures.terms) at c.in_ok-high.ensures.puts in
-    let p2 = rw (
-      c.plus_opcodes-2.ensures.terms,
-      c.set_terms-2.ensures.terms,
-      c.set_wire-3.ensures.terms,
-      c.neg-minus.ensures,
-      c.opcode_wire-not.ensures,
-    ) at c.in_err-moved.ensures.puts in
-    refused m _ _ _ c.from_residual-in_err-moved.result c.from_residual-in_err-moved.ensures.1
-    (puts_then_refused m _ _ _ _ _ _ _ p0 (puts_then_refused m _ _ _ _ _ _ _ p1 (refused_then m _ _ _ _ _ p2)))
+    let p2 = rw (c.plus_opcodes-2.ensures.terms, c.set_terms-2.ensures.terms, c.set_wire-3.ensures.terms, c.neg-minus.ensures, c.opcode_wire-not.ensures)
+    at c.in_err-moved.ensures.puts in
+    refused _ _ _ _ _ c.from_residual-in_err-moved.ensures.1 (puts_then_refused _ _ _ _ _ _ _ _ p0 (puts_then_refused _ _ _ _ _ _ _ _ p1
+    (refused_then _ _ _ _ _ _ p2)))
 
 pub returns-clause-puts : goal.returns-clause-puts
 unfolding result_of
 returns-clause-puts g c =
-    let m = g.S.Sink.meaning in
-    let p0 = rw (
-      c.plus_terms.ensures.terms,
-      c.plus_opcodes.ensures.terms,
-      c.set_terms.ensures.terms,
-      c.set_wire.ensures.terms,
-      c.neg-minus.ensures,
-    ) at c.in_ok-low.ensures.puts in
+    let p0 = rw (c.plus_terms.ensures.terms, c.plus_opcodes.ensures.terms, c.set_terms.ensures.terms, c.set_wire.ensures.terms, c.neg-minus.ensures)
+    at c.in_ok-low.ensures.puts in
     let p1 = rw (c.set_opcodes.ensures.terms, c.set_wire-2.ensures.terms) at c.in_ok-high.ensures.puts in
-    let p2 = rw (
-      c.plus_opcodes-2.ensures.terms,
-      c.set_terms-2.ensures.terms,
-      c.set_wire-3.ensures.terms,
-      c.neg-minus.ensures,
-      c.opcode_wire-not.ensures,
-    ) at c.in_ok-moved.ensures.puts in
-    let last = rw (
-      c.set_wire-4.ensures.terms,
-      c.opcode_wire.ensures,
-      c.set_wire-5.ensures.terms,
-      c.set_parts.ensures.terms,
-      c.opcode_wire-not.ensures,
-    ) at c.accumulated.ensures.puts in
-    puts_in_then m _ _ _ _ _ _ _ p0 (puts_in_then m _ _ _ _ _ _ _ p1 (puts_in_then m _ _ _ _ _ _ _ p2 last))
+    let p2 = rw (c.plus_opcodes-2.ensures.terms, c.set_terms-2.ensures.terms, c.set_wire-3.ensures.terms, c.neg-minus.ensures, c.opcode_wire-not.ensures)
+    at c.in_ok-moved.ensures.puts in
+    let last = rw (c.set_wire-4.ensures.terms, c.opcode_wire.ensures, c.set_wire-5.ensures.terms, c.set_parts.ensures.terms, c.opcode_wire-not.ensures)
+    at c.accumulated.ensures.puts in
+    puts_in_then _ _ _ _ _ _ _ _ p0 (puts_in_then _ _ _ _ _ _ _ _ p1 (puts_in_then _ _ _ _ _ _ _ _ p2 last))

@@ -5,23 +5,15 @@ use Rattle.tv_parts.proofs.results.put_results.Goals as goal
 pub returns-in_err-word-clause-puts : goal.returns-in_err-word-clause-puts
 unfolding results_of
 returns-in_err-word-clause-puts g c =
-    let m = g.S.Sink.meaning in
-    let p0 = c.in_err-word.ensures.puts in
-    refused m _ _ _ c.from_residual.result c.from_residual.ensures.1 (refused_then m _ _ _ _ _ p0)
+    refused _ _ _ _ _ c.from_residual.ensures.1 (refused_then _ _ _ _ _ _ c.in_err-word.ensures.puts)
 
 pub returns-in_err-tested-clause-puts : goal.returns-in_err-tested-clause-puts
 unfolding results_of
 returns-in_err-tested-clause-puts g c =
-    let m = g.S.Sink.meaning in
-    let p0 = c.in_ok-word.ensures.puts in
-    let p1 = c.in_err-tested.ensures.puts in
-    refused m _ _ _ c.from_residual-in_err-tested.result c.from_residual-in_err-tested.ensures.1
-    (puts_then_refused m _ _ _ _ _ _ _ p0 (refused_then m _ _ _ _ _ p1))
+    refused _ _ _ _ _ c.from_residual-in_err-tested.ensures.1 (puts_then_refused _ _ _ _ _ _ _ _ c.in_ok-word.ensures.puts
+    (refused_then _ _ _ _ _ _ c.in_err-tested.ensures.puts))
 
 pub returns-clause-puts : goal.returns-clause-puts
 unfolding results_of
 returns-clause-puts g c =
-    let m = g.S.Sink.meaning in
-    let p0 = c.in_ok-word.ensures.puts in
-    let p1 = c.in_ok-tested.ensures.puts in
-    puts_then m _ _ _ _ _ _ _ p0 (puts_then m _ _ _ _ _ _ _ p1 (puts_nothing m _ _))
+    puts_then _ _ _ _ _ _ _ _ c.in_ok-word.ensures.puts (puts_then _ _ _ _ _ _ _ _ c.in_ok-tested.ensures.puts (puts_nothing _ _ _))

@@ -1,29 +1,26 @@
-use Rattle.tv_core.proofs.Chain.{chain, refused}
+use Rattle.tv_core.proofs.Chain.{puts_then, puts_then_refused, refused_then, puts_nothing, refused}
 use Rattle.tv_parts.specs.Tapes.{auxiliary_of}
 use Rattle.tv_parts.proofs.tapes.auxiliary.Goals as goal
 
 pub returns-in_err-put-clause-puts : goal.returns-in_err-put-clause-puts
 unfolding auxiliary_of
 returns-in_err-put-clause-puts g c =
-    let p0 = c.fresh-takes.ensures.puts in
-    let p1 = c.fresh-ended.ensures.puts in
-    let p2 = rw (c.set_wire.ensures.terms, c.set_terms.ensures.terms, c.set_terms-2.ensures.terms, c.neg-minus.ensures) at c.in_err-put.ensures.puts in
-    refused g.S.Sink.meaning _ _ _ c.from_residual.result c.from_residual.ensures.1 (search (chain, p0, p1, p2) depth 6)
+    let first = rw (c.set_wire.ensures.terms, c.set_terms.ensures.terms, c.set_terms-2.ensures.terms, c.neg-minus.ensures) at c.in_err-put.ensures.puts in
+    refused _ _ _ _ _ c.from_residual.ensures.1 (puts_then_refused _ _ _ _ _ _ _ _ c.fresh-takes.ensures.puts
+    (puts_then_refused _ _ _ _ _ _ _ _ c.fresh-ended.ensures.puts (refused_then _ _ _ _ _ _ first)))
 
 pub returns-in_err-put-2-clause-puts : goal.returns-in_err-put-2-clause-puts
 unfolding auxiliary_of
 returns-in_err-put-2-clause-puts g c =
-    let p0 = c.fresh-takes.ensures.puts in
-    let p1 = c.fresh-ended.ensures.puts in
-    let p2 = rw (c.set_wire.ensures.terms, c.set_terms.ensures.terms, c.set_terms-2.ensures.terms, c.neg-minus.ensures) at c.in_ok-put.ensures.puts in
-    let p3 = rw (c.set_wire-2.ensures.terms, c.set_terms-3.ensures.terms, c.clear.ensures, c.neg-minus.ensures) at c.in_err-put-2.ensures.puts in
-    refused g.S.Sink.meaning _ _ _ c.from_residual-in_err-put-2.result c.from_residual-in_err-put-2.ensures.1 (search (chain, p0, p1, p2, p3) depth 7)
+    let first = rw (c.set_wire.ensures.terms, c.set_terms.ensures.terms, c.set_terms-2.ensures.terms, c.neg-minus.ensures) at c.in_ok-put.ensures.puts in
+    let second = rw (c.set_wire-2.ensures.terms, c.set_terms-3.ensures.terms, c.clear.ensures, c.neg-minus.ensures) at c.in_err-put-2.ensures.puts in
+    refused _ _ _ _ _ c.from_residual-in_err-put-2.ensures.1 (puts_then_refused _ _ _ _ _ _ _ _ c.fresh-takes.ensures.puts
+    (puts_then_refused _ _ _ _ _ _ _ _ c.fresh-ended.ensures.puts (puts_then_refused _ _ _ _ _ _ _ _ first (refused_then _ _ _ _ _ _ second))))
 
 pub returns-clause-puts : goal.returns-clause-puts
 unfolding auxiliary_of
 returns-clause-puts g c =
-    let p0 = c.fresh-takes.ensures.puts in
-    let p1 = c.fresh-ended.ensures.puts in
-    let p2 = rw (c.set_wire.ensures.terms, c.set_terms.ensures.terms, c.set_terms-2.ensures.terms, c.neg-minus.ensures) at c.in_ok-put.ensures.puts in
-    let p3 = rw (c.set_wire-2.ensures.terms, c.set_terms-3.ensures.terms, c.clear.ensures, c.neg-minus.ensures) at c.in_ok-put-2.ensures.puts in
-    search (chain, p0, p1, p2, p3) depth 7
+    let first = rw (c.set_wire.ensures.terms, c.set_terms.ensures.terms, c.set_terms-2.ensures.terms, c.neg-minus.ensures) at c.in_ok-put.ensures.puts in
+    let second = rw (c.set_wire-2.ensures.terms, c.set_terms-3.ensures.terms, c.clear.ensures, c.neg-minus.ensures) at c.in_ok-put-2.ensures.puts in
+    puts_then _ _ _ _ _ _ _ _ c.fresh-takes.ensures.puts (puts_then _ _ _ _ _ _ _ _ c.fresh-ended.ensures.puts (puts_then _ _ _ _ _ _ _ _ first
+    (puts_then _ _ _ _ _ _ _ _ second (puts_nothing _ _ _))))

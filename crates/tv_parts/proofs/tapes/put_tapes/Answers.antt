@@ -6,33 +6,28 @@ use Rattle.tv_parts.proofs.tapes.put_tapes.Goals as goal
 pub returns-in_err-reads-clause-puts : goal.returns-in_err-reads-clause-puts
 unfolding tapes_of
 returns-in_err-reads-clause-puts g c =
-    let m = g.S.Sink.meaning in
     let p0 = rw (c.plus_upper.ensures.terms, c.clear.ensures, c.opcode_wire.ensures) at c.in_err-reads.ensures.puts in
-    refused m _ _ _ c.from_residual.result c.from_residual.ensures.1 (refused_then m _ _ _ _ _ p0)
+    refused _ _ _ _ _ c.from_residual.ensures.1 (refused_then _ _ _ _ _ _ p0)
 
 pub returns-in_err-aux-clause-puts : goal.returns-in_err-aux-clause-puts
 unfolding tapes_of
 returns-in_err-aux-clause-puts g c =
-    let m = g.S.Sink.meaning in
     let p0 = rw (c.plus_upper.ensures.terms, c.clear.ensures, c.opcode_wire.ensures) at c.in_ok-reads.ensures.puts in
     let p1 = rw (c.set_wire.ensures.terms, c.set_wire-2.ensures.terms) at c.in_err-aux.ensures.puts in
-    refused m _ _ _ c.from_residual-in_err-aux.result c.from_residual-in_err-aux.ensures.1 (puts_then_refused m _ _ _ _ _ _ _ p0 (refused_then m _ _ _ _ _ p1))
+    refused _ _ _ _ _ c.from_residual-in_err-aux.ensures.1 (puts_then_refused _ _ _ _ _ _ _ _ p0 (refused_then _ _ _ _ _ _ p1))
 
 pub returns-in_err-taken-clause-puts : goal.returns-in_err-taken-clause-puts
 unfolding tapes_of
 returns-in_err-taken-clause-puts g c =
-    let m = g.S.Sink.meaning in
     let p0 = rw (c.plus_upper.ensures.terms, c.clear.ensures, c.opcode_wire.ensures) at c.in_ok-reads.ensures.puts in
     let p1 = rw (c.set_wire.ensures.terms, c.set_wire-2.ensures.terms) at c.in_ok-aux.ensures.puts in
-    let p2 = c.in_err-taken.ensures.puts in
-    refused m _ _ _ c.from_residual-in_err-taken.result c.from_residual-in_err-taken.ensures.1
-    (puts_then_refused m _ _ _ _ _ _ _ p0 (puts_then_refused m _ _ _ _ _ _ _ p1 (refused_then m _ _ _ _ _ p2)))
+    refused _ _ _ _ _ c.from_residual-in_err-taken.ensures.1 (puts_then_refused _ _ _ _ _ _ _ _ p0 (puts_then_refused _ _ _ _ _ _ _ _ p1
+    (refused_then _ _ _ _ _ _ c.in_err-taken.ensures.puts)))
 
 pub returns-clause-puts : goal.returns-clause-puts
 unfolding tapes_of
 returns-clause-puts g c =
-    let m = g.S.Sink.meaning in
     let p0 = rw (c.plus_upper.ensures.terms, c.clear.ensures, c.opcode_wire.ensures) at c.in_ok-reads.ensures.puts in
     let p1 = rw (c.set_wire.ensures.terms, c.set_wire-2.ensures.terms) at c.in_ok-aux.ensures.puts in
-    let p2 = c.in_ok-taken.ensures.puts in
-    puts_in_then m _ _ _ _ _ _ _ p0 (puts_in_then m _ _ _ _ _ _ _ p1 (puts_in_then m _ _ _ _ _ _ _ p2 c.auxiliary.ensures.puts))
+    puts_in_then _ _ _ _ _ _ _ _ p0 (puts_in_then _ _ _ _ _ _ _ _ p1
+    (puts_in_then _ _ _ _ _ _ _ _ c.in_ok-taken.ensures.puts c.auxiliary.ensures.puts))

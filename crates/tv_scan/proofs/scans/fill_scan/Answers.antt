@@ -48,5 +48,6 @@ returns-in_err-fill_look-clause-gives g c =
     let values = values_of_turn ls c.args.line.now c.before-item.result i c.loop-before.word h there c.loop-before.invariant.word c.sub.result
     c.left-word.result c.sub.ensures word in
     gives_refused m _ _ _ c.from_residual.result c.from_residual.ensures.1
-    (gives_list_refused m (look_values (map line_of_numbers ls) (line_of_numbers c.args.line.now)) (length (map line_of_numbers ls)) i _ _ _ _ h c.loop-before.invariant.gives
+    (gives_list_refused m (look_values (map line_of_numbers ls) (line_of_numbers c.args.line.now)) (length (map line_of_numbers ls)) i _ _ _ _ h
+    c.loop-before.invariant.gives
     (given_as m _ _ _ _ _ values c.in_err-fill_look.ensures.gives))
