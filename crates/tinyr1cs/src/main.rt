@@ -1,7 +1,7 @@
 //! The program `tinyr1cs`: `tv_top::command` on the words of the command line and the system's
-//! files, `DiskFiles` of `tv_disk`. What a command promises is `command`'s contract, over any files.
-//! Here stand the ends that come before a command: status 8 where the folder that keeps closed
-//! streams' numbers from files can't be opened, 14 for a word that isn't UTF-8, and 9 for an
+//! files, `DiskFiles` of `tv_disk`. What a command promises is `command`'s contract, over any
+//! files. Here stand the ends that come before a command: status 8 where the folder that keeps
+//! closed streams' numbers from files can't be opened, 14 for a word that isn't UTF-8, and 9 for an
 //! allocation failure. What it prints is tested by `tests/commands.sh`.
 #![tactic(auto)]
 

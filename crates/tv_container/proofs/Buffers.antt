@@ -269,7 +269,8 @@ took_then {name} {old} {mid} {new} {before} {between} {after} {first} {second} p
 -- bytes are taken, and then those held are appended
 pub took_last : {name : List ℕ} {old mid new : Outside} {before between after : Pending} {bytes : List ℕ} →
     TakesBytes name old before mid between bytes → TakesBytes name mid between new after [] → TakesBytes name old before new after bytes
-took_last {name} {old} {mid} {new} {before} {between} {after} {bytes} p q = subst (λ l. TakesBytes name old before new after l) (append-nil bytes) (took_then p q)
+took_last {name} {old} {mid} {new} {before} {between} {after} {bytes} p q =
+    subst (λ l. TakesBytes name old before new after l) (append-nil bytes) (took_then p q)
 
 -- bytes are held, and no call is made
 pub pushed : {name : List ℕ} {outside : Outside} {before : Pending} {held bytes : List ℕ} → held ≡ before.buffer ++ bytes →
@@ -309,10 +310,3 @@ module _ {X : Type 0} (f : X → List ℕ) (xs : List X) (i : ℕ) (d : X) where
       let x = get_or xs i d in
       let next : take (i + 1) xs ≡ take i xs ++ x ∷ [] = ap (λ n. take n xs) (add-one i) ∙ take-suc xs i d h in
       ap (flat_map f) next ∙ flat_map-append f (take i xs) (x ∷ []) ∙ ap (λ l. flat_map f (take i xs) ++ l) (append-nil (f x) ∙ sym is)
-
-  -- one more of the items of a list
-  pub each_took : {name : List ℕ} {old mid new : Outside} {before between after : Pending} {bytes : List ℕ} → i < length xs → bytes ≡ f (get_or xs i d) →
-      TakesBytes name old before mid between (flat_map f (take i xs)) → TakesBytes name mid between new after bytes
-      → TakesBytes name old before new after (flat_map f (take (i + 1) xs))
-  each_took {name} {old} {mid} {new} {before} {between} {after} {bytes} h is p q = subst (λ l. TakesBytes name old before new after l) (sym (each_more bytes h is))
-      (took_then p q)

@@ -38,7 +38,8 @@ impl Pending {
     #[inline]
     pub fn put<D: Files>(&mut self, files: &mut D, name: &str, more: &[u8])
         requires { length more.now ≤ 4096 }
-        ensures { TakesBytes name.now (D.seen files.old) self.old (D.seen files.new) self.new more.now }
+        ensures { TakesBytes name.now (D.seen files.old) self.old (D.seen files.new) self.new
+            more.now }
     {
         self.make_room(files, name);
         self.buffer.push(more);
@@ -69,7 +70,8 @@ impl Pending {
 
     /// Appends all pending bytes; there is no call where there are none.
     pub fn flush<D: Files>(&mut self, files: &mut D, name: &str)
-        ensures took { TakesBytes name.now (D.seen files.old) self.old (D.seen files.new) self.new [] }
+        ensures took { TakesBytes name.now (D.seen files.old) self.old (D.seen files.new) self.new
+            [] }
         ensures none { self.new.buffer ≡ [] }
     {
         self.make_room(files, name);
@@ -81,7 +83,8 @@ impl Pending {
     // Appends a piece where a whole one is held.
     #[inline]
     fn make_room<D: Files>(&mut self, files: &mut D, name: &str)
-        ensures took { TakesBytes name.now (D.seen files.old) self.old (D.seen files.new) self.new [] }
+        ensures took { TakesBytes name.now (D.seen files.old) self.old (D.seen files.new) self.new
+            [] }
         ensures room { length self.new.buffer ≤ 4096 }
     {
         if self.buffer.is_full() {
@@ -93,7 +96,8 @@ impl Pending {
     #[cold]
     #[inline(never)]
     fn append_piece<D: Files>(&mut self, files: &mut D, name: &str)
-        ensures took { TakesBytes name.now (D.seen files.old) self.old (D.seen files.new) self.new [] }
+        ensures took { TakesBytes name.now (D.seen files.old) self.old (D.seen files.new) self.new
+            [] }
         ensures rest { self.new.buffer ≡ drop 4096 self.old.buffer }
         ensures room { length self.new.buffer ≤ 4096 }
     {

@@ -1,5 +1,6 @@
 -- What is known of the operating system's files: four counts, and nothing of contents or of printed words.
-use Rattle.std.specs.Prelude.{ℕ, ◌+◌, ◌-◌, ◌^◌, min, None, Result, Ok, Err}
+use Rattle.std.specs.Prelude.{None, Result, Ok, Err}
+use Rattle.tv_files.specs.MemFiles.{one_more}
 use Rattle.tv_files.specs.Outside.{Outside}
 use Rattle.tv_files.specs.declared.calls.FileRefusal.{FileRefusal}
 use Rattle.tv_files.specs.declared.calls.FileRefusal.TheVariants.{Failed, Memory}
@@ -22,10 +23,6 @@ outside_of counts = record {
 -- nothing has gone wrong yet
 abbrev pub zeros : RefusalCounts
 zeros = record { read_faults = 0; write_faults = 0; say_faults = 0; wants = 0 }
-
--- one more, up to a counter's last value
-abbrev pub one_more : ℕ → ℕ
-one_more count = min (count + 1) (2 ^ 64 - 1)
 
 -- the counts once a call of this kind has failed
 abbrev pub with_fault : Call → RefusalCounts → RefusalCounts

@@ -1,8 +1,9 @@
 //! How often calls on the system's files were refused, by cause.
 ghost use Rattle.std.specs.Prelude.{◌≡◌, ◌≤◌};
 ghost use Rattle.std.specs.Result.{result_ok};
+ghost use Rattle.tv_files.specs.MemFiles.{one_more};
 ghost use Rattle.tv_files.specs.Outside.{NoneFell};
-ghost use Rattle.tv_disk.specs.Counts.{outside_of, after, one_more, zeros};
+ghost use Rattle.tv_disk.specs.Counts.{outside_of, after, zeros};
 
 use std::io;
 use std::io::ErrorKind;

@@ -34,8 +34,8 @@ impl<R: rt::Files + Drop> Model for DiskFiles<R> {
 }
 
 impl<R: rt::Files + Drop> DiskFiles<R> {
-    /// Opens nothing yet, with all counts 0. Where `has_terminal`, standard error is a terminal, and
-    /// shows how much of a file is written.
+    /// Opens nothing yet, with all counts 0. Where `has_terminal`, standard error is a terminal,
+    /// and shows how much of a file is written.
     pub fn new(alloc: Global, rt: R, has_terminal: bool) -> DiskFiles<R>
         ensures { result ≡ zeros }
     {

@@ -1,5 +1,5 @@
-//! The operating system's files and standard output as `Files`: `DiskFiles`. Contracts see how often
-//! its calls were refused, by cause, and nothing of what a file holds or what was printed.
+//! The operating system's files and standard output as `Files`: `DiskFiles`. Contracts see how
+//! often its calls were refused, by cause, and nothing of what a file holds or what was printed.
 #![tactic(auto)]
 
 mod counts;

@@ -70,13 +70,7 @@ pub known-with_more-with_more : (name first second : List ℕ) (known : Option N
 known-with_more-with_more name first second None = refl
 known-with_more-with_more name first second (Some files) = ap Some (with_more-with_more name first second files)
 
--- a name that isn't there stays absent
-pub with_more-absent : (name more : List ℕ) (files : Names) → files name ≡ None → with_more name more files name ≡ None
-with_more-absent name more files absent =
-    ap (λ same. cond same (option_map (λ held. held ++ more) (files name)) (files name)) ((bytes_eq-Decides name name).1 refl)
-    ∙ ap (option_map (λ held. held ++ more)) absent
-
--- and one that is absent after was so before
+-- a name that is absent after more was added was so before
 pub with_more-none_before : (name more : List ℕ) (files : Names) → with_more name more files name ≡ None → files name ≡ None
 with_more-none_before name more files absent = by_file (files name) (sym here ∙ absent)
   where

@@ -1,5 +1,5 @@
 //! Files that are kept in memory, and can fail on demand.
-ghost use Rattle.std.specs.Prelude.{◌≡◌, ◌⊎◌, ◌||◌, ◌++◌, [], ◌∷◌, false, IsTrue, length, drop};
+ghost use Rattle.std.specs.Prelude.{◌≡◌, ◌⊎◌, ◌||◌, ◌++◌, [], ◌∷◌, IsTrue, length, drop};
 ghost use Rattle.std.specs.Prelude.{Some, OnOk, OnErr, MatchResult, is_err, is_none, option_copied};
 ghost use Rattle.tv_files.specs.Calls.{Reads, Creates, Appends, Says};
 ghost use Rattle.tv_files.specs.Outside.{with_bytes, with_more};

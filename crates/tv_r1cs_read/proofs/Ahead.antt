@@ -8,7 +8,7 @@ use Rattle.tv_container.specs.declared.why.ReadRefusal.{ReadRefusal}
 use Rattle.tv_container.specs.Places.{Fault, number}
 use Rattle.tv_container.specs.Reading.{Refuses}
 use Rattle.tv_r1cs_read.specs.R1cs.{Read, term_at, terms_at, count_at, combination_at}
-use Rattle.tv_r1cs_read.specs.Rows.{combination_of, with_front, IsAhead}
+use Rattle.tv_r1cs_read.specs.Rows.{combination_of, combination_read, with_front, IsAhead}
 use Rattle.tv_container.proofs.Chain.{refuses_first}
 
 -- a term that is as it should be
@@ -29,13 +29,10 @@ unfolding combination_at
 combination_at-counted file wires end at count is = rw is refl
 
 -- no terms were read before
-pub begins : (file : List ℕ) (wires end n at : ℕ) → IsAhead (terms_at file wires end n at) [] file wires end n at
+pub begins : (others : Result (Read Combination) Fault) → IsAhead others [] others
 unfolding with_front
-begins file wires end n at = record { same = by_result (terms_at file wires end n at) }
-  where
-    by_result : (others : Result (Read Combination) Fault) → others ≡ with_front [] others
-    by_result (Ok read) = refl
-    by_result (Err fault) = refl
+begins (Ok read) = record { same = refl }
+begins (Err fault) = record { same = refl }
 
 with_front-with_front : (front more : Combination) (others : Result (Read Combination) Fault) →
     with_front front (with_front more others) ≡ with_front (front ++ more) others
@@ -50,8 +47,8 @@ terms_at-more file wires end n at term is = rw is refl
 
 -- the next term goes after those at hand
 pub goes_on : (answer : Result (Read Combination) Fault) (terms : List (ℕ × ℕ)) (file : List ℕ) (wires end n more at wire coefficient : ℕ) →
-    IsAhead answer terms file wires end n at → n ≡ more + 1 → term_at file wires end at ≡ Ok (coefficient, wire) →
-    IsAhead answer (terms ++ (wire, coefficient) ∷ []) file wires end more (at + 12)
+    IsAhead answer terms (terms_at file wires end n at) → n ≡ more + 1 → term_at file wires end at ≡ Ok (coefficient, wire) →
+    IsAhead answer (terms ++ (wire, coefficient) ∷ []) (terms_at file wires end more (at + 12))
 goes_on answer terms file wires end n more at wire coefficient ahead one is = record {
   same = ahead.same
       ∙ ap (λ others. with_front (combination_of terms) others)
@@ -62,13 +59,13 @@ goes_on answer terms file wires end n more at wire coefficient ahead one is = re
 
 -- what the next term is refused for is what the combination is
 pub refused : (answer : Result (Read Combination) Fault) (terms : List (ℕ × ℕ)) (file : List ℕ) (wires end n more at : ℕ) (why : ReadRefusal) →
-    IsAhead answer terms file wires end n at → n ≡ more + 1 → Refuses why (term_at file wires end at) → Refuses why answer
+    IsAhead answer terms (terms_at file wires end n at) → n ≡ more + 1 → Refuses why (term_at file wires end at) → Refuses why answer
 unfolding terms_at with_front
 refused answer terms file wires end n more at why ahead one refuses =
     rw (ahead.same, one, add-one) (refuses_first why _ _ (refuses_first why _ _ refuses))
 
 -- no term is left
 pub ends : (answer : Result (Read Combination) Fault) (terms : List (ℕ × ℕ)) (file : List ℕ) (wires end n at : ℕ) →
-    IsAhead answer terms file wires end n at → n ≡ 0 → answer ≡ Ok (record { value = combination_of terms; next = at })
+    IsAhead answer terms (terms_at file wires end n at) → n ≡ 0 → answer ≡ Ok (combination_read terms at)
 unfolding terms_at with_front
 ends answer terms file wires end n at ahead none = ahead.same ∙ rw (none, append-nil) refl

@@ -17,16 +17,16 @@ use Rattle.tv_r1cs_read.specs.declared.terms.Bounds.{Bounds}
 use Rattle.tv_r1cs_read.proofs.Ahead.{begins, goes_on, ends, combination_at-counted, count_at-good}
 
 -- at first no term is added
-pub starts : (file : List ℕ) (wires end n at : ℕ) (z : List ℕ) (first : ℕ) → IsSummed (terms_at file wires end n at) file wires end z first 0 n at first
-starts file wires end n at z first = record { terms = []; count = refl; ahead = begins file wires end n at; is = sym (add-zero first) }
+pub starts : (others : Result (Read Combination) Fault) (z : List ℕ) (first : ℕ) → IsSummed others others z first 0 first
+starts others z first = record { terms = []; count = refl; ahead = begins others; is = sym (add-zero first) }
 
 -- one more term
-pub adds : (answer : Result (Read Combination) Fault) (file : List ℕ) (wires end : ℕ) (z : List ℕ) (first k next n more at sum wire coefficient : ℕ) →
-    IsSummed answer file wires end z first k n at sum → next ≡ k + 1 → n ≡ more + 1 → term_at file wires end at ≡ Ok (coefficient, wire) →
-    IsSummed answer file wires end z first next more (at + 12) (sum + coefficient * slice_index z wire)
-adds answer file wires end z first k next n more at sum wire coefficient summed one left is = record {
+pub adds : (answer : Result (Read Combination) Fault) (file : List ℕ) (wires end : ℕ) (z : List ℕ) (first k n more at sum wire coefficient : ℕ) →
+    IsSummed answer (terms_at file wires end n at) z first k sum → n ≡ more + 1 → term_at file wires end at ≡ Ok (coefficient, wire) →
+    IsSummed answer (terms_at file wires end more (at + 12)) z first (k + 1) (sum + coefficient * slice_index z wire)
+adds answer file wires end z first k n more at sum wire coefficient summed left is = record {
   terms = summed.terms ++ (wire, coefficient) ∷ [];
-  count = omega (arith, one, summed.count, length_push summed.terms (wire, coefficient));
+  count = omega (arith, summed.count, length_push summed.terms (wire, coefficient));
   ahead = goes_on answer summed.terms file wires end n more at wire coefficient summed.ahead left is;
   is = ap (λ s. s + coefficient * slice_index z wire) summed.is
       ∙ add_assoc first _ _
@@ -38,7 +38,7 @@ pub adds_one : (piece : Piece) (bounds : Bounds) (z : List ℕ) (at old wire coe
     ((file : List ℕ) → IsPiece piece file → term_at file bounds.wires bounds.end at ≡ Ok (coefficient, wire)) →
     Adds piece bounds z (record { at = at; count = 1 }) old (old + coefficient * slice_index z wire)
 adds_one piece bounds z at old wire coefficient term = λ file held answer first k n enough summed.
-    adds answer file bounds.wires bounds.end z first k (k + 1) n (n - 1) at old wire coefficient summed refl (omega arith) (term file held)
+    adds answer file bounds.wires bounds.end z first k n (n - 1) at old wire coefficient summed (omega arith) (term file held)
 
 pub adds_more : (piece : Piece) (bounds : Bounds) (z : List ℕ) (at count old sum new here : ℕ) →
     Adds piece bounds z (record { at = at; count = count }) old sum → here ≡ at + 12 * count →
@@ -52,7 +52,7 @@ adds_more piece bounds z at count old sum new here before is one = λ file held 
 
 -- no term is left
 pub comes_to : (answer : Result (Read Combination) Fault) (file : List ℕ) (wires end : ℕ) (z : List ℕ) (first k n at sum : ℕ) →
-    IsSummed answer file wires end z first k n at sum → n ≡ 0 → SumsTo answer z first sum k at
+    IsSummed answer (terms_at file wires end n at) z first k sum → n ≡ 0 → SumsTo answer z first sum k at
 comes_to answer file wires end z first k n at sum summed none = record {
   terms = combination_of summed.terms;
   count = summed.count ∙ sym (length-map {B = ℕ × ℕ} summed.terms (λ (t : ℕ × ℕ). (t.1, t.0)));
@@ -70,10 +70,10 @@ pub held : (piece : Piece) (bounds : Bounds) (z file : List ℕ) (at count first
     count ≡ number file 4 at → count ≤ 1048576 → Adds piece bounds z (record { at = at + 4; count = count }) first sum →
     SumsTo (combination_at file bounds.wires bounds.end at) z first sum count (at + 4 + 12 * count)
 held piece bounds z file at count first sum is_piece within is narrow added =
-    let answer = terms_at file bounds.wires bounds.end count (at + 4) in
+    let terms = terms_at file bounds.wires bounds.end count (at + 4) in
     let all : 0 + count ≡ count = omega arith in
     counted file _ _ _ _ _ _ _ _ (count_at-good file _ _ _ (omega (arith, within)) (sym is) narrow)
-    (rw all at (comes_to answer file _ _ _ _ _ _ _ _ (added file is_piece answer first 0 count (omega arith) (starts file _ _ _ _ _ first)) (omega arith)))
+    (rw all at (comes_to terms file _ _ _ _ _ _ _ _ (added file is_piece terms first 0 count (omega arith) (starts terms _ first)) (omega arith)))
 
 -- what was added to nothing has that value
 pub valued : (answer : Result (Read Combination) Fault) (z : List ℕ) (sum n next v : ℕ) → SumsTo answer z 0 sum n next → v ≡ sum % P →

@@ -4,7 +4,7 @@ use Rattle.std.specs.List.{All}
 use Rattle.tv_core.specs.Constraints.{Combination, Constraint}
 use Rattle.tv_r1cs_read.specs.declared.rows.Row.{Row}
 use Rattle.tv_container.specs.Places.{Fault, ◌>>=◌}
-use Rattle.tv_r1cs_read.specs.R1cs.{Read, terms_at}
+use Rattle.tv_r1cs_read.specs.R1cs.{Read}
 
 -- the combination that terms make: wires before coefficients there, after them here
 abbrev pub combination_of : List (ℕ × ℕ) → Combination
@@ -37,6 +37,6 @@ with_front front others = do
   read ← others
   Ok (record { value = front ++ read.value; next = read.next })
 
--- a combination is these terms and n more, from a place on
-pub record IsAhead (answer : Result (Read Combination) Fault) (terms : List (ℕ × ℕ)) (file : List ℕ) (wires end n at : ℕ) : Type 0 where
-  pub same : answer ≡ with_front (combination_of terms) (terms_at file wires end n at)
+-- a combination is these terms and, after them, the others
+pub record IsAhead (answer : Result (Read Combination) Fault) (terms : List (ℕ × ℕ)) (others : Result (Read Combination) Fault) : Type 0 where
+  pub same : answer ≡ with_front (combination_of terms) others

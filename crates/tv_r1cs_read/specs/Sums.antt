@@ -6,15 +6,15 @@ use Rattle.tv_core.specs.Meanings.{holds, terms_of}
 use Rattle.tv_container.specs.Places.{Fault}
 use Rattle.tv_container.specs.Reading.{IsPiece, Piece}
 use Rattle.tv_r1cs_read.specs.declared.terms.Bounds.{Bounds}
-use Rattle.tv_r1cs_read.specs.R1cs.{Read}
+use Rattle.tv_r1cs_read.specs.R1cs.{Read, terms_at}
 use Rattle.tv_r1cs_read.specs.Rows.{IsAhead}
 
--- of a combination's terms k were added to a first sum under an assignment, which made this one, and the others, n of them,
--- are at a place
-pub record IsSummed (answer : Result (Read Combination) Fault) (file : List ℕ) (wires end : ℕ) (z : List ℕ) (first k n at sum : ℕ) : Type 0 where
+-- a combination is k terms and, after them, the others; with a first sum the values of the k terms under an assignment make
+-- this sum
+pub record IsSummed (answer others : Result (Read Combination) Fault) (z : List ℕ) (first k sum : ℕ) : Type 0 where
   pub terms : List (ℕ × ℕ)
   pub count : k ≡ length terms
-  pub ahead : IsAhead answer terms file wires end n at
+  pub ahead : IsAhead answer terms others
   pub is : sum ≡ first + sum_by (λ t. t.1 * slice_index z t.0) terms
 
 -- consecutive terms: the place of the first, and how many
@@ -27,8 +27,8 @@ pub record Stretch : Type 0 where
 abbrev pub Adds : Piece → Bounds → List ℕ → Stretch → (old new : ℕ) → Type 0
 Adds piece bounds z terms old new =
     (file : List ℕ) → IsPiece piece file → (answer : Result (Read Combination) Fault) → (first k n : ℕ) → terms.count ≤ n →
-    IsSummed answer file bounds.wires bounds.end z first k n terms.at old →
-    IsSummed answer file bounds.wires bounds.end z first (k + terms.count) (n - terms.count) (terms.at + 12 * terms.count) new
+    IsSummed answer (terms_at file bounds.wires bounds.end n terms.at) z first k old →
+    IsSummed answer (terms_at file bounds.wires bounds.end (n - terms.count) (terms.at + 12 * terms.count)) z first (k + terms.count) new
 
 -- the values of an assignment: none where each wire counts as 0, else one for each wire
 pub record AreValues (none : Bool) (wires : ℕ) (values : List ℕ) : Type 0 where

@@ -1,5 +1,5 @@
 //! How far reading of a system has come, and its constraints read or evaluated in turn.
-ghost use Rattle.std.specs.Prelude.{◌≡◌, ℕ, ◌+◌, ◌<◌, ◌≤◌, List, [], None, Err, IfOk, IfSome};
+ghost use Rattle.std.specs.Prelude.{◌≡◌, ℕ, ◌+◌, ◌<◌, List, [], None, Err, IfOk, IfSome};
 ghost use Rattle.std.specs.Prelude.{IsNone, IsSome, MatchResult};
 ghost use Rattle.tv_files.specs.Outside.{Outside};
 ghost use Rattle.tv_container.specs.Reading.{Looks, Refuses, IsMissing, Known};
@@ -95,7 +95,7 @@ impl Progress {
     ) -> Result<bool, ReadRefusal>
         ensures steps { Steps (D.seen files.old) (D.seen files.new) name.now self.old self.new
             (λ file rows. IfOk result (λ more. Yields more row.new self.new file rows)) }
-        ensures tells { ReportsStop result self.new.stopped }
+        ensures reports { ReportsStop result self.new.stopped }
         ensures counts { MatchResult result (λ more. WentOn more row.new self.old self.new)
             (λ _. Stays self.old self.new) }
     {

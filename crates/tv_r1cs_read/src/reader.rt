@@ -90,7 +90,7 @@ impl<'a, D: Files> SystemReader<'a, D> {
         ensures steps { Steps (D.seen self.old.files.now) (D.seen self.new.files.now)
             self.old.name.now self.old.progress self.new.progress
             (λ file rows. IfOk result (λ more. Yields more row.new self.new.progress file rows)) }
-        ensures tells { ReportsStop result self.new.progress.stopped }
+        ensures reports { ReportsStop result self.new.progress.stopped }
         ensures counts { MatchResult result
             (λ more. WentOn more row.new self.old.progress self.new.progress)
             (λ _. Stays self.old.progress self.new.progress) }
@@ -147,7 +147,7 @@ impl<'a, D: Files> SystemReader<'a, D> {
         ensures steps { Steps (D.seen self.old.files.now) (D.seen self.new.files.now)
             self.old.name.now self.old.progress self.new.progress
             (λ file rows. IfOk result (λ row. YieldsOwned row self.new.progress file rows)) }
-        ensures tells { ReportsStop result self.new.progress.stopped }
+        ensures reports { ReportsStop result self.new.progress.stopped }
         ensures counts { MatchResult result
             (λ row. WentOnBy row self.old.progress self.new.progress)
             (λ _. Stays self.old.progress self.new.progress) }

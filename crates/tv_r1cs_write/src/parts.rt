@@ -58,8 +58,8 @@ pub(crate) fn write_labels<D: Files>(
     pending.flush(files, name);
 }
 
-// Writes the numbers below `count` as labels, but for these. Stops at a refusal, after which nothing
-// is appended.
+// Writes the numbers below `count` as labels, but for these. Stops at a refusal, after which
+// nothing is appended.
 fn put_labels<D: Files>(pending: &mut Pending, files: &mut D, name: &str, count: u64, but: &[u32])
     requires { IsStrictlyIncreasing but.now }
     ensures { TakesBytes name.now (D.seen files.old) pending.old (D.seen files.new) pending.new

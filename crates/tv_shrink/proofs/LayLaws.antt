@@ -5,12 +5,12 @@ use Rattle.std.specs.List.{AllByRecursion}
 use Rattle.std.specs.Option.{option_map}
 use Rattle.std.specs.Prelude.{slice_range}
 use Rattle.std.proofs.Math.Seq.{drop-append-add}
-use Rattle.std.proofs.lemmas.List.{append_assoc, length-append, length-drop, length-take-le, map-append}
+use Rattle.std.proofs.lemmas.List.{append_assoc, get_or_read, length-append, length-drop, length-take-le, map-append}
 use Rattle.tv_core.specs.Constraints.{Combination, Constraint}
 use Rattle.tv_shrink.specs.Spans.{end_of, laid, row_at, row_terms, span_of, AreApart, AreInside, AreLaid, IsClear, IsFree, IsInside}
 use Rattle.tv_shrink.specs.declared.arena.Span.{Span}
-use Rattle.tv_shrink.proofs.Read.{each_at}
-use Rattle.tv_shrink.proofs.Spans.{inside_more, part_kept, push_each, row_appended, row_end, row_kept, rows_kept, same_row, set_each}
+use Rattle.tv_shrink.proofs.Elements.{each_at, each_pushed, each_set, each_weaker}
+use Rattle.tv_shrink.proofs.Spans.{inside_more, part_kept, row_appended, row_end, row_kept, rows_kept, same_row}
 
 -- a part of the terms before or after those that were put
 part_clear : (xs put : Combination) (start i j : ℕ) → start ≤ length xs → i ≤ j → j ≤ length xs → (j ≤ start) ⊎ (start + length put ≤ i)
@@ -73,18 +73,14 @@ OthersAre R zero (span ∷ spans) = AllByRecursion R spans
 OthersAre R (suc i) (span ∷ spans) = R span × OthersAre R i spans
 
 module _ (R S : Option Span → Type 0) (weaker : (span : Option Span) → R span → S span) where
-  each_weaker : (spans : List (Option Span)) → AllByRecursion R spans → AllByRecursion S spans
-  each_weaker [] h = tt
-  each_weaker (span ∷ spans) h = (weaker span h.0, each_weaker spans h.1)
-
   others_weaker : (spans : List (Option Span)) (i : ℕ) → OthersAre R i spans → OthersAre S i spans
   others_weaker [] i h = tt
-  others_weaker (span ∷ spans) zero h = each_weaker spans h
+  others_weaker (span ∷ spans) zero h = each_weaker R S weaker spans h
   others_weaker (span ∷ spans) (suc i) h = (weaker span h.0, others_weaker spans i h.1)
 
   each_other : (spans : List (Option Span)) (i : ℕ) → AllByRecursion R spans → OthersAre S i spans
   each_other [] i h = tt
-  each_other (span ∷ spans) zero h = each_weaker spans h.1
+  each_other (span ∷ spans) zero h = each_weaker R S weaker spans h.1
   each_other (span ∷ spans) (suc i) h = (weaker span h.0, each_other spans i h.1)
 
 -- all others are apart from a constraint
@@ -99,7 +95,7 @@ others_apart (first ∷ spans) zero span apart h at = let here : AreApart (Some 
 others_apart (None ∷ spans) (suc i) span apart h at = (tt, others_apart spans i span apart (omega arith) at)
 others_apart (Some first ∷ spans) (suc i) span apart h at =
     let inside : i < length spans = omega arith in (
-      apart_back first span (subst (IsClear first.start (end_of first)) at (each_at (IsClear first.start (end_of first)) spans i None apart.0 inside)),
+      apart_back first span (subst (IsClear first.start (end_of first)) at (each_at (IsClear first.start (end_of first)) spans i None tt apart.0)),
       others_apart spans i span apart.1 inside at,
     )
 
@@ -127,38 +123,39 @@ apart_set (None ∷ spans) zero span apart others = (others, apart)
 apart_set (Some first ∷ spans) zero span apart others = (others, apart.1)
 apart_set (None ∷ spans) (suc i) span apart others = apart_set spans i span apart others.1
 apart_set (Some first ∷ spans) (suc i) span apart others =
-    (set_each (IsClear first.start (end_of first)) spans i (Some span) apart.0 (apart_back span first others.0), apart_set spans i span apart.1 others.1)
+    (each_set (IsClear first.start (end_of first)) spans i (Some span) (apart_back span first others.0) apart.0, apart_set spans i span apart.1 others.1)
 
 apart_dropped : (spans : List (Option Span)) (i : ℕ) → AreApart spans → AreApart (set spans i None)
 apart_dropped [] i apart = tt
 apart_dropped (None ∷ spans) zero apart = apart
 apart_dropped (Some first ∷ spans) zero apart = apart.1
 apart_dropped (None ∷ spans) (suc i) apart = apart_dropped spans i apart
-apart_dropped (Some first ∷ spans) (suc i) apart = (set_each (IsClear first.start (end_of first)) spans i None apart.0 tt, apart_dropped spans i apart.1)
+apart_dropped (Some first ∷ spans) (suc i) apart = (each_set (IsClear first.start (end_of first)) spans i None tt apart.0, apart_dropped spans i apart.1)
 
 pub laid_dropped : (n : ℕ) (spans : List (Option Span)) (i : ℕ) → AreLaid n spans → AreLaid n (set spans i None)
-laid_dropped n spans i h = record { inside = set_each (IsInside n) spans i None h.inside tt; apart = apart_dropped spans i h.apart }
+laid_dropped n spans i h = record { inside = each_set (IsInside n) spans i None tt h.inside; apart = apart_dropped spans i h.apart }
 
 apart_push : (n : ℕ) (spans : List (Option Span)) (span : Span) → AreInside n spans → AreApart spans → n ≤ span.start → AreApart (spans ++ Some span ∷ [])
 apart_push n [] span inside apart behind = (tt, tt)
 apart_push n (None ∷ spans) span inside apart behind = apart_push n spans span inside.1 apart behind
 apart_push n (Some first ∷ spans) span inside apart behind =
-    (push_each (IsClear first.start (end_of first)) spans (Some span) apart.0 (inr (omega (arith, inside.0))), apart_push n spans span inside.1 apart.1 behind)
+    let clear : IsClear first.start (end_of first) (Some span) = inr (omega (arith, inside.0)) in
+    (each_pushed (IsClear first.start (end_of first)) spans (Some span) clear apart.0, apart_push n spans span inside.1 apart.1 behind)
 
 laid_pushed : (n m : ℕ) (spans : List (Option Span)) (span : Span) → AreLaid n spans → n ≤ m → n ≤ span.start → end_of span ≤ m
     → AreLaid m (spans ++ Some span ∷ [])
 laid_pushed n m spans span h more behind ends = record {
-  inside = push_each (IsInside m) spans (Some span) (inside_more n m spans more h.inside) ends;
+  inside = each_pushed (IsInside m) spans (Some span) ends (inside_more n m spans more h.inside);
   apart = apart_push n spans span h.inside h.apart behind;
 }
 
 apart_none : (spans : List (Option Span)) → AreApart spans → AreApart (spans ++ None ∷ [])
 apart_none [] apart = tt
 apart_none (None ∷ spans) apart = apart_none spans apart
-apart_none (Some first ∷ spans) apart = (push_each (IsClear first.start (end_of first)) spans None apart.0 tt, apart_none spans apart.1)
+apart_none (Some first ∷ spans) apart = (each_pushed (IsClear first.start (end_of first)) spans None tt apart.0, apart_none spans apart.1)
 
 pub laid_none : (n : ℕ) (spans : List (Option Span)) → AreLaid n spans → AreLaid n (spans ++ None ∷ [])
-laid_none n spans h = record { inside = push_each (IsInside n) spans None h.inside tt; apart = apart_none spans h.apart }
+laid_none n spans h = record { inside = each_pushed (IsInside n) spans None tt h.inside; apart = apart_none spans h.apart }
 
 pub laid_more : (n m : ℕ) (spans : List (Option Span)) → n ≤ m → AreLaid n spans → AreLaid m spans
 laid_more n m spans more h = record { inside = inside_more n m spans more h.inside; apart = h.apart }
@@ -185,16 +182,14 @@ module _ (xs put : Combination) (start : ℕ) (h : start ≤ length xs) where
 
 pub held_at : (spans : List (Option Span)) (i : ℕ) (span : Option Span) (held : Span) → i < length spans → span ≡ get_or spans i span → span ≡ Some held
     → get_or spans i None ≡ Some held
-held_at [] i span held h at is = absurd (omega arith)
-held_at (first ∷ spans) zero span held h at is = sym at ∙ is
-held_at (first ∷ spans) (suc i) span held h at is = held_at spans i span held (omega arith) at is
+held_at spans i span held h at is = sym (get_or_read spans i span h at None) ∙ is
 
 pub rows_laid : (xs ys put : Combination) (spans : List (Option Span)) (rows : List (Option Constraint)) (i start : ℕ) (old made : Span) (row : Constraint)
     → AreLaid (length xs) spans → map (option_map (row_at xs)) spans ≡ rows → i < length spans → get_or spans i None ≡ Some old →
     put ≡ row_terms row → IsFree (length xs) old start (length put) → ys ≡ laid start put xs → made ≡ span_of start row →
     AreLaid (length ys) (set spans i (Some made)) × (map (option_map (row_at ys)) (set spans i (Some made)) ≡ set rows i (Some row))
 rows_laid xs ys put spans rows i start old made row h view inside at terms free is made_is =
-    let before : IsInside (length xs) (Some old) = subst (IsInside (length xs)) at (each_at (IsInside (length xs)) spans i None h.inside inside) in
+    let before : IsInside (length xs) (Some old) = subst (IsInside (length xs)) at (each_at (IsInside (length xs)) spans i None tt h.inside) in
     let low : start ≤ length xs = elim free [ inl over ↦ omega (arith, over.0) | inr last ↦ omega arith ] in
     let clear = free_clear (length xs) spans i old start (length put) h inside at free in
     let longer = laid_longer start put xs low in
@@ -206,8 +201,8 @@ rows_laid xs ys put spans rows i start old made row h view inside at terms free 
     (subst (λ m. OthersAre (IsClear start m) i spans) (sym ends) clear) in
     let here : row_at (laid start put xs) made ≡ row = ap₂ (λ p m. row_at (laid start p xs) m) terms made_is ∙ row_laid xs row start low in (
       record {
-        inside = set_each (IsInside (length ys)) spans i (Some made)
-            (inside_more (length xs) (length ys) spans (omega (arith, longer.0, ap length is)) h.inside) (omega (arith, longer.1, ends, ap length is));
+        inside = each_set (IsInside (length ys)) spans i (Some made) (omega (arith, longer.1, ends, ap length is))
+            (inside_more (length xs) (length ys) spans (omega (arith, longer.0, ap length is)) h.inside);
         apart = apart_set spans i made h.apart others;
       },
       ap (λ terms. map (option_map (row_at terms)) (set spans i (Some made))) is

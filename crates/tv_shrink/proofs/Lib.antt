@@ -1,4 +1,5 @@
 pub mod Constants
+pub mod Elements
 pub mod Gone
 pub mod Labels
 pub mod LayLaws

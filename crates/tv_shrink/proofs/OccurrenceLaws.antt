@@ -1,13 +1,13 @@
 -- The rows that wires may stand in.
-use Rattle.std.proofs.Common.{◌≡◌, ℕ, zero, suc, ◌+◌, ◌-◌, ◌%◌, ◌<◌, ◌≤◌, Bool, List, [], ◌∷◌, ◌++◌, true, false, refl, sym, ◌∙◌, ap, ap₂, subst, arith, eqb}
+use Rattle.std.proofs.Common.{◌≡◌, ℕ, suc, ◌+◌, ◌-◌, ◌%◌, ◌<◌, ◌≤◌, Bool, List, [], ◌∷◌, ◌++◌, true, false, refl, sym, ◌∙◌, ap, ap₂, subst, arith, eqb}
 use Rattle.std.proofs.Common.{eq-eqb, ne_eqb, cond, inl, inr, map, length, length-set, get_or, set, reverse}
 use Rattle.std.specs.List.{AllByRecursion, list_any}
 use Rattle.std.specs.Prelude.{slice_index}
 use Rattle.std.proofs.lemmas.Bool.{cond_both, cases_eq, or_left, or_right}
-use Rattle.std.proofs.lemmas.List.{get_or-map, get_or-reverse, get_or-set_other, get_or-set_same, length-map, length-reverse, reverse-append}
+use Rattle.std.proofs.lemmas.List.{get_or_default, get_or-map, get_or-reverse, get_or-set_other, get_or-set_same, length-map, length-reverse, reverse-append}
 use Rattle.std.proofs.lemmas.Nat.{mod_below}
 use Rattle.tv_shrink.specs.Occurrences.{rows_from, rows_of, with_row, AreLinked, LeadBack}
-use Rattle.tv_shrink.proofs.Passes.{same_default}
+use Rattle.tv_shrink.proofs.Elements.{each_at, each_set, each_weaker}
 use Rattle.tv_shrink.specs.declared.occurrences.Entry.{Entry}
 
 -- a wire that has no entry
@@ -73,22 +73,12 @@ rows_from-at entries heads number entry some inside linked at =
 pub reverse_push : (entries : List Entry) (entry : Entry) → reverse (entries ++ entry ∷ []) ≡ entry ∷ reverse entries
 reverse_push entries entry = reverse-append entries (entry ∷ [])
 
-heads_more : (n m : ℕ) (heads : List ℕ) → n ≤ m → AllByRecursion (λ head. head ≤ n) heads → AllByRecursion (λ head. head ≤ m) heads
-heads_more n m [] h k = tt
-heads_more n m (head ∷ heads) h k = (omega (arith, k.0), heads_more n m heads h k.1)
-
-heads_set : (n number : ℕ) (heads : List ℕ) (place : ℕ) → number ≤ n → AllByRecursion (λ head. head ≤ n) heads
-    → AllByRecursion (λ head. head ≤ n) (set heads place number)
-heads_set n number [] place h k = tt
-heads_set n number (head ∷ heads) zero h k = (h, k.1)
-heads_set n number (head ∷ heads) (suc place) h k = (k.0, heads_set n number heads place h k.1)
-
 pub linked_set : (entries : List Entry) (heads : List ℕ) (place number : ℕ) → number ≤ length entries → AreLinked entries heads
     → AreLinked entries (set heads place number)
 linked_set entries heads place number h linked = record {
   some = omega (arith, linked.some, length-set heads place number);
   back = linked.back;
-  within = heads_set (length entries) number heads place h linked.within;
+  within = each_set (λ head. head ≤ length entries) heads place number h linked.within;
 }
 
 pub linked_push : (entries more : List Entry) (heads : List ℕ) (entry : Entry) → more ≡ entries ++ entry ∷ [] → length more ≡ length entries + 1
@@ -96,19 +86,17 @@ pub linked_push : (entries more : List Entry) (heads : List ℕ) (entry : Entry)
 linked_push entries more heads entry is each h linked = record {
   some = linked.some;
   back = subst LeadBack (sym (ap reverse is ∙ reverse_push entries entry)) (omega (arith, length-reverse entries), linked.back);
-  within = heads_more (length entries) (length more) heads (omega arith) linked.within;
+  within = each_weaker (λ head. head ≤ length entries) (λ head. head ≤ length more) (λ head low. omega (arith, each)) heads linked.within;
 }
 
 -- a list begins at one of the entries that there are, or at none
 head_within : (n : ℕ) (heads : List ℕ) (place : ℕ) → AllByRecursion (λ head. head ≤ n) heads → get_or heads place 0 ≤ n
-head_within n [] place h = omega arith
-head_within n (first ∷ heads) zero h = h.0
-head_within n (first ∷ heads) (suc place) h = head_within n heads place h.1
+head_within n heads place h = each_at (λ head. head ≤ n) heads place 0 (omega arith) h
 
 pub head_inside : (entries : List Entry) (heads : List ℕ) (place head : ℕ) → AreLinked entries heads → place < length heads → head ≡ get_or heads place head →
     (head ≤ length entries) × (head ≡ slice_index heads place)
 head_inside entries heads place head linked inside at =
-    let is : head ≡ slice_index heads place = at ∙ same_default heads place head 0 inside in
+    let is : head ≡ slice_index heads place = at ∙ get_or_default heads place head 0 inside in
     (omega (arith, is, head_within (length entries) heads place linked.within), is)
 
 -- the rows of a wire, by entries and heads
@@ -180,17 +168,17 @@ with_row-has row (first ∷ rows) =
     (λ same. or_left (eqb first row) (list_any (λ p. eqb p row) rows) same)
     (λ _. or_left (eqb row row) (list_any (λ p. eqb p row) (first ∷ rows)) (eq-eqb row row refl))
 
--- whether an entry is of a row
-pub tells_none : (entries : List Entry) (number row : ℕ) → number ≡ 0
+-- whether a list begins with a row
+pub with_row-none : (entries : List Entry) (number row : ℕ) → number ≡ 0
     → with_row row (rows_from (reverse entries) number) ≡ row ∷ rows_from (reverse entries) number
-tells_none entries number row e =
+with_row-none entries number row e =
     let none : rows_from (reverse entries) number ≡ [] = ap (rows_from (reverse entries)) e ∙ rows_from-none (reverse entries) in
     ap (with_row row) none ∙ ap (λ rows. row ∷ rows) (sym none)
 
-pub tells_row : (entries : List Entry) (number row : ℕ) (entry : Entry) (same : Bool) → 0 < number → number ≤ length entries → LeadBack (reverse entries)
+pub with_row-first : (entries : List Entry) (number row : ℕ) (entry : Entry) (same : Bool) → 0 < number → number ≤ length entries → LeadBack (reverse entries)
     → entry ≡ get_or entries (number - 1) entry → same ≡ eqb entry.row row →
     with_row row (rows_from (reverse entries) number) ≡ cond same (rows_from (reverse entries) number) (row ∷ rows_from (reverse entries) number)
-tells_row entries number row entry same some inside back at is =
+with_row-first entries number row entry same some inside back at is =
     let found = (rows_from-at entries (0 ∷ []) number entry some inside (record { some = omega arith; back = back; within = (omega arith, tt) }) at).0 in
     ap (with_row row) found
     ∙ ap (λ b. cond b (entry.row ∷ rows_from (reverse entries) entry.next) (row ∷ entry.row ∷ rows_from (reverse entries) entry.next)) (sym is)

@@ -14,6 +14,7 @@ use Rattle.tv_core.specs.Normal.{IsNormalFrom}
 use Rattle.tv_shrink.specs.Substitution.{linear_form, greatest_from, solved, replaced, replaced_in}
 use Rattle.tv_shrink.specs.Pass.{Pass, dropped, substituted, row_fits, attempted, eliminated, treated, linear_row, turn}
 use Rattle.tv_core.proofs.NormalLaws.{Over, Over-weaker, value-local}
+use Rattle.tv_shrink.proofs.Elements.{each_at, each_set, each_weaker}
 use Rattle.tv_shrink.proofs.ReplacingLaws.{value-replaced, solved-from_zero, zero-from_solved, holds_where_zero, zero_where_holds, Over-linear_form}
 use Rattle.tv_shrink.proofs.ReplacingLaws.{Over-solved, Over-replaced, Over-has_wire, greatest_is, coefficient-apart}
 
@@ -33,22 +34,12 @@ RowHolds z (Some c) = Holds c z
 abbrev pub RowsHold : List ℕ → List (Option Constraint) → Type 0
 RowsHold z rows = AllByRecursion (RowHolds z) rows
 
--- what holds of all rows, at a place and after a row was dropped
-module _ (R : Option Constraint → Type 0) (none : R None) where
-  pub rows_at : (rows : List (Option Constraint)) (i : ℕ) → AllByRecursion R rows → R (get_or rows i None)
-  rows_at [] i h = none
-  rows_at (row ∷ rows) zero h = h.0
-  rows_at (row ∷ rows) (suc i) h = rows_at rows i h.1
-
-  pub rows_dropped : (rows : List (Option Constraint)) (i : ℕ) → AllByRecursion R rows → AllByRecursion R (set rows i None)
-  rows_dropped [] i h = h
-  rows_dropped (row ∷ rows) zero h = (none, h.1)
-  rows_dropped (row ∷ rows) (suc i) h = (h.0, rows_dropped rows i h.1)
-
-  pub rows_back : (rows : List (Option Constraint)) (i : ℕ) → AllByRecursion R (set rows i None) → R (get_or rows i None) → AllByRecursion R rows
-  rows_back [] i h here = tt
-  rows_back (row ∷ rows) zero h here = (here, h.1)
-  rows_back (row ∷ rows) (suc i) h here = (h.0, rows_back rows i h.1 here)
+-- what holds of all rows before one was dropped
+rows_back : (R : Option Constraint → Type 0) (rows : List (Option Constraint)) (i : ℕ) → AllByRecursion R (set rows i None) → R (get_or rows i None)
+    → AllByRecursion R rows
+rows_back R [] i h here = tt
+rows_back R (row ∷ rows) zero h here = (here, h.1)
+rows_back R (row ∷ rows) (suc i) h here = (h.0, rows_back R rows i h.1 here)
 
 -- what holds of all rows once each is changed
 module _ (R S : Option Constraint → Type 0) (change : Option Constraint → Option Constraint) (turns : (row : Option Constraint) → R row → S (change row)) where
@@ -60,11 +51,6 @@ module _ (R S : Option Constraint → Type 0) (change : Option Constraint → Op
   pub rows_unchanged : (rows : List (Option Constraint)) → AllByRecursion R (map change rows) → AllByRecursion S rows
   rows_unchanged [] h = tt
   rows_unchanged (row ∷ rows) h = (turns row h.0, rows_unchanged rows h.1)
-
-pub rows_weaker : (R S : Option Constraint → Type 0) → ((row : Option Constraint) → R row → S row) → (rows : List (Option Constraint)) → AllByRecursion R rows
-    → AllByRecursion S rows
-rows_weaker R S weaker [] h = tt
-rows_weaker R S weaker (row ∷ rows) h = (weaker row h.0, rows_weaker R S weaker rows h.1)
 
 -- a constraint whose combinations have the same values holds as well
 pub same_holds : (c d : Constraint) (y z : List ℕ) → value c.a y ≡ value d.a z → value c.b y ≡ value d.b z → value c.c y ≡ value d.c z → Holds c y → Holds d z
@@ -84,7 +70,7 @@ both_hold R S (row ∷ rows) h k = ((h.0, k.0), both_hold R S rows h.1 k.1)
 
 rows_local : (Q : ℕ → Type 0) (y z : List ℕ) → ((v : ℕ) → Q v → slice_index y v ≡ slice_index z v) → (rows : List (Option Constraint)) → RowsOver Q rows
     → RowsHold y rows → RowsHold z rows
-rows_local Q y z same rows h k = rows_weaker (λ row. RowOver Q row × RowHolds y row) (RowHolds z) (row_local Q y z same) rows
+rows_local Q y z same rows h k = each_weaker (λ row. RowOver Q row × RowHolds y row) (RowHolds z) (row_local Q y z same) rows
     (both_hold (RowOver Q) (RowHolds y) rows h k)
 
 -- a wire that there is, and that is not gone
@@ -125,11 +111,11 @@ module _ (start : List (Option Constraint)) (wires publics : ℕ) (positive : 0 
       → Sound start wires publics (dropped i pass)
   unfolding dropped
   dropped-sound i c pass at says sound = record {
-    over = rows_dropped (RowOver (Stays wires pass.gone)) tt pass.rows i sound.over;
+    over = each_set (RowOver (Stays wires pass.gone)) pass.rows i None tt sound.over;
     each = sound.each;
     private = sound.private;
-    down = λ z assigns h. rows_dropped (RowHolds z) tt pass.rows i (sound.down z assigns h);
-    up = λ z assigns each h. sound.up z assigns each (rows_back (RowHolds z) tt pass.rows i h
+    down = λ z assigns h. each_set (RowHolds z) pass.rows i None tt (sound.down z assigns h);
+    up = λ z assigns each h. sound.up z assigns each (rows_back (RowHolds z) pass.rows i h
         (subst (RowHolds z) (sym at) (holds_where_zero z assigns c [] says refl)));
     unique = sound.unique;
   }
@@ -137,7 +123,7 @@ module _ (start : List (Option Constraint)) (wires publics : ℕ) (positive : 0 
   module _ (i w : ℕ) (c : Constraint) (lin : Combination) (pass : Pass) (at : get_or pass.rows i None ≡ Some c) (says : linear_form c ≡ Some lin)
       (greatest : greatest_from publics lin ≡ Some w) (sound : Sound start wires publics pass) where
     row_over : Over (Stays wires pass.gone) c.a × Over (Stays wires pass.gone) c.b × Over (Stays wires pass.gone) c.c
-    row_over = subst (RowOver (Stays wires pass.gone)) at (rows_at (RowOver (Stays wires pass.gone)) tt pass.rows i sound.over)
+    row_over = subst (RowOver (Stays wires pass.gone)) at (each_at (RowOver (Stays wires pass.gone)) pass.rows i None tt sound.over)
 
     lin_over : Over (Stays wires pass.gone) lin × IsNormalFrom 0 lin
     lin_over = Over-linear_form (Stays wires pass.gone) c lin row_over.0 row_over.1 row_over.2 says
@@ -149,7 +135,7 @@ module _ (start : List (Option Constraint)) (wires publics : ℕ) (positive : 0 
     is_solved : (z : List ℕ) → Assigns z → RowsHold z pass.rows → slice_index z w ≡ value (solved w lin) z
     is_solved z assigns h =
         let is = greatest_is publics w lin greatest in
-        let here : Holds c z = subst (RowHolds z) at (rows_at (RowHolds z) tt pass.rows i h) in
+        let here : Holds c z = subst (RowHolds z) at (each_at (RowHolds z) pass.rows i None tt h) in
         solved-from_zero w lin z assigns (coefficient-apart w lin lin_over.1 is.1) (zero_where_holds z assigns c lin says here)
 
     row_holds : (z : List ℕ) → Assigns z → slice_index z w ≡ value (solved w lin) z → RowHolds z (get_or pass.rows i None)
@@ -189,12 +175,12 @@ module _ (start : List (Option Constraint)) (wires publics : ℕ) (positive : 0 
     rows_over : RowsOver (Stays wires (set pass.gone w true)) (map (option_map (replaced_in w (solved w lin))) (set pass.rows i None))
     rows_over =
         rows_changed (RowOver (Stays wires pass.gone)) (RowOver (Stays wires (set pass.gone w true))) (option_map (replaced_in w (solved w lin))) over_row
-        (set pass.rows i None) (rows_dropped (RowOver (Stays wires pass.gone)) tt pass.rows i sound.over)
+        (set pass.rows i None) (each_set (RowOver (Stays wires pass.gone)) pass.rows i None tt sound.over)
 
     rows_down : (z : List ℕ) → Assigns z → RowsHold z pass.rows → RowsHold z (map (option_map (replaced_in w (solved w lin))) (set pass.rows i None))
     rows_down z assigns h =
         rows_changed (RowHolds z) (RowHolds z) (option_map (replaced_in w (solved w lin))) (forward z (is_solved z assigns h))
-        (set pass.rows i None) (rows_dropped (RowHolds z) tt pass.rows i h)
+        (set pass.rows i None) (each_set (RowHolds z) pass.rows i None tt h)
 
     -- the wire set to its combination's value
     differs_only : (z : List ℕ) (v : ℕ) → v ≢ w → slice_index (set z w (value (solved w lin) z)) v ≡ slice_index z v
@@ -231,7 +217,7 @@ module _ (start : List (Option Constraint)) (wires publics : ℕ) (positive : 0 
         (value-below (solved w lin) z) in
         let moved = rows_local (Stays wires (set pass.gone w true)) z (set z w (value (solved w lin) z)) (λ v k. sym (differs_only z v (gone_apart v k.1)))
         (map (option_map (replaced_in w (solved w lin))) (set pass.rows i None)) rows_over h in
-        rows_back (RowHolds (set z w (value (solved w lin) z))) tt pass.rows i
+        rows_back (RowHolds (set z w (value (solved w lin) z))) pass.rows i
         (rows_unchanged (RowHolds (set z w (value (solved w lin) z))) (RowHolds (set z w (value (solved w lin) z))) (option_map (replaced_in w (solved w lin)))
         (backward (set z w (value (solved w lin) z)) is) (set pass.rows i None) moved)
         (row_holds (set z w (value (solved w lin) z)) fine is)

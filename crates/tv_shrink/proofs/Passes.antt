@@ -4,12 +4,12 @@ use Rattle.std.proofs.Common.{subst, arith, eqb, true, false, inl, inr, cond, ma
 use Rattle.std.proofs.Common.{eqb-true, eq-eqb, ne_eqb, take_all, add-one}
 use Rattle.std.specs.List.{fold, list_any, list_all, range_with_len}
 use Rattle.std.specs.Option.{option_map}
-use Rattle.std.proofs.lemmas.Bool.{cond_both, cases_Bool, cases_eq, cases_lt, or_cases, or_parts, or_from, or_left, or_right, and_from, false_from_ne_true}
-use Rattle.std.proofs.lemmas.List.{ext_get_or, get_or-map, get_or_past, length-map, get_or-set_other, get_or-set_same}
+use Rattle.std.proofs.lemmas.Bool.{cond_both, cases_Bool, cases_eq, or_cases, or_parts, or_from, or_left, or_right, and_from, and_parts, false_from_ne_true}
+use Rattle.std.proofs.lemmas.List.{ext_get_or, get_or-map, length-map, get_or-set_other}
 use Rattle.std.proofs.lemmas.List.Elements.{All-from_get_or}
 use Rattle.std.proofs.lemmas.List.Folds.{list_any_more}
 use Rattle.tv_core.proofs.BelowLaws.{range-more}
-use Rattle.std.proofs.lemmas.List.Sums.{fold_push, AllPass-from_list_all, list_all-from_AllPass}
+use Rattle.std.proofs.lemmas.List.Sums.{fold_push, list_all-from_AllPass}
 use Rattle.tv_core.specs.Combinations.{scaled}
 use Rattle.tv_core.specs.Inverse.{inverse_of}
 use Rattle.tv_core.specs.declared.field.TheConstants.{P}
@@ -18,10 +18,9 @@ use Rattle.tv_core.specs.Normal.{coefficient, normal, IsNormalFrom}
 use Rattle.tv_shrink.specs.Pass.{Pass, all_replaced, attempted, dropped, substituted, eliminated, linear_row, row_fits, treated, turn}
 use Rattle.tv_shrink.specs.Occurrences.{rows_of}
 use Rattle.tv_shrink.specs.Substitution.{greater_from, greatest_from, has_wire, without, solved, replaced, replaced_in, fits}
-use Rattle.tv_shrink.specs.Tidy.{RowIsNormal, RowsAreNormal, Covers, pass_of, row_has}
+use Rattle.tv_shrink.specs.Tidy.{RowIsNormal, Covers, pass_of, row_has}
 use Rattle.tv_shrink.proofs.Linear.{replaced-lacking}
 use Rattle.tv_core.proofs.NormalLaws.{Over, Over-weaker, IsNormalFrom-normal}
-use Rattle.tv_shrink.proofs.PassLaws.{rows_at}
 use Rattle.tv_shrink.proofs.ReplacingLaws.{none_some, Over-linear_form, Over-solved, Over-has_wire, Over-replaced, Over-lacking, found_later}
 use Rattle.tv_shrink.proofs.Constants.{above_at, found_at}
 
@@ -85,29 +84,39 @@ module _ (w : ℕ) (r : Combination) where
     replaced_seen true row = replaced-twice row
     replaced_seen false row = refl
 
-    replaced-next : (rows start : List (Option Constraint)) (places : List ℕ) (k at : ℕ) → k < length places → get_or places k 0 ≡ at → at < length rows →
-        ((i : ℕ) → get_or rows i None ≡ cond (list_any (λ p. eqb p i) (take k places)) (option_map (replaced_in w r) (get_or start i None))
-        (get_or start i None)) →
-        (i : ℕ) → get_or (set rows at (option_map (replaced_in w r) (get_or rows at None))) i None
-        ≡ cond (list_any (λ p. eqb p i) (take (k + 1) places)) (option_map (replaced_in w r) (get_or start i None)) (get_or start i None)
-    replaced-next rows start places k at h is inside before i =
+    changed_here : (rows : List (Option Constraint)) (at : ℕ) →
+        get_or (set rows at (option_map (replaced_in w r) (get_or rows at None))) at None ≡ option_map (replaced_in w r) (get_or rows at None)
+    changed_here [] at = refl
+    changed_here (row ∷ rows) zero = refl
+    changed_here (row ∷ rows) (suc at) = changed_here rows at
+
+    -- the constraints at these places are those of the start with the wire replaced, and the others are those of the start
+    abbrev pub IsReplacedAt : (rows start : List (Option Constraint)) (places : List ℕ) → Type 0
+    IsReplacedAt rows start places = (i : ℕ) → get_or rows i None
+        ≡ cond (list_any (λ p. eqb p i) places) (option_map (replaced_in w r) (get_or start i None)) (get_or start i None)
+
+    pub replaced-step : (rows start : List (Option Constraint)) (places : List ℕ) (k at : ℕ) → k < length places → get_or places k 0 ≡ at
+        → IsReplacedAt rows start (take k places)
+        → IsReplacedAt (set rows at (option_map (replaced_in w r) (get_or rows at None))) start (take (k + 1) places)
+    replaced-step rows start places k at h is before i =
         let next = list_any_more (λ p. eqb p i) places k 0 h in
+        let row = get_or start i None in
         elim (cases_eq i at) [
           | inl here ↦
               let now : list_any (λ p. eqb p i) (take (k + 1) places) ≡ true = next
               ∙ or_right (list_any (λ p. eqb p i) (take k places)) (eqb (get_or places k 0) i) (eq-eqb (get_or places k 0) i (is ∙ sym here)) in
               ap (λ j. get_or (set rows at (option_map (replaced_in w r) (get_or rows at None))) j None) here
-              ∙ get_or-set_same rows at (option_map (replaced_in w r) (get_or rows at None)) None inside
+              ∙ changed_here rows at
               ∙ ap (option_map (replaced_in w r)) (ap (λ j. get_or rows j None) (sym here) ∙ before i)
-              ∙ replaced_seen (list_any (λ p. eqb p i) (take k places)) (get_or start i None)
-              ∙ sym (ap (λ b. cond b (option_map (replaced_in w r) (get_or start i None)) (get_or start i None)) now)
+              ∙ replaced_seen (list_any (λ p. eqb p i) (take k places)) row
+              ∙ sym (ap (λ b. cond b (option_map (replaced_in w r) row) row) now)
           | inr apart ↦
               let now : list_any (λ p. eqb p i) (take (k + 1) places) ≡ list_any (λ p. eqb p i) (take k places) =
               next ∙ ap (λ b. list_any (λ p. eqb p i) (take k places) || b) (ne_eqb (get_or places k 0) i (λ e. apart (sym e ∙ is)))
               ∙ or_false (list_any (λ p. eqb p i) (take k places)) in
               get_or-set_other rows at i (option_map (replaced_in w r) (get_or rows at None)) None apart
               ∙ before i
-              ∙ sym (ap (λ b. cond b (option_map (replaced_in w r) (get_or start i None)) (get_or start i None)) now)
+              ∙ sym (ap (λ b. cond b (option_map (replaced_in w r) row) row) now)
         ]
 
     fits_seen : (seen : Bool) (row : Option Constraint) → row_fits w r row ≡ true → row_fits w r (cond seen (option_map (replaced_in w r) row) row) ≡ true
@@ -119,64 +128,16 @@ module _ (w : ℕ) (r : Combination) where
         (and_from (fits w r (replaced w r c.b)) (fits w r (replaced w r c.c)) (lacking-fits (replaced w r c.b) (lacks-replaced c.b))
         (lacking-fits (replaced w r c.c) (lacks-replaced c.c)))
 
-    -- a constraint keeps to its most terms, and is normal, also where the wire was replaced in it already
-    still_fits : (rows start : List (Option Constraint)) (seen : Bool) (at : ℕ) → list_all (row_fits w r) start ≡ true → at < length start
-        → get_or rows at None ≡ cond seen (option_map (replaced_in w r) (get_or start at None)) (get_or start at None)
-        → row_fits w r (get_or rows at None) ≡ true
-    still_fits rows start seen at all h is = ap (row_fits w r) is
-        ∙ fits_seen seen (get_or start at None) (AllPass-from_list_all (row_fits w r) start all at None h)
+    fits_at : (rows : List (Option Constraint)) (i : ℕ) → list_all (row_fits w r) rows ≡ true → row_fits w r (get_or rows i None) ≡ true
+    fits_at [] i all = refl
+    fits_at (row ∷ rows) zero all = (and_parts (row_fits w r row) (list_all (row_fits w r) rows) all).0
+    fits_at (row ∷ rows) (suc i) all = fits_at rows i (and_parts (row_fits w r row) (list_all (row_fits w r) rows) all).1
 
-    nothing_there : (b : Bool) (row : Option Constraint) → row ≡ None → None ≡ cond b (option_map (replaced_in w r) row) row
-    nothing_there true row e = sym (ap (option_map (replaced_in w r)) e)
-    nothing_there false row e = sym e
-
-    -- a place past the end names no constraint
-    replaced-past : (rows start : List (Option Constraint)) (places : List ℕ) (k at : ℕ) → k < length places → get_or places k 0 ≡ at → length rows ≤ at
-        → length rows ≡ length start →
-        ((i : ℕ) → get_or rows i None ≡ cond (list_any (λ p. eqb p i) (take k places)) (option_map (replaced_in w r) (get_or start i None))
-        (get_or start i None)) →
-        (i : ℕ) → get_or rows i None ≡ cond (list_any (λ p. eqb p i) (take (k + 1) places)) (option_map (replaced_in w r) (get_or start i None))
-        (get_or start i None)
-    replaced-past rows start places k at h is past each before i =
-        elim (cases_lt i (length rows)) [
-          | inl inside ↦
-              let now : list_any (λ p. eqb p i) (take (k + 1) places) ≡ list_any (λ p. eqb p i) (take k places) =
-              list_any_more (λ p. eqb p i) places k 0 h
-              ∙ ap (λ b. list_any (λ p. eqb p i) (take k places) || b) (ne_eqb (get_or places k 0) i (λ e. absurd (omega arith)))
-              ∙ or_false (list_any (λ p. eqb p i) (take k places)) in
-              before i ∙ sym (ap (λ b. cond b (option_map (replaced_in w r) (get_or start i None)) (get_or start i None)) now)
-          | inr behind ↦
-              let none : get_or start i None ≡ None = get_or_past start i None (omega arith) in
-              get_or_past rows i None behind ∙ nothing_there (list_any (λ p. eqb p i) (take (k + 1) places)) (get_or start i None) none
-        ]
-
-    set_beyond : (rows : List (Option Constraint)) (at : ℕ) (row : Option Constraint) → length rows ≤ at → set rows at row ≡ rows
-    set_beyond [] at row h = refl
-    set_beyond (first ∷ rows) zero row h = absurd (omega arith)
-    set_beyond (first ∷ rows) (suc at) row h = ap (λ rest. first ∷ rest) (set_beyond rows at row (omega arith))
-
-    -- either way
-    pub replaced-step : (rows start : List (Option Constraint)) (places : List ℕ) (k at : ℕ) → k < length places → get_or places k 0 ≡ at
-        → length rows ≡ length start →
-        ((i : ℕ) → get_or rows i None ≡ cond (list_any (λ p. eqb p i) (take k places)) (option_map (replaced_in w r) (get_or start i None))
-        (get_or start i None)) →
-        (i : ℕ) → get_or (set rows at (option_map (replaced_in w r) (get_or rows at None))) i None
-        ≡ cond (list_any (λ p. eqb p i) (take (k + 1) places)) (option_map (replaced_in w r) (get_or start i None)) (get_or start i None)
-    replaced-step rows start places k at h is each before i =
-        elim (cases_lt at (length rows)) [
-          | inl inside ↦ replaced-next rows start places k at h is inside before i
-          | inr past ↦ ap (λ xs. get_or xs i None) (set_beyond rows at (option_map (replaced_in w r) (get_or rows at None)) past)
-              ∙ replaced-past rows start places k at h is past each before i
-        ]
-
-    pub still_fit : (rows start : List (Option Constraint)) (seen : Bool) (at : ℕ) → list_all (row_fits w r) start ≡ true → length rows ≡ length start
-        → get_or rows at None ≡ cond seen (option_map (replaced_in w r) (get_or start at None)) (get_or start at None)
-        → row_fits w r (get_or rows at None) ≡ true
-    still_fit rows start seen at all each is =
-        elim (cases_lt at (length start)) [
-          | inl inside ↦ still_fits rows start seen at all inside is
-          | inr past ↦ ap (row_fits w r) (get_or_past rows at None (omega arith))
-        ]
+    -- a constraint keeps to its most terms also where the wire was replaced in it already
+    pub still_fits : (rows start : List (Option Constraint)) (places : List ℕ) (at : ℕ) → list_all (row_fits w r) start ≡ true
+        → IsReplacedAt rows start places → row_fits w r (get_or rows at None) ≡ true
+    still_fits rows start places at all before =
+        ap (row_fits w r) (before at) ∙ fits_seen (list_any (λ p. eqb p at) places) (get_or start at None) (fits_at start at all)
 
     each_replaced : (b : Bool) (row : Option Constraint) {c : Bool} → c ≡ b → (c ≡ false → row_has w row ≡ false)
         → cond b (option_map (replaced_in w r) row) row ≡ option_map (replaced_in w r) row
@@ -184,9 +145,7 @@ module _ (w : ℕ) (r : Combination) where
     each_replaced false row e lacking = sym (row-lacking-same row (lacking e))
 
     pub replaced-all : (rows start : List (Option Constraint)) (places : List ℕ) (k : ℕ) → length places ≤ k → length rows ≡ length start →
-        ((i : ℕ) → row_has w (get_or start i None) ≡ true → list_any (λ p. eqb p i) places ≡ true) →
-        ((i : ℕ) → get_or rows i None ≡ cond (list_any (λ p. eqb p i) (take k places)) (option_map (replaced_in w r) (get_or start i None))
-        (get_or start i None)) →
+        ((i : ℕ) → row_has w (get_or start i None) ≡ true → list_any (λ p. eqb p i) places ≡ true) → IsReplacedAt rows start (take k places) →
         rows ≡ map (option_map (replaced_in w r)) start
     replaced-all rows start places k past each covers before =
         ext_get_or None rows (map (option_map (replaced_in w r)) start) (each ∙ sym (length-map start (option_map (replaced_in w r)))) (λ i h.
@@ -207,14 +166,6 @@ module _ (w : ℕ) (r : Combination) where
   normal-replaced_row None n = tt
   normal-replaced_row (Some c) n = record { a = normal-replaced c.a n.a; b = normal-replaced c.b n.b; c = normal-replaced c.c n.c }
 
-pub normal-set : (rows : List (Option Constraint)) (i : ℕ) (row : Option Constraint) → RowsAreNormal rows → RowIsNormal row → RowsAreNormal (set rows i row)
-normal-set [] i row n here = tt
-normal-set (first ∷ rows) zero row n here = (here, n.1)
-normal-set (first ∷ rows) (suc i) row n here = (n.0, normal-set rows i row n.1 here)
-
-pub normal-at : (rows : List (Option Constraint)) (i : ℕ) → RowsAreNormal rows → RowIsNormal (get_or rows i None)
-normal-at rows i n = rows_at RowIsNormal tt rows i n
-
 -- a wire of the first terms
 pub has_next : (w k : ℕ) (t : ℕ × ℕ) (x : Combination) → k < length x → t ≡ get_or x k t → has_wire w (take (k + 1) x) ≡ (has_wire w (take k x) || eqb t.1 w)
 unfolding has_wire
@@ -234,30 +185,10 @@ pub over_itself : (x : Combination) → Over (λ w. has_wire w x ≡ true) x
 over_itself [] = tt
 over_itself (t ∷ x) = (has_first t x, Over-weaker (λ w. has_wire w x ≡ true) (λ w. has_wire w (t ∷ x) ≡ true) x (λ w e. found_later w t x e) (over_itself x))
 
-row_over : (c : Constraint) → Over (λ w. row_has w (Some c) ≡ true) c.a × Over (λ w. row_has w (Some c) ≡ true) c.b × Over (λ w. row_has w (Some c) ≡ true) c.c
-row_over c = (
-  Over-weaker (λ w. has_wire w c.a ≡ true) (λ w. row_has w (Some c) ≡ true) c.a (λ w e. or_left (has_wire w c.a) (has_wire w c.b || has_wire w c.c) e)
-      (over_itself c.a),
-  Over-weaker (λ w. has_wire w c.b ≡ true) (λ w. row_has w (Some c) ≡ true) c.b
-      (λ w e. or_right (has_wire w c.a) (has_wire w c.b || has_wire w c.c) (or_left (has_wire w c.b) (has_wire w c.c) e)) (over_itself c.b),
-  Over-weaker (λ w. has_wire w c.c ≡ true) (λ w. row_has w (Some c) ≡ true) c.c
-      (λ w e. or_right (has_wire w c.a) (has_wire w c.b || has_wire w c.c) (or_right (has_wire w c.b) (has_wire w c.c) e)) (over_itself c.c),
-)
-
--- what a row says is 0 is normal, and of its wires
+-- what a row says is 0 is normal
 pub form-normal : (row : Option Constraint) (form : Combination) → linear_row row ≡ Some form → IsNormalFrom 0 form
 form-normal None form e = absurd (none_some form e)
 form-normal (Some c) form e = (Over-linear_form (λ v. Unit {0}) c form (all_units c.a) (all_units c.b) (all_units c.c) e).1
-
-pub form-over : (row : Option Constraint) (form : Combination) → linear_row row ≡ Some form → Over (λ w. row_has w row ≡ true) form
-form-over None form e = absurd (none_some form e)
-form-over (Some c) form e = let own = row_over c in (Over-linear_form (λ w. row_has w (Some c) ≡ true) c form own.0 own.1 own.2 e).0
-
--- what a wire of it is has only wires of the row, and not that wire
-pub solved-wires : (w : ℕ) (row : Option Constraint) (form : Combination) → linear_row row ≡ Some form → (v : ℕ) → has_wire v (solved w form) ≡ true
-    → row_has v row ≡ true
-solved-wires w row form e v has =
-    (Over-has_wire (λ u. (row_has u row ≡ true) × (u ≢ w)) v (solved w form) (Over-solved (λ u. row_has u row ≡ true) w form (form-over row form e)) has).0
 
 pub solved-lacks : (w : ℕ) (form : Combination) → has_wire w (solved w form) ≡ false
 solved-lacks w form = lacks_over w (solved w form) (Over-solved (λ v. Unit {0}) w form (all_units form))
@@ -266,15 +197,12 @@ pub solved-normal : (w : ℕ) (form : Combination) → IsNormalFrom 0 (solved w 
 unfolding solved
 solved-normal w form = IsNormalFrom-normal (scaled (P - inverse_of (coefficient w form)) (without w form))
 
-pub wire-there : (w : ℕ) (row : Option Constraint) (form : Combination) → linear_row row ≡ Some form → has_wire w form ≡ true → row_has w row ≡ true
-wire-there w row form e has = Over-has_wire (λ u. row_has u row ≡ true) w form (form-over row form e) has
-
 -- the greatest wire is the last
 last-above : (least : ℕ) (d : ℕ × ℕ) (x : Combination) → IsNormalFrom least x → 0 < length x → least ≤ (get_or x (length x - 1) d).1
 last-above least d x n h = above_at least (length x - 1) d x n (omega arith)
 
-last-behind : (t u d : ℕ × ℕ) (x : Combination) → get_or (t ∷ u ∷ x) (length (t ∷ u ∷ x) - 1) d ≡ get_or (u ∷ x) (length (u ∷ x) - 1) d
-last-behind t u d x = let e : length (t ∷ u ∷ x) - 1 ≡ suc (length (u ∷ x) - 1) = omega arith in ap (λ k. get_or (t ∷ u ∷ x) k d) e
+last-after : (t u d : ℕ × ℕ) (x : Combination) → get_or (t ∷ u ∷ x) (length (t ∷ u ∷ x) - 1) d ≡ get_or (u ∷ x) (length (u ∷ x) - 1) d
+last-after t u d x = let e : length (t ∷ u ∷ x) - 1 ≡ suc (length (u ∷ x) - 1) = omega arith in ap (λ k. get_or (t ∷ u ∷ x) k d) e
 
 greatest-last_step : (publics : ℕ) (t : ℕ × ℕ) (last : ℕ) → t.1 < last
     → greater_from publics t.1 (cond (ltb last publics) None (Some last)) ≡ cond (ltb last publics) None (Some last)
@@ -295,7 +223,7 @@ greatest-last publics least d (t ∷ u ∷ x) n h =
     let above = last-above (t.1 + 1) d (u ∷ x) n.3 (omega arith) in
     ap (greater_from publics t.1) later
     ∙ greatest-last_step publics t (get_or (u ∷ x) (length (u ∷ x) - 1) d).1 (omega arith)
-    ∙ ap (λ v. cond (ltb v.1 publics) None (Some v.1)) (sym (last-behind t u d x))
+    ∙ ap (λ v. cond (ltb v.1 publics) None (Some v.1)) (sym (last-after t u d x))
 
 positive_at : (least i : ℕ) (d : ℕ × ℕ) (x : Combination) → IsNormalFrom least x → i < length x → 0 < (get_or x i d).0
 positive_at least i d [] n h = absurd (omega arith)
@@ -311,28 +239,27 @@ pub turn-empty : (publics at : ℕ) (pass : Pass) → linear_row (get_or pass.ro
 unfolding turn treated
 turn-empty publics at pass e = ap (λ o. treated publics at o pass) e
 
-turn-form : (publics at : ℕ) (pass : Pass) (form : Combination) → 0 < length form → linear_row (get_or pass.rows at None) ≡ Some form
-    → turn publics pass at ≡ eliminated at form (greatest_from publics form) pass
+turn-greatest : (publics at : ℕ) (t : ℕ × ℕ) (pass : Pass) (form : Combination) → 0 < length form → linear_row (get_or pass.rows at None) ≡ Some form
+    → t ≡ get_or form (length form - 1) t → turn publics pass at ≡ eliminated at form (cond (ltb t.1 publics) None (Some t.1)) pass
 unfolding turn treated
-turn-form publics at pass [] h e = absurd (omega arith)
-turn-form publics at pass (t ∷ x) h e = ap (λ o. treated publics at o pass) e
+turn-greatest publics at t pass [] h e last = absurd (omega arith)
+turn-greatest publics at t pass (u ∷ x) h e last =
+    ap (λ o. treated publics at o pass) e
+    ∙ ap (λ o. eliminated at (u ∷ x) o pass) (greatest-last publics 0 t (u ∷ x) (form-normal (get_or pass.rows at None) (u ∷ x) e) h
+    ∙ ap (λ v. cond (ltb v.1 publics) None (Some v.1)) (sym last))
 
 pub turn-public : (publics at : ℕ) (t : ℕ × ℕ) (pass : Pass) (form : Combination) → 0 < length form → linear_row (get_or pass.rows at None) ≡ Some form
     → t ≡ get_or form (length form - 1) t → t.1 < publics → turn publics pass at ≡ pass
 unfolding eliminated
 turn-public publics at t pass form h e last below =
-    turn-form publics at pass form h e
-    ∙ ap (λ o. eliminated at form o pass) (greatest-last publics 0 t form (form-normal (get_or pass.rows at None) form e) h
-    ∙ ap (λ u. cond (ltb u.1 publics) None (Some u.1)) (sym last) ∙ ap (λ b. cond b None (Some t.1)) (lt-ltb t.1 publics below))
+    turn-greatest publics at t pass form h e last ∙ ap (λ b. eliminated at form (cond b None (Some t.1)) pass) (lt-ltb t.1 publics below)
 
 pub turn-private : (publics at : ℕ) (t : ℕ × ℕ) (pass : Pass) (form : Combination) → 0 < length form → linear_row (get_or pass.rows at None) ≡ Some form
     → t ≡ get_or form (length form - 1) t → publics ≤ t.1 →
     turn publics pass at ≡ attempted t.1 (solved t.1 form) (dropped at pass) pass
 unfolding eliminated
 turn-private publics at t pass form h e last above =
-    turn-form publics at pass form h e
-    ∙ ap (λ o. eliminated at form o pass) (greatest-last publics 0 t form (form-normal (get_or pass.rows at None) form e) h
-    ∙ ap (λ u. cond (ltb u.1 publics) None (Some u.1)) (sym last) ∙ ap (λ b. cond b None (Some t.1)) (le-ltb t.1 publics above))
+    turn-greatest publics at t pass form h e last ∙ ap (λ b. eliminated at form (cond b None (Some t.1)) pass) (le-ltb t.1 publics above)
 
 -- the last term
 pub last-own : (t : ℕ × ℕ) (form : Combination) → IsNormalFrom 0 form → 0 < length form → t ≡ get_or form (length form - 1) t →
@@ -341,12 +268,6 @@ last-own t form n h last =
     let inside : length form - 1 < length form = omega arith in
     let found = found_at 0 (length form - 1) t.1 t form n inside (ap (λ u. u.1) (sym last)) in
     (subst (λ u. 0 < u.0) (sym last) (positive_at 0 (length form - 1) t form n inside), found.0, ap (λ u. u.0) last ∙ sym found.1)
-
--- the default does not matter within a list
-pub same_default : {A : Type 0} (xs : List A) (i : ℕ) (d e : A) → i < length xs → get_or xs i d ≡ get_or xs i e
-same_default [] i d e h = absurd (omega arith)
-same_default (x ∷ xs) zero d e h = refl
-same_default (x ∷ xs) (suc i) d e h = same_default xs i d e (omega arith)
 
 -- one turn of the loop that files a row
 module _ (publics : ℕ) (lists next : List (List ℕ)) (row k : ℕ) (t : ℕ × ℕ) (x : Combination) (h : k < length x) (at : t ≡ get_or x k t)
@@ -370,15 +291,9 @@ module _ (publics : ℕ) (lists next : List (List ℕ)) (row k : ℕ) (t : ℕ �
       ])
 
 -- the terms that were put, from the row that was read
-pub form_there : (rows : List (Option Constraint)) (at : ℕ) (row : Option Constraint) (form : Combination) (b : Bool) → row ≡ get_or rows at None
-    → linear_row row ≡ cond b (Some form) None → b ≡ true → linear_row (get_or rows at None) ≡ Some form
-form_there rows at row form b is says e =
-    ap linear_row (sym is) ∙ says ∙ ap (λ c. cond c (Some form) None) e
-
-pub form_missing : (rows : List (Option Constraint)) (at : ℕ) (row : Option Constraint) (form : Combination) (b : Bool) → row ≡ get_or rows at None
-    → linear_row row ≡ cond b (Some form) None → b ≡ false → linear_row (get_or rows at None) ≡ None
-form_missing rows at row form b is says e =
-    ap linear_row (sym is) ∙ says ∙ ap (λ c. cond c (Some form) None) e
+pub form_is : (rows : List (Option Constraint)) (at : ℕ) (row : Option Constraint) (form : Combination) (b c : Bool) → row ≡ get_or rows at None
+    → linear_row row ≡ cond b (Some form) None → b ≡ c → linear_row (get_or rows at None) ≡ cond c (Some form) None
+form_is rows at row form b c is says e = ap linear_row (sym is) ∙ says ∙ ap (λ linear. cond linear (Some form) None) e
 
 pub last_at : (form : Combination) (n : ℕ) (t : ℕ × ℕ) → n ≡ length form → t ≡ get_or form (n - 1) t → t ≡ get_or form (length form - 1) t
 last_at form n t e is = is ∙ ap (λ m. get_or form (m - 1) t) e
@@ -400,42 +315,24 @@ attempted-all w at r rows gone all is e =
 
 -- and the places name each row that a private wire stands in
 module _ (v w : ℕ) (r : Combination) (lacks : has_wire w r ≡ false) where
-  r_over : (x : Combination) → Over (λ u. ((has_wire u x ≡ true) ⊎ (has_wire u r ≡ true)) × (u ≢ w)) r
-  r_over x =
-      Over-weaker (λ u. (has_wire u r ≡ true) × (u ≢ w)) (λ u. ((has_wire u x ≡ true) ⊎ (has_wire u r ≡ true)) × (u ≢ w)) r (λ u h. (inr h.0, h.1))
-      (Over-lacking (λ u. has_wire u r ≡ true) w r (over_itself r) lacks)
-
-  has-replaced : (x : Combination) → has_wire v (replaced w r x) ≡ true → ((has_wire v x ≡ true) × (v ≢ w)) ⊎ ((has_wire v r ≡ true) × (has_wire w x ≡ true))
+  has-replaced : (x : Combination) → has_wire v (replaced w r x) ≡ true → (has_wire v x ≡ true) ⊎ (has_wire v r ≡ true)
   has-replaced x has =
-      elim (cases_Bool (has_wire w x)) [
-        | inl there ↦
-            let found = Over-has_wire (λ u. ((has_wire u x ≡ true) ⊎ (has_wire u r ≡ true)) × (u ≢ w)) v (replaced w r x)
-            (Over-replaced (λ u. (has_wire u x ≡ true) ⊎ (has_wire u r ≡ true)) w r x
-            (Over-weaker (λ u. has_wire u x ≡ true) (λ u. (has_wire u x ≡ true) ⊎ (has_wire u r ≡ true)) x (λ u h. inl h) (over_itself x)) (r_over x)) has in
-            elim found.0 [ inl own ↦ inl (own, found.1) | inr by ↦ inr (by, there) ]
-        | inr missing ↦
-            let own : has_wire v x ≡ true = ap (has_wire v) (sym (replaced-lacking w r x (sym missing))) ∙ has in
-            inl (own, λ same. let both : true ≡ false = sym own ∙ ap (λ u. has_wire u x) same ∙ missing in cc)
-      ]
+      let Q : ℕ → Type 0 = λ u. (has_wire u x ≡ true) ⊎ (has_wire u r ≡ true) in
+      let of_x = Over-weaker (λ u. has_wire u x ≡ true) Q x (λ u h. inl h) (over_itself x) in
+      let of_r = Over-weaker (λ u. has_wire u r ≡ true) Q r (λ u h. inr h) (over_itself r) in
+      (Over-has_wire (λ u. Q u × (u ≢ w)) v (replaced w r x) (Over-replaced Q w r x of_x (Over-lacking Q w r of_r lacks)) has).0
 
-  row_has_replaced : (row : Option Constraint) → row_has v (option_map (replaced_in w r) row) ≡ true → ((row_has v row ≡ true) × (v ≢ w))
-      ⊎ ((has_wire v r ≡ true) × (row_has w row ≡ true))
+  row_has_replaced : (row : Option Constraint) → row_has v (option_map (replaced_in w r) row) ≡ true → (row_has v row ≡ true) ⊎ (has_wire v r ≡ true)
   row_has_replaced None has = absurd (let no : false ≡ true = has in cc)
   row_has_replaced (Some c) has =
+      let a = has_wire v c.a in
+      let b = has_wire v c.b in
+      let e = has_wire v c.c in
       elim (or_cases (has_wire v (replaced w r c.a)) (has_wire v (replaced w r c.b) || has_wire v (replaced w r c.c)) has) [
-        | inl in_a ↦ elim (has-replaced c.a in_a) [
-          | inl own ↦ inl (or_left (has_wire v c.a) (has_wire v c.b || has_wire v c.c) own.0, own.1)
-          | inr by ↦ inr (by.0, or_left (has_wire w c.a) (has_wire w c.b || has_wire w c.c) by.1)
-        ]
+        | inl in_a ↦ elim (has-replaced c.a in_a) [ inl own ↦ inl (or_left a (b || e) own) | inr by ↦ inr by ]
         | inr later ↦ elim (or_cases (has_wire v (replaced w r c.b)) (has_wire v (replaced w r c.c)) later) [
-          | inl in_b ↦ elim (has-replaced c.b in_b) [
-            | inl own ↦ inl (or_right (has_wire v c.a) (has_wire v c.b || has_wire v c.c) (or_left (has_wire v c.b) (has_wire v c.c) own.0), own.1)
-            | inr by ↦ inr (by.0, or_right (has_wire w c.a) (has_wire w c.b || has_wire w c.c) (or_left (has_wire w c.b) (has_wire w c.c) by.1))
-          ]
-          | inr in_c ↦ elim (has-replaced c.c in_c) [
-            | inl own ↦ inl (or_right (has_wire v c.a) (has_wire v c.b || has_wire v c.c) (or_right (has_wire v c.b) (has_wire v c.c) own.0), own.1)
-            | inr by ↦ inr (by.0, or_right (has_wire w c.a) (has_wire w c.b || has_wire w c.c) (or_right (has_wire w c.b) (has_wire w c.c) by.1))
-          ]
+          | inl in_b ↦ elim (has-replaced c.b in_b) [ inl own ↦ inl (or_right a (b || e) (or_left b e own)) | inr by ↦ inr by ]
+          | inr in_c ↦ elim (has-replaced c.c in_c) [ inl own ↦ inl (or_right a (b || e) (or_right b e own)) | inr by ↦ inr by ]
         ]
       ]
 
@@ -469,7 +366,7 @@ covers-replaced publics w at r rows lists lacks covers added i v above has =
       | inr here ↦
           subst (λ j. list_any (λ p. eqb p j) (rows_of lists v) ≡ true) (sym here.0)
           (elim (row_has_replaced v w r lacks (get_or rows at None)
-          (ap (row_has v) (sym here.1) ∙ has)) [ inl own ↦ covers at v above own.0 | inr by ↦ added v above by.0 ])
+          (ap (row_has v) (sym here.1) ∙ has)) [ inl own ↦ covers at v above own | inr by ↦ added v above by ])
     ]
 
 -- all but the one at a place keep to their most terms where those that the wire may stand in do

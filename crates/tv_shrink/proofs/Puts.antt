@@ -1,11 +1,11 @@
 -- A shrunk system as it is put into a sink, and its file.
 use Rattle.std.proofs.Common.{◌≡◌, ◌+◌, ◌<◌, ◌≤◌, ℕ, zero, suc, List, [], ◌∷◌, ◌++◌, length, take, Option, Some, None, refl, sym, ap, ap₂, ◌∙◌, subst, arith}
-use Rattle.std.proofs.Common.{get_or, append-nil}
+use Rattle.std.proofs.Common.{get_or, append-nil, add-one}
 use Rattle.std.specs.List.{filter_map}
 use Rattle.std.proofs.lemmas.List.Elements.{filter_map-append}
 use Rattle.std.proofs.lemmas.List.Sums.{sum_by_push}
 use Rattle.std.proofs.lemmas.List.{take_more, take_all}
-use Rattle.tv_shrink.proofs.Read.{each_at}
+use Rattle.tv_shrink.proofs.Elements.{each_at}
 use Rattle.tv_core.specs.Circuits.{Circuit, fresh, pure, put, turns, ◌>>=◌}
 use Rattle.tv_core.specs.Constraints.{Constraint}
 use Rattle.tv_core.specs.Meanings.{terms_in}
@@ -43,18 +43,13 @@ unfolding turns pure ◌>>=◌
 rows_next rows zero next = refl
 rows_next rows (suc n) next = row_next (get_or rows n None) (rows_circuit rows n next).next ∙ rows_next rows n next
 
-take_one : (rows : List (Option Constraint)) (n : ℕ) → n < length rows → take (suc n) rows ≡ take n rows ++ get_or rows n None ∷ []
-take_one [] n h = absurd (omega arith)
-take_one (row ∷ rows) zero h = refl
-take_one (row ∷ rows) (suc n) h = ap (λ rest. row ∷ rest) (take_one rows n (omega arith))
-
 pub rows_list : (rows : List (Option Constraint)) (n next : ℕ) → n ≤ length rows → (rows_circuit rows n next).list ≡ filter_map (λ r. r) (take n rows)
 unfolding turns pure ◌>>=◌
 rows_list rows zero next h = refl
 rows_list rows (suc n) next h =
     ap₂ (λ front back. front ++ back) (rows_list rows n next (omega arith)) (row_list (get_or rows n None) (rows_circuit rows n next).next)
     ∙ sym (filter_map-append (λ r. r) (take n rows) (get_or rows n None ∷ []))
-    ∙ ap (filter_map (λ r. r)) (sym (take_one rows n (omega arith)))
+    ∙ ap (filter_map (λ r. r)) (sym (ap (λ k. take k rows) (sym (add-one n)) ∙ take_more rows n None (omega arith)))
 
 -- wires, and then rows
 abbrev pub circuit_of : ℕ → List (Option Constraint) → Circuit (Unit {0})
@@ -88,6 +83,6 @@ none_taken rows i row h at is = row_taken rows i row h at ∙ ap (λ r. filter_m
 pub terms_more : (list : List Constraint) (c : Constraint) → terms_in (list ++ c ∷ []) ≡ terms_in list + (length c.a + length c.b + length c.c)
 terms_more list c = sum_by_push (λ (d : Constraint). length d.a + length d.b + length d.c) list c
 
-pub short_at : (wires i : ℕ) (rows : List (Option Constraint)) (row : Option Constraint) (c : Constraint) → AreWithin wires rows → i < length rows
+pub short_at : (wires i : ℕ) (rows : List (Option Constraint)) (row : Option Constraint) (c : Constraint) → AreWithin wires rows
     → row ≡ get_or rows i None → row ≡ Some c → IsWithin wires c
-short_at wires i rows row c within h at is = subst (RowIsWithin wires) (sym at ∙ is) (each_at (RowIsWithin wires) rows i None within h)
+short_at wires i rows row c within at is = subst (RowIsWithin wires) (sym at ∙ is) (each_at (RowIsWithin wires) rows i None tt within)

@@ -31,6 +31,7 @@ use Rattle.tv_shrink.specs.Answers.{first_wide, read_fault, start_rows, wide, wi
 use Rattle.tv_core.specs.Normal.{normal, normal_constraint, IsNormalFrom}
 use Rattle.tv_core.proofs.NormalLaws.{Over, Over-normal, IsNormalFrom-normal}
 use Rattle.tv_shrink.specs.Tidy.{RowsAreNormal, IsWithin, RowIsNormal}
+use Rattle.tv_shrink.proofs.Elements.{each_pushed}
 
 -- one more term before a normal combination
 pub normal_before : (least i : ℕ) (t : ℕ × ℕ) (terms : List (ℕ × ℕ)) → i < length terms → t ≡ get_or terms i t → least ≤ t.0 → 0 < t.1 → t.1 < P →
@@ -72,16 +73,11 @@ narrow_within n row over e =
       short_c = narrow_short (combination_of row.c) others.1;
     }
 
-pub rows-push : (R : Option Constraint → Type 0) (rows : List (Option Constraint)) (row : Option Constraint) → AllByRecursion R rows → R row
-    → AllByRecursion R (rows ++ row ∷ [])
-rows-push R [] row h r = (r, tt)
-rows-push R (first ∷ rows) row h r = (h.0, rows-push R rows row h.1 r)
-
 pub pushed_normal : (rows next : List (Option Constraint)) (row : Constraint) → next ≡ rows ++ Some (normal_constraint row) ∷ [] → RowsAreNormal rows
     → RowsAreNormal next
 pushed_normal rows next row is normal =
-    subst RowsAreNormal (sym is) (rows-push RowIsNormal rows (Some (normal_constraint row)) normal
-    (record { a = IsNormalFrom-normal row.a; b = IsNormalFrom-normal row.b; c = IsNormalFrom-normal row.c }))
+    subst RowsAreNormal (sym is) (each_pushed RowIsNormal rows (Some (normal_constraint row))
+    (record { a = IsNormalFrom-normal row.a; b = IsNormalFrom-normal row.b; c = IsNormalFrom-normal row.c }) normal)
 
 -- one element changed after another
 module _ {A : Type 0} (f : A → A) where
@@ -103,11 +99,6 @@ module _ {A : Type 0} (f : A → A) where
       ap₂ (λ zs z. set zs i (f z)) is (at ∙ ap (λ zs. get_or zs i d) is ∙ untouched xs i d)
       ∙ touched xs i d h
       ∙ ap (λ k. map f (take k xs) ++ drop k xs) (sym (add-one i))
-
-pub each_at : {A : Type 0} (Q : A → Type 0) (xs : List A) (i : ℕ) (d : A) → AllByRecursion Q xs → i < length xs → Q (get_or xs i d)
-each_at Q [] i d h k = absurd (omega arith)
-each_at Q (x ∷ xs) zero d h k = h.0
-each_at Q (x ∷ xs) (suc i) d h k = each_at Q xs i d h.1 (omega arith)
 
 -- the first wide combination of a list and one more constraint
 pub no_wide : first_wide [] ≡ None

@@ -1,6 +1,6 @@
 -- What is left once a pass has run, its wires numbered anew.
 use Rattle.std.proofs.Common.{◌≡◌, ℕ, ◌+◌, ◌<◌, ◌≤◌, Bool, not, ◌&&◌, List, [], ◌∷◌, Option, Some, None, refl, sym, ◌∙◌, ap, ap₂, subst}
-use Rattle.std.proofs.Common.{arith, true, false, inl, inr, cond, eqb, map, length, get_or, leb, leb-true, replicate}
+use Rattle.std.proofs.Common.{arith, true, false, inl, inr, eqb, map, length, get_or, leb, leb-true, replicate}
 use Rattle.std.specs.List.{AllByRecursion, filter_map, fold, list_all, list_any, range_with_len}
 use Rattle.std.specs.Option.{option_map}
 use Rattle.tv_r1cs_write.specs.Bytes.{others}
@@ -12,14 +12,16 @@ use Rattle.tv_core.specs.declared.lines.Counts.{Counts}
 use Rattle.tv_shrink.specs.Answers.{counted_system, start_rows, IsReady}
 use Rattle.tv_shrink.specs.Renumbering.{moved, moved_in, moved_rows}
 use Rattle.tv_core.specs.Normal.{normal_constraint}
-use Rattle.tv_shrink.specs.Pass.{Pass, all_replaced, attempted, begun, dropped, eliminated, passed, row_fits, substituted, treated, turn, linear_row}
-use Rattle.tv_shrink.specs.Substitution.{fits, greatest_from, has_wire, replaced, replaced_in, solved}
+use Rattle.tv_shrink.specs.Pass.{Pass, all_replaced, begun, dropped, passed, row_fits, substituted, turn}
+use Rattle.tv_shrink.specs.Substitution.{fits, has_wire, replaced, replaced_in}
 use Rattle.tv_shrink.specs.Shrunk.{kept, left_over, renumbered, renumbered_in, shrink}
 use Rattle.tv_shrink.specs.Tidy.{AreWithin, pass_of}
 use Rattle.tv_shrink.proofs.Labels.{front-kept, inside-kept}
 use Rattle.tv_shrink.proofs.Linear.{replaced-lacking}
 use Rattle.tv_core.proofs.NormalLaws.{Over, Over-weaker}
-use Rattle.tv_shrink.proofs.PassLaws.{RowsOver, Sound, Stays, rows_dropped, turns-sound}
+use Rattle.tv_shrink.proofs.Elements.{each_set}
+use Rattle.tv_shrink.proofs.PassLaws.{RowsOver, Sound, Stays, turns-sound}
+use Rattle.tv_shrink.proofs.States.{turns_keep}
 use Rattle.tv_shrink.proofs.Gone.{kept_others, numbered}
 use Rattle.tv_shrink.proofs.Solutions.{none_gone}
 
@@ -49,40 +51,12 @@ short_rows w r [] h e = tt
 short_rows w r (row ∷ rows) h e = let both = and_parts (row_fits w r row) (list_all (row_fits w r) rows) e in
     (short_row w r row h.0 both.0, short_rows w r rows h.1 both.1)
 
-short-dropped : (i : ℕ) (pass : Pass) → AllByRecursion RowIsShort pass.rows → AllByRecursion RowIsShort (dropped i pass).rows
-unfolding dropped
-short-dropped i pass h = rows_dropped RowIsShort tt pass.rows i h
-
-short-attempted : (w : ℕ) (r : Combination) (others pass : Pass) → AllByRecursion RowIsShort others.rows → AllByRecursion RowIsShort pass.rows
-    → AllByRecursion RowIsShort (attempted w r others pass).rows
-unfolding attempted substituted
-short-attempted w r others pass h k = by_test (list_all (row_fits w r) others.rows) refl
-  where
-    by_test : (b : Bool) → list_all (row_fits w r) others.rows ≡ b → AllByRecursion RowIsShort (cond b (substituted w r others) pass).rows
-    by_test true e = short_rows w r others.rows h e
-    by_test false e = k
-
-short-eliminated : (i : ℕ) (x : Combination) (o : Option ℕ) (pass : Pass) → AllByRecursion RowIsShort pass.rows
-    → AllByRecursion RowIsShort (eliminated i x o pass).rows
-unfolding eliminated
-short-eliminated i x None pass h = h
-short-eliminated i x (Some w) pass h = short-attempted w (solved w x) (dropped i pass) pass (short-dropped i pass h) h
-
-short-treated : (publics i : ℕ) (o : Option Combination) (pass : Pass) → AllByRecursion RowIsShort pass.rows
-    → AllByRecursion RowIsShort (treated publics i o pass).rows
-unfolding treated
-short-treated publics i None pass h = h
-short-treated publics i (Some []) pass h = short-dropped i pass h
-short-treated publics i (Some (t ∷ x)) pass h = short-eliminated i (t ∷ x) (greatest_from publics (t ∷ x)) pass h
-
-short-turn : (publics i : ℕ) (pass : Pass) → AllByRecursion RowIsShort pass.rows → AllByRecursion RowIsShort (turn publics pass i).rows
-unfolding turn
-short-turn publics i pass h = short-treated publics i (linear_row (get_or pass.rows i None)) pass h
-
 short-turns : (publics : ℕ) (places : List ℕ) (pass : Pass) → AllByRecursion RowIsShort pass.rows
     → AllByRecursion RowIsShort (fold (turn publics) pass places).rows
-short-turns publics [] pass h = h
-short-turns publics (i ∷ places) pass h = short-turns publics places (turn publics pass i) (short-turn publics i pass h)
+unfolding dropped substituted
+short-turns publics places pass h =
+    turns_keep (λ p. AllByRecursion RowIsShort p.rows) (λ i p k. each_set RowIsShort p.rows i None tt k) (λ w r p fit k. short_rows w r p.rows k fit)
+    publics places pass h
 
 -- rows within, as rows of wires that are not gone, and short ones
 over_start : (wires : ℕ) (rows : List (Option Constraint)) → AreWithin wires rows → RowsOver (Stays wires (replicate wires false)) rows

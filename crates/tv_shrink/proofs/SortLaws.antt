@@ -10,7 +10,7 @@ use Rattle.tv_core.specs.declared.field.TheConstants.{P}
 use Rattle.tv_core.specs.Normal.{normal, with_term}
 use Rattle.tv_shrink.proofs.Merges.{with_term-front}
 use Rattle.tv_core.proofs.NormalLaws.{Over, normal_from, regrouped, residue_first}
-use Rattle.tv_shrink.proofs.Passes.{same_default}
+use Rattle.std.proofs.lemmas.List.{get_or_default}
 use Rattle.tv_core.proofs.Unique.{by_values, normal-step}
 
 -- the order of the terms does not matter
@@ -82,7 +82,7 @@ module _ (terms : Combination) (i sum : ℕ) (t : ℕ × ℕ) (h : i < length te
       let there : i + 1 < length terms = omega arith in
       let first : (get_or terms i t).1 ≤ (get_or terms (i + 1) t).1 = rises i (i + 1) t (omega arith) there in
       let later : (get_or terms (i + 1) d).1 ≤ (get_or terms k d).1 = rises (i + 1) k d above inside in
-      let same : (get_or terms (i + 1) t).1 ≡ (get_or terms (i + 1) d).1 = ap (λ u. u.1) (same_default terms (i + 1) t d there) in
+      let same : (get_or terms (i + 1) t).1 ≡ (get_or terms (i + 1) d).1 = ap (λ u. u.1) (get_or_default terms (i + 1) t d there) in
       let here : t.1 ≡ (get_or terms i t).1 = ap (λ u. u.1) at in
       let isnt : (get_or terms (i + 1) d).1 ≢ t.1 = λ e. apart d there e in
       omega arith))

@@ -1,12 +1,12 @@
 -- Constraints whose terms lie one after another in a list.
-use Rattle.std.proofs.Common.{◌≡◌, ℕ, zero, suc, ◌+◌, ◌-◌, ◌<◌, ◌≤◌, List, [], ◌∷◌, ◌++◌, Option, Some, None, refl, sym, ◌∙◌, ap, ap₂, arith, append-nil, map}
-use Rattle.std.proofs.Common.{length, get_or, set, take, drop}
-use Rattle.std.specs.List.{AllByRecursion}
+use Rattle.std.proofs.Common.{◌≡◌, ℕ, ◌+◌, ◌-◌, ◌<◌, ◌≤◌, List, [], ◌∷◌, ◌++◌, Option, Some, None, refl, sym, ◌∙◌, ap, ap₂, arith, append-nil, map}
+use Rattle.std.proofs.Common.{length, get_or, take, drop}
 use Rattle.std.specs.Option.{option_map}
 use Rattle.std.specs.Prelude.{slice_range}
 use Rattle.tv_r1cs_write.specs.Bytes.{others}
 use Rattle.std.proofs.Math.Seq.{drop-append_seam, take-add, take-append_seam}
-use Rattle.std.proofs.lemmas.List.{append_assoc, drop-append-le, drop-drop, length-append, length-drop, length-map, length-take, map-append, take-append-le}
+use Rattle.std.proofs.lemmas.List.{append_assoc, drop-append-le, drop-drop, get_or-map, length-append, length-drop, length-map, length-take}
+use Rattle.std.proofs.lemmas.List.{map-append, take-append-le}
 use Rattle.tv_core.specs.Constraints.{Combination, Constraint}
 use Rattle.tv_shrink.specs.Renumbering.{moved, moved_in}
 use Rattle.tv_shrink.specs.Spans.{end_of, row_at, row_terms, span_of, AreInside}
@@ -68,28 +68,13 @@ inside_more n m [] h inside = tt
 inside_more n m (None ∷ spans) h inside = (tt, inside_more n m spans h inside.1)
 inside_more n m (Some span ∷ spans) h inside = (omega (arith, inside.0), inside_more n m spans h inside.1)
 
-module _ (R : Option Span → Type 0) where
-  pub set_each : (spans : List (Option Span)) (i : ℕ) (span : Option Span) → AllByRecursion R spans → R span → AllByRecursion R (set spans i span)
-  set_each [] i span each here = each
-  set_each (first ∷ spans) zero span each here = (here, each.1)
-  set_each (first ∷ spans) (suc i) span each here = (each.0, set_each spans i span each.1 here)
-
-  pub push_each : (spans : List (Option Span)) (span : Option Span) → AllByRecursion R spans → R span → AllByRecursion R (spans ++ span ∷ [])
-  push_each [] span each here = (here, tt)
-  push_each (first ∷ spans) span each here = (each.0, push_each spans span each.1 here)
-
 -- the constraint at a place
 pub row_found : (f : Span → Constraint) (spans : List (Option Span)) (rows : List (Option Constraint)) (i : ℕ) (span : Option Span)
     → map (option_map f) spans ≡ rows → i < length rows → span ≡ get_or spans i span →
     (i < length spans) × (get_or rows i None ≡ option_map f span)
 row_found f spans rows i span is h at =
     let wide : i < length spans = omega (arith, length-map spans (option_map f), ap length is) in
-    (wide, ap (λ xs. get_or xs i None) (sym is) ∙ found spans i wide ∙ ap (option_map f) (sym at))
-  where
-    found : (xs : List (Option Span)) (i : ℕ) → i < length xs → get_or (map (option_map f) xs) i None ≡ option_map f (get_or xs i span)
-    found [] i h = absurd (omega arith)
-    found (x ∷ xs) zero h = refl
-    found (x ∷ xs) (suc i) h = found xs i (omega arith)
+    (wide, ap (λ xs. get_or xs i None) (sym is) ∙ get_or-map (option_map f) spans i span None wide ∙ ap (option_map f) (sym at))
 
 -- a part in two
 part_split : (xs : Combination) (i j k : ℕ) → i ≤ j → j ≤ k → slice_range xs i k ≡ slice_range xs i j ++ slice_range xs j k

@@ -10,8 +10,9 @@ use Rattle.tv_core.specs.Constraints.{Combination, Constraint}
 use Rattle.tv_shrink.specs.Pass.{Pass, all_replaced, attempted, dropped, eliminated, linear_row, row_fits, substituted, treated, turn}
 use Rattle.tv_shrink.specs.Occurrences.{rows_of}
 use Rattle.tv_shrink.specs.Substitution.{greatest_from, has_wire, replaced_in, solved}
-use Rattle.tv_shrink.specs.Tidy.{pass_of, row_has, IsKept, State}
-use Rattle.tv_shrink.proofs.Passes.{covers-more, covers-replaced, normal-at, normal-replaced_row, normal-set, row-lacking-same}
+use Rattle.tv_shrink.specs.Tidy.{pass_of, row_has, IsKept, RowIsNormal, State}
+use Rattle.tv_shrink.proofs.Elements.{each_at, each_set}
+use Rattle.tv_shrink.proofs.Passes.{covers-more, covers-replaced, normal-replaced_row, row-lacking-same}
 
 -- a constraint without the wire
 pub unchanged : (s : State) (w at : ℕ) (r : Combination) → row_has w (get_or s.pass.rows at None) ≡ false →
@@ -39,7 +40,7 @@ module _ (publics w at : ℕ) (r : Combination) (rows : List (Option Constraint)
   kept_changed =
       let row = option_map (replaced_in w r) (get_or rows at None) in
       record {
-        normal = normal-set rows at row kept.normal (normal-replaced_row w r (get_or rows at None) (normal-at rows at kept.normal));
+        normal = each_set RowIsNormal rows at row (normal-replaced_row w r (get_or rows at None) (each_at RowIsNormal rows at None tt kept.normal)) kept.normal;
         covers = covers-replaced publics w at r rows next lacks kept_filed.covers added;
         few = subst (λ n. n < 2 ^ 32) (sym (length-set rows at row)) kept.few;
       }
@@ -68,36 +69,36 @@ pub dropped_is : (s : State) (at publics : ℕ) (rows : List (Option Constraint)
 unfolding dropped
 dropped_is s at publics rows gone p q g = rw (p, q, g) refl
 
--- no turn changes how many constraints there are
-attempted_length : (w : ℕ) (r : Combination) (others pass : Pass) → length others.rows ≡ length pass.rows
-    → length (attempted w r others pass).rows ≡ length pass.rows
-unfolding attempted substituted
-attempted_length w r others pass e =
-    cond_both (list_all (row_fits w r) others.rows) (substituted w r others) pass (λ p. length p.rows ≡ length pass.rows)
-    (λ _. length-map others.rows (option_map (replaced_in w r)) ∙ e) (λ _. refl)
+-- what each turn keeps that dropping a constraint does, and replacing a wire in constraints that keep to their most terms
+module _ (K : Pass → Type 0) (drops : (i : ℕ) (pass : Pass) → K pass → K (dropped i pass))
+    (substitutes : (w : ℕ) (r : Combination) (pass : Pass) → list_all (row_fits w r) pass.rows ≡ true → K pass → K (substituted w r pass)) where
+  eliminated_keeps : (i : ℕ) (x : Combination) (o : Option ℕ) (pass : Pass) → K pass → K (eliminated i x o pass)
+  unfolding eliminated attempted
+  eliminated_keeps i x None pass k = k
+  eliminated_keeps i x (Some w) pass k =
+      cond_both (list_all (row_fits w (solved w x)) (dropped i pass).rows) (substituted w (solved w x) (dropped i pass)) pass K
+      (λ fit. substitutes w (solved w x) (dropped i pass) fit (drops i pass k)) (λ _. k)
 
-dropped_length : (i : ℕ) (pass : Pass) → length (dropped i pass).rows ≡ length pass.rows
-unfolding dropped
-dropped_length i pass = length-set pass.rows i None
+  treated_keeps : (publics i : ℕ) (o : Option Combination) (pass : Pass) → K pass → K (treated publics i o pass)
+  unfolding treated
+  treated_keeps publics i None pass k = k
+  treated_keeps publics i (Some []) pass k = drops i pass k
+  treated_keeps publics i (Some (t ∷ x)) pass k = eliminated_keeps i (t ∷ x) (greatest_from publics (t ∷ x)) pass k
 
-eliminated_length : (i : ℕ) (x : Combination) (o : Option ℕ) (pass : Pass) → length (eliminated i x o pass).rows ≡ length pass.rows
-unfolding eliminated
-eliminated_length i x None pass = refl
-eliminated_length i x (Some w) pass = attempted_length w (solved w x) (dropped i pass) pass (dropped_length i pass)
+  turn_keeps : (publics i : ℕ) (pass : Pass) → K pass → K (turn publics pass i)
+  unfolding turn
+  turn_keeps publics i pass k = treated_keeps publics i (linear_row (get_or pass.rows i None)) pass k
 
-treated_length : (publics i : ℕ) (o : Option Combination) (pass : Pass) → length (treated publics i o pass).rows ≡ length pass.rows
-unfolding treated
-treated_length publics i None pass = refl
-treated_length publics i (Some []) pass = dropped_length i pass
-treated_length publics i (Some (t ∷ x)) pass = eliminated_length i (t ∷ x) (greatest_from publics (t ∷ x)) pass
+  pub turns_keep : (publics : ℕ) (places : List ℕ) (pass : Pass) → K pass → K (fold (turn publics) pass places)
+  turns_keep publics [] pass k = k
+  turns_keep publics (i ∷ places) pass k = turns_keep publics places (turn publics pass i) (turn_keeps publics i pass k)
 
-turn_length : (publics i : ℕ) (pass : Pass) → length (turn publics pass i).rows ≡ length pass.rows
-unfolding turn
-turn_length publics i pass = treated_length publics i (linear_row (get_or pass.rows i None)) pass
-
+-- as how many constraints there are
 pub turns_length : (publics : ℕ) (places : List ℕ) (pass : Pass) → length (fold (turn publics) pass places).rows ≡ length pass.rows
-turns_length publics [] pass = refl
-turns_length publics (i ∷ places) pass = turns_length publics places (turn publics pass i) ∙ turn_length publics i pass
+unfolding dropped substituted
+turns_length publics places pass =
+    turns_keep (λ p. length p.rows ≡ length pass.rows) (λ i p e. length-set p.rows i None ∙ e)
+    (λ w r p fit e. length-map p.rows (option_map (replaced_in w r)) ∙ e) publics places pass refl
 
 -- what a pass leaves that began with these constraints
 module _ (start end : State) (left : List (Option Constraint)) (flags : List Bool) (publics wires : ℕ) (rows : List (Option Constraint))

@@ -9,7 +9,7 @@ ghost use Rattle.std.specs.List.{list_any};
 ghost use Rattle.tv_shrink.specs.Pass.{row_fits};
 ghost use Rattle.tv_shrink.specs.Occurrences.{rows_from, rows_of, with_row, LeadBack};
 ghost use Rattle.tv_shrink.specs.Substitution.{has_wire};
-ghost use Rattle.tv_shrink.specs.Tidy.{row_has, RowsAreNormal, Covers, RowIsNormal};
+ghost use Rattle.tv_shrink.specs.Tidy.{row_has, RowsAreNormal, Covers};
 
 use crate::row::Row;
 use crate::rows::Rows;
@@ -25,8 +25,8 @@ struct Entry {
     next: u32,
 }
 
-// Whether the entry of this number, where there is one, is of a row.
-fn tells(entries: &[Entry], number: u32, row: u32) -> bool
+// Whether the list that begins at the entry of this number, where there is one, begins with a row.
+fn begins_with(entries: &[Entry], number: u32, row: u32) -> bool
     requires inside { number ≤ length entries.now }
     requires back { LeadBack (reverse entries.now) }
     ensures { with_row row (rows_from (reverse entries.now) number)
@@ -149,7 +149,7 @@ impl Occurrences {
     {
         let place = wire as usize % self.heads.len();
         let next = self.heads[place];
-        if tells(&self.entries, next, row) {
+        if begins_with(&self.entries, next, row) {
             return Ok(());
         }
         self.entries.push(Entry { row, next })?;

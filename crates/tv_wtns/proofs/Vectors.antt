@@ -69,10 +69,10 @@ pub no_residue : assignment_of (wtns 2 (section 1 (field 8 P 4) ∷ section 2 (n
 unfolding assignment_of assignment_in values_at this_field sections_of sections_in sections_from section_at
 no_residue = refl
 
-pub first_of_two_is_told : assignment_of
+pub first_of_two_is_read : assignment_of
     (wtns 2 (section 1 (field 8 P 4) ∷ section 2 (numbers (1 ∷ 3 ∷ 18446744073709551615 ∷ 18446744069414584321 ∷ [])) ∷ [])) ≡ wrong 68 NotCanonical
 unfolding assignment_of assignment_in values_at this_field sections_of sections_in sections_from section_at
-first_of_two_is_told = refl
+first_of_two_is_read = refl
 
 pub three_values_counted : assignment_of (wtns 2 (section 1 (field 8 P 3) ∷ section 2 (numbers (1 ∷ 3 ∷ 5 ∷ 15 ∷ [])) ∷ [])) ≡ wrong 52 (BadCount 32 24)
 unfolding assignment_of assignment_in values_at this_field sections_of sections_in sections_from section_at

@@ -14,7 +14,7 @@ loop-left-init g c = record {
   piece = λ file known piece. piece;
   sums = λ file known piece end.
       let none : c.in_ok-terms.terms - c.in_ok-terms.terms ≡ 0 = omega arith in
-      rw (none, c.new-sum.ensures) (starts file _ _ _ _ _ _);
+      rw (none, c.new-sum.ensures) (starts _ _ _);
 }
 
 pub returns-in_err-wire-clause-reads : goal.returns-in_err-wire-clause-reads
@@ -45,13 +45,13 @@ loop-left-preserved g c = record {
       let left = c.loop-left.left in
       let good = c.add_far-good.result.0 in
       let one : left ≡ left - 1 + 1 = omega (arith, c.loop-left-test.true) in
-      let count : terms - (left - (1 + good)) ≡ terms - left + 1 + good = omega
-      (arith, c.loop-left.invariant.most, c.min-some.ensures, c.add_far-good.ensures.most) in
+      let count : terms - (left - (1 + good)) ≡ terms - left + 1 + good =
+      omega (arith, c.loop-left.invariant.most, c.min-some.ensures, c.add_far-good.ensures.most) in
       let rest : left - (1 + good) ≡ left - 1 - good = omega arith in
       let place : c.loop-left.at + 12 * c.from.result ≡ c.loop-left.at + 12 + 12 * good = omega (arith, c.from.ensures) in
       let now = rw (← c.loop-left.invariant.outside) at seen in
       let held = c.loop-left.invariant.piece file seen here in
-      let read = adds _ file _ _ _ _ (terms - left) (terms - left + 1) left (left - 1) _ _ _ _ (c.loop-left.invariant.sums file seen here end) refl one
+      let read = adds _ file _ _ _ _ (terms - left) left (left - 1) _ _ _ _ (c.loop-left.invariant.sums file seen here end) one
       (c.in_ok-wire.ensures.reads.gives file now held end) in
       rw (count, rest, place) (c.add_far-good.ensures.adds file (c.in_ok-wire.ensures.reads.piece file now held) _ _ _ _ (omega (arith, c.min-some.ensures))
       (rw (c.add.ensures.sum, c.value_at.ensures) read));

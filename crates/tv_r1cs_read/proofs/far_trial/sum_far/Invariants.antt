@@ -14,8 +14,8 @@ invariant-loop-left g l = record {
   small : l.sum + l.left * 2 ^ 128 ≤ l.terms * 2 ^ 128;
   piece : InPiece (g.D.Files.seen l.initial.files) l.name l.initial.window (λ file. IsPiece l.window file);
   sums : InPiece (g.D.Files.seen l.initial.files) l.name l.initial.window (λ file. l.bounds.end ≤ places file →
-      IsSummed (terms_at file l.bounds.wires l.bounds.end l.terms l.initial.at) file l.bounds.wires l.bounds.end l.values 0
-      (l.terms - l.left) l.left l.at l.sum);
+      IsSummed (terms_at file l.bounds.wires l.bounds.end l.terms l.initial.at) (terms_at file l.bounds.wires l.bounds.end l.left l.at) l.values 0
+      (l.terms - l.left) l.sum);
 }
 
 abbrev pub decreases-loop-left : goal.decreases-loop-left

@@ -15,7 +15,7 @@ loop-init g c = record {
   piece = λ file known piece. piece;
   ahead = λ file known piece end.
       let all : c.in_ok-count.count - 0 ≡ c.in_ok-count.count = omega arith in
-      rw (all, c.clear.ensures) (begins file _ _ _ _);
+      rw (all, c.clear.ensures) (begins _);
 }
 
 pub returns-in_err-wire-clause-reads : goal.returns-in_err-wire-clause-reads

@@ -15,5 +15,6 @@ invariant-loop g l = record {
   wires : All (λ t. t.0 < l.bounds.wires) l.terms;
   piece : InPiece (g.D.Files.seen l.initial.files) l.name l.initial.window (λ file. IsPiece l.window file);
   ahead : InPiece (g.D.Files.seen l.initial.files) l.name l.initial.window (λ file. l.bounds.end ≤ places file →
-      IsAhead (terms_at file l.bounds.wires l.bounds.end l.count l.initial.at) l.terms file l.bounds.wires l.bounds.end (l.count - l.counter) l.at);
+      IsAhead (terms_at file l.bounds.wires l.bounds.end l.count l.initial.at) l.terms
+      (terms_at file l.bounds.wires l.bounds.end (l.count - l.counter) l.at));
 }

@@ -11,7 +11,7 @@ loop-init c = record {
   wires = rw c.clear.ensures (All-nil _);
   ahead = λ file piece.
       let all : c.args.count - 0 ≡ c.args.count = omega arith in
-      rw (all, c.clear.ensures) (begins file _ _ _ _);
+      rw (all, c.clear.ensures) (begins _);
 }
 
 pub loop-preserved : goal.loop-preserved

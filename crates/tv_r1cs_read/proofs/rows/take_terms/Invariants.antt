@@ -11,5 +11,6 @@ invariant-loop l = record {
   size : length l.terms ≡ l.counter;
   wires : All (λ t. t.0 < l.bounds.wires) l.terms;
   ahead : (file : List ℕ) → IsPiece l.window file →
-      IsAhead (terms_at file l.bounds.wires l.bounds.end l.count l.initial.at) l.terms file l.bounds.wires l.bounds.end (l.count - l.counter) l.at;
+      IsAhead (terms_at file l.bounds.wires l.bounds.end l.count l.initial.at) l.terms
+      (terms_at file l.bounds.wires l.bounds.end (l.count - l.counter) l.at);
 }

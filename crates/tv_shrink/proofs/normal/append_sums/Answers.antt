@@ -1,6 +1,6 @@
 use Rattle.std.proofs.Common.{◌≡◌, ◌∙◌, ◌++◌, ◌+◌, ◌<◌, ℕ, [], append-nil, append_assoc, ap, ap₂, arith, drop, get_or, length, sym}
 use Rattle.tv_core.specs.Normal.{normal, with_term}
-use Rattle.tv_shrink.proofs.Passes.{same_default}
+use Rattle.std.proofs.lemmas.List.{get_or_default}
 use Rattle.tv_shrink.proofs.SortLaws.{no_sum, sum_ends, sum_goes_on, sum_past, with_sum}
 use Rattle.tv_shrink.proofs.normal.append_sums.Goals as goal
 use Rattle.tv_shrink.proofs.normal.append_sums.Goals.{then-at-terms+in_ok-push_term, then-at-terms-via-then-at-terms, then-at-terms-via-else-at-terms+then-ne}
@@ -15,15 +15,15 @@ loop-at-preserved c =
     let i = c.loop-at.at in
     let h = c.loop-at-test.true in
     let t : ℕ × ℕ = get_or terms i c.index-terms-at.result in
-    let at : t ≡ get_or terms i t = same_default terms i c.index-terms-at.result t h in
+    let at : t ≡ get_or terms i t = get_or_default terms i c.index-terms-at.result t h in
     let wire : (get_or terms i c.index-terms-at-in-loop-at.result).1
-    ≡ t.1 = ap (λ u. u.1) (same_default terms i c.index-terms-at-in-loop-at.result c.index-terms-at.result h) in
+    ≡ t.1 = ap (λ u. u.1) (get_or_default terms i c.index-terms-at-in-loop-at.result c.index-terms-at.result h) in
     elim c.if-at-terms.branch [
       | then-at-terms+in_ok-push_term w ↦
           let done = sum_ends terms i c.loop-at.sum t h at c.requires (λ d inside e. elim w.then-at-terms.branch [
             | then-at-terms-via-then-at-terms u ↦ absurd (omega (arith, u.if-at-terms.true))
             | then-at-terms-via-else-at-terms+then-ne u ↦
-                let next = ap (λ v. v.1) (same_default terms (i + 1) u.index-terms-at-else-at-terms.result d inside) in
+                let next = ap (λ v. v.1) (get_or_default terms (i + 1) u.index-terms-at-else-at-terms.result d inside) in
                 absurd (grind (arith, u.ne.ensures, u.if-ne.true))
           ]) in
           record {
@@ -38,7 +38,7 @@ loop-at-preserved c =
       | else-at-terms+else-ne w ↦
           let u : ℕ × ℕ = get_or terms (i + 1) w.index-terms-at-else-at-terms.result in
           let inside : i + 1 < length terms = omega (arith, w.if-at-terms.false) in
-          let next : u ≡ get_or terms (i + 1) u = same_default terms (i + 1) w.index-terms-at-else-at-terms.result u inside in
+          let next : u ≡ get_or terms (i + 1) u = get_or_default terms (i + 1) w.index-terms-at-else-at-terms.result u inside in
           let same : u.1 ≡ t.1 = grind (arith, w.ne.ensures, w.if-ne.false) in
           record {
             so_far = ap₂ (λ xs s. xs ++ normal (with_sum s (drop (i + 1) terms))) (ap (λ v. v.items) w.out-is) (w.sum-is ∙ c.add-sum.ensures)

@@ -10,7 +10,8 @@ use Rattle.tv_r1cs_read.specs.Rows.{constraint_of, IsOver}
 use Rattle.tv_shrink.specs.Answers.{counted_system, wide_in, HaltsBy}
 use Rattle.tv_core.specs.Normal.{normal_constraint}
 use Rattle.tv_shrink.specs.Tidy.{RowsAreNormal, AreWithin, RowIsWithin}
-use Rattle.tv_shrink.proofs.Read.{few_terms, halted, narrow_within, no_wide, pushed_normal, rows-push, start_more, read_means, wide_halted, wide_more}
+use Rattle.tv_shrink.proofs.Elements.{each_pushed}
+use Rattle.tv_shrink.proofs.Read.{few_terms, halted, narrow_within, no_wide, pushed_normal, start_more, read_means, wide_halted, wide_more}
 use Rattle.tv_shrink.proofs.Read.{wide_read}
 use Rattle.tv_shrink.proofs.normal_system.read.Goals as goal
 
@@ -31,7 +32,7 @@ pub returns-in_err-next_into-clause-gives : goal.returns-in_err-next_into-clause
 returns-in_err-next_into-clause-gives g c = λ file known.
     let begun = rw (← c.in-Ok.ensures.ok_looks, ← c.in-Ok.ensures.name) at known in
     let before = c.loop-scratch.invariant.place file begun (c.in-Ok.ensures.gives file known) in
-    let refuses = MatchOption-at_some _ _ _ c.in_err-next_into.ensures.tells
+    let refuses = MatchOption-at_some _ _ _ c.in_err-next_into.ensures.reports
     (c.in_err-next_into.ensures.steps.gives before.0 file (rw (← c.loop-scratch.invariant.outside, ← c.loop-scratch.invariant.name) at begun) before.1) in
     let p = err_from_is_err_and c.from_residual.result c.from_residual.ensures.1 in
     rw (p.1, p.2) (read_means c.in_err-next_into.field-0.0 file refuses)
@@ -40,7 +41,7 @@ pub returns-in_err-next_into-clause-looks : goal.returns-in_err-next_into-clause
 returns-in_err-next_into-clause-looks g c =
     let p = err_from_is_err_and c.from_residual.result c.from_residual.ensures.1 in
     let stopped = rw (c.loop-scratch.invariant.outside, c.in-Ok.ensures.ok_looks, c.loop-scratch.invariant.name, c.in-Ok.ensures.name) at
-    (MatchOption-at_some _ _ _ c.in_err-next_into.ensures.tells (c.in_err-next_into.ensures.steps.looks c.loop-scratch.invariant.on)) in
+    (MatchOption-at_some _ _ _ c.in_err-next_into.ensures.reports (c.in_err-next_into.ensures.steps.looks c.loop-scratch.invariant.on)) in
     let halts : (new : Outside) → new ≡ g.D.Files.seen c.next_into.new.self.files.now
     → HaltsBy (g.D.Files.seen c.args.files.now) new c.args.name.now c.from_residual.result =
     λ new is. rw (p.1, p.2, is) (halted (g.D.Files.seen c.args.files.now)
@@ -53,10 +54,10 @@ loop-scratch-preserved g c =
     let one = constraint_of c.next_into.new.row in
     record {
       same = search rules;
-      outside = MatchOption-at_none _ _ c.in_ok-next_into.ensures.tells (c.in_ok-next_into.ensures.steps.looks c.loop-scratch.invariant.on)
+      outside = MatchOption-at_none _ _ c.in_ok-next_into.ensures.reports (c.in_ok-next_into.ensures.steps.looks c.loop-scratch.invariant.on)
           ∙ c.loop-scratch.invariant.outside;
       name = search rules;
-      on = c.in_ok-next_into.ensures.tells;
+      on = c.in_ok-next_into.ensures.reports;
       header = c.in_ok-next_into.ensures.steps.header ∙ c.loop-scratch.invariant.header;
       counted = omega (
         arith,
@@ -69,13 +70,13 @@ loop-scratch-preserved g c =
           let wires = c.in-Ok.reader.progress.header.wires in
           let over : IsOver wires c.next_into.new.row = subst (λ header. IsOver header.wires c.next_into.new.row) c.loop-scratch.invariant.header counts.2 in
           subst (AreWithin wires) (sym c.in_ok-add.ensures.rows)
-          (rows-push (RowIsWithin wires) c.loop-scratch.rows (Some (normal_constraint one)) c.loop-scratch.invariant.within
-          (narrow_within wires c.next_into.new.row over c.in_ok-add.ensures.narrow));
+          (each_pushed (RowIsWithin wires) c.loop-scratch.rows (Some (normal_constraint one))
+          (narrow_within wires c.next_into.new.row over c.in_ok-add.ensures.narrow) c.loop-scratch.invariant.within);
       normal = pushed_normal c.loop-scratch.rows c.add.new.self one c.in_ok-add.ensures.rows c.loop-scratch.invariant.normal;
       place = λ file begun start.
           let before = c.loop-scratch.invariant.place file begun start in
           let known = rw (← c.loop-scratch.invariant.outside, ← c.loop-scratch.invariant.name) at begun in
-          let at = rw c.if-branch.true at (MatchOption-at_none _ _ c.in_ok-next_into.ensures.tells
+          let at = rw c.if-branch.true at (MatchOption-at_none _ _ c.in_ok-next_into.ensures.reports
           (c.in_ok-next_into.ensures.steps.gives before.0 file known before.1)) in (
             before.0 ++ one ∷ [],
             at,
@@ -88,7 +89,7 @@ pub returns-in_err-add-clause-gives : goal.returns-in_err-add-clause-gives
 returns-in_err-add-clause-gives g c = λ file known.
     let begun = rw (← c.in-Ok.ensures.ok_looks, ← c.in-Ok.ensures.name) at known in
     let before = c.loop-scratch.invariant.place file begun (c.in-Ok.ensures.gives file known) in
-    let at = rw c.if-branch.true at (MatchOption-at_none _ _ c.in_ok-next_into.ensures.tells
+    let at = rw c.if-branch.true at (MatchOption-at_none _ _ c.in_ok-next_into.ensures.reports
     (c.in_ok-next_into.ensures.steps.gives before.0 file (rw (← c.loop-scratch.invariant.outside, ← c.loop-scratch.invariant.name) at begun) before.1)) in
     let p = err_from_is_err_and c.from_residual-in_err-add.result c.from_residual-in_err-add.ensures.1 in
     rw (p.1, p.2) (wide_read c.in_err-add.field-0.0 c.next_into.new.self.progress file before.0 (constraint_of c.next_into.new.row)
@@ -122,7 +123,7 @@ pub returns-clause-gives : goal.returns-clause-gives
 returns-clause-gives g c = λ file known.
     let begun = rw (← c.in-Ok.ensures.ok_looks, ← c.in-Ok.ensures.name) at known in
     let before = c.loop-scratch.invariant.place file begun (c.in-Ok.ensures.gives file known) in
-    let all = rw c.if-branch.false at (MatchOption-at_none _ _ c.in_ok-next_into.ensures.tells
+    let all = rw c.if-branch.false at (MatchOption-at_none _ _ c.in_ok-next_into.ensures.reports
     (c.in_ok-next_into.ensures.steps.gives before.0 file (rw (← c.loop-scratch.invariant.outside, ← c.loop-scratch.invariant.name) at begun) before.1)) in
     let is : r1cs_system file ≡ Ok (counted_system c.counts-counts.result before.0) =
     all.system ∙ ap (λ system. Ok system) (ap (λ header. system_with header before.0) (c.in_ok-next_into.ensures.steps.header ∙ c.loop-scratch.invariant.header)

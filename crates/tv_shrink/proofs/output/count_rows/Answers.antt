@@ -11,8 +11,7 @@ loop-at-preserved c =
     elim c.match-get.branch [
       | in-Some w ↦
           let taken = some_taken c.args.rows.now c.loop-at.at c.get.result w.in-Some.row (omega (arith, c.loop-at-test.true)) c.get.ensures w.in-Some.is in
-          let short = short_at c.args.wires c.loop-at.at c.args.rows.now c.get.result w.in-Some.row c.requires.within
-          (omega (arith, c.loop-at-test.true)) c.get.ensures w.in-Some.is in
+          let short = short_at c.args.wires c.loop-at.at c.args.rows.now c.get.result w.in-Some.row c.requires.within c.get.ensures w.in-Some.is in
           record {
             constraints = ap (λ tally. tally.constraints) w.tally-is ∙ w.add.ensures.constraints ∙ ap (λ n. n + 1) c.loop-at.invariant.constraints
                 ∙ sym (ap length taken ∙ length_push (filter_map (λ row. row) (take c.loop-at.at c.args.rows.now)) w.in-Some.row);

@@ -1,7 +1,7 @@
 use Rattle.std.proofs.Common.{◌≡◌, ◌∙◌, ◌≤◌, ℕ, arith, get_or, length, ltb, rules, ap}
 use Rattle.std.proofs.lemmas.List.Sorted.{IsPartitionPoint-from_clause, IsPartitionedBy-ltb}
 use Rattle.tv_shrink.proofs.Constants.{coefficient_found, rising, split_missing}
-use Rattle.tv_shrink.proofs.Passes.{same_default}
+use Rattle.std.proofs.lemmas.List.{get_or_default}
 use Rattle.tv_shrink.proofs.row.searched.Goals as goal
 
 pub returns-then-eq : goal.returns-then-eq
@@ -16,7 +16,7 @@ returns-else-eq c =
     let at : c.in_ok-coefficient.field-0.now ≡ get_or c.args.terms.now c.partition_point-at.result c.in_ok-coefficient.field-0.now = search rules in
     split_missing c.args.wire c.partition_point-at.result c.args.terms.now c.requires point (λ d h e.
     let same : c.in_ok-coefficient.field-0.now.1
-    ≡ c.args.wire = ap (λ t. t.1) (at ∙ same_default c.args.terms.now c.partition_point-at.result c.in_ok-coefficient.field-0.now d h) ∙ e in
+    ≡ c.args.wire = ap (λ t. t.1) (at ∙ get_or_default c.args.terms.now c.partition_point-at.result c.in_ok-coefficient.field-0.now d h) ∙ e in
     absurd (grind arith))
 
 pub returns-in_err-coefficient : goal.returns-in_err-coefficient

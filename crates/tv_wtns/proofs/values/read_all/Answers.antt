@@ -22,7 +22,8 @@ loop-left-preserved g c = record {
   outside = c.in_ok-fit.ensures.reads.looks ∙ c.loop-left.invariant.outside;
   place = omega (arith, c.loop-left.invariant.place, c.min-some.ensures);
   below = c.in_ok-take_values.ensures.below c.loop-left.invariant.below;
-  piece = λ file known piece. c.in_ok-fit.ensures.reads.piece file (rw (← c.loop-left.invariant.outside) at known) (c.loop-left.invariant.piece file known piece);
+  piece = λ file known piece.
+      c.in_ok-fit.ensures.reads.piece file (rw (← c.loop-left.invariant.outside) at known) (c.loop-left.invariant.piece file known piece);
   ahead = λ file known piece room answer ahead.
       let held = c.in_ok-fit.ensures.reads.piece file (rw (← c.loop-left.invariant.outside) at known) (c.loop-left.invariant.piece file known piece) in
       let enough : c.min-some.result ≤ length c.bytes_from.result.now / 8 = omega (arith, c.min-some.ensures, c.as_chunks.ensures.front_len) in

@@ -73,8 +73,8 @@ returns-clause-adds c =
     (ap (λ n. c.args.wire % n) (sym (sized c)))
     ∙ ap (λ es. c.args.row ∷ rows_from (reverse es) next) (sym c.deref.ensures.value)
     ∙ sym (ap (with_row c.args.row) lent
-    ∙ c.tells.ensures
-    ∙ ap (λ b. cond b (rows_from (reverse c.deref.result.now) next) (c.args.row ∷ rows_from (reverse c.deref.result.now) next)) c.if-tells.false)
+    ∙ c.begins_with.ensures
+    ∙ ap (λ b. cond b (rows_from (reverse c.deref.result.now) next) (c.args.row ∷ rows_from (reverse c.deref.result.now) next)) c.if-begins_with.false)
 
 pub returns-clause-more : goal.returns-clause-more
 returns-clause-more c = λ w i e.

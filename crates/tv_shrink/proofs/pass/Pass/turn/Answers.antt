@@ -1,9 +1,9 @@
-use Rattle.std.proofs.Common.{◌≡◌, ◌<◌, ◌≤◌, ◌-◌, ◌∙◌, Some, None, true, ap, arith, get_or, length, subst, sym}
+use Rattle.std.proofs.Common.{◌≡◌, ◌<◌, ◌≤◌, ◌-◌, ◌∙◌, Some, None, true, false, ap, arith, get_or, length, subst, sym}
 use Rattle.std.proofs.lemmas.Result.{on_ok_weaker}
 use Rattle.tv_core.specs.Normal.{coefficient, IsNormalFrom}
 use Rattle.tv_shrink.specs.Pass.{attempted, dropped, linear_row}
 use Rattle.tv_shrink.specs.Substitution.{has_wire, solved}
-use Rattle.tv_shrink.proofs.Passes.{form_there, form_missing, form-normal, last_at, last-own, nil_of, solved-lacks, solved-normal, turn-empty}
+use Rattle.tv_shrink.proofs.Passes.{form_is, form-normal, last_at, last-own, nil_of, solved-lacks, solved-normal, turn-empty}
 use Rattle.tv_shrink.proofs.Passes.{turn-private, turn-public, turn-unlinear}
 use Rattle.tv_shrink.proofs.States.{staged}
 use Rattle.tv_shrink.proofs.pass.Pass.turn.Goals as goal
@@ -12,7 +12,7 @@ use Rattle.tv_shrink.proofs.pass.Pass.turn.Goals.{After-wire, In_ok-solve}
 -- what the constraint says is 0, and the last term of it
 says : (c : After-wire) → linear_row (get_or c.args.self.now.state.pass.rows c.args.at None) ≡ Some c.linear_form.new.out.items
 says c =
-    form_there c.args.self.now.state.pass.rows c.args.at (Some c.in-Some.row) c.linear_form.new.out.items c.in_ok-linear_form.field-0
+    form_is c.args.self.now.state.pass.rows c.args.at (Some c.in-Some.row) c.linear_form.new.out.items c.in_ok-linear_form.field-0 true
     (sym c.in-Some.is ∙ c.get.ensures.row) c.in_ok-linear_form.ensures c.if-not-branch.false
 
 some : (c : After-wire) → 0 < length c.linear_form.new.out.items
@@ -21,12 +21,12 @@ some c = grind arith
 last : (c : After-wire) → c.index.result.now ≡ get_or c.linear_form.new.out.items (length c.linear_form.new.out.items - 1) c.index.result.now
 last c = last_at c.linear_form.new.out.items c.len.result c.index.result.now (omega arith) c.index.ensures
 
-form_is : (c : After-wire) → IsNormalFrom 0 c.linear_form.new.out.items
-form_is c = form-normal (get_or c.args.self.now.state.pass.rows c.args.at None) c.linear_form.new.out.items (says c)
+normal : (c : After-wire) → IsNormalFrom 0 c.linear_form.new.out.items
+normal c = form-normal (get_or c.args.self.now.state.pass.rows c.args.at None) c.linear_form.new.out.items (says c)
 
 own : (c : After-wire) → (0 < c.index.result.now.0) × (has_wire c.index.result.now.1 c.linear_form.new.out.items ≡ true)
     × (c.index.result.now.0 ≡ coefficient c.index.result.now.1 c.linear_form.new.out.items)
-own c = last-own c.index.result.now c.linear_form.new.out.items (form_is c) (some c) (last c)
+own c = last-own c.index.result.now c.linear_form.new.out.items (normal c) (some c) (last c)
 
 solution : (c : In_ok-solve) → c.solve.new.out.items ≡ solved c.index.result.now.1 c.linear_form.new.out.items
 solution c = c.in_ok-solve.ensures ∙ ap (solved c.index.result.now.1) c.deref.ensures.value
@@ -39,13 +39,13 @@ returns-in_default c =
 pub returns-then-not-branch : goal.returns-then-not-branch
 returns-then-not-branch c =
     staged c.args.self.now.state _ (turn-unlinear c.args.self.now.state.publics c.args.at c.args.self.now.state.pass
-    (form_missing c.args.self.now.state.pass.rows c.args.at (Some c.in-Some.row) c.linear_form.new.out.items c.in_ok-linear_form.field-0
+    (form_is c.args.self.now.state.pass.rows c.args.at (Some c.in-Some.row) c.linear_form.new.out.items c.in_ok-linear_form.field-0 false
     (sym c.in-Some.is ∙ c.get.ensures.row) c.in_ok-linear_form.ensures c.if-not-branch.true))
 
 pub returns-then-is_empty : goal.returns-then-is_empty
 returns-then-is_empty c =
     let none : length c.linear_form.new.out.items ≡ 0 = grind arith in
-    let form = form_there c.args.self.now.state.pass.rows c.args.at (Some c.in-Some.row) c.linear_form.new.out.items c.in_ok-linear_form.field-0
+    let form = form_is c.args.self.now.state.pass.rows c.args.at (Some c.in-Some.row) c.linear_form.new.out.items c.in_ok-linear_form.field-0 true
     (sym c.in-Some.is ∙ c.get.ensures.row) c.in_ok-linear_form.ensures c.if-not-branch.false in
     c.remove.ensures
     ∙ ap (λ p. record { publics = c.args.self.now.state.publics; pass = p })
@@ -60,7 +60,7 @@ returns-then-wire-publics c =
     (omega (arith, c.wire.view_is, c.publics.ensures, c.if-wire-publics.true)))
 
 pub solve-requires-clause-normal : goal.solve-requires-clause-normal
-solve-requires-clause-normal c = subst (IsNormalFrom 0) (sym c.deref.ensures.value) (form_is (goal.at.solve-requires-clause-normal c).After-wire)
+solve-requires-clause-normal c = subst (IsNormalFrom 0) (sym c.deref.ensures.value) (normal (goal.at.solve-requires-clause-normal c).After-wire)
 
 pub solve-requires-clause-apart : goal.solve-requires-clause-apart
 solve-requires-clause-apart c = (own (goal.at.solve-requires-clause-apart c).After-wire).0

@@ -1,7 +1,7 @@
-use Rattle.std.proofs.Common.{subst, sym}
+use Rattle.std.proofs.Common.{None, subst, sym}
 use Rattle.tv_shrink.specs.Tidy.{RowIsNormal}
-use Rattle.tv_shrink.proofs.Passes.{normal-at}
+use Rattle.tv_shrink.proofs.Elements.{each_at}
 use Rattle.tv_shrink.proofs.state.State.get.Goals as goal
 
 pub returns-clause-normal : goal.returns-clause-normal
-returns-clause-normal c = subst RowIsNormal (sym c.get.ensures) (normal-at c.self.inside.rows c.args.at c.self.invariant.normal)
+returns-clause-normal c = subst RowIsNormal (sym c.get.ensures) (each_at RowIsNormal c.self.inside.rows c.args.at None tt c.self.invariant.normal)

@@ -7,7 +7,7 @@ use Rattle.tv_shrink.specs.Substitution.{has_wire, replaced_in, IsReplacement, R
 use Rattle.tv_shrink.specs.declared.substitution.Substitution.TheInside.{Inside}
 use Rattle.tv_shrink.specs.Tidy.{marked, row_has, State}
 use Rattle.tv_shrink.proofs.Gone.{marked_more}
-use Rattle.tv_shrink.proofs.Passes.{replaced-all, replaced-step, still_fit}
+use Rattle.tv_shrink.proofs.Passes.{replaced-all, replaced-step, still_fits}
 use Rattle.tv_shrink.proofs.States.{substituted_is}
 use Rattle.tv_shrink.proofs.state.State.substitute.Goals as goal
 
@@ -18,9 +18,8 @@ lacks view is = ap (λ (s : Replacement). has_wire s.wire s.terms) (sym view) �
 pub replace_at-requires : goal.replace_at-requires
 replace_at-requires c =
     let at = get_or c.deref-at-items.result.now c.loop-at.at-index 0 in
-    still_fit c.args.by.now.wire c.args.by.now.terms (lacks c.by.view_is c.by.invariant) c.loop-at.self.pass.rows c.args.self.now.pass.rows
-    (list_any (λ p. eqb p at) (take c.loop-at.at-index c.deref-at-items.result.now)) at c.requires.fit c.loop-at.invariant.each
-    (c.loop-at.invariant.so_far at)
+    still_fits c.args.by.now.wire c.args.by.now.terms (lacks c.by.view_is c.by.invariant) c.loop-at.self.pass.rows c.args.self.now.pass.rows
+    (take c.loop-at.at-index c.deref-at-items.result.now) at c.requires.fit c.loop-at.invariant.so_far
 
 pub loop-at-preserved : goal.loop-at-preserved
 loop-at-preserved c =
@@ -35,7 +34,7 @@ loop-at-preserved c =
           ∙ c.loop-at.invariant.each;
       so_far = λ i. ap (λ (s : State). get_or s.pass.rows i None) is
           ∙ replaced-step c.args.by.now.wire c.args.by.now.terms (lacks c.by.view_is c.by.invariant) rows c.args.self.now.pass.rows
-          c.deref-at-items.result.now c.loop-at.at-index at c.loop-at-test.true refl c.loop-at.invariant.each c.loop-at.invariant.so_far i;
+          c.deref-at-items.result.now c.loop-at.at-index at c.loop-at-test.true refl c.loop-at.invariant.so_far i;
     }
 
 pub returns : goal.returns

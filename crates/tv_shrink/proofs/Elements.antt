@@ -1,0 +1,25 @@
+-- What holds of each element of a list.
+use Rattle.std.proofs.Common.{ℕ, zero, suc, List, [], ◌∷◌, ◌++◌, get_or, set}
+use Rattle.std.specs.List.{AllByRecursion}
+
+module _ {A : Type 0} (R : A → Type 0) where
+  -- at a place, or of what stands for one past the end
+  pub each_at : (xs : List A) (i : ℕ) (d : A) → R d → AllByRecursion R xs → R (get_or xs i d)
+  each_at [] i d none h = none
+  each_at (x ∷ xs) zero d none h = h.0
+  each_at (x ∷ xs) (suc i) d none h = each_at xs i d none h.1
+
+  -- once an element was changed, or put after the others
+  pub each_set : (xs : List A) (i : ℕ) (x : A) → R x → AllByRecursion R xs → AllByRecursion R (set xs i x)
+  each_set [] i x here h = h
+  each_set (first ∷ xs) zero x here h = (here, h.1)
+  each_set (first ∷ xs) (suc i) x here h = (h.0, each_set xs i x here h.1)
+
+  pub each_pushed : (xs : List A) (x : A) → R x → AllByRecursion R xs → AllByRecursion R (xs ++ x ∷ [])
+  each_pushed [] x here h = (here, tt)
+  each_pushed (first ∷ xs) x here h = (h.0, each_pushed xs x here h.1)
+
+-- and what follows from it
+pub each_weaker : {A : Type 0} (R S : A → Type 0) → ((x : A) → R x → S x) → (xs : List A) → AllByRecursion R xs → AllByRecursion S xs
+each_weaker R S weaker [] h = tt
+each_weaker R S weaker (x ∷ xs) h = (weaker x h.0, each_weaker R S weaker xs h.1)
