@@ -9,20 +9,18 @@ use Rattle.std.specs.List.{range_with_len}
 use Rattle.std.specs.Prelude.{◌==◌, nat_lt, slice_index}
 use Rattle.tv_benes.specs.declared.shape.Net.{Net}
 use Rattle.tv_block.specs.Block.{block_of}
-use Rattle.tv_core.specs.Constraints.{Sat}
 use Rattle.tv_core.specs.Laws.{HasFrom}
 use Rattle.tv_step.proofs.EndLaws.{answer_is_within}
-use Rattle.tv_step.specs.Machine.{start, end_of, Accepts}
+use Rattle.tv_step.specs.Machine.{start, end_of}
 use Rattle.tv_step.specs.Range.{AreWords}
-use Rattle.tv_step.specs.Reads.{Reads}
 use Rattle.tv_step.specs.declared.end.End.{End}
 use Rattle.tv_step.specs.declared.end.End.TheVariants as ends
 use Rattle.tv_layout.proofs.Systems.{system_sound}
-use Rattle.tv_layout.specs.Layout.{taken_wires, taken_of}
-use Rattle.tv_layout.specs.Places.{WithinLimits, tape_at}
+use Rattle.tv_layout.specs.Layout.{taken_wires}
+use Rattle.tv_layout.specs.Places.{tape_at, runs_of}
 use Rattle.tv_layout.specs.Systems.{system_of}
 use Rattle.tv_extract.specs.Extraction.{◌>>=◌, word_at, words_at, answering, run_in}
-use Rattle.tv_extract.specs.Runs.{IsRunOf, ExtractedIsRun, HasRunIn, SatisfyingHaveRuns}
+use Rattle.tv_extract.specs.Runs.{IsRunOf, ExtractedIsRun, SatisfyingHaveRuns}
 use Rattle.tv_extract.specs.declared.run.NotRun.{NotRun}
 use Rattle.tv_extract.specs.declared.run.Run.{Run}
 
@@ -113,114 +111,106 @@ pub words_small : (w : ℕ) (z wires words : List ℕ) → words_at w z wires �
 words_small w z wires words e = (words_ok w z wires words e).1
 
 module _ (w : ℕ) (net : Net) (image : List ℕ) (n t : ℕ) (z : List ℕ) where
-  pub run_miscounted : length z ≢ (system_of w net image n t).wires
-      → run_in w net image n t z ≡ Err (NotRun.WireCount (length z) (system_of w net image n t).wires)
+  pub run_miscounted : length z ≢ (system_of net (runs_of w image n t)).wires
+      → run_in net (runs_of w image n t) z ≡ Err (NotRun.WireCount (length z) (system_of net (runs_of w image n t)).wires)
   unfolding run_in
-  run_miscounted other = by_test (length z == (system_of w net image n t).wires) refl
+  run_miscounted other = by_test (length z == (system_of net (runs_of w image n t)).wires) refl
     where
-      by_test : (b : Bool) → (length z == (system_of w net image n t).wires) ≡ b
-          → run_in w net image n t z ≡ Err (NotRun.WireCount (length z) (system_of w net image n t).wires)
-      by_test true is = absurd (other (eqb-true (length z) (system_of w net image n t).wires is))
+      by_test : (b : Bool) → (length z == (system_of net (runs_of w image n t)).wires) ≡ b
+          → run_in net (runs_of w image n t) z ≡ Err (NotRun.WireCount (length z) (system_of net (runs_of w image n t)).wires)
+      by_test true is = absurd (other (eqb-true (length z) (system_of net (runs_of w image n t)).wires is))
       by_test false is = rw is refl
 
-  pub run_wide : (fault : NotRun) → length z ≡ (system_of w net image n t).wires → word_at w z 1 ≡ Err fault → run_in w net image n t z ≡ Err fault
+  pub run_wide : (fault : NotRun) → length z ≡ (system_of net (runs_of w image n t)).wires → word_at w z 1 ≡ Err fault
+      → run_in net (runs_of w image n t) z ≡ Err fault
   unfolding run_in
-  run_wide fault many refused = rw (eq-eqb (length z) (system_of w net image n t).wires many, refused) refl
+  run_wide fault many refused = rw (eq-eqb (length z) (system_of net (runs_of w image n t)).wires many, refused) refl
 
-  pub run_wide_tape : (answer : ℕ) (fault : NotRun) → length z ≡ (system_of w net image n t).wires → word_at w z 1 ≡ Ok answer
-      → words_at w z (range_with_len tape_at n) ≡ Err fault → run_in w net image n t z ≡ Err fault
+  pub run_wide_tape : (answer : ℕ) (fault : NotRun) → length z ≡ (system_of net (runs_of w image n t)).wires → word_at w z 1 ≡ Ok answer
+      → words_at w z (range_with_len tape_at n) ≡ Err fault → run_in net (runs_of w image n t) z ≡ Err fault
   unfolding run_in
-  run_wide_tape answer fault many first refused = rw (eq-eqb (length z) (system_of w net image n t).wires many, first, refused) refl
+  run_wide_tape answer fault many first refused = rw (eq-eqb (length z) (system_of net (runs_of w image n t)).wires many, first, refused) refl
 
-  pub run_wide_aux : (answer : ℕ) (tape : List ℕ) (fault : NotRun) → length z ≡ (system_of w net image n t).wires → word_at w z 1 ≡ Ok answer
-      → words_at w z (range_with_len tape_at n) ≡ Ok tape → words_at w z (taken_wires (block_of w) w image n t z) ≡ Err fault
-      → run_in w net image n t z ≡ Err fault
+  pub run_wide_aux : (answer : ℕ) (tape : List ℕ) (fault : NotRun) → length z ≡ (system_of net (runs_of w image n t)).wires → word_at w z 1 ≡ Ok answer
+      → words_at w z (range_with_len tape_at n) ≡ Ok tape → words_at w z (taken_wires (block_of w) (runs_of w image n t) z) ≡ Err fault
+      → run_in net (runs_of w image n t) z ≡ Err fault
   unfolding run_in
-  run_wide_aux answer tape fault many first second refused = rw (eq-eqb (length z) (system_of w net image n t).wires many, first, second, refused) refl
+  run_wide_aux answer tape fault many first second refused =
+      rw (eq-eqb (length z) (system_of net (runs_of w image n t)).wires many, first, second, refused) refl
 
-  pub run_answering : (answer : ℕ) (tape aux : List ℕ) → length z ≡ (system_of w net image n t).wires → word_at w z 1 ≡ Ok answer
-      → words_at w z (range_with_len tape_at n) ≡ Ok tape → words_at w z (taken_wires (block_of w) w image n t z) ≡ Ok aux
-      → run_in w net image n t z ≡ answering answer tape aux (end_of w t (start w image tape aux))
+  pub run_answering : (answer : ℕ) (tape aux : List ℕ) → length z ≡ (system_of net (runs_of w image n t)).wires → word_at w z 1 ≡ Ok answer
+      → words_at w z (range_with_len tape_at n) ≡ Ok tape → words_at w z (taken_wires (block_of w) (runs_of w image n t) z) ≡ Ok aux
+      → run_in net (runs_of w image n t) z ≡ answering answer tape aux (end_of w t (start w image tape aux))
   unfolding run_in
-  run_answering answer tape aux many first second third = rw (eq-eqb (length z) (system_of w net image n t).wires many, first, second, third) refl
+  run_answering answer tape aux many first second third = rw (eq-eqb (length z) (system_of net (runs_of w image n t)).wires many, first, second, third) refl
 
 -- ---- the laws
 pub extracted_is_run : ExtractedIsRun
 unfolding run_in
-extracted_is_run w net image z n t run e = by_test (length z == (system_of w net image n t).wires) refl
+extracted_is_run net runs z run e = by_test (length z == (system_of net runs).wires) refl
   where
     chain : Result Run NotRun
     chain =
-        word_at w z 1
-        >>= (λ answer. words_at w z (range_with_len tape_at n)
-        >>= (λ tape. words_at w z (taken_wires (block_of w) w image n t z)
-        >>= (λ aux. answering answer tape aux (end_of w t (start w image tape aux)))))
+        word_at runs.width z 1
+        >>= (λ answer. words_at runs.width z (range_with_len tape_at runs.n)
+        >>= (λ tape. words_at runs.width z (taken_wires (block_of runs.width) runs z)
+        >>= (λ aux. answering answer tape aux (end_of runs.width runs.t (start runs.width runs.image tape aux)))))
 
-    of_chain : chain ≡ Ok run → IsRunOf w image n t z run
+    of_chain : chain ≡ Ok run → IsRunOf runs z run
     of_chain is =
-        let a = then_ok (word_at w z 1) _ run is in
-        let x = then_ok (words_at w z (range_with_len tape_at n)) _ run a.2 in
-        let u = then_ok (words_at w z (taken_wires (block_of w) w image n t z)) _ run x.2 in
-        let answer = word_ok w z 1 a.0 a.1 in
-        let tape = words_ok w z (range_with_len tape_at n) x.0 x.1 in
-        let aux = words_ok w z (taken_wires (block_of w) w image n t z) u.0 u.1 in
-        let end = answering_ok a.0 x.0 u.0 (end_of w t (start w image x.0 u.0)) run u.2 in
-        let answers : end_of w t (start w image run.tape run.aux) ≡ ends.Answer run.answer run.step =
-        same_end w image t x.0 run.tape u.0 run.aux a.0 run.answer run.step end.2 end.3 end.1 end.0 in
+        let a = then_ok (word_at runs.width z 1) _ run is in
+        let x = then_ok (words_at runs.width z (range_with_len tape_at runs.n)) _ run a.2 in
+        let u = then_ok (words_at runs.width z (taken_wires (block_of runs.width) runs z)) _ run x.2 in
+        let answer = word_ok runs.width z 1 a.0 a.1 in
+        let tape = words_ok runs.width z (range_with_len tape_at runs.n) x.0 x.1 in
+        let aux = words_ok runs.width z (taken_wires (block_of runs.width) runs z) u.0 u.1 in
+        let end = answering_ok a.0 x.0 u.0 (end_of runs.width runs.t (start runs.width runs.image x.0 u.0)) run u.2 in
+        let answers : end_of runs.width runs.t (start runs.width runs.image run.tape run.aux) ≡ ends.Answer run.answer run.step =
+        same_end runs.width runs.image runs.t x.0 run.tape u.0 run.aux a.0 run.answer run.step end.2 end.3 end.1 end.0 in
         record {
           answer = end.1 ∙ answer.0;
-          many = ap length (end.2 ∙ tape.0) ∙ length-map (range_with_len tape_at n) (slice_index z) ∙ length-range_with_len tape_at n;
-          tape = subst (HasFrom z tape_at) (sym (end.2 ∙ tape.0)) (has_row z tape_at n);
+          many = ap length (end.2 ∙ tape.0) ∙ length-map (range_with_len tape_at runs.n) (slice_index z) ∙ length-range_with_len tape_at runs.n;
+          tape = subst (HasFrom z tape_at) (sym (end.2 ∙ tape.0)) (has_row z tape_at runs.n);
           aux = end.3 ∙ aux.0;
-          tape_words = subst (AreWords w) (sym end.2) tape.1;
-          aux_words = subst (AreWords w) (sym end.3) aux.1;
+          tape_words = subst (AreWords runs.width) (sym end.2) tape.1;
+          aux_words = subst (AreWords runs.width) (sym end.3) aux.1;
           answers = answers;
-          within = (answer_is_within w t (start w image run.tape run.aux) run.answer run.step answers).1;
+          within = (answer_is_within runs.width runs.t (start runs.width runs.image run.tape run.aux) run.answer run.step answers).1;
         }
 
-    by_test : (b : Bool) → (length z == (system_of w net image n t).wires) ≡ b → IsRunOf w image n t z run
-    by_test true test = let same : run_in w net image n t z ≡ chain = rw test refl in of_chain (sym same ∙ e)
+    by_test : (b : Bool) → (length z == (system_of net runs).wires) ≡ b → IsRunOf runs z run
+    by_test true test = let same : run_in net runs z ≡ chain = rw test refl in of_chain (sym same ∙ e)
     by_test false test =
-        let other : run_in w net image n t z ≡ Err (NotRun.WireCount (length z) (system_of w net image n t).wires) = rw test refl in
+        let other : run_in net runs z ≡ Err (NotRun.WireCount (length z) (system_of net runs).wires) = rw test refl in
         absurd cc
 
 pub satisfying_have_runs : SatisfyingHaveRuns
 unfolding run_in
-satisfying_have_runs w net image z n t fits sat =
-    let has : HasFrom z tape_at x = has_row z tape_at n in
-    let run = system_sound w net image x z t (subst (λ m. WithinLimits w image m t) (sym long) fits) has
-    (subst (λ m. Sat (system_of w net image m t) z) (sym long) sat) in
-    by_run (subst (λ m. AreWords w (taken_of (block_of w) w image m t z)) long run.taken) run.tape run.answer
-    (subst (λ m. Accepts w image x (taken_of (block_of w) w image m t z) t (slice_index z 1)) long run.accepts)
-    (subst (λ m. Reads w image x (taken_of (block_of w) w image m t z) t ≡ taken_of (block_of w) w image m t z) long run.reads)
+satisfying_have_runs net runs z fits sat =
+    let run = system_sound net runs x z fits long (has_row z tape_at runs.n) sat in
+    let end : end_of runs.width runs.t (start runs.width runs.image x u) ≡ ends.Answer (slice_index z 1) run.accepts.0 = run.accepts.2 in
+    let counted : (length z == (system_of net runs).wires) ≡ true = eq-eqb (length z) (system_of net runs).wires sat.each_wire in
+    let same : (slice_index z 1 == slice_index z 1) ≡ true = eq-eqb (slice_index z 1) (slice_index z 1) refl in
+    record {
+      run = record { answer = slice_index z 1; tape = x; aux = u; step = run.accepts.0 };
+      is = rw (
+        counted,
+        word_is runs.width z 1 run.answer,
+        words_are runs.width z (range_with_len tape_at runs.n) run.tape,
+        words_are runs.width z (taken_wires (block_of runs.width) runs z) run.taken,
+        end,
+        same,
+      ) refl;
+      reads = run.reads;
+    }
   where
     x : List ℕ
-    x = map (slice_index z) (range_with_len tape_at n)
+    x = map (slice_index z) (range_with_len tape_at runs.n)
 
-    long : length x ≡ n
-    long = length-map (range_with_len tape_at n) (slice_index z) ∙ length-range_with_len tape_at n
+    long : length x ≡ runs.n
+    long = length-map (range_with_len tape_at runs.n) (slice_index z) ∙ length-range_with_len tape_at runs.n
 
     u : List ℕ
-    u = map (slice_index z) (taken_wires (block_of w) w image n t z)
-
-    by_run : AreWords w (taken_of (block_of w) w image n t z) → AreWords w x → slice_index z 1 < 2 ^ w
-        → Accepts w image x (taken_of (block_of w) w image n t z) t (slice_index z 1)
-        → Reads w image x (taken_of (block_of w) w image n t z) t ≡ taken_of (block_of w) w image n t z → HasRunIn w net image n t z
-    by_run aux_words tape_words answer accepts reads =
-        let end : end_of w t (start w image x u) ≡ ends.Answer (slice_index z 1) accepts.0 = accepts.2 in
-        let counted : (length z == (system_of w net image n t).wires) ≡ true = eq-eqb (length z) (system_of w net image n t).wires sat.each_wire in
-        let same : (slice_index z 1 == slice_index z 1) ≡ true = eq-eqb (slice_index z 1) (slice_index z 1) refl in
-        record {
-          run = record { answer = slice_index z 1; tape = x; aux = u; step = accepts.0 };
-          is = rw (
-            counted,
-            word_is w z 1 answer,
-            words_are w z (range_with_len tape_at n) tape_words,
-            words_are w z (taken_wires (block_of w) w image n t z) aux_words,
-            end,
-            same,
-          ) refl;
-          reads = reads;
-        }
+    u = map (slice_index z) (taken_wires (block_of runs.width) runs z)
 
 pub ruleset extracted = (words_small, run_miscounted, run_wide, run_wide_tape, run_wide_aux, run_answering)

@@ -8,7 +8,7 @@ use Rattle.tv_parts.specs.declared.records.Spot.{Spot}
 use Rattle.tv_core.proofs.JoinedLaws.{joined_below-zero, joined_below-suc}
 use Rattle.tv_core.specs.Below.{joined_below}
 use Rattle.tv_layout.specs.Layout.{block_at, taken_wire, taken_wires}
-use Rattle.tv_layout.specs.Places.{boot_count, zero_wires_at, first_at}
+use Rattle.tv_layout.specs.Places.{boot_count, zero_wires_at, first_at, runs_of}
 use Rattle.tv_extract.proofs.WordLaws.{words_then, words_refused}
 use Rattle.tv_extract.specs.Extraction.{word_at, words_at}
 use Rattle.tv_extract.specs.declared.run.NotRun.{NotRun}
@@ -46,12 +46,12 @@ module _ (w : ℕ) (image : List ℕ) (n : ℕ) (z : List ℕ) where
   abbrev wires : ℕ → List ℕ
   wires i = taken_wire z (block_at (block_of w) n (boot_count image n) (zero_wires_at w n) (first_at w n) i).spot
 
-  pub taken_none : words_at w z (taken_wires (block_of w) w image n 0 z) ≡ Ok []
+  pub taken_none : words_at w z (taken_wires (block_of w) (runs_of w image n 0) z) ≡ Ok []
   unfolding taken_wires
   taken_none = ap (words_at w z) (joined_below-zero wires)
 
   more_wires : (i : ℕ) (spot : Spot) → spot ≡ (block_at (block_of w) n (boot_count image n) (zero_wires_at w n) (first_at w n) i).spot
-      → taken_wires (block_of w) w image n (i + 1) z ≡ taken_wires (block_of w) w image n i z ++ taken_wire z spot
+      → taken_wires (block_of w) (runs_of w image n (i + 1)) z ≡ taken_wires (block_of w) (runs_of w image n i) z ++ taken_wire z spot
   unfolding taken_wires
   more_wires i spot is =
       ap (λ m. joined_below m wires) (add-one i) ∙ joined_below-suc i wires ∙ ap (λ s. joined_below i wires ++ taken_wire z s) (sym is)
@@ -59,26 +59,26 @@ module _ (w : ℕ) (image : List ℕ) (n : ℕ) (z : List ℕ) where
   -- step i takes a word
   pub taken_more : (i : ℕ) (spot : Spot) (words : List ℕ) (v : ℕ)
       → spot ≡ (block_at (block_of w) n (boot_count image n) (zero_wires_at w n) (first_at w n) i).spot
-      → words_at w z (taken_wires (block_of w) w image n i z) ≡ Ok words → slice_index z spot.taken ≡ 1 → word_at w z spot.word ≡ Ok v
-      → words_at w z (taken_wires (block_of w) w image n (i + 1) z) ≡ Ok (words ++ v ∷ [])
+      → words_at w z (taken_wires (block_of w) (runs_of w image n i) z) ≡ Ok words → slice_index z spot.taken ≡ 1 → word_at w z spot.word ≡ Ok v
+      → words_at w z (taken_wires (block_of w) (runs_of w image n (i + 1)) z) ≡ Ok (words ++ v ∷ [])
   taken_more i spot words v is before takes word =
       let one : words_at w z (spot.word ∷ []) ≡ Ok (v ∷ []) = rw word refl in
-      ap (words_at w z) (more_wires i spot is ∙ ap (λ l. taken_wires (block_of w) w image n i z ++ l) (takes_one z spot takes))
-      ∙ words_then w z (taken_wires (block_of w) w image n i z) (spot.word ∷ []) words (v ∷ []) before one
+      ap (words_at w z) (more_wires i spot is ∙ ap (λ l. taken_wires (block_of w) (runs_of w image n i) z ++ l) (takes_one z spot takes))
+      ∙ words_then w z (taken_wires (block_of w) (runs_of w image n i) z) (spot.word ∷ []) words (v ∷ []) before one
 
   -- it takes none
   pub taken_same : (i : ℕ) (spot : Spot) (words : List ℕ) → spot ≡ (block_at (block_of w) n (boot_count image n) (zero_wires_at w n) (first_at w n) i).spot
-      → words_at w z (taken_wires (block_of w) w image n i z) ≡ Ok words → slice_index z spot.taken ≢ 1
-      → words_at w z (taken_wires (block_of w) w image n (i + 1) z) ≡ Ok words
+      → words_at w z (taken_wires (block_of w) (runs_of w image n i) z) ≡ Ok words → slice_index z spot.taken ≢ 1
+      → words_at w z (taken_wires (block_of w) (runs_of w image n (i + 1)) z) ≡ Ok words
   taken_same i spot words is before other =
-      ap (words_at w z) (more_wires i spot is ∙ ap (λ l. taken_wires (block_of w) w image n i z ++ l) (takes_none z spot other)
-      ∙ append-nil (taken_wires (block_of w) w image n i z)) ∙ before
+      ap (words_at w z) (more_wires i spot is ∙ ap (λ l. taken_wires (block_of w) (runs_of w image n i) z ++ l) (takes_none z spot other)
+      ∙ append-nil (taken_wires (block_of w) (runs_of w image n i) z)) ∙ before
 
   -- its word is wide
   pub taken_refused : (i t : ℕ) (spot : Spot) (words : List ℕ) (fault : NotRun) → i < t
       → spot ≡ (block_at (block_of w) n (boot_count image n) (zero_wires_at w n) (first_at w n) i).spot
-      → words_at w z (taken_wires (block_of w) w image n i z) ≡ Ok words → slice_index z spot.taken ≡ 1 → word_at w z spot.word ≡ Err fault
-      → words_at w z (taken_wires (block_of w) w image n t z) ≡ Err fault
+      → words_at w z (taken_wires (block_of w) (runs_of w image n i) z) ≡ Ok words → slice_index z spot.taken ≡ 1 → word_at w z spot.word ≡ Err fault
+      → words_at w z (taken_wires (block_of w) (runs_of w image n t) z) ≡ Err fault
   unfolding taken_wires
   taken_refused i t spot words fault within is before takes refused =
       let many : t ≡ i + suc (t - i - 1) = omega arith in

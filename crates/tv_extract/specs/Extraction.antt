@@ -7,7 +7,7 @@ use Rattle.tv_step.specs.Machine.{start, end_of}
 use Rattle.tv_step.specs.declared.end.End.{End}
 use Rattle.tv_step.specs.declared.end.End.TheVariants as ends
 use Rattle.tv_layout.specs.Layout.{taken_wires}
-use Rattle.tv_layout.specs.Places.{tape_at}
+use Rattle.tv_layout.specs.Places.{tape_at, ProgramRuns}
 use Rattle.tv_layout.specs.Systems.{system_of}
 use Rattle.tv_extract.specs.declared.run.ExtractFault.{ExtractFault}
 use Rattle.tv_extract.specs.declared.run.ExtractFault.TheVariants.{NoRun, Memory}
@@ -38,14 +38,14 @@ answering answer tape aux (ends.Silent steps) = Err (NotARun (ends.Silent steps)
 
 -- the run on the words at the public wires and those that are taken: first the number of values is compared with
 -- the wires, then each of these words is looked at, and then the machine has to answer the word at wire 1
-unfoldable pub run_in : ℕ → Net → List ℕ → ℕ → ℕ → List ℕ → Result Run NotRun
-run_in w net image n t z =
-    if length z == (system_of w net image n t).wires
-    then (word_at w z 1
-    >>= (λ answer. words_at w z (range_with_len tape_at n)
-    >>= (λ tape. words_at w z (taken_wires (block_of w) w image n t z)
-    >>= (λ aux. answering answer tape aux (end_of w t (start w image tape aux))))))
-    else Err (WireCount (length z) (system_of w net image n t).wires)
+unfoldable pub run_in : Net → ProgramRuns → List ℕ → Result Run NotRun
+run_in net runs z =
+    if length z == (system_of net runs).wires
+    then (word_at runs.width z 1
+    >>= (λ answer. words_at runs.width z (range_with_len tape_at runs.n)
+    >>= (λ tape. words_at runs.width z (taken_wires (block_of runs.width) runs z)
+    >>= (λ aux. answering answer tape aux (end_of runs.width runs.t (start runs.width runs.image tape aux))))))
+    else Err (WireCount (length z) (system_of net runs).wires)
 
 -- what an extraction is refused for: what is due is refused for that, or memory ran out
 abbrev pub IsFaultOf : {A : Type 0} → Result A NotRun → ExtractFault → Type 0

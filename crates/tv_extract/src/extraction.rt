@@ -4,7 +4,7 @@ ghost use Rattle.std.specs.Prelude.{slice_index, Ok, IfOk, IfErr};
 ghost use Rattle.std.specs.List.{range_with_len};
 ghost use Rattle.tv_block.specs.Block.{block_of};
 ghost use Rattle.tv_layout.specs.Layout.{taken_wires};
-ghost use Rattle.tv_layout.specs.Places.{WithinLimits, tape_at};
+ghost use Rattle.tv_layout.specs.Places.{WithinLimits, tape_at, runs_of};
 ghost use Rattle.tv_word.specs.Widths.{IsWidth};
 ghost use Rattle.tv_extract.specs.Extraction.{word_at, words_at, run_in, answering, IsFaultOf};
 
@@ -34,10 +34,10 @@ pub fn extract<const W: u32>(
     net: Net,
     values: &[F],
 ) -> Result<Run, ExtractFault>
-    requires fits { WithinLimits W image.now n t }
+    requires fits { WithinLimits (runs_of W image.now n t) }
     requires image { length image.now * (W / 8) ≤ 2 ^ W }
-    ensures run { IfOk result (λ run. run_in W net image.now n t values.now ≡ Ok run) }
-    ensures fault { IfErr result (IsFaultOf (run_in W net image.now n t values.now)) }
+    ensures run { IfOk result (λ run. run_in net (runs_of W image.now n t) values.now ≡ Ok run) }
+    ensures fault { IfErr result (IsFaultOf (run_in net (runs_of W image.now n t) values.now)) }
 {
     let wants = u64::from(wires::<W>(image, n, t, net));
     let has = values.len() as u64;
@@ -100,11 +100,11 @@ fn taken_words<const W: u32>(
     net: Net,
     values: &[F],
 ) -> Result<Words, ExtractFault>
-    requires fits { WithinLimits W image.now n t }
+    requires fits { WithinLimits (runs_of W image.now n t) }
     ensures words { IfOk result (λ words. words_at W values.now
-        (taken_wires (block_of W) W image.now n t values.now) ≡ Ok words) }
+        (taken_wires (block_of W) (runs_of W image.now n t) values.now) ≡ Ok words) }
     ensures fault { IfErr result (IsFaultOf
-        (words_at W values.now (taken_wires (block_of W) W image.now n t values.now))) }
+        (words_at W values.now (taken_wires (block_of W) (runs_of W image.now n t) values.now))) }
 {
     let mut words = Words::new(alloc);
     for step in 0..t {

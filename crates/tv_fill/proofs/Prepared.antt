@@ -17,7 +17,7 @@ use Rattle.tv_layout.proofs.RunLines.{run_placed, run_few}
 use Rattle.tv_layout.proofs.Systems.{system_complete}
 use Rattle.tv_layout.proofs.Whole.{few, short, filled, spare}
 use Rattle.tv_layout.specs.Checks.{checks_of}
-use Rattle.tv_layout.specs.Places.{WithinLimits, line_count, log_of}
+use Rattle.tv_layout.specs.Places.{WithinLimits, line_count, log_of, runs_like}
 use Rattle.tv_layout.specs.RunInputs.{run_on}
 use Rattle.tv_layout.specs.Sound.{padding, all_lines}
 use Rattle.tv_layout.specs.Systems.{run_values, system_of}
@@ -71,13 +71,19 @@ old_left_out : (t : ℕ) (ls : List Line) → LinesFrom t ls → LinesFrom t (ma
 old_left_out t [] h = tt
 old_left_out t (l ∷ ls) h = (h.0, record { cell = h.1.cell; old = omega arith; new = h.1.new }, old_left_out (t + 1) ls h.2)
 
-module _ (w : ℕ) (net : Net) (image x aux : List ℕ) (t : ℕ) (fits : WithinLimits w image (length x) t) (x_words : AreWords w x)
+-- items of the same lines
+pub packed_as : (image x : List ℕ) (read lines : List Line) (k m : ℕ) (items : List PairNum) → items ≡ map packed_item (filled_lines image x read k)
+    → read ≡ lines → k ≡ m → items ≡ map packed_item (filled_lines image x lines m)
+packed_as image x read lines k m items is same equal =
+    is ∙ ap₂ (λ (ls : List Line) (k : ℕ). map packed_item (filled_lines image x ls k)) same equal
+
+module _ (w : ℕ) (net : Net) (image x aux : List ℕ) (t : ℕ) (fits : WithinLimits (runs_like w image x t)) (x_words : AreWords w x)
     (aux_words : AreWords w aux) where
   abbrev n : ℕ
   n = length x
 
   abbrev k : ℕ
-  k = log_of (line_count image (length x) t)
+  k = log_of (line_count (runs_like w image x t))
 
   abbrev step_lines : List Line
   step_lines = lines_of w (length x) (length image + length x) (start w image x aux) t
@@ -86,14 +92,14 @@ module _ (w : ℕ) (net : Net) (image x aux : List ℕ) (t : ℕ) (fits : Within
   steps_many = lines_are_three_a_step w (length x) (length image + length x) (start w image x aux) t
 
   -- there is room for the lines, each of which is in range
-  pub few_lines : line_count image (length x) t ≤ 2 ^ 20
-  few_lines = few image (length x) t w fits
+  pub few_lines : line_count (runs_like w image x t) ≤ 2 ^ 20
+  few_lines = few (runs_like w image x t) fits
 
-  pub log_few : log_of (line_count image (length x) t) ≤ 20
-  log_few = log_within (line_count image (length x) t) few_lines
+  pub log_few : log_of (line_count (runs_like w image x t)) ≤ 20
+  log_few = log_within (line_count (runs_like w image x t)) few_lines
 
   pub lines_fit : (lines : List Line) → lines ≡ step_lines → length image + length x + length lines ≤ 2 ^ k
-  lines_fit lines are = let many = ap length are ∙ steps_many in let above = log_above (line_count image (length x) t) few_lines in omega arith
+  lines_fit lines are = let many = ap length are ∙ steps_many in let above = log_above (line_count (runs_like w image x t)) few_lines in omega arith
 
   pub lines_in_range : (lines : List Line) → lines ≡ step_lines → All LineInRange lines
   lines_in_range lines are =
@@ -108,10 +114,10 @@ module _ (w : ℕ) (net : Net) (image x aux : List ℕ) (t : ℕ) (fits : Within
 
   whole_many : length whole ≡ 2 ^ k
   whole_many =
-      let a = length-append (run_lines w image x aux t) (padding (line_count image (length x) t) (spare image (length x) t)) in
+      let a = length-append (run_lines w image x aux t) (padding (line_count (runs_like w image x t)) (spare (runs_like w image x t))) in
       let b = length-append (boot_lines image x) step_lines in
-      let c = length-padding (line_count image (length x) t) (spare image (length x) t) in
-      omega (arith, a, b, c, length-boot_lines image x, steps_many, filled image (length x) t w fits)
+      let c = length-padding (line_count (runs_like w image x t)) (spare (runs_like w image x t)) in
+      omega (arith, a, b, c, length-boot_lines image x, steps_many, filled (runs_like w image x t) fits)
 
   whole_few : length whole ≤ 2 ^ 20
   whole_few = run_few w image x aux t fits x_words aux_words
@@ -155,25 +161,25 @@ module _ (w : ℕ) (net : Net) (image x aux : List ℕ) (t : ℕ) (fits : Within
         rw order_is
         (record {
           k = k;
-          some = log_some (line_count image (length x) t);
+          some = log_some (line_count (runs_like w image x t));
           few = omega (arith, log_few);
           permutes = subst (λ n. Permutes n (predecessors whole)) whole_many (predecessors_right.permutes whole whole_few placed);
         })
 
-    checks_are : filled_checks (length image) (length x) (length lines) k ≡ checks_of image (length x) t
+    checks_are : filled_checks (length image) (length x) (length lines) k ≡ checks_of (runs_like w image x t)
     checks_are = ap (λ (n : ℕ). filled_checks (length image) (length x) n k) (ap length lines_are ∙ steps_many)
 
     -- the settings bring the values of the memory argument
     brought : (bits : List Bool) → bits ≡ route_of net (predecessors (map unpacked items))
         → routed_values net (filled_checks (length image) (length x) (length lines) k) k (bit_at bits) items (filled_lines image x lines k)
-        ≡ argument_values net (checks_of image (length x) t) k whole
+        ≡ argument_values net (checks_of (runs_like w image x t)) k whole
     brought bits bits_are =
         let bits_is : bits ≡ route_of net (predecessors whole) = bits_are ∙ ap (route_of net) order_is in
         ap (λ (c : Checks). routed_values net c k (bit_at bits) items (filled_lines image x lines k)) checks_are
-        ∙ ap₂ (λ (ps : List PairNum) (ls : List Line). routed_values net (checks_of image (length x) t) k (bit_at bits) ps ls) all_packed filled_whole
-        ∙ ap (λ (b : List Bool). routed_values net (checks_of image (length x) t) k (bit_at b) (map packed_item whole) whole) bits_is
-        ∙ predecessors_right.reached net (checks_of image (length x) t) k whole (log_some (line_count image (length x) t)) log_few whole_many placed
-        (log_above (line_count image (length x) t) few_lines)
+        ∙ ap₂ (λ (ps : List PairNum) (ls : List Line). routed_values net (checks_of (runs_like w image x t)) k (bit_at bits) ps ls) all_packed filled_whole
+        ∙ ap (λ (b : List Bool). routed_values net (checks_of (runs_like w image x t)) k (bit_at b) (map packed_item whole) whole) bits_is
+        ∙ predecessors_right.reached net (checks_of (runs_like w image x t)) k whole (log_some (line_count (runs_like w image x t))) log_few whole_many placed
+        (log_above (line_count (runs_like w image x t)) few_lines)
 
     -- and the values are those of the run
     pub values_are : (bits : List Bool) → bits ≡ route_of net (predecessors (map unpacked items)) → (v : ℕ)
@@ -182,29 +188,29 @@ module _ (w : ℕ) (net : Net) (image x aux : List ℕ) (t : ℕ) (fits : Within
     values_are bits bits_are v =
         let tape_bits : List ℕ = joined_below (length x) (λ i. bits_values (slice_index x i) w) in
         let steps : List ℕ = joined_below t (run_step (step_values w) w image x aux) in
-        let memory : List ℕ = argument_values net (checks_of image (length x) t) k whole in
+        let memory : List ℕ = argument_values net (checks_of (runs_like w image x t)) k whole in
         let known : joined_below t (traced_values w (length x) states aux lines) ≡ steps =
         ap₂ (λ (s : List TraceState) (ls : List Line). joined_below t (traced_values w (length x) s aux ls)) states_are lines_are
-        ∙ traced_steps w image x aux t fits.width (short image (length x) t w fits) x_words aux_words in
+        ∙ traced_steps w image x aux t fits.width (short (runs_like w image x t) fits) x_words aux_words in
         ap₂ (λ (a b : List ℕ). front_values w v x ++ (a ++ b)) known (brought bits bits_are)
         ∙ append_assoc (1 ∷ v ∷ x) (tape_bits ++ replicate STATE_WIRES 0) (steps ++ memory)
         ∙ ap (λ (l : List ℕ). (1 ∷ v ∷ x) ++ l) (append_assoc tape_bits (replicate STATE_WIRES 0) (steps ++ memory))
 
     -- and there are as many as the system has wires
     pub parts_fit : (bits : List Bool) → bits ≡ route_of net (predecessors (map unpacked items)) → (v : ℕ) → Accepts w image x aux t v
-        → (count : ℕ) → count ≡ (system_of w net image (length x) t).wires → (spare : List PairNum) → length spare ≡ length items
+        → (count : ℕ) → count ≡ (system_of net (runs_like w image x t)).wires → (spare : List PairNum) → length spare ≡ length items
         → PartsFit w (parts_of v t k net image x aux states lines items bits) spare count
     parts_fit bits bits_are v accepts count count_is spare spare_is = record {
       width = fits.width;
-      short = short image (length x) t w fits;
-      some = log_some (line_count image (length x) t);
+      short = short (runs_like w image x t) fits;
+      some = log_some (line_count (runs_like w image x t));
       few = log_few;
       states_many = ap length states_are ∙ states_are_one_more w (length x) (length aux) (start w image x aux) t;
       lines_many = ap length lines_are ∙ steps_many;
       items_many = items_many;
       spare_many = spare_is ∙ items_many;
       lines_fit = lines_fit lines lines_are;
-      steps = λ i h. rw (states_are, lines_are) (steps_in_range w image x aux t fits.width (short image (length x) t w fits) x_words aux_words i h);
-      counted = count_is ∙ sym (system_complete w net image x aux t v fits x_words aux_words accepts).sat.each_wire
+      steps = λ i h. rw (states_are, lines_are) (steps_in_range w image x aux t fits.width (short (runs_like w image x t) fits) x_words aux_words i h);
+      counted = count_is ∙ sym (system_complete net (run_on w image x aux t) v fits x_words aux_words accepts).sat.each_wire
           ∙ sym (ap length (values_are bits bits_are v));
     }

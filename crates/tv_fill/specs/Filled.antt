@@ -89,7 +89,7 @@ pub record IsFilling (net : Net) (run : RunInput) (filling : Filled) : Type 0 wh
   pub values : filling.values ≡ run_values net run filling.answer
 
 -- ---- to a taker
--- what a call that passes on the values of a run transition_in: it passed all; or the run answers nothing, and none was passed;
+-- what a call that passes on the values of a run did: it passed all; or the run answers nothing, and none was passed;
 -- or the taker refused one of them, and the count of the cause rose; or memory ran out before the first
 module _ {V : Type 0} (m : ValuesMeaning V) (net : Net) (run : RunInput) where
   abbrev pub FillsIn : V → V → Result (Unit {0}) FillFault → Type 0

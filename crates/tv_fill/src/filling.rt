@@ -3,7 +3,7 @@ ghost use Rattle.std.specs.Prelude.{◌≡◌, ◌*◌, ◌/◌, ◌^◌, ◌<�
 ghost use Rattle.std.specs.Prelude.{IfErr, OnOk};
 ghost use Rattle.tv_core.specs.Values.{GivesIn};
 ghost use Rattle.tv_fill.specs.Filled.{IsFilling, FillsIn};
-ghost use Rattle.tv_layout.specs.Places.{WithinLimits};
+ghost use Rattle.tv_layout.specs.Places.{WithinLimits, runs_like};
 ghost use Rattle.tv_layout.specs.RunInputs.{run_on};
 ghost use Rattle.tv_lines.specs.PackedLines.{unpacked};
 ghost use Rattle.tv_lines.specs.Placed.{LinesFrom};
@@ -165,7 +165,7 @@ pub fn prepare<'a, const W: u32>(
     t: u32,
     net: Net,
 ) -> Result<Filling<'a, W>, TraceFault>
-    requires limits { WithinLimits W image.now (length tape.now) t }
+    requires limits { WithinLimits (runs_like W image.now tape.now t) }
     requires image { length image.now * (W / 8) ≤ 2 ^ W }
     requires tape_words { AreWords W tape.now }
     requires aux_words { AreWords W aux.now }
@@ -234,7 +234,7 @@ pub fn fill_system<const W: u32, V: Values>(
     net: Net,
     v: &mut V,
 ) -> Result<(), FillFault>
-    requires limits { WithinLimits W image.now (length tape.now) t }
+    requires limits { WithinLimits (runs_like W image.now tape.now t) }
     requires image { length image.now * (W / 8) ≤ 2 ^ W }
     requires tape_words { AreWords W tape.now }
     requires aux_words { AreWords W aux.now }

@@ -31,7 +31,7 @@ use Rattle.tv_layout.proofs.Whole.{few, short, early, spare, filled, lines_value
 use Rattle.tv_layout.specs.Blocks.{BlockCircuit}
 use Rattle.tv_layout.specs.Checks.{least_place, boot_kind, first_kind, line_kind, checks_of}
 use Rattle.tv_layout.specs.Layout.{steps_of, state_at, system_lines}
-use Rattle.tv_layout.specs.Places.{WithinLimits, boot_count, line_count, log_of, tape_at, zero_wires_at, first_at}
+use Rattle.tv_layout.specs.Places.{WithinLimits, boot_count, line_count, log_of, tape_at, zero_wires_at, first_at, runs_like}
 
 -- ---- the least line
 least_some : (words n : ℕ) → words ≢ 0 → least_place words n ≡ 0
@@ -67,14 +67,14 @@ zero_cell : (w : ℕ) → IsWidth w → 0 / word_size w ≡ 0
 zero_cell w width = for_widths (λ w. 0 / word_size w ≡ 0) refl refl w width
 
 module _ (w : ℕ) (block : BlockCircuit) (made : ℕ) (sizes : BlockSizes block made) (law : BlockIsSound w block) (image x z : List ℕ) (t : ℕ)
-    (fits : WithinLimits w image (length x) t)
+    (fits : WithinLimits (runs_like w image x t))
     (assigns : Assigns z) (words : AreWords w x) (has : HasFrom z tape_at x) (zeros_there : HoldsZeros z (zero_wires_at w (length x)))
     (met : Meets z (steps_of block (length x) (boot_count image (length x)) t (zero_wires_at w (length x)) (first_at w (length x))).list) where
   abbrev count : ℕ
-  count = line_count image (length x) t
+  count = line_count (runs_like w image x t)
 
   abbrev k : ℕ
-  k = log_of (line_count image (length x) t)
+  k = log_of (line_count (runs_like w image x t))
 
   abbrev least : ℕ
   least = least_place (length image) (length x)
@@ -89,21 +89,21 @@ module _ (w : ℕ) (block : BlockCircuit) (made : ℕ) (sizes : BlockSizes block
   three i = refl
 
   abbrev numbers : List Line
-  numbers = all image x t f three (spare image (length x) t)
+  numbers = all image x t f three (spare (runs_like w image x t))
 
   cells_at : (i : ℕ) → i < t → HasCells w (here i)
   cells_at i h =
       cells block made sizes z x (boot_count image (length x)) (zero_wires_at w (length x)) (first_at w (length x)) w fits.width law t assigns
-      (short image (length x) t w fits) (early image (length x) t w fits) zeros_there met i h
+      (short (runs_like w image x t) fits) (early (runs_like w image x t) fits) zeros_there met i h
 
   many : length numbers ≡ 2 ^ k
-  many = long image x t f three (spare image (length x) t) ∙ filled image (length x) t w fits
+  many = long image x t f three (spare (runs_like w image x t)) ∙ filled (runs_like w image x t) fits
 
   within : count ≤ 2 ^ k
-  within = log_above count (few image (length x) t w fits)
+  within = log_above count (few (runs_like w image x t) fits)
 
   small : k ≤ 20
-  small = log_within count (few image (length x) t w fits)
+  small = log_within count (few (runs_like w image x t) fits)
 
   time_at : (i : ℕ) → i < length numbers → (number_in numbers i).time ≡ i
   time_at i h = (placed 0 numbers (all_placed w block made sizes law image x z t fits assigns words has zeros_there met) i zero_line h).0 ∙ omega arith
@@ -129,8 +129,8 @@ module _ (w : ℕ) (block : BlockCircuit) (made : ℕ) (sizes : BlockSizes block
       (boot_is least (length image + i) TAPE_CELLS i (slice_index x i) (Within CELL_BITS) (omega (arith, h, fits.tape_fits)) (λ e. (other, omega arith))
       (λ e. other))
 
-  behind : (j : ℕ) → j ≢ 0 → length image + length x + j ≢ least
-  behind j h = not_least (length image) (length x) (length image + length x + j) (λ some e. some (omega (arith, e))) (λ none e. h (omega (arith, none, e)))
+  after : (j : ℕ) → j ≢ 0 → length image + length x + j ≢ least
+  after j h = not_least (length image) (length x) (length image + length x + j) (λ some e. some (omega (arith, e))) (λ none e. h (omega (arith, none, e)))
 
   some_words : (j : ℕ) → length image ≢ 0 → length image + length x + j ≢ least
   some_words j some = not_least (length image) (length x) (length image + length x + j) (λ _ e. some (omega (arith, e))) (λ none. absurd (some none))
@@ -143,7 +143,7 @@ module _ (w : ℕ) (block : BlockCircuit) (made : ℕ) (sizes : BlockSizes block
           (let place : length image + length x + (3 * j + 0) ≡ length x = omega (arith, none, e) in place ∙ sym (least_none (length image) (length x) none))
       | inr e ↦
           let far : 3 * j + 0 ≢ 0 = λ same. e (omega (arith, same)) in
-          subst (IsOfKind least (length image + length x + (3 * j + 0)) line) (sym (later_first (length image) j e)) (behind (3 * j + 0) far, omega arith)
+          subst (IsOfKind least (length image + length x + (3 * j + 0)) line) (sym (later_first (length image) j e)) (after (3 * j + 0) far, omega arith)
     ]
     | inr some ↦ subst (IsOfKind least (length image + length x + (3 * j + 0)) line) (sym (some_first (length image) j some))
         (some_words (3 * j + 0) some, omega arith)
@@ -161,9 +161,9 @@ module _ (w : ℕ) (block : BlockCircuit) (made : ℕ) (sizes : BlockSizes block
       (line_kind k (length image) (length x) (length image + length x + (3 * j + r))))
       (subst (IsOfKind least (length image + length x + (3 * j + 0)) (number_in (f j) 0)) (sym (first_at_step j)) (begins j (number_in (f j) 0)))
       (subst (IsOfKind least (length image + length x + (3 * j + 1)) (number_in (f j) 1)) (sym (second_kinds k (length image) (length x) j))
-      (behind (3 * j + 1) (λ e. omega (arith, e)), omega (arith, small)))
+      (after (3 * j + 1) (λ e. omega (arith, e)), omega (arith, small)))
       (subst (IsOfKind least (length image + length x + (3 * j + 2)) (number_in (f j) 2)) (sym (third_kinds k (length image) (length x) j))
-      (behind (3 * j + 2) (λ e. omega (arith, e)), omega arith))
+      (after (3 * j + 2) (λ e. omega (arith, e)), omega arith))
       r i
 
   -- ---- padding
@@ -182,17 +182,17 @@ module _ (w : ℕ) (block : BlockCircuit) (made : ℕ) (sizes : BlockSizes block
   leaves : (i : ℕ) → i < length numbers → LeavesNull i (number_in numbers i)
   leaves i h = elim (cases_lt i count) [
     | inl checked ↦
-        each_checked image x t f three (spare image (length x) t) LeavesNull
+        each_checked image x t f three (spare (runs_like w image x t)) LeavesNull
         (λ i h. below_null (written_at i i (slice_index image i)) (omega (arith, h, fits.image_fits)))
         (λ i h. below_null (written_at (TAPE_CELLS + i) (length image + i) (slice_index x i)) (omega (arith, h, fits.tape_fits)))
         step_leaves i checked
     | inr past ↦
-        let room : i < count + spare image (length x) t = omega (arith, h, many, filled image (length x) t w fits) in
-        subst (LeavesNull i) (sym (at_padding image x t f three (spare image (length x) t) i past room)) (omega arith, λ same. refl)
+        let room : i < count + spare (runs_like w image x t) = omega (arith, h, many, filled (runs_like w image x t) fits) in
+        subst (LeavesNull i) (sym (at_padding image x t f three (spare (runs_like w image x t)) i past room)) (omega arith, λ same. refl)
   ]
 
   padding_is : (i : ℕ) → count ≤ i → i < length numbers → number_in numbers i ≡ null_line i
-  padding_is i past h = at_padding image x t f three (spare image (length x) t) i past (omega (arith, h, many, filled image (length x) t w fits))
+  padding_is i past h = at_padding image x t f three (spare (runs_like w image x t)) i past (omega (arith, h, many, filled (runs_like w image x t) fits))
 
   padded : IsPadded count numbers
   padded = record {
@@ -208,25 +208,25 @@ module _ (w : ℕ) (block : BlockCircuit) (made : ℕ) (sizes : BlockSizes block
     | inr some ↦ let at = least_some (length image) (length x) some in omega (arith, at, some)
   ]
 
-  numbers_of_kinds : AreOfKinds (checks_of image (length x) t) numbers
+  numbers_of_kinds : AreOfKinds (checks_of (runs_like w image x t)) numbers
   numbers_of_kinds = record {
     least = least_checked;
     within = omega (arith, many, within);
-    kinds = each_checked image x t f three (spare image (length x) t)
+    kinds = each_checked image x t f three (spare (runs_like w image x t))
         (λ i line. IsOfKind least i line (line_kind k (length image) (length x) i)) on_image on_tape on_step;
     padded = padded;
   }
 
-  pub are_of_kinds : AreOfKinds (checks_of image (length x) t) (map (line_value z) (system_lines block w image (length x) t))
-  are_of_kinds = subst (AreOfKinds (checks_of image (length x) t))
+  pub are_of_kinds : AreOfKinds (checks_of (runs_like w image x t)) (map (line_value z) (system_lines block (runs_like w image x t)))
+  are_of_kinds = subst (AreOfKinds (checks_of (runs_like w image x t)))
       (sym (lines_valued w block made sizes law image x z t fits assigns words has zeros_there met)) numbers_of_kinds
 
   -- ---- near their predecessors
   cell_of_image : (i : ℕ) → i < length image → (number_in numbers i).cell ≡ i
-  cell_of_image i h = ap (λ (l : Line). l.cell) (at_image image x t f three (spare image (length x) t) i h)
+  cell_of_image i h = ap (λ (l : Line). l.cell) (at_image image x t f three (spare (runs_like w image x t)) i h)
 
   cell_of_tape : (i : ℕ) → i < length x → (number_in numbers (length image + i)).cell ≡ TAPE_CELLS + i
-  cell_of_tape i h = ap (λ (l : Line). l.cell) (at_tape image x t f three (spare image (length x) t) i h)
+  cell_of_tape i h = ap (λ (l : Line). l.cell) (at_tape image x t f three (spare (runs_like w image x t)) i h)
 
   near_boot : (place cell i : ℕ) (first : Kind) → IsNear numbers place first
       → (i ≢ 0 → HasCell numbers (cell + i - 1) × ((j : ℕ) → j < place → (number_in numbers j).cell ≢ (number_in numbers place).cell))
@@ -263,7 +263,7 @@ module _ (w : ℕ) (block : BlockCircuit) (made : ℕ) (sizes : BlockSizes block
       )))
 
   cell_of_step : (j r : ℕ) → j < t → r < 3 → (number_in numbers (length image + length x + (3 * j + r))).cell ≡ (number_in (f j) r).cell
-  cell_of_step j r h i = ap (λ (l : Line). l.cell) (at_step image x t f three (spare image (length x) t) j r h i)
+  cell_of_step j r h i = ap (λ (l : Line). l.cell) (at_step image x t f three (spare (runs_like w image x t)) j r h i)
 
   second_near : (j : ℕ) → j < t → IsNear numbers (length image + length x + (3 * j + 1)) (Within k)
   second_near j h =
@@ -325,19 +325,19 @@ module _ (w : ℕ) (block : BlockCircuit) (made : ℕ) (sizes : BlockSizes block
         let zero_key : key (number_in numbers 0)
         ≡ 0 = omega (
           arith,
-          ap (λ (l : Line). l.cell) (at_image image x t f three (spare image (length x) t) 0 (omega (arith, some))),
-          ap (λ (l : Line). l.time) (at_image image x t f three (spare image (length x) t) 0 (omega (arith, some))),
+          ap (λ (l : Line). l.cell) (at_image image x t f three (spare (runs_like w image x t)) 0 (omega (arith, some))),
+          ap (λ (l : Line). l.time) (at_image image x t f three (spare (runs_like w image x t)) 0 (omega (arith, some))),
         ) in
         subst (λ a. key (number_in numbers a) ≤ key (number_in numbers i)) (sym (least_some (length image) (length x) some)) (omega (arith, zero_key))
   ]
 
-  numbers_near : AreNear (checks_of image (length x) t) numbers
+  numbers_near : AreNear (checks_of (runs_like w image x t)) numbers
   numbers_near = record {
     least = least_key;
-    kinds = each_checked image x t f three (spare image (length x) t)
+    kinds = each_checked image x t f three (spare (runs_like w image x t))
         (λ i _. IsNear numbers i (line_kind k (length image) (length x) i)) image_near tape_near step_near;
   }
 
-  pub are_near : AreNear (checks_of image (length x) t) (map (line_value z) (system_lines block w image (length x) t))
-  are_near = subst (AreNear (checks_of image (length x) t))
+  pub are_near : AreNear (checks_of (runs_like w image x t)) (map (line_value z) (system_lines block (runs_like w image x t)))
+  are_near = subst (AreNear (checks_of (runs_like w image x t)))
       (sym (lines_valued w block made sizes law image x z t fits assigns words has zeros_there met)) numbers_near

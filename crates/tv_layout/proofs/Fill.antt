@@ -40,7 +40,7 @@ use Rattle.tv_layout.specs.Blocks.{BlockCircuit, BlockValues}
 use Rattle.tv_layout.proofs.Checked.{are_of_kinds, are_near}
 use Rattle.tv_layout.specs.Checks.{checks_of}
 use Rattle.tv_layout.specs.Layout.{steps_of, system_lines, layout_of, layout, taken_of}
-use Rattle.tv_layout.specs.Places.{WithinLimits, boot_count, line_count, log_of, tape_at, zero_wires_at, first_at}
+use Rattle.tv_layout.specs.Places.{WithinLimits, boot_count, line_count, log_of, tape_at, zero_wires_at, first_at, runs_like}
 use Rattle.tv_layout.specs.RunInputs.{run_on}
 use Rattle.tv_layout.specs.Sound.{padding, all_lines}
 use Rattle.tv_layout.specs.Values.{run_step_values, fill, IsFill}
@@ -60,10 +60,10 @@ has_after v rest = has_by_places (v ∷ rest) 1 rest (λ i h. get_or-append-add 
 
 module _ (w : ℕ) (net : Net) (block : BlockCircuit) (made : ℕ) (values : BlockValues) (sizes : BlockSizes block made) (law : BlockIsSound w block)
     (complete : BlockIsComplete w block made values)
-    (image x aux : List ℕ) (t v : ℕ) (fits : WithinLimits w image (length x) t) (x_words : AreWords w x) (aux_words : AreWords w aux) (small : v < 2 ^ w)
+    (image x aux : List ℕ) (t v : ℕ) (fits : WithinLimits (runs_like w image x t)) (x_words : AreWords w x) (aux_words : AreWords w aux) (small : v < 2 ^ w)
     (runs : Answering w (start w image x aux) t v) where
   abbrev count : ℕ
-  count = line_count image (length x) t
+  count = line_count (runs_like w image x t)
 
   abbrev bits : List ℕ
   bits = joined_below (length x) (λ i. bits_values (slice_index x i) w)
@@ -72,7 +72,7 @@ module _ (w : ℕ) (net : Net) (block : BlockCircuit) (made : ℕ) (values : Blo
   blocks = joined_below t (run_step_values values w image x aux)
 
   abbrev lasts : List ℕ
-  lasts = argument_values net (checks_of image (length x) t) (log_of (line_count image (length x) t)) (all_lines w image x aux t)
+  lasts = argument_values net (checks_of (runs_like w image x t)) (log_of (line_count (runs_like w image x t))) (all_lines w image x aux t)
 
   abbrev z : List ℕ
   z = 1 ∷ ((v ∷ x) ++ (bits ++ (replicate STATE_WIRES 0 ++ (blocks ++ lasts))))
@@ -83,12 +83,12 @@ module _ (w : ℕ) (net : Net) (block : BlockCircuit) (made : ℕ) (values : Blo
   block_many : (i : ℕ) → length (run_step_values values w image x aux i) ≡ made
   block_many i =
       complete.many (length x) (boot_count image (length x) + 3 * i) (state_after w i (start w image x aux)) (ended_after w i (start w image x aux))
-      (short image (length x) t w fits) (range i)
+      (short (runs_like w image x t) fits) (range i)
 
   block_small : (i : ℕ) → InField (run_step_values values w image x aux i)
   block_small i =
       complete.below (length x) (boot_count image (length x) + 3 * i) (state_after w i (start w image x aux)) (ended_after w i (start w image x aux))
-      (short image (length x) t w fits) (range i)
+      (short (runs_like w image x t) fits) (range i)
 
   length-bits : length bits ≡ length x * w
   length-bits = length-joined_below (length x) w (λ i. bits_values (slice_index x i) w) (λ i h. length-each_below w _)
@@ -106,7 +106,7 @@ module _ (w : ℕ) (net : Net) (block : BlockCircuit) (made : ℕ) (values : Blo
       (InField-joined_below (λ i. bits_values (slice_index x i) w) (length x) (λ i h. bits_in_field (slice_index x i) w))
       (InField-append (replicate STATE_WIRES 0) (blocks ++ lasts) (All-replicate (λ v. v < P) STATE_WIRES 0 (omega arith))
       (InField-append blocks lasts (InField-joined_below (run_step_values values w image x aux) t (λ i h. block_small i))
-      ((memory_complete net).below (checks_of image (length x) t) (log_of (line_count image (length x) t)) (all_lines w image x aux t)
+      ((memory_complete net).below (checks_of (runs_like w image x t)) (log_of (line_count (runs_like w image x t))) (all_lines w image x aux t)
       (run_few w image x aux t fits x_words aux_words) (run_placed w image x aux t fits x_words aux_words))))))
 
   assigns : Assigns z
@@ -151,63 +151,62 @@ module _ (w : ℕ) (net : Net) (block : BlockCircuit) (made : ℕ) (values : Blo
   met_steps : Meets z (steps_of block (length x) (boot_count image (length x)) t (zero_wires_at w (length x)) (first_at w (length x))).list
   met_steps =
       steps_met w block made sizes values law complete image x aux z (zero_wires_at w (length x)) (first_at w (length x)) t v
-      (input w image x aux t fits x_words aux_words) assigns (early image (length x) t w fits) has_parts.zero_wires has_steps runs
+      (input w image x aux t fits x_words aux_words) assigns (early (runs_like w image x t) fits) has_parts.zero_wires has_steps runs
 
   -- the lines are those of the run
-  lines_are : map (line_value z) (system_lines block w image (length x) t) ≡ all_lines w image x aux t
+  lines_are : map (line_value z) (system_lines block (runs_like w image x t)) ≡ all_lines w image x aux t
   lines_are =
       lines_valued w block made sizes law image x z t fits assigns x_words has_parts.public.1 has_parts.zero_wires met_steps
-      ∙ ap (λ (l : List Line). (boot_lines image x ++ l) ++ padding (line_count image (length x) t) (spare image (length x) t))
+      ∙ ap (λ (l : List Line). (boot_lines image x ++ l) ++ padding (line_count (runs_like w image x t)) (spare (runs_like w image x t)))
       (steps_lines w block made sizes values law complete image x aux z (zero_wires_at w (length x)) (first_at w (length x)) t v
-      (input w image x aux t fits x_words aux_words) assigns (early image (length x) t w fits) has_parts.zero_wires has_steps runs t (omega arith))
+      (input w image x aux t fits x_words aux_words) assigns (early (runs_like w image x t) fits) has_parts.zero_wires has_steps runs t (omega arith))
 
   answer_small : v < P
   answer_small = let fit = word_small w fits.width v small in omega arith
 
-  all_met : Meets z (layout_of block w net image (length x) t (2 + length x)).list
+  all_met : Meets z (layout_of block net (runs_like w image x t) (2 + length x)).list
   all_met =
       let said = last_said w block made sizes values law complete image x aux z (zero_wires_at w (length x)) (first_at w (length x)) t v
-      (input w image x aux t fits x_words aux_words) assigns (early image (length x) t w fits) has_parts.zero_wires has_steps runs (t - 1)
+      (input w image x aux t fits x_words aux_words) assigns (early (runs_like w image x t) fits) has_parts.zero_wires has_steps runs (t - 1)
       (omega (arith, fits.some)) in
-      layout_meets block made sizes w net image (length x) t z (record {
+      layout_meets block made sizes net (runs_like w image x t) z (record {
         words = words_met w fits.width z assigns tape_at (length x) (2 + length x) x refl x_words has_parts.public.1 has_bits;
         zero_wires = zero_wires_met w fits.width z assigns (zero_wires_at w (length x)) has_parts.zero_wires;
         steps = met_steps;
-        tie = tie_met w fits.width z assigns (last_of block made sizes w net image (length x) t)
+        tie = tie_met w fits.width z assigns (last_of block made sizes net (runs_like w image x t))
             (memory_at w made (length x) t) v said.0 said.1 has_parts.public.0 answer_small;
-        honest = (memory_complete net).met z (checks_of image (length x) t) (log_of count) (system_lines block w image (length x) t) (memory_at w made
-            (length x) t)
-            (log_some count) (log_within count (few image (length x) t w fits))
+        honest = (memory_complete net).met z (checks_of (runs_like w image x t)) (log_of count) (system_lines block (runs_like w image x t)) (memory_at w made
+            (length x) t) (log_some count) (log_within count (few (runs_like w image x t) fits))
             (lines_many w block made sizes law image x z t fits assigns x_words has_parts.public.1 has_parts.zero_wires met_steps)
             (subst (LinesFrom 0) (sym lines_are) (run_placed w image x aux t fits x_words aux_words))
             (are_of_kinds w block made sizes law image x z t fits assigns x_words has_parts.public.1 has_parts.zero_wires met_steps)
             (are_near w block made sizes law image x z t fits assigns x_words has_parts.public.1 has_parts.zero_wires met_steps)
             (subst Honest (sym lines_are) (run_honest w image x aux t fits x_words aux_words)) assigns
-            (subst (λ l. HasFrom z (memory_at w made (length x) t) (argument_values net (checks_of image (length x) t) (log_of count) l))
+            (subst (λ l. HasFrom z (memory_at w made (length x) t) (argument_values net (checks_of (runs_like w image x t)) (log_of count) l))
             (sym lines_are) has_parts.last);
       })
 
   -- as many values as wires
-  many : length z ≡ (layout_of block w net image (length x) t (2 + length x)).next
+  many : length z ≡ (layout_of block net (runs_like w image x t) (2 + length x)).next
   many =
       let a = length-append (v ∷ x) (bits ++ (replicate STATE_WIRES 0 ++ (blocks ++ lasts))) in
       let b = length-append bits (replicate STATE_WIRES 0 ++ (blocks ++ lasts)) in
       let c = length-append blocks lasts in
       let d = length-append (replicate STATE_WIRES 0) (blocks ++ lasts) in
-      let m = (memory_complete net).many (checks_of image (length x) t) (log_of count) (all_lines w image x aux t) in
-      let e = layout_next block made sizes w net image (length x) t (argument_made net (checks_of image (length x) t) (log_of count))
-      (λ at. (memory_complete net).next (checks_of image (length x) t) (log_of count) (system_lines block w image (length x) t) at) in
+      let m = (memory_complete net).many (checks_of (runs_like w image x t)) (log_of count) (all_lines w image x aux t) in
+      let e = layout_next block made sizes net (runs_like w image x t) (argument_made net (checks_of (runs_like w image x t)) (log_of count))
+      (λ at. (memory_complete net).next (checks_of (runs_like w image x t)) (log_of count) (system_lines block (runs_like w image x t)) at) in
       omega (arith, a, b, c, d, m, length-bits, length-blocks, e)
 
-  taken_is : taken_of block w image (length x) t z ≡ Reads w image x aux t
+  taken_is : taken_of block (runs_like w image x t) z ≡ Reads w image x aux t
   taken_is =
       taken_of_is block w image (length x) t z
       ∙ steps_take w block made sizes values law complete image x aux z (zero_wires_at w (length x)) (first_at w (length x)) t v
-      (input w image x aux t fits x_words aux_words) assigns (early image (length x) t w fits) has_parts.zero_wires has_steps runs t (omega arith)
+      (input w image x aux t fits x_words aux_words) assigns (early (runs_like w image x t) fits) has_parts.zero_wires has_steps runs t (omega arith)
 
   pub is_fill : IsFill net block (run_on w image x aux t) v z
   is_fill = record {
-    sat = Sat-from_Meets (layout block w net image (length x) t) z many assigns all_met;
+    sat = Sat-from_Meets (layout block net (runs_like w image x t)) z many assigns all_met;
     extends = record { publics = omega arith; values = take-append_seam (v ∷ x) _ };
     taken = taken_is;
   }
@@ -215,7 +214,7 @@ module _ (w : ℕ) (net : Net) (block : BlockCircuit) (made : ℕ) (values : Blo
 abbrev pub FillIsComplete : Type 0
 FillIsComplete = (w : ℕ) (net : Net) (block : BlockCircuit) (made : ℕ) (values : BlockValues)
     → BlockSizes block made → BlockIsSound w block → BlockIsComplete w block made values
-    → (image x aux : List ℕ) (t v : ℕ) → WithinLimits w image (length x) t → AreWords w x → AreWords w aux → Accepts w image x aux t v
+    → (image x aux : List ℕ) (t v : ℕ) → WithinLimits (runs_like w image x t) → AreWords w x → AreWords w aux → Accepts w image x aux t v
     → IsFill net block (run_on w image x aux t) v (fill values net (run_on w image x aux t) v)
 
 pub fill_complete : FillIsComplete

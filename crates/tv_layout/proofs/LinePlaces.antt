@@ -27,8 +27,8 @@ use Rattle.tv_argument.specs.Memory.{IsMade}
 use Rattle.tv_word.specs.Widths.{IsWidth}
 use Rattle.tv_layout.proofs.Positions.{steps_next, log_above}
 use Rattle.tv_layout.proofs.Sized.{step_sized}
-use Rattle.tv_layout.specs.Layout.{steps_of, state_at, block_at, line_of_word, boot_wires, boot_lines_of, padding_of, system_lines}
-use Rattle.tv_layout.specs.Places.{WithinLimits, boot_count, line_count, log_of, tape_at, zero_wires_at, first_at}
+use Rattle.tv_layout.specs.Layout.{steps_of, state_at, block_at, line_of_word, boot_wires, boot_lines_of, padding_of, system_lines, step_block}
+use Rattle.tv_layout.specs.Places.{WithinLimits, boot_count, line_count, log_of, tape_at, zero_wires_at, first_at, ProgramRuns}
 use Rattle.tv_layout.specs.StateBefore.{state_before}
 
 -- ---- lines that no step makes
@@ -87,97 +87,99 @@ module _ (f : ℕ → List LineLc) (three : (i : ℕ) → length (f i) ≡ 3) wh
   ]
 
 -- ---- any line
-module _ (w : ℕ) (image : List ℕ) (n t : ℕ) (fits : WithinLimits w image n t) where
+-- line j of the steps
+abbrev step_line : ProgramRuns → ℕ → LineLc
+step_line runs j =
+    line_in (block_wires runs.width (state_before runs.width (zero_wires_at runs.width runs.n) (first_at runs.width runs.n) (j / 3))
+    (boot_count runs.image runs.n + 3 * (j / 3)) (first_at runs.width runs.n + j / 3 * block_made runs.width)).lines (j % 3)
+
+module _ (runs : ProgramRuns) (fits : WithinLimits runs) where
   abbrev all_lines : List LineLc
-  all_lines = system_lines (block_of w) w image n t
+  all_lines = system_lines (block_of runs.width) runs
 
   abbrev blocks : ℕ → List LineLc
-  blocks j = (block_at (block_of w) n (boot_count image n) (zero_wires_at w n) (first_at w n) j).lines
+  blocks j = (step_block (block_of runs.width) runs j).lines
 
   abbrev stepped : List LineLc
-  stepped = joined_below t blocks
+  stepped = joined_below runs.t blocks
 
   abbrev tape : List LineLc
-  tape = boot_wires TAPE_CELLS (length image) (map wire (range_with_len tape_at n))
+  tape = boot_wires TAPE_CELLS (length runs.image) (map wire (range_with_len tape_at runs.n))
 
   three : (j : ℕ) → length (blocks j) ≡ 3
-  three j = ap (λ (b : Block). length b.lines) (block_is w fits.width n (boot_count image n) (zero_wires_at w n) (first_at w n) j)
+  three j = ap (λ (b : Block). length b.lines) (block_is runs.width fits.width runs.n (boot_count runs.image runs.n) _ _ j)
 
-  few : line_count image n t ≤ 2 ^ 20
+  few : line_count runs ≤ 2 ^ 20
   few = omega (arith, fits.image_fits, fits.tape_fits, fits.steps_fit)
 
-  length-written : length (boot_wires 0 0 (map constant image)) ≡ length image
-  length-written = length-boot_wires 0 0 (map constant image) ∙ length-map image constant
+  length-written : length (boot_wires 0 0 (map constant runs.image)) ≡ length runs.image
+  length-written = length-boot_wires 0 0 (map constant runs.image) ∙ length-map runs.image constant
 
-  length-tape : length tape ≡ n
-  length-tape = length-boot_wires TAPE_CELLS (length image) (map wire (range_with_len tape_at n)) ∙ length-map-range_with_len wire tape_at n
+  length-tape : length tape ≡ runs.n
+  length-tape = length-boot_wires TAPE_CELLS (length runs.image) (map wire (range_with_len tape_at runs.n)) ∙ length-map-range_with_len wire tape_at runs.n
 
-  length-boot : length (boot_lines_of image n) ≡ boot_count image n
-  length-boot = length-append (boot_wires 0 0 (map constant image)) tape ∙ ap₂ (λ a b. a + b) length-written length-tape
+  length-boot : length (boot_lines_of runs.image runs.n) ≡ boot_count runs.image runs.n
+  length-boot = length-append (boot_wires 0 0 (map constant runs.image)) tape ∙ ap₂ (λ a b. a + b) length-written length-tape
 
-  length-front : length (boot_lines_of image n ++ stepped) ≡ line_count image n t
+  length-front : length (boot_lines_of runs.image runs.n ++ stepped) ≡ line_count runs
   length-front =
       let b = length-boot in
-      let s = length-thirds blocks three t in
-      length-append (boot_lines_of image n) stepped ∙ omega arith
+      let s = length-thirds blocks three runs.t in
+      length-append (boot_lines_of runs.image runs.n) stepped ∙ omega arith
 
-  pub line_number : length all_lines ≡ 2 ^ log_of (line_count image n t)
+  pub line_number : length all_lines ≡ 2 ^ log_of (line_count runs)
   unfolding system_lines
   line_number =
       let front = length-front in
-      let above = log_above (line_count image n t) few in
-      let last = length-padding_of (line_count image n t) (2 ^ log_of (line_count image n t) - line_count image n t) in
-      length-append (boot_lines_of image n ++ stepped) _ ∙ omega arith
+      let above = log_above (line_count runs) few in
+      let last = length-padding_of (line_count runs) (2 ^ log_of (line_count runs) - line_count runs) in
+      length-append (boot_lines_of runs.image runs.n ++ stepped) _ ∙ omega arith
 
   module _ (i : ℕ) where
-    pub in_image : i < length image → line_in all_lines i ≡ line_of_word i i (constant (slice_index image i))
+    pub in_image : i < length runs.image → line_in all_lines i ≡ line_of_word i i (constant (slice_index runs.image i))
     unfolding system_lines
     in_image h =
         let b = length-boot in
         let f = length-front in
         let l = length-written in
-        let m = length-map image constant in
-        get_or_append_left (boot_lines_of image n ++ stepped) _ no_line i (omega arith)
-        ∙ get_or_append_left (boot_lines_of image n) stepped no_line i (omega arith)
-        ∙ get_or_append_left (boot_wires 0 0 (map constant image)) tape no_line i (omega arith)
-        ∙ boot_wires_at 0 0 (map constant image) i (omega arith)
-        ∙ ap₂ (λ (k : ℕ) (word : Combination). line_of_word k k word) (omega arith) (get_or-map constant image i 0 [] h)
+        let m = length-map runs.image constant in
+        get_or_append_left (boot_lines_of runs.image runs.n ++ stepped) _ no_line i (omega arith)
+        ∙ get_or_append_left (boot_lines_of runs.image runs.n) stepped no_line i (omega arith)
+        ∙ get_or_append_left (boot_wires 0 0 (map constant runs.image)) tape no_line i (omega arith)
+        ∙ boot_wires_at 0 0 (map constant runs.image) i (omega arith)
+        ∙ ap₂ (λ (k : ℕ) (word : Combination). line_of_word k k word) (omega arith) (get_or-map constant runs.image i 0 [] h)
 
-    pub in_tape : length image ≤ i → i < boot_count image n
-        → line_in all_lines i ≡ line_of_word (TAPE_CELLS + (i - length image)) i (wire (tape_at + (i - length image)))
+    pub in_tape : length runs.image ≤ i → i < boot_count runs.image runs.n
+        → line_in all_lines i ≡ line_of_word (TAPE_CELLS + (i - length runs.image)) i (wire (tape_at + (i - length runs.image)))
     unfolding system_lines
     in_tape above h =
         let b = length-boot in
         let f = length-front in
-        let k : ℕ = i - length image in
-        let z : length image + k ≡ i = omega arith in
-        get_or_append_left (boot_lines_of image n ++ stepped) _ no_line i (omega arith)
-        ∙ get_or_append_left (boot_lines_of image n) stepped no_line i (omega arith)
-        ∙ get_or-append_right (boot_wires 0 0 (map constant image)) tape (length image) i no_line length-written above
-        ∙ boot_wires_at TAPE_CELLS (length image) (map wire (range_with_len tape_at n)) k (omega (arith, length-map-range_with_len wire tape_at n))
-        ∙ ap₂ (λ (at : ℕ) (word : Combination). line_of_word (TAPE_CELLS + k) at word) z
-        (get_or-map-range_with_len wire tape_at n k (tape_at + k) [] (omega arith) refl)
+        let k : ℕ = i - length runs.image in
+        let z : length runs.image + k ≡ i = omega arith in
+        get_or_append_left (boot_lines_of runs.image runs.n ++ stepped) _ no_line i (omega arith)
+        ∙ get_or_append_left (boot_lines_of runs.image runs.n) stepped no_line i (omega arith)
+        ∙ get_or-append_right (boot_wires 0 0 (map constant runs.image)) tape (length runs.image) i no_line length-written above
+        ∙ boot_wires_at TAPE_CELLS (length runs.image) (map wire (range_with_len tape_at runs.n)) k
+        (omega (arith, length-map-range_with_len wire tape_at runs.n)) ∙ ap₂ (λ (at : ℕ) (word : Combination). line_of_word (TAPE_CELLS + k) at word) z
+        (get_or-map-range_with_len wire tape_at runs.n k (tape_at + k) [] (omega arith) refl)
 
-    pub in_steps : boot_count image n ≤ i → i < line_count image n t
-        → line_in all_lines i ≡ line_in (block_wires w (state_before w (zero_wires_at w n) (first_at w n) ((i - boot_count image n) / 3))
-        (boot_count image n + 3 * ((i - boot_count image n) / 3)) (first_at w n + (i - boot_count image n) / 3 * block_made w)).lines
-        ((i - boot_count image n) % 3)
+    pub in_steps : boot_count runs.image runs.n ≤ i → i < line_count runs → line_in all_lines i ≡ step_line runs (i - boot_count runs.image runs.n)
     unfolding system_lines
     in_steps above h =
-        let j : ℕ = i - boot_count image n in
-        get_or_append_left (boot_lines_of image n ++ stepped) _ no_line i (omega (arith, length-front))
-        ∙ get_or-append_right (boot_lines_of image n) stepped (boot_count image n) i no_line length-boot above
-        ∙ thirds blocks three t j (omega arith)
-        ∙ ap (λ (b : Block). line_in b.lines (j % 3)) (block_is w fits.width n (boot_count image n) (zero_wires_at w n) (first_at w n) (j / 3))
+        let j : ℕ = i - boot_count runs.image runs.n in
+        get_or_append_left (boot_lines_of runs.image runs.n ++ stepped) _ no_line i (omega (arith, length-front))
+        ∙ get_or-append_right (boot_lines_of runs.image runs.n) stepped (boot_count runs.image runs.n) i no_line length-boot above
+        ∙ thirds blocks three runs.t j (omega arith)
+        ∙ ap (λ (b : Block). line_in b.lines (j % 3)) (block_is runs.width fits.width runs.n (boot_count runs.image runs.n) _ _ (j / 3))
 
-    pub in_padding : line_count image n t ≤ i → i < 2 ^ log_of (line_count image n t) → line_in all_lines i ≡ line_of_word NULL_CELL i []
+    pub in_padding : line_count runs ≤ i → i < 2 ^ log_of (line_count runs) → line_in all_lines i ≡ line_of_word NULL_CELL i []
     unfolding system_lines
     in_padding above h =
-        let k : ℕ = i - line_count image n t in
-        let z : line_count image n t + k ≡ i = omega arith in
-        get_or-append_right (boot_lines_of image n ++ stepped) _ (line_count image n t) i no_line length-front above
-        ∙ padding_of_at (line_count image n t) _ k (omega arith)
-        ∙ ap (λ at. line_of_word NULL_CELL at []) z
+        let k : ℕ = i - line_count runs in
+        let z : line_count runs + k ≡ i = omega arith in
+        get_or-append_right (boot_lines_of runs.image runs.n ++ stepped) _ (line_count runs) i no_line length-front above
+        ∙ padding_of_at (line_count runs) _ k (omega arith) ∙ ap (λ at. line_of_word NULL_CELL at []) z
 
 -- ---- what it is made of
 word_made : (wires cell time : ℕ) (word : Combination) → 1 ≤ wires → top word ≤ wires → length word ≤ 32 → IsMade wires (line_of_word cell time word)
@@ -220,37 +222,36 @@ pc_before : (w : ℕ) (width : IsWidth w) (zero_wires first i : ℕ) → zero_wi
 pc_before w width zero_wires first zero h = omega arith
 pc_before w width zero_wires first (suc i) h = omega (arith, block_places.after w width (first + i * block_made w))
 
-module _ (w : ℕ) (image : List ℕ) (n t : ℕ) (fits : WithinLimits w image n t) where
+module _ (runs : ProgramRuns) (fits : WithinLimits runs) where
   abbrev made : ℕ → Type 0
-  made i = IsMade (first_at w n + t * block_made w) (line_in (system_lines (block_of w) w image n t) i)
+  made i = IsMade (first_at runs.width runs.n + runs.t * block_made runs.width) (line_in (system_lines (block_of runs.width) runs) i)
 
-  step_made : (j : ℕ) → j < t * 3
-      → IsMade (first_at w n + t * block_made w)
-      (line_in (block_wires w (state_before w (zero_wires_at w n) (first_at w n) (j / 3)) (boot_count image n + 3 * (j / 3))
-      (first_at w n + j / 3 * block_made w)).lines (j % 3))
+  step_made : (j : ℕ) → j < runs.t * 3 → IsMade (first_at runs.width runs.n + runs.t * block_made runs.width) (step_line runs j)
   step_made j h =
       let q : ℕ = j / 3 in
-      let after : q + 1 ≤ t = omega arith in
-      block_line_made w fits.width (state_before w (zero_wires_at w n) (first_at w n) q) (boot_count image n + 3 * q) (first_at w n + q * block_made w)
-      (first_at w n + t * block_made w)
-      (pc_before w fits.width (zero_wires_at w n) (first_at w n) q (omega arith)) (more (first_at w n) q t (block_made w) after) (j % 3) (omega arith)
+      let after : q + 1 ≤ runs.t = omega arith in
+      block_line_made runs.width fits.width (state_before runs.width (zero_wires_at runs.width runs.n) (first_at runs.width runs.n) q)
+      (boot_count runs.image runs.n + 3 * q) (first_at runs.width runs.n + q * block_made runs.width)
+      (first_at runs.width runs.n + runs.t * block_made runs.width)
+      (pc_before runs.width fits.width (zero_wires_at runs.width runs.n) (first_at runs.width runs.n) q (omega arith))
+      (more (first_at runs.width runs.n) q runs.t (block_made runs.width) after) (j % 3) (omega arith)
     where
       more : (first q t made : ℕ) → q + 1 ≤ t → first + q * made + made ≤ first + t * made
       more first q t made h = let p : (q + 1) * made ≤ t * made = mul-le-mul_right made h in omega arith
 
-  pub line_made : (i : ℕ) → i < 2 ^ log_of (line_count image n t) → made i
-  line_made i h = elim (cases_lt i (length image)) [
-    | inl here ↦ subst (IsMade _) (sym (in_image w image n t fits i here))
-        (word_made _ i i (constant (slice_index image i)) (omega arith) (omega arith) (omega arith))
-    | inr behind ↦ elim (cases_lt i (boot_count image n)) [
-      | inl here ↦ subst (IsMade _) (sym (in_tape w image n t fits i behind here))
-          (word_made _ (TAPE_CELLS + (i - length image)) i (wire (tape_at + (i - length image))) (omega arith) (omega arith) (omega arith))
-      | inr later ↦ elim (cases_lt i (line_count image n t)) [
-        | inl here ↦ subst (IsMade _) (sym (in_steps w image n t fits i later here)) (step_made (i - boot_count image n) (omega arith))
-        | inr last ↦ subst (IsMade _) (sym (in_padding w image n t fits i last h)) (word_made _ NULL_CELL i [] (omega arith) (omega arith) (omega arith))
+  pub line_made : (i : ℕ) → i < 2 ^ log_of (line_count runs) → made i
+  line_made i h = elim (cases_lt i (length runs.image)) [
+    | inl here ↦ subst (IsMade _) (sym (in_image runs fits i here))
+        (word_made _ i i (constant (slice_index runs.image i)) (omega arith) (omega arith) (omega arith))
+    | inr after ↦ elim (cases_lt i (boot_count runs.image runs.n)) [
+      | inl here ↦ subst (IsMade _) (sym (in_tape runs fits i after here))
+          (word_made _ (TAPE_CELLS + (i - length runs.image)) i (wire (tape_at + (i - length runs.image))) (omega arith) (omega arith) (omega arith))
+      | inr later ↦ elim (cases_lt i (line_count runs)) [
+        | inl here ↦ subst (IsMade _) (sym (in_steps runs fits i later here)) (step_made (i - boot_count runs.image runs.n) (omega arith))
+        | inr last ↦ subst (IsMade _) (sym (in_padding runs fits i last h)) (word_made _ NULL_CELL i [] (omega arith) (omega arith) (omega arith))
       ]
     ]
   ]
 
-  pub lines_made : All (IsMade (first_at w n + t * block_made w)) (system_lines (block_of w) w image n t)
-  lines_made = All-from_get_or (IsMade _) (system_lines (block_of w) w image n t) no_line (λ i h. line_made i (omega (arith, line_number w image n t fits)))
+  pub lines_made : All (IsMade (first_at runs.width runs.n + runs.t * block_made runs.width)) (system_lines (block_of runs.width) runs)
+  lines_made = All-from_get_or (IsMade _) (system_lines (block_of runs.width) runs) no_line (λ i h. line_made i (omega (arith, line_number runs fits)))

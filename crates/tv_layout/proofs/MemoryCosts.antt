@@ -1,5 +1,5 @@
 -- What the checks and the network of a system's memory argument make and add, by the kinds of its lines.
-use Rattle.std.proofs.Common.{◌≡◌, ℕ, ◌+◌, ◌-◌, ◌*◌, ◌/◌, ◌<◌, List, length, refl, ap, ◌∙◌, arith}
+use Rattle.std.proofs.Common.{◌≡◌, ℕ, ◌+◌, ◌-◌, ◌*◌, ◌/◌, ◌<◌, length, refl, ap, ◌∙◌, arith}
 use Rattle.tv_benes.specs.declared.shape.Net.{Net}
 use Rattle.tv_core.specs.Below.{sum_below}
 use Rattle.tv_core.specs.declared.limits.TheConstants.{CELL_BITS, TAPE_CELLS}
@@ -11,7 +11,7 @@ use Rattle.tv_argument.specs.declared.kinds.Kind.TheVariants.{Boot, Within}
 use Rattle.tv_layout.proofs.CheckSums.{checks_sum}
 use Rattle.tv_layout.proofs.LineKinds.{of_image, of_tape, of_steps, first_line_kind, second_line_kind, third_line_kind}
 use Rattle.tv_layout.specs.Checks.{boot_kind, first_kind, step_kind, line_kind, checks_of}
-use Rattle.tv_layout.specs.Places.{line_count, log_of}
+use Rattle.tv_layout.specs.Places.{line_count, log_of, ProgramRuns}
 use Rattle.tv_layout.specs.Sizes.{check_costs, checks_total, memory_wires, memory_constraints}
 
 -- ---- the kinds at places
@@ -46,12 +46,12 @@ module _ (k words n : ℕ) where
       (λ j h. ap f (second_kinds j))
       (λ j h. ap f (third_kinds j))
 
-module _ (net : Net) (image : List ℕ) (n t : ℕ) where
+module _ (net : Net) (runs : ProgramRuns) where
   abbrev k : ℕ
-  k = log_of (line_count image n t)
+  k = log_of (line_count runs)
 
-  pub wires_are : argument_made net (checks_of image n t) k ≡ memory_wires net image n t
-  wires_are = ap (λ s. network_made net k + s) (kinds_sum k (length image) n t check_made (λ c. refl))
+  pub wires_are : argument_made net (checks_of runs) k ≡ memory_wires net runs
+  wires_are = ap (λ s. network_made net k + s) (kinds_sum k (length runs.image) runs.n runs.t check_made (λ c. refl))
 
-  pub constraints_are : argument_added net (checks_of image n t) k ≡ memory_constraints net image n t
-  constraints_are = ap (λ s. network_made net k + s) (kinds_sum k (length image) n t check_added (λ c. refl))
+  pub constraints_are : argument_added net (checks_of runs) k ≡ memory_constraints net runs
+  constraints_are = ap (λ s. network_made net k + s) (kinds_sum k (length runs.image) runs.n runs.t check_added (λ c. refl))

@@ -93,16 +93,15 @@ module _ (w : ℕ) (width : IsWidth w) (zero_wires : ℕ) (some : 0 < zero_wires
 
 -- ---- all of it
 pub system_normal : SystemIsNormal
-system_normal w net image n t fits =
-    let zero_wires = zero_wires_at w n in
-    let last = last_of (block_of w) (block_made w) (step_sized w fits.width) w net image n t in
-    let at = memory_at w (block_made w) n t in
-    let short : n < 2 ^ 29 = omega (arith, fits.tape_fits) in
-    let checked = memory_normal net (checks_of image n t) (log_of (line_count image n t)) (system_lines (block_of w) w image n t) at (omega arith)
-    (log_some (line_count image n t))
-    (line_number w image n t fits) (checks_short w image n t fits) (lines_made w image n t fits) in
-    subst AreNormal (sym (layout_list (block_of w) (block_made w) (step_sized w fits.width) w net image n t))
-    (normal_both _ _ (words_normal w fits.width tape_at n (2 + n))
+system_normal net runs fits =
+    let zero_wires = zero_wires_at runs.width runs.n in
+    let last = last_of (block_of runs.width) (block_made runs.width) (step_sized runs.width fits.width) net runs in
+    let at = memory_at runs.width (block_made runs.width) runs.n runs.t in
+    let short : runs.n < 2 ^ 29 = omega (arith, fits.tape_fits) in
+    let checked = memory_normal net (checks_of runs) (log_of (line_count runs)) (system_lines (block_of runs.width) runs) at (omega arith)
+    (log_some (line_count runs)) (line_number runs fits) (checks_short runs fits) (lines_made runs fits) in
+    subst AreNormal (sym (layout_list (block_of runs.width) (block_made runs.width) (step_sized runs.width fits.width) net runs))
+    (normal_both _ _ (words_normal runs.width fits.width tape_at runs.n (2 + runs.n))
     (normal_both _ _ (zeros_normal zero_wires)
-    (normal_both _ _ (steps_normal w fits.width zero_wires (omega arith) n (boot_count image n) short t)
+    (normal_both _ _ (steps_normal runs.width fits.width zero_wires (omega arith) runs.n (boot_count runs.image runs.n) short runs.t)
     (normal_both _ _ (tie_normal last at) checked))))

@@ -15,14 +15,12 @@ use Rattle.tv_core.specs.Below.{each_below, weighted}
 use Rattle.tv_core.specs.Circuits.{pure, here, fresh, put, ◌>>=◌, turns}
 use Rattle.tv_core.specs.Constraints.{Constraint}
 use Rattle.tv_core.specs.Meanings.{terms_in}
-use Rattle.tv_argument.specs.Memory.{argument_of}
 use Rattle.tv_word.proofs.WidthLaws.{for_widths}
 use Rattle.tv_word.specs.Widths.{IsWidth}
 use Rattle.tv_layout.proofs.Positions.{layout_list, memory_at}
 use Rattle.tv_layout.proofs.Sized.{step_sized}
-use Rattle.tv_layout.specs.Checks.{checks_of}
-use Rattle.tv_layout.specs.Layout.{word_of, words_of, zero_wire_of, zero_wires_of, step_of, steps_of, tie_of, before_steps, system_lines, layout_of}
-use Rattle.tv_layout.specs.Places.{boot_count, line_count, log_of, tape_at, zero_wires_at, first_at}
+use Rattle.tv_layout.specs.Layout.{word_of, words_of, zero_wire_of, zero_wires_of, step_of, steps_of, tie_of, before_steps, layout_of, lines_argument}
+use Rattle.tv_layout.specs.Places.{boot_count, tape_at, zero_wires_at, first_at, ProgramRuns, runs_of}
 use Rattle.tv_layout.specs.declared.places.TheConstants.{STATE_WIRES}
 
 -- ---- words, the wires that are held to 0, and the end
@@ -69,18 +67,16 @@ module _ (m : List Constraint → ℕ) (law : IsMeasure m) (w : ℕ) (width : Is
   words_cost first next = same_turns m law (λ i _. word_of w first i) tt next word n (λ i inside a at. parts.words first i at)
 
   layout_cost : (net : Net) (image : List ℕ) (t memory : ℕ)
-      → m (argument_of net (checks_of image n t) (log_of (line_count image n t)) (system_lines (block_of w) w image n t) (memory_at w (block_made w) n t)).list
-      ≡ memory
-      → m (layout_of (block_of w) w net image n t (2 + n)).list ≡ n * word + start + t * step + tie + memory
+      → m (lines_argument (block_of w) net (runs_of w image n t) (memory_at w (block_made w) n t)).list ≡ memory
+      → m (layout_of (block_of w) net (runs_of w image n t) (2 + n)).list ≡ n * word + start + t * step + tie + memory
   layout_cost net image t memory is =
       let words = (words_of w tape_at n (2 + n)).list in
       let none = (zero_wires_of (zero_wires_at w n)).list in
       let steps = (steps_of (block_of w) n (boot_count image n) t (zero_wires_at w n) (first_at w n)).list in
       let last = (steps_of (block_of w) n (boot_count image n) t (zero_wires_at w n) (first_at w n)).answer in
       let end = (tie_of last (memory_at w (block_made w) n t)).list in
-      let rest = (argument_of net (checks_of image n t) (log_of (line_count image n t)) (system_lines (block_of w) w image n t)
-      (memory_at w (block_made w) n t)).list in
-      ap m (layout_list (block_of w) (block_made w) (step_sized w width) w net image n t)
+      let rest = (lines_argument (block_of w) net (runs_of w image n t) (memory_at w (block_made w) n t)).list in
+      ap m (layout_list (block_of w) (block_made w) (step_sized w width) net (runs_of w image n t))
       ∙ law.adds words (none ++ (steps ++ (end ++ rest))) ∙ ap₂ (λ a b. a + b) (words_cost tape_at (2 + n))
       (law.adds none (steps ++ (end ++ rest)) ∙ ap₂ (λ a b. a + b) (parts.zero_wires (zero_wires_at w n))
       (law.adds steps (end ++ rest) ∙ ap₂ (λ a b. a + b) (steps_cost (boot_count image n) t (zero_wires_at w n) (first_at w n))
@@ -91,17 +87,19 @@ module _ (m : List Constraint → ℕ) (law : IsMeasure m) (w : ℕ) (width : Is
       regroup a b c d e = omega arith
 
 -- ---- in constraints and in terms
-module _ (w : ℕ) (width : IsWidth w) (net : Net) (image : List ℕ) (n t memory : ℕ) where
-  pub layout_count : length (argument_of net (checks_of image n t) (log_of (line_count image n t)) (system_lines (block_of w) w image n t)
-      (memory_at w (block_made w) n t)).list ≡ memory
-      → length (layout_of (block_of w) w net image n t (2 + n)).list ≡ n * (w + 1) + STATE_WIRES + t * block_added w + 2 + memory
+module _ (net : Net) (runs : ProgramRuns) (width : IsWidth runs.width) (memory : ℕ) where
+  pub layout_count : length (lines_argument (block_of runs.width) net runs (memory_at runs.width (block_made runs.width) runs.n runs.t)).list ≡ memory
+      → length (layout_of (block_of runs.width) net runs (2 + runs.n)).list
+      ≡ runs.n * (runs.width + 1) + STATE_WIRES + runs.t * block_added runs.width + 2 + memory
   layout_count is =
-      layout_cost length lengths w width n (w + 1) STATE_WIRES (block_added w) 2
-      (record { words = word_count w width; zero_wires = zeros_count; steps = block_counted.constraints w width n; ties = tie_count }) net image t memory is
+      layout_cost length lengths runs.width width runs.n (runs.width + 1) STATE_WIRES (block_added runs.width) 2
+      (record { words = word_count _ width; zero_wires = zeros_count; steps = block_counted.constraints _ width runs.n; ties = tie_count })
+      net runs.image runs.t memory is
 
-  pub layout_terms : terms_in (argument_of net (checks_of image n t) (log_of (line_count image n t)) (system_lines (block_of w) w image n t)
-      (memory_at w (block_made w) n t)).list ≡ memory
-      → terms_in (layout_of (block_of w) w net image n t (2 + n)).list ≡ n * (4 * w + 2) + 2 * STATE_WIRES + t * block_terms w n + 6 + memory
+  pub layout_terms : terms_in (lines_argument (block_of runs.width) net runs (memory_at runs.width (block_made runs.width) runs.n runs.t)).list ≡ memory
+      → terms_in (layout_of (block_of runs.width) net runs (2 + runs.n)).list
+      ≡ runs.n * (4 * runs.width + 2) + 2 * STATE_WIRES + runs.t * block_terms runs.width runs.n + 6 + memory
   layout_terms is =
-      layout_cost terms_in terms w width n (4 * w + 2) (2 * STATE_WIRES) (block_terms w n) 6
-      (record { words = word_terms w width; zero_wires = zeros_terms; steps = block_counted.terms w width n; ties = tie_terms }) net image t memory is
+      layout_cost terms_in terms runs.width width runs.n (4 * runs.width + 2) (2 * STATE_WIRES) (block_terms runs.width runs.n) 6
+      (record { words = word_terms _ width; zero_wires = zeros_terms; steps = block_counted.terms _ width runs.n; ties = tie_terms })
+      net runs.image runs.t memory is

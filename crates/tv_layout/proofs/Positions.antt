@@ -9,12 +9,10 @@ use Rattle.tv_core.proofs.MeetsLaws.{Meets-split, Meets-join}
 use Rattle.tv_core.specs.Circuits.{fresh, here, put, pure, turns, ◌>>=◌}
 use Rattle.tv_core.specs.Combinations.{wire}
 use Rattle.tv_core.specs.Laws.{Meets}
-use Rattle.tv_argument.specs.Memory.{argument_of}
 use Rattle.tv_layout.proofs.Blocks.{BlockSizes}
 use Rattle.tv_layout.specs.Blocks.{BlockCircuit}
-use Rattle.tv_layout.specs.Checks.{checks_of}
-use Rattle.tv_layout.specs.Layout.{word_of, words_of, zero_wire_of, zero_wires_of, tie_of, step_of, steps_of, before_steps, system_lines, layout_of}
-use Rattle.tv_layout.specs.Places.{log_from, log_of, boot_count, line_count, tape_at, zero_wires_at, first_at}
+use Rattle.tv_layout.specs.Layout.{word_of, words_of, zero_wire_of, zero_wires_of, tie_of, step_of, steps_of, before_steps, layout_of, lines_argument}
+use Rattle.tv_layout.specs.Places.{log_from, log_of, boot_count, tape_at, zero_wires_at, first_at, ProgramRuns}
 use Rattle.tv_layout.specs.declared.places.TheConstants.{STATE_WIRES}
 use Rattle.tv_block.specs.declared.records.Reached.{Reached}
 
@@ -54,31 +52,31 @@ module _ (block : BlockCircuit) (made : ℕ) (sizes : BlockSizes block made) whe
   unfolding steps_of
   steps_next n time t zero_wires first = turns-next (step_of block n time) (before_steps zero_wires) first made t (step_next n time)
 
-  module _ (w : ℕ) (net : Net) (image : List ℕ) (n t : ℕ) where
+  module _ (net : Net) (runs : ProgramRuns) where
     -- what the steps lead to
     abbrev pub last_of : Reached
-    last_of = (steps_of block n (boot_count image n) t (zero_wires_at w n) (first_at w n)).answer
+    last_of = (steps_of block runs.n (boot_count runs.image runs.n) runs.t (zero_wires_at runs.width runs.n) (first_at runs.width runs.n)).answer
 
     -- the constraints of the system, part by part, each from its place on
-    pub layout_list : (layout_of block w net image n t (2 + n)).list
-        ≡ (words_of w tape_at n (2 + n)).list
-        ++ ((zero_wires_of (zero_wires_at w n)).list
-        ++ ((steps_of block n (boot_count image n) t (zero_wires_at w n) (first_at w n)).list
-        ++ ((tie_of last_of (memory_at w made n t)).list
-        ++ (argument_of net (checks_of image n t) (log_of (line_count image n t)) (system_lines block w image n t) (memory_at w made n t)).list)))
+    pub layout_list : (layout_of block net runs (2 + runs.n)).list ≡ (words_of runs.width tape_at runs.n (2 + runs.n)).list
+        ++ ((zero_wires_of (zero_wires_at runs.width runs.n)).list
+        ++ ((steps_of block runs.n (boot_count runs.image runs.n) runs.t (zero_wires_at runs.width runs.n) (first_at runs.width runs.n)).list
+        ++ ((tie_of last_of (memory_at runs.width made runs.n runs.t)).list
+        ++ (lines_argument block net runs (memory_at runs.width made runs.n runs.t)).list)))
     unfolding layout_of tie_of put ◌>>=◌
     layout_list =
-        rw (words_next w tape_at n (2 + n)) (rw (zero_wires_next (zero_wires_at w n), zero_wires_answer (zero_wires_at w n))
-        (rw (steps_next n (boot_count image n) t (zero_wires_at w n) (first_at w n)) refl))
+        rw (words_next runs.width tape_at runs.n (2 + runs.n))
+        (rw (zero_wires_next (zero_wires_at runs.width runs.n), zero_wires_answer (zero_wires_at runs.width runs.n))
+        (rw (steps_next runs.n (boot_count runs.image runs.n) runs.t (zero_wires_at runs.width runs.n) (first_at runs.width runs.n)) refl))
 
     pub record LayoutMet (z : List ℕ) : Type 0 where
-      pub words : Meets z (words_of w tape_at n (2 + n)).list
-      pub zero_wires : Meets z (zero_wires_of (zero_wires_at w n)).list
-      pub steps : Meets z (steps_of block n (boot_count image n) t (zero_wires_at w n) (first_at w n)).list
-      pub tie : Meets z (tie_of last_of (memory_at w made n t)).list
-      pub honest : Meets z (argument_of net (checks_of image n t) (log_of (line_count image n t)) (system_lines block w image n t) (memory_at w made n t)).list
+      pub words : Meets z (words_of runs.width tape_at runs.n (2 + runs.n)).list
+      pub zero_wires : Meets z (zero_wires_of (zero_wires_at runs.width runs.n)).list
+      pub steps : Meets z (steps_of block runs.n (boot_count runs.image runs.n) runs.t (zero_wires_at runs.width runs.n) (first_at runs.width runs.n)).list
+      pub tie : Meets z (tie_of last_of (memory_at runs.width made runs.n runs.t)).list
+      pub honest : Meets z (lines_argument block net runs (memory_at runs.width made runs.n runs.t)).list
 
-    pub layout_met : (z : List ℕ) → Meets z (layout_of block w net image n t (2 + n)).list → LayoutMet z
+    pub layout_met : (z : List ℕ) → Meets z (layout_of block net runs (2 + runs.n)).list → LayoutMet z
     layout_met z meets =
         let a = Meets-split z _ _ (rw layout_list at meets) in
         let b = Meets-split z _ _ a.1 in
@@ -86,18 +84,19 @@ module _ (block : BlockCircuit) (made : ℕ) (sizes : BlockSizes block made) whe
         let d = Meets-split z _ _ c.1 in
         record { words = a.0; zero_wires = b.0; steps = c.0; tie = d.0; honest = d.1 }
 
-    pub layout_meets : (z : List ℕ) → LayoutMet z → Meets z (layout_of block w net image n t (2 + n)).list
+    pub layout_meets : (z : List ℕ) → LayoutMet z → Meets z (layout_of block net runs (2 + runs.n)).list
     layout_meets z m =
         rw layout_list (Meets-join z _ _ m.words (Meets-join z _ _ m.zero_wires (Meets-join z _ _ m.steps (Meets-join z _ _ m.tie m.honest))))
 
     -- where it ends
-    pub layout_next : (argument_made : ℕ) → ((at : ℕ)
-        → (argument_of net (checks_of image n t) (log_of (line_count image n t)) (system_lines block w image n t) at).next ≡ at + argument_made)
-        → (layout_of block w net image n t (2 + n)).next ≡ memory_at w made n t + argument_made
+    pub layout_next : (argument_made : ℕ) → ((at : ℕ) → (lines_argument block net runs at).next ≡ at + argument_made)
+        → (layout_of block net runs (2 + runs.n)).next ≡ memory_at runs.width made runs.n runs.t + argument_made
     unfolding layout_of tie_of put ◌>>=◌
     layout_next argument_made ends =
-        rw (words_next w tape_at n (2 + n)) (rw (zero_wires_next (zero_wires_at w n), zero_wires_answer (zero_wires_at w n))
-        (rw (steps_next n (boot_count image n) t (zero_wires_at w n) (first_at w n)) (ends (memory_at w made n t))))
+        rw (words_next runs.width tape_at runs.n (2 + runs.n))
+        (rw (zero_wires_next (zero_wires_at runs.width runs.n), zero_wires_answer (zero_wires_at runs.width runs.n))
+        (rw (steps_next runs.n (boot_count runs.image runs.n) runs.t (zero_wires_at runs.width runs.n) (first_at runs.width runs.n))
+        (ends (memory_at runs.width made runs.n runs.t))))
 
 -- ---- the logarithm
 record IsLog (k count most : ℕ) : Type 0 where

@@ -20,9 +20,8 @@ use Rattle.tv_layout.proofs.Sound.{layout_sound}
 use Rattle.tv_layout.proofs.Blocks.{BlockSizes, BlockIsSound, BlockIsComplete}
 use Rattle.tv_layout.specs.Blocks.{BlockCircuit, BlockValues}
 use Rattle.tv_layout.specs.Layout.{layout, taken_of}
-use Rattle.tv_layout.specs.Places.{WithinLimits}
+use Rattle.tv_layout.specs.Places.{WithinLimits, ProgramRuns, runs_of}
 use Rattle.tv_layout.specs.Reduces.{HasSolution, HasRun, HasShortRun, Reduces}
-use Rattle.tv_layout.specs.Sound.{IsRun}
 use Rattle.tv_layout.specs.RunInputs.{run_on}
 use Rattle.tv_layout.specs.Values.{fill}
 
@@ -34,55 +33,44 @@ words_by_places w z k n each = All-from_get_or (λ v. v < 2 ^ w) (take n (drop k
     let within : i < n = omega (arith, length-take n (drop k z)) in
     subst (λ v. v < 2 ^ w) (sym (get_or-take n (drop k z) i 0 within ∙ get_or-drop k z i 0)) (each i within))
 
-module _ (w : ℕ) (net : Net) (block : BlockCircuit) (made : ℕ) (values : BlockValues) (sizes : BlockSizes block made) (law : BlockIsSound w block)
-    (complete : BlockIsComplete w block made values)
-    (image : List ℕ) (n t : ℕ) (fits : WithinLimits w image n t) where
-  runs : (z x : List ℕ) → length x ≡ n → HasFrom z 2 x → Sat (layout block w net image n t) z → IsRun w block image x t z
-  runs z x e has sat =
-      layout_sound w net block made sizes law image x z t (subst (λ m. WithinLimits w image m t) (sym e) fits) has
-      (subst (λ m. Sat (layout block w net image m t) z) (sym e) sat)
-
-  only_run : (v : ℕ) (x : List ℕ) → length x ≡ n → HasSolution (layout block w net image n t) (v ∷ x) → HasShortRun w image x t v
+module _ (net : Net) (block : BlockCircuit) (made : ℕ) (values : BlockValues) (runs : ProgramRuns) (sizes : BlockSizes block made)
+    (law : BlockIsSound runs.width block) (complete : BlockIsComplete runs.width block made values) (fits : WithinLimits runs) where
+  only_run : (v : ℕ) (x : List ℕ) → length x ≡ runs.n → HasSolution (layout block net runs) (v ∷ x) → HasShortRun runs x v
   only_run v x e s =
       let has = has_extended s.z 1 (v ∷ x) s.extends.values in
-      let run = runs s.z x e has.1 s.sat in
-      let aux = taken_of block w image (length x) t s.z in
+      let run = layout_sound net block made runs sizes law x s.z fits e has.1 s.sat in
+      let aux = taken_of block runs s.z in
       record {
-        run = record { aux = aux; words = run.taken; accepts = subst (λ a. Accepts w image x aux t a) has.0 run.accepts };
-        short = subst (λ words. length words < t) run.reads (answering_takes_few w t (start w image x aux) (slice_index s.z 1) run.accepts.0 run.accepts.2);
+        run = record { aux = aux; words = run.taken; accepts = subst (λ a. Accepts runs.width runs.image x aux runs.t a) has.0 run.accepts };
+        short = subst (λ words. length words < runs.t) run.reads
+            (answering_takes_few runs.width runs.t (start runs.width runs.image x aux) (slice_index s.z 1) run.accepts.0 run.accepts.2);
       }
 
-  where_run : (v : ℕ) (x : List ℕ) → AreWords w x → length x ≡ n → HasRun w image x t v → HasSolution (layout block w net image n t) (v ∷ x)
+  where_run : (v : ℕ) (x : List ℕ) → AreWords runs.width x → length x ≡ runs.n → HasRun runs x v → HasSolution (layout block net runs) (v ∷ x)
   where_run v x words e run =
-      let f = fill_complete w net block made values sizes law complete image x run.aux t v
-      (subst (λ m. WithinLimits w image m t) (sym e) fits) words run.words run.accepts in
-      subst (λ m. HasSolution (layout block w net image m t) (v ∷ x)) e
-      (record { z = fill values net (run_on w image x run.aux t) v; sat = f.sat; extends = f.extends })
+      subst (λ n. WithinLimits (runs_of runs.width runs.image n runs.t) → HasSolution (layout block net (runs_of runs.width runs.image n runs.t)) (v ∷ x)) e
+      (λ fits. let f = fill_complete runs.width net block made values sizes law complete runs.image x run.aux runs.t v fits words run.words run.accepts in
+      record { z = fill values net (run_on runs.width runs.image x run.aux runs.t) v; sat = f.sat; extends = f.extends }) fits
 
-  public_words : (z : List ℕ) → Sat (layout block w net image n t) z → AreWords w (take (1 + n) (drop 1 z))
+  public_words : (z : List ℕ) → Sat (layout block net runs) z → AreWords runs.width (take (1 + runs.n) (drop 1 z))
   public_words z sat =
-      let x : List ℕ = each_below n (λ i. slice_index z (2 + i)) in
-      let long : length x ≡ n = length-each_below n (λ i. slice_index z (2 + i)) in
-      let has : HasFrom z 2 x = has_of_each z 2 n (λ i. slice_index z (2 + i)) (λ i h. refl) in
-      let run = runs z x long has sat in
-      words_by_places w z 1 (1 + n) (λ i h. elim (cases_eq i 0) [
-        | inl first ↦ let same : 1 + i ≡ 1 = omega arith in subst (λ k. slice_index z k < 2 ^ w) (sym same) run.answer
+      let x : List ℕ = each_below runs.n (λ i. slice_index z (2 + i)) in
+      let long : length x ≡ runs.n = length-each_below runs.n (λ i. slice_index z (2 + i)) in
+      let has : HasFrom z 2 x = has_of_each z 2 runs.n (λ i. slice_index z (2 + i)) (λ i h. refl) in
+      let run = layout_sound net block made runs sizes law x z fits long has sat in
+      words_by_places runs.width z 1 (1 + runs.n) (λ i h. elim (cases_eq i 0) [
+        | inl first ↦ let same : 1 + i ≡ 1 = omega arith in subst (λ k. slice_index z k < 2 ^ runs.width) (sym same) run.answer
         | inr later ↦
             let same : 2 + (i - 1) ≡ 1 + i = omega arith in
-            subst (λ k. slice_index z k < 2 ^ w) same
-            (subst (λ v. v < 2 ^ w) (sym (at_place z x 2 has (i - 1) (omega (arith, long)))) (word_at w fits.width x (i - 1) run.tape))
+            subst (λ k. slice_index z k < 2 ^ runs.width) same
+            (subst (λ v. v < 2 ^ runs.width) (sym (at_place z x 2 has (i - 1) (omega (arith, long)))) (word_at runs.width fits.width x (i - 1) run.tape))
       ])
 
--- the system of each program, tape's length and number of steps within the limits is one, over both networks
-abbrev pub LayoutReduces : Type 0
-LayoutReduces = (w : ℕ) (net : Net) (block : BlockCircuit) (made : ℕ) (values : BlockValues)
-    → BlockSizes block made → BlockIsSound w block → BlockIsComplete w block made values
-    → (image : List ℕ) (n t : ℕ) → WithinLimits w image n t → Reduces w (layout block w net image n t) image n t
-
-pub layout_reduces : LayoutReduces
-layout_reduces w net block made values sizes law complete image n t fits = record {
-  publics = refl;
-  only = λ v x words e s. only_run w net block made values sizes law complete image n t fits v x e s;
-  where_ = λ v x words e run. where_run w net block made values sizes law complete image n t fits v x (All-tail (λ v. v < 2 ^ w) v x words) e run;
-  words = public_words w net block made values sizes law complete image n t fits;
-}
+  -- the system of the runs is one
+  pub layout_reduces : Reduces (layout block net runs) runs
+  layout_reduces = record {
+    publics = refl;
+    only = λ v x words e s. only_run v x e s;
+    where_ = λ v x words e run. where_run v x (All-tail (λ v. v < 2 ^ runs.width) v x words) e run;
+    words = public_words;
+  }

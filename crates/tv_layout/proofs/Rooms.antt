@@ -1,5 +1,5 @@
 -- How large a system is at most: its wires and constraints within the limits are numbers of 32 bits.
-use Rattle.std.proofs.Common.{◌≡◌, ℕ, suc, ◌+◌, ◌-◌, ◌*◌, ◌<◌, ◌≤◌, ◌^◌, List, length, ap, ◌∙◌, arith}
+use Rattle.std.proofs.Common.{◌≡◌, ℕ, suc, ◌+◌, ◌-◌, ◌*◌, ◌<◌, ◌≤◌, ◌^◌, length, ap, ◌∙◌, arith}
 use Rattle.std.proofs.Math.Nat.{mul-le-mul, mul-le-mul_left, pow-le-pow_right}
 use Rattle.tv_benes.proofs.Most.{switches_most, network_few}
 use Rattle.tv_benes.specs.Through.{switches}
@@ -15,8 +15,8 @@ use Rattle.tv_layout.proofs.LineKinds.{kinds_short}
 use Rattle.tv_layout.proofs.MemoryCosts.{wires_are, constraints_are}
 use Rattle.tv_layout.proofs.Positions.{log_above, log_within, log_some}
 use Rattle.tv_layout.specs.Checks.{checks_of}
-use Rattle.tv_layout.specs.Places.{WithinLimits, line_count, log_of}
-use Rattle.tv_layout.specs.Sizes.{memory_wires, memory_constraints, system_made, system_added, network_most, size_most}
+use Rattle.tv_layout.specs.Places.{WithinLimits, line_count, log_of, ProgramRuns}
+use Rattle.tv_layout.specs.Sizes.{memory_wires, memory_constraints, system_made, system_added, network_most, system_most}
 use Rattle.tv_layout.specs.declared.places.TheConstants.{STATE_WIRES}
 
 -- ---- the network
@@ -42,30 +42,30 @@ network_is Waksman h =
     rw (e, f) (omega arith)
 
 -- ---- the checks
-pub checks_short : (w : ℕ) (image : List ℕ) (n t : ℕ) → WithinLimits w image n t → AreShort (checks_of image n t) (2 ^ log_of (line_count image n t))
-checks_short w image n t fits =
-    let count : line_count image n t ≤ 2 ^ 20 = omega (arith, fits.image_fits, fits.tape_fits, fits.steps_fit) in
+pub checks_short : (runs : ProgramRuns) → WithinLimits runs → AreShort (checks_of runs) (2 ^ log_of (line_count runs))
+checks_short runs fits =
+    let count : line_count runs ≤ 2 ^ 20 = omega (arith, fits.image_fits, fits.tape_fits, fits.steps_fit) in
     record {
-      count = log_above (line_count image n t) count;
-      kinds = λ i h. kinds_short (log_of (line_count image n t)) (length image) n i (log_within (line_count image n t) count);
+      count = log_above (line_count runs) count;
+      kinds = λ i h. kinds_short (log_of (line_count runs)) (length runs.image) runs.n i (log_within (line_count runs) count);
     }
 
 -- ---- all of it
-pub record SystemFits (w : ℕ) (net : Net) (image : List ℕ) (n t : ℕ) : Type 0 where
-  pub wires_most : 2 + n + system_made w net image n t ≤ size_most net (log_of (line_count image n t)) n t
-  pub constraints_most : system_added w net image n t ≤ size_most net (log_of (line_count image n t)) n t
-  pub wires : 2 + n + system_made w net image n t < 2 ^ 32
-  pub constraints : system_added w net image n t < 2 ^ 32
+pub record SystemFits (net : Net) (runs : ProgramRuns) : Type 0 where
+  pub wires_most : 2 + runs.n + system_made net runs ≤ system_most net runs
+  pub constraints_most : system_added net runs ≤ system_most net runs
+  pub wires : 2 + runs.n + system_made net runs < 2 ^ 32
+  pub constraints : system_added net runs < 2 ^ 32
 
-module _ (w : ℕ) (net : Net) (image : List ℕ) (n t : ℕ) (fits : WithinLimits w image n t) where
+module _ (net : Net) (runs : ProgramRuns) (fits : WithinLimits runs) where
   abbrev k : ℕ
-  k = log_of (line_count image n t)
+  k = log_of (line_count runs)
 
   some : 1 ≤ k
-  some = log_some (line_count image n t)
+  some = log_some (line_count runs)
 
   few : k ≤ 20
-  few = log_within (line_count image n t) (omega (arith, fits.image_fits, fits.tape_fits, fits.steps_fit))
+  few = log_within (line_count runs) (omega (arith, fits.image_fits, fits.tape_fits, fits.steps_fit))
 
   -- the network's share, as the bound has it
   network_share : 10 * switches net (k - 1) ≡ network_most net k
@@ -73,46 +73,47 @@ module _ (w : ℕ) (net : Net) (image : List ℕ) (n t : ℕ) (fits : WithinLimi
       let same : suc (k - 1) ≡ k = omega (arith, some) in
       network_is net (k - 1) ∙ ap (network_most net) same
 
-  memory_few : memory_wires net image n t ≤ 5 * switches net (k - 1) + 2 ^ k * 2 ^ 6
-  memory_few = let sum = checks_cheap.few_made (checks_of image n t) (2 ^ k) (checks_short w image n t fits) in
-      omega (arith, sum, wires_are net image n t, made_few net k)
+  memory_few : memory_wires net runs ≤ 5 * switches net (k - 1) + 2 ^ k * 2 ^ 6
+  memory_few = let sum = checks_cheap.few_made (checks_of runs) (2 ^ k) (checks_short runs fits) in
+      omega (arith, sum, wires_are net runs, made_few net k)
 
-  constraints_few : memory_constraints net image n t ≤ 5 * switches net (k - 1) + 2 ^ k * 2 ^ 6
-  constraints_few = let sum = checks_cheap.few_added (checks_of image n t) (2 ^ k) (checks_short w image n t fits) in
-      omega (arith, sum, constraints_are net image n t, made_few net k)
+  constraints_few : memory_constraints net runs ≤ 5 * switches net (k - 1) + 2 ^ k * 2 ^ 6
+  constraints_few = let sum = checks_cheap.few_added (checks_of runs) (2 ^ k) (checks_short runs fits) in
+      omega (arith, sum, constraints_are net runs, made_few net k)
 
-  wires_small : 2 + n + system_made w net image n t ≤ size_most net k n t
+  wires_small : 2 + runs.n + system_made net runs ≤ system_most net runs
   wires_small =
-      let words : n * w ≤ n * 32 = mul-le-mul_left n (width_short w fits.width) in
-      let steps : t * block_made w ≤ t * 2 ^ 11 = mul-le-mul_left t (block_counted.cheap w fits.width).wires in
-      most (n * w) (t * block_made w) (memory_wires net image n t) (switches net (k - 1)) (network_most net k) (2 ^ k) words steps memory_few network_share
+      let words : runs.n * runs.width ≤ runs.n * 32 = mul-le-mul_left runs.n (width_short runs.width fits.width) in
+      let steps : runs.t * block_made runs.width ≤ runs.t * 2 ^ 11 = mul-le-mul_left runs.t (block_counted.cheap runs.width fits.width).wires in
+      most (runs.n * runs.width) (runs.t * block_made runs.width) (memory_wires net runs) (switches net (k - 1)) (network_most net k) (2 ^ k)
+      words steps memory_few network_share
     where
-      most : (a b c s m p : ℕ) → a ≤ n * 32 → b ≤ t * 2 ^ 11 → c ≤ 5 * s + p * 2 ^ 6 → 10 * s ≡ m
-          → 2 + n + (a + STATE_WIRES + b + c) ≤ 2048 * t + m + 200 * p + 40 * (n + 1) + 64
+      most : (a b c s m p : ℕ) → a ≤ runs.n * 32 → b ≤ runs.t * 2 ^ 11 → c ≤ 5 * s + p * 2 ^ 6 → 10 * s ≡ m
+          → 2 + runs.n + (a + STATE_WIRES + b + c) ≤ 2048 * runs.t + m + 200 * p + 40 * (runs.n + 1) + 64
       most a b c s m p d e f g = omega arith
 
-  constraints_small : system_added w net image n t ≤ size_most net k n t
+  constraints_small : system_added net runs ≤ system_most net runs
   constraints_small =
-      let short : w + 1 ≤ 33 = omega (arith, width_short w fits.width) in
-      let words : n * (w + 1) ≤ n * 33 = mul-le-mul_left n short in
-      let steps : t * block_added w ≤ t * 2 ^ 11 = mul-le-mul_left t (block_counted.cheap w fits.width).constraints in
-      most (n * (w + 1)) (t * block_added w) (memory_constraints net image n t) (switches net (k - 1)) (network_most net k)
+      let short : runs.width + 1 ≤ 33 = omega (arith, width_short runs.width fits.width) in
+      let words : runs.n * (runs.width + 1) ≤ runs.n * 33 = mul-le-mul_left runs.n short in
+      let steps : runs.t * block_added runs.width ≤ runs.t * 2 ^ 11 = mul-le-mul_left runs.t (block_counted.cheap runs.width fits.width).constraints in
+      most (runs.n * (runs.width + 1)) (runs.t * block_added runs.width) (memory_constraints net runs) (switches net (k - 1)) (network_most net k)
       (2 ^ k) words steps constraints_few network_share
     where
-      most : (a b c s m p : ℕ) → a ≤ n * 33 → b ≤ t * 2 ^ 11 → c ≤ 5 * s + p * 2 ^ 6 → 10 * s ≡ m
-          → a + STATE_WIRES + b + 2 + c ≤ 2048 * t + m + 200 * p + 40 * (n + 1) + 64
+      most : (a b c s m p : ℕ) → a ≤ runs.n * 33 → b ≤ runs.t * 2 ^ 11 → c ≤ 5 * s + p * 2 ^ 6 → 10 * s ≡ m
+          → a + STATE_WIRES + b + 2 + c ≤ 2048 * runs.t + m + 200 * p + 40 * (runs.n + 1) + 64
       most a b c s m p d e f g = omega arith
 
-  all_fit : size_most net k n t < 2 ^ 32
+  all_fit : system_most net runs < 2 ^ 32
   all_fit =
       let s = switches_few net (k - 1) (omega (arith, few)) in
       let power : 2 ^ k ≤ 2 ^ 20 = pow-le-pow_right (omega arith) few in
       small (network_most net k) (2 ^ k) (switches net (k - 1)) s power network_share
     where
-      small : (m p s : ℕ) → s ≤ 39 * 2 ^ 19 → p ≤ 2 ^ 20 → 10 * s ≡ m → 2048 * t + m + 200 * p + 40 * (n + 1) + 64 < 2 ^ 32
+      small : (m p s : ℕ) → s ≤ 39 * 2 ^ 19 → p ≤ 2 ^ 20 → 10 * s ≡ m → 2048 * runs.t + m + 200 * p + 40 * (runs.n + 1) + 64 < 2 ^ 32
       small m p s a b c = omega (arith, a, b, c, fits.tape_fits, fits.steps_fit)
 
-  pub system_fits : SystemFits w net image n t
+  pub system_fits : SystemFits net runs
   system_fits = record {
     wires_most = wires_small;
     constraints_most = constraints_small;

@@ -21,7 +21,7 @@ use Rattle.tv_step.specs.Trace.{looked_at, data_line, step_lines, lines_of, null
 use Rattle.tv_word.specs.Widths.{IsWidth}
 use Rattle.tv_layout.proofs.Boot.{LinesFrom-append, length-boot_lines, boot_lines_placed, padding_placed, length-padding}
 use Rattle.tv_layout.proofs.Whole.{words_32, spare, filled, power_few}
-use Rattle.tv_layout.specs.Places.{WithinLimits, boot_count, line_count}
+use Rattle.tv_layout.specs.Places.{WithinLimits, boot_count, line_count, runs_like}
 use Rattle.tv_layout.specs.Sound.{padding, all_lines}
 use Rattle.tv_word.proofs.WidthLaws.{word_small}
 
@@ -61,7 +61,7 @@ padding_honest : (m : ℕ → ℕ) (time more : ℕ) → m NULL_CELL ≡ 0 → H
 padding_honest m time zero e = tt
 padding_honest m time (suc more) e = (sym e, padding_honest (written m (null_line time)) (time + 1) more refl)
 
-module _ (w : ℕ) (image x aux : List ℕ) (t : ℕ) (fits : WithinLimits w image (length x) t) (x_words : AreWords w x) (aux_words : AreWords w aux) where
+module _ (w : ℕ) (image x aux : List ℕ) (t : ℕ) (fits : WithinLimits (runs_like w image x t)) (x_words : AreWords w x) (aux_words : AreWords w aux) where
   pub input : IsInput w image x aux
   input = record {
     width = fits.width;
@@ -73,36 +73,34 @@ module _ (w : ℕ) (image x aux : List ℕ) (t : ℕ) (fits : WithinLimits w ima
   }
 
   abbrev count : ℕ
-  count = line_count image (length x) t
+  count = line_count (runs_like w image x t)
 
   abbrev more : ℕ
-  more = spare image (length x) t
+  more = spare (runs_like w image x t)
 
   steps_many : length (lines_of w (length x) (length image + length x) (start w image x aux) t) ≡ 3 * t
   steps_many = lines_are_three_a_step w (length x) (length image + length x) (start w image x aux) t
 
-  run_many : length (run_lines w image x aux t) ≡ line_count image (length x) t
+  run_many : length (run_lines w image x aux t) ≡ line_count (runs_like w image x t)
   run_many =
       length-append (boot_lines image x) (lines_of w (length x) (length image + length x) (start w image x aux) t)
       ∙ ap₂ (λ a b. a + b) (length-boot_lines image x) steps_many
 
   pub run_placed : LinesFrom 0 (all_lines w image x aux t)
   run_placed =
-      LinesFrom-append 0 (line_count image (length x) t) (run_lines w image x aux t) (padding (line_count image (length x) t) (spare image (length x) t))
-      (omega (arith, run_many))
+      LinesFrom-append 0 count (run_lines w image x aux t) (padding count more) (omega (arith, run_many))
       (LinesFrom-append 0 (boot_count image (length x)) (boot_lines image x) (lines_of w (length x) (length image + length x) (start w image x aux) t)
       (omega (arith, length-boot_lines image x))
       (boot_lines_placed image x (words_32 w fits.width image fits.words) (words_32 w fits.width x x_words) (omega (arith, fits.image_fits))
       (omega (arith, fits.tape_fits)))
       (trace_placed w fits.width (length x) (omega (arith, fits.tape_fits)) (length image + length x) (start w image x aux)
-      (start_in_range w fits.width image x aux x_words aux_words) t))
-      (padding_placed (line_count image (length x) t) (spare image (length x) t))
+      (start_in_range w fits.width image x aux x_words aux_words) t)) (padding_placed count more)
 
   pub run_few : length (all_lines w image x aux t) ≤ 2 ^ 20
   run_few =
-      let a = length-append (run_lines w image x aux t) (padding (line_count image (length x) t) (spare image (length x) t)) in
-      let b = length-padding (line_count image (length x) t) (spare image (length x) t) in
-      omega (arith, a, b, run_many, filled image (length x) t w fits, power_few image (length x) t w fits)
+      let a = length-append (run_lines w image x aux t) (padding count more) in
+      let b = length-padding count more in
+      omega (arith, a, b, run_many, filled (runs_like w image x t) fits, power_few (runs_like w image x t) fits)
 
   -- the null cell holds 0
   null_there : memory_after (run_lines w image x aux t) NULL_CELL ≡ 0
@@ -114,6 +112,6 @@ module _ (w : ℕ) (image x aux : List ℕ) (t : ℕ) (fits : WithinLimits w ima
   pub run_honest : Honest (all_lines w image x aux t)
   run_honest =
       let front = HonestFrom-from_Honest (λ _. 0) (run_lines w image x aux t) (lines_are_honest w image x aux t input) in
-      let all = HonestFrom-append (λ _. 0) (run_lines w image x aux t) (padding (line_count image (length x) t) (spare image (length x) t)) front
-      (padding_honest (memory_after (run_lines w image x aux t)) (line_count image (length x) t) (spare image (length x) t) null_there) in
+      let all = HonestFrom-append (λ _. 0) (run_lines w image x aux t) (padding count more) front
+      (padding_honest (memory_after (run_lines w image x aux t)) count more null_there) in
       λ earlier line later e. Honest-from_HonestFrom (λ _. 0) (all_lines w image x aux t) earlier line later all e

@@ -12,6 +12,7 @@ use Rattle.tv_lines.specs.PackedLines.{line_value}
 use Rattle.tv_lines.specs.Placed.{LinesFrom}
 use Rattle.tv_argument.proofs.Sound.{memory_sound}
 use Rattle.tv_numbers.specs.Laws.{DoesStep}
+use Rattle.tv_numbers.specs.Numbers.{Transition}
 use Rattle.tv_numbers.specs.Views.{Matches}
 use Rattle.tv_step.specs.Cells.{boot_lines, IsInput}
 use Rattle.tv_step.specs.Machine.{start, Accepts}
@@ -30,7 +31,7 @@ use Rattle.tv_layout.specs.Blocks.{BlockCircuit}
 use Rattle.tv_layout.proofs.Checked.{are_of_kinds}
 use Rattle.tv_layout.specs.Checks.{checks_of}
 use Rattle.tv_layout.specs.Layout.{steps_of, state_at, system_lines, taken_of, layout}
-use Rattle.tv_layout.specs.Places.{WithinLimits, boot_count, line_count, log_of, tape_at, zero_wires_at, first_at}
+use Rattle.tv_layout.specs.Places.{WithinLimits, boot_count, line_count, log_of, tape_at, zero_wires_at, first_at, ProgramRuns, runs_of, runs_like}
 use Rattle.tv_layout.specs.Sound.{padding, IsRun}
 
 -- the first state's wires hold the start
@@ -41,22 +42,24 @@ starts block w image x aux z time zero_wires first zeros_there =
     (record { pc = refl; regs = refl; flag = refl; primary = refl })
 
 module _ (w : ℕ) (block : BlockCircuit) (made : ℕ) (sizes : BlockSizes block made) (law : BlockIsSound w block) (image x z : List ℕ) (t : ℕ)
-    (fits : WithinLimits w image (length x) t)
+    (fits : WithinLimits (runs_like w image x t))
     (assigns : Assigns z) (words : AreWords w x) (has : HasFrom z tape_at x) (zeros_there : HoldsZeros z (zero_wires_at w (length x)))
     (met : Meets z (steps_of block (length x) (boot_count image (length x)) t (zero_wires_at w (length x)) (first_at w (length x))).list)
-    (honest : Honest (map (line_value z) (system_lines block w image (length x) t)))
+    (honest : Honest (map (line_value z) (system_lines block (runs_like w image x t))))
     (answers : slice_index z (steps_of block (length x) (boot_count image (length x)) t (zero_wires_at w (length x)) (first_at w (length x))).answer.answers
     ≡ 1)
     (value : slice_index z (steps_of block (length x) (boot_count image (length x)) t (zero_wires_at w (length x)) (first_at w (length x))).answer.value
     ≡ slice_index z 1) where
   abbrev aux : List ℕ
-  aux = taken_of block w image (length x) t z
+  aux = taken_of block (runs_like w image x t) z
 
-  each_does : (i : ℕ) → i < t → DoesStep w x (boot_count image (length x) + 3 * i)
-      (transition_at block made sizes z x (boot_count image (length x)) (zero_wires_at w (length x)) (first_at w (length x)) i)
+  abbrev here : ℕ → Transition
+  here i = transition_at block made sizes z x (boot_count image (length x)) (zero_wires_at w (length x)) (first_at w (length x)) i
+
+  each_does : (i : ℕ) → i < t → DoesStep w x (boot_count image (length x) + 3 * i) (here i)
   each_does i h =
       does block made sizes z x (boot_count image (length x)) (zero_wires_at w (length x)) (first_at w (length x)) w fits.width law t assigns
-      (short image (length x) t w fits) (early image (length x) t w fits) zeros_there met i h
+      (short (runs_like w image x t) fits) (early (runs_like w image x t) fits) zeros_there met i h
 
   aux_is : aux ≡ joined_below t (λ i. taken_in z
       (step block made sizes z x (boot_count image (length x)) (zero_wires_at w (length x)) (first_at w (length x)) i).spot)
@@ -65,7 +68,7 @@ module _ (w : ℕ) (block : BlockCircuit) (made : ℕ) (sizes : BlockSizes block
   aux_words : AreWords w aux
   aux_words = subst (AreWords w) (sym aux_is)
       (taken_words block made sizes z x (boot_count image (length x)) (zero_wires_at w (length x)) (first_at w (length x)) w fits.width law t assigns
-      (short image (length x) t w fits) (early image (length x) t w fits) zeros_there met t (omega arith))
+      (short (runs_like w image x t) fits) (early (runs_like w image x t) fits) zeros_there met t (omega arith))
 
   input : IsInput w image x aux
   input = record {
@@ -73,21 +76,23 @@ module _ (w : ℕ) (block : BlockCircuit) (made : ℕ) (sizes : BlockSizes block
     image_words = fits.words;
     fits = omega (arith, fits.image_fits);
     primary_words = words;
-    short = short image (length x) t w fits;
+    short = short (runs_like w image x t) fits;
     aux_words = aux_words;
   }
 
   abbrev pad : List Line
-  pad = padding (line_count image (length x) t) (spare image (length x) t)
+  pad = padding (line_count (runs_like w image x t)) (spare (runs_like w image x t))
 
   lines_honest : Honest ((boot_lines image x ++ joined_below t (lines w block made sizes law image x z t fits assigns words has zeros_there met)) ++ pad)
   lines_honest = subst Honest (lines_valued w block made sizes law image x z t fits assigns words has zeros_there met) honest
 
-  known : (i : ℕ) → i ≤ t → Known w block made sizes image x z (zero_wires_at w (length x))
-      (first_at w (length x)) t each_does aux aux_is input pad lines_honest
-      (starts block w image x aux z (boot_count image (length x)) (zero_wires_at w (length x)) (first_at w (length x)) zeros_there) i
+  begins : Matches x (here 0).now (start w image x aux)
+  begins = starts block w image x aux z (boot_count image (length x)) (zero_wires_at w (length x)) (first_at w (length x)) zeros_there
+
+  known : (i : ℕ) → i ≤ t → Known w block made sizes image x z (zero_wires_at w (length x)) (first_at w (length x)) t each_does aux aux_is input pad
+      lines_honest begins i
   known i h = known_at w block made sizes image x z (zero_wires_at w (length x)) (first_at w (length x)) t each_does aux aux_is input pad lines_honest
-      (starts block w image x aux z (boot_count image (length x)) (zero_wires_at w (length x)) (first_at w (length x)) zeros_there) i h
+      begins i h
 
   -- the last step
   last_is : (m : ℕ) → m + 1 ≡ t → (steps_of block (length x) (boot_count image (length x)) t (zero_wires_at w (length x)) (first_at w (length x))).answer
@@ -97,15 +102,13 @@ module _ (w : ℕ) (block : BlockCircuit) (made : ℕ) (sizes : BlockSizes block
       ap (λ k. (steps_of block (length x) (boot_count image (length x)) k (zero_wires_at w (length x)) (first_at w (length x))).answer) more
       ∙ last_step block made sizes z x (boot_count image (length x)) (zero_wires_at w (length x)) (first_at w (length x)) m
 
-  last_answers : (m : ℕ) → m + 1 ≡ t → (transition_at block made sizes z x (boot_count image (length x)) (zero_wires_at w (length x))
-      (first_at w (length x)) m).answers ≡ true
+  last_answers : (m : ℕ) → m + 1 ≡ t → (here m).answers ≡ true
   last_answers m e = eq-eqb _ 1 (ap (λ r. slice_index z r.answers) (sym (last_is m e)) ∙ answers)
 
-  last_value : (m : ℕ) → m + 1 ≡ t → (transition_at block made sizes z x (boot_count image (length x)) (zero_wires_at w (length x)) (first_at w (length x)) m).value
-      ≡ slice_index z 1
+  last_value : (m : ℕ) → m + 1 ≡ t → (here m).value ≡ slice_index z 1
   last_value m e = ap (λ r. slice_index z r.value) (sym (last_is m e)) ∙ value
 
-  pub is_run : IsRun w block image x t z
+  pub is_run : IsRun block (runs_like w image x t) x z
   is_run =
       let some : t - 1 + 1 ≡ t = omega (arith, fits.some) in
       record {
@@ -118,33 +121,35 @@ module _ (w : ℕ) (block : BlockCircuit) (made : ℕ) (sizes : BlockSizes block
         states = λ i h. (known i h).matches;
         takes = λ i h. taken_at_is z (step block made sizes z x (boot_count image (length x)) (zero_wires_at w (length x)) (first_at w (length x)) i).spot
             ∙ takes_at w block made sizes image x z (zero_wires_at w (length x)) (first_at w (length x)) t each_does aux aux_is input pad lines_honest
-            (starts block w image x aux z (boot_count image (length x)) (zero_wires_at w (length x)) (first_at w (length x)) zeros_there) i h;
+            begins i h;
         accepts = subst (λ v. Accepts w image x aux t v) (last_value (t - 1) some)
             (accepts w block made sizes image x z (zero_wires_at w (length x)) (first_at w (length x)) t each_does aux aux_is input pad lines_honest
-            (starts block w image x aux z (boot_count image (length x)) (zero_wires_at w (length x)) (first_at w (length x)) zeros_there) (t - 1) some
-            (last_answers (t - 1) some));
-        reads = reads_all w block made sizes image x z (zero_wires_at w (length x)) (first_at w (length x)) t each_does aux aux_is input pad lines_honest
-            (starts block w image x aux z (boot_count image (length x)) (zero_wires_at w (length x)) (first_at w (length x)) zeros_there);
+            begins (t - 1) some (last_answers (t - 1) some));
+        reads = reads_all w block made sizes image x z (zero_wires_at w (length x)) (first_at w (length x)) t each_does aux aux_is input pad
+            lines_honest begins;
       }
 
-abbrev pub LayoutIsSound : Type 0
-LayoutIsSound = (w : ℕ) (net : Net) (block : BlockCircuit) (made : ℕ) → BlockSizes block made → BlockIsSound w block
-    → (image x z : List ℕ) (t : ℕ) → WithinLimits w image (length x) t → HasFrom z tape_at x → Sat (layout block w net image (length x) t) z
-    → IsRun w block image x t z
-
-pub layout_sound : LayoutIsSound
-layout_sound w net block made sizes law image x z t fits has sat =
-    let assigns = Assigns-from_Sat (layout block w net image (length x) t) z sat in
-    let met = layout_met block made sizes w net image (length x) t z (Meets-from_Sat (layout block w net image (length x) t) z sat) in
+sound_like : (w : ℕ) (net : Net) (block : BlockCircuit) (made : ℕ) → BlockSizes block made → BlockIsSound w block
+    → (image x z : List ℕ) (t : ℕ) → WithinLimits (runs_like w image x t) → HasFrom z tape_at x → Sat (layout block net (runs_like w image x t)) z
+    → IsRun block (runs_like w image x t) x z
+sound_like w net block made sizes law image x z t fits has sat =
+    let assigns = Assigns-from_Sat (layout block net (runs_like w image x t)) z sat in
+    let met = layout_met block made sizes net (runs_like w image x t) z (Meets-from_Sat (layout block net (runs_like w image x t)) z sat) in
     let words = are_words w fits.width z assigns tape_at x has (words_there w fits.width z assigns tape_at (length x) _ met.words) in
     let zeros_there = zero_wires_there w fits.width z assigns (zero_wires_at w (length x)) met.zero_wires in
-    let tie = tie_there w fits.width z assigns (last_of block made sizes w net image (length x) t) _ met.tie in
-    let count : ℕ = line_count image (length x) t in
-    let honest = memory_sound net z (checks_of image (length x) t) (log_of count) (system_lines block w image (length x) t) _ (log_some count)
-    (log_within count (few image (length x) t w fits))
-    (lines_many w block made sizes law image x z t fits assigns words has zeros_there met.steps)
+    let tie = tie_there w fits.width z assigns (last_of block made sizes net (runs_like w image x t)) _ met.tie in
+    let count : ℕ = line_count (runs_like w image x t) in
+    let honest = memory_sound net z (checks_of (runs_like w image x t)) (log_of count) (system_lines block (runs_like w image x t)) _ (log_some count)
+    (log_within count (few (runs_like w image x t) fits)) (lines_many w block made sizes law image x z t fits assigns words has zeros_there met.steps)
     (subst (LinesFrom 0) (sym (lines_valued w block made sizes law image x z t fits assigns words has zeros_there met.steps))
     (all_placed w block made sizes law image x z t fits assigns words has zeros_there met.steps))
     (are_of_kinds w block made sizes law image x z t fits assigns words has zeros_there met.steps)
     assigns met.honest in
     is_run w block made sizes law image x z t fits assigns words has zeros_there met.steps honest tie.0 tie.1
+
+pub layout_sound : (net : Net) (block : BlockCircuit) (made : ℕ) (runs : ProgramRuns) → BlockSizes block made → BlockIsSound runs.width block
+    → (x z : List ℕ) → WithinLimits runs → length x ≡ runs.n → HasFrom z tape_at x → Sat (layout block net runs) z → IsRun block runs x z
+layout_sound net block made runs sizes law x z fits long has =
+    subst (λ n. WithinLimits (runs_of runs.width runs.image n runs.t) → Sat (layout block net (runs_of runs.width runs.image n runs.t)) z
+    → IsRun block (runs_of runs.width runs.image n runs.t) x z) long
+    (λ fits sat. sound_like runs.width net block made sizes law runs.image x z runs.t fits has sat) fits

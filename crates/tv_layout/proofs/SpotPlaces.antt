@@ -1,5 +1,5 @@
 -- Lines, and where a step takes a word, are among the wires of their system.
-use Rattle.std.proofs.Common.{◌≡◌, ℕ, ◌+◌, ◌*◌, ◌^◌, ◌<◌, ◌≤◌, List, sym, subst, ◌∙◌, arith}
+use Rattle.std.proofs.Common.{◌≡◌, ℕ, ◌+◌, ◌*◌, ◌^◌, ◌<◌, ◌≤◌, sym, subst, ◌∙◌, arith}
 use Rattle.std.proofs.Math.Nat.{mul-le-mul_right}
 use Rattle.tv_benes.specs.declared.shape.Net.{Net}
 use Rattle.tv_block.specs.Block.{block_of}
@@ -10,7 +10,7 @@ use Rattle.tv_lines.specs.Placed.{line_in}
 use Rattle.tv_layout.proofs.LinePlaces.{line_made}
 use Rattle.tv_layout.proofs.SystemSizes.{system_wires}
 use Rattle.tv_layout.specs.Layout.{system_lines}
-use Rattle.tv_layout.specs.Places.{WithinLimits, line_count, log_of, first_at}
+use Rattle.tv_layout.specs.Places.{WithinLimits, line_count, log_of, first_at, ProgramRuns}
 use Rattle.tv_layout.specs.Sizes.{memory_wires}
 use Rattle.tv_layout.specs.Systems.{system_of}
 use Rattle.tv_layout.specs.declared.places.TheConstants.{STATE_WIRES}
@@ -22,19 +22,19 @@ below : (first at wire before made all rest wires : ℕ) → at ≡ first + befo
     → wire < wires
 below first at wire before made all rest wires begins until steps total = omega (arith, begins, until, steps, total)
 
-module _ (w : ℕ) (net : Net) (image : List ℕ) (n t : ℕ) (fits : WithinLimits w image n t) where
+module _ (net : Net) (runs : ProgramRuns) (fits : WithinLimits runs) where
   -- the steps' wires are followed by those of the memory argument
-  wires_after : (system_of w net image n t).wires ≡ first_at w n + t * block_made w + memory_wires net image n t
-  wires_after = system_wires w net image n t fits ∙ joined (n * w) (t * block_made w) (memory_wires net image n t)
+  wires_after : (system_of net runs).wires ≡ first_at runs.width runs.n + runs.t * block_made runs.width + memory_wires net runs
+  wires_after = system_wires net runs fits ∙ joined (runs.n * runs.width) (runs.t * block_made runs.width) (memory_wires net runs)
     where
-      joined : (a b c : ℕ) → 2 + n + (a + STATE_WIRES + b + c) ≡ 2 + n + a + STATE_WIRES + b + c
+      joined : (a b c : ℕ) → 2 + runs.n + (a + STATE_WIRES + b + c) ≡ 2 + runs.n + a + STATE_WIRES + b + c
       joined a b c = omega arith
 
   -- a line of the system
-  pub line_below : (i : ℕ) → i < 2 ^ log_of (line_count image n t) → (line : LineLc) → line ≡ line_in (system_lines (block_of w) w image n t) i
-      → LineUnder (system_of w net image n t).wires line
+  pub line_below : (i : ℕ) → i < 2 ^ log_of (line_count runs) → (line : LineLc) → line ≡ line_in (system_lines (block_of runs.width) runs) i
+      → LineUnder (system_of net runs).wires line
   line_below i h line is =
-      let made = line_made w image n t fits i h in
+      let made = line_made runs fits i h in
       let wires = wires_after in
       subst (LineUnder _) (sym is) (record {
         cell = omega (arith, made.cell);
@@ -44,12 +44,11 @@ module _ (w : ℕ) (net : Net) (image : List ℕ) (n t : ℕ) (fits : WithinLimi
       })
 
 -- a wire below a step's end is one of the system
-pub of_step : (w : ℕ) (net : Net) (image : List ℕ) (n t step : ℕ) → WithinLimits w image n t → step < t → (at wire : ℕ)
-    → at ≡ first_at w n + step * block_made w
-    → wire < at + block_made w → wire < (system_of w net image n t).wires
-of_step w net image n t step fits within at wire begins until =
-    let steps : (step + 1) * block_made w ≤ t * block_made w = mul-le-mul_right (block_made w) (let next : step + 1 ≤ t = omega (arith, within) in next) in
-    let last : step * block_made w + block_made w ≤ t * block_made w = subst (λ (k : ℕ). k ≤ t * block_made w) (suc_times step (block_made w)) steps in
-    below (first_at w n) at wire (step * block_made w) (block_made w) (t * block_made w) (memory_wires net image n t)
-    (system_of w net image n t).wires begins until last
-    (wires_after w net image n t fits)
+pub of_step : (net : Net) (runs : ProgramRuns) (step : ℕ) → WithinLimits runs → step < runs.t → (at wire : ℕ)
+    → at ≡ first_at runs.width runs.n + step * block_made runs.width → wire < at + block_made runs.width → wire < (system_of net runs).wires
+of_step net runs step fits within at wire begins until =
+    let made : ℕ = block_made runs.width in
+    let steps : (step + 1) * made ≤ runs.t * made = mul-le-mul_right made (let next : step + 1 ≤ runs.t = omega (arith, within) in next) in
+    let last : step * made + made ≤ runs.t * made = subst (λ (k : ℕ). k ≤ runs.t * made) (suc_times step made) steps in
+    below (first_at runs.width runs.n) at wire (step * made) made (runs.t * made) (memory_wires net runs)
+    (system_of net runs).wires begins until last (wires_after net runs fits)

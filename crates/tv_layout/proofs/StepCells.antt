@@ -48,12 +48,12 @@ module _ (w : ℕ) (width : IsWidth w) (n : ℕ) (v : View) (head tail o : ℕ) 
   i = decode w head tail
 
   abbrev cell : ℕ
-  cell = (data_line w n v i o takes time).cell
+  cell = (data_line w n v i o time).cell
 
   -- the data line: of the tape's words, of memory, or of no word
   record Data : Type 0 where
-    within : (data_line w n v i o takes time).cell ≤ NULL_CELL
-    null : (data_line w n v i o takes time).cell ≡ NULL_CELL → (data_line w n v i o takes time).new ≡ 0
+    within : (data_line w n v i o time).cell ≤ NULL_CELL
+    null : (data_line w n v i o time).cell ≡ NULL_CELL → (data_line w n v i o time).new ≡ 0
 
   data_by : (p q : Bool) → takes_primary v i n ≡ p → touches v i ≡ q → Data
   data_by true q e f =
@@ -70,7 +70,7 @@ module _ (w : ℕ) (width : IsWidth w) (n : ℕ) (v : View) (head tail o : ℕ) 
   data_by false false e f =
       let at : cell ≡ NULL_CELL = chosen_third (takes_primary v i n) (touches v i) (tape_cell v.taken) (operand_word v i / word_size w) NULL_CELL e f in
       let kept = chosen_third (i.op == 28) (i.op == 26) (other_word v i) (with_byte_in o (operand_word v i % word_size w) (other_word v i % 256))
-      (old_in w n v i o takes) (no_store i.op 28 refl f) (no_store i.op 26 refl f) in
+      (old_in n v i o) (no_store i.op 28 refl f) (no_store i.op 26 refl f) in
       record { within = omega (arith, at); null = λ same. kept ∙ neither (touches v i) (takes_primary v i n) o 0 f e }
 
   data_cells : Data

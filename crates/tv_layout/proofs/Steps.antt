@@ -74,7 +74,7 @@ start_held block z x time zero_wires first w width zeros_there =
     })
 
 module _ (block : BlockCircuit) (made : ℕ) (sizes : BlockSizes block made) (z x : List ℕ) (time zero_wires first : ℕ) where
-  -- the wires of the state before step i, the step, and what it transition_in
+  -- the wires of the state before step i, the step, and what it did
   abbrev pub state : ℕ → StateWires
   state i = state_at block (length x) time zero_wires first i
 
@@ -137,11 +137,13 @@ module _ (block : BlockCircuit) (made : ℕ) (sizes : BlockSizes block made) (z 
           (d.times.1, fits (transition_at n).second d.lines.1, (d.times.2 ∙ omega arith, fits (transition_at n).data_line d.lines.2, tt)),
         ) in
         subst (LinesFrom time) (sym (joined_below-suc n (λ i. lines_in (transition_at i))))
-        (LinesFrom-append time (time + 3 * n) (joined_below n (λ i. lines_in (transition_at i))) (lines_in (transition_at n)) (omega (arith, length-lines_in_transition n))
+        (LinesFrom-append time (time + 3 * n) (joined_below n (λ i. lines_in (transition_at i))) (lines_in (transition_at n))
+        (omega (arith, length-lines_in_transition n))
         (lines_placed n (omega arith)) here)
 
     -- the words that they take are words
-    one_word : (i : ℕ) → i < t → (takes : Bool) → (transition_at i).takes ≡ takes → AreWords w (if (transition_at i).takes then (transition_at i).word ∷ [] else [])
+    one_word : (i : ℕ) → i < t → (takes : Bool) → (transition_at i).takes ≡ takes
+        → AreWords w (if (transition_at i).takes then (transition_at i).word ∷ [] else [])
     one_word i h true e = subst (λ b. AreWords w (if b then (transition_at i).word ∷ [] else [])) (sym e)
         (All-cons (λ v. v < 2 ^ w) (transition_at i).word [] ((does i h).word e) (All-nil (λ v. v < 2 ^ w)))
     one_word i h false e = subst (λ b. AreWords w (if b then (transition_at i).word ∷ [] else [])) (sym e) (All-nil (λ v. v < 2 ^ w))

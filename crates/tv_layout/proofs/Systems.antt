@@ -61,15 +61,16 @@ module _ (w : ℕ) (width : IsWidth w) where
   }
 
 pub system_sound : SystemIsSound
-system_sound w net image x z t fits has sat =
-    layout_sound w net (block_of w) (block_made w) (step_sized w fits.width) (step_sound w fits.width) image x z t fits has sat
+system_sound net runs x z fits long has sat =
+    layout_sound net (block_of runs.width) (block_made runs.width) runs (step_sized runs.width fits.width) (step_sound runs.width fits.width)
+    x z fits long has sat
 
 pub system_complete : SystemIsComplete
-system_complete w net image x aux t v fits x_words aux_words run =
-    fill_complete w net (block_of w) (block_made w) (step_values w) (step_sized w fits.width) (step_sound w fits.width)
-    (step_complete w fits.width) image x aux t v fits x_words aux_words run
+system_complete net run v fits x_words aux_words answers =
+    fill_complete run.width net (block_of run.width) (block_made run.width) (step_values run.width) (step_sized run.width fits.width)
+    (step_sound run.width fits.width) (step_complete run.width fits.width) run.image run.tape run.aux run.t v fits x_words aux_words answers
 
 pub system_reduces : SystemReduces
-system_reduces w net image n t fits =
-    layout_reduces w net (block_of w) (block_made w) (step_values w) (step_sized w fits.width) (step_sound w fits.width)
-    (step_complete w fits.width) image n t fits
+system_reduces net runs fits =
+    layout_reduces net (block_of runs.width) (block_made runs.width) (step_values runs.width) runs (step_sized runs.width fits.width)
+    (step_sound runs.width fits.width) (step_complete runs.width fits.width) fits

@@ -6,8 +6,8 @@ use Rattle.std.specs.Prelude.{slice_get, slice_index, ◌==◌, ◌&&◌, not, i
 use Rattle.tv_parts.specs.declared.records.Spot.{Spot}
 use Rattle.tv_core.specs.Below.{joined_below}
 use Rattle.tv_layout.specs.Blocks.{BlockCircuit}
-use Rattle.tv_layout.specs.Layout.{block_at, taken_wire, taken_wires, taken_at, taken_of}
-use Rattle.tv_layout.specs.Places.{boot_count, zero_wires_at, first_at}
+use Rattle.tv_layout.specs.Layout.{taken_wire, taken_wires, taken_at, taken_of, step_block}
+use Rattle.tv_layout.specs.Places.{runs_of}
 use Rattle.tv_numbers.specs.Laws.{AuxFits}
 use Rattle.tv_step.specs.Reads.{reads_aux, word_taken, words_in, finds_end}
 use Rattle.tv_step.specs.State.{State}
@@ -32,9 +32,9 @@ all_taken z spot (i ∷ places) =
     ∙ ap₂ (λ (a b : List ℕ). a ++ b) (taken_at_is z (spot i)) (all_taken z spot places)
 
 pub taken_of_is : (block : BlockCircuit) (w : ℕ) (image : List ℕ) (n t : ℕ) (z : List ℕ)
-    → taken_of block w image n t z ≡ joined_below t (λ i. taken_in z (block_at block n (boot_count image n) (zero_wires_at w n) (first_at w n) i).spot)
+    → taken_of block (runs_of w image n t) z ≡ joined_below t (λ i. taken_in z (step_block block (runs_of w image n t) i).spot)
 unfolding taken_wires joined_below
-taken_of_is block w image n t z = all_taken z (λ i. (block_at block n (boot_count image n) (zero_wires_at w n) (first_at w n) i).spot) (range_with_len 0 t)
+taken_of_is block w image n t z = all_taken z (λ i. (step_block block (runs_of w image n t) i).spot) (range_with_len 0 t)
 
 -- ---- by the machine
 -- it takes a word, or it reads the tape and finds its end, or it doesn't read it

@@ -18,79 +18,78 @@ use Rattle.tv_layout.proofs.Positions.{log_above, log_within}
 use Rattle.tv_layout.proofs.Steps.{transition_at, lines_in_transition, length-lines_in_transition, lines_placed}
 use Rattle.tv_layout.proofs.Blocks.{BlockSizes, BlockIsSound}
 use Rattle.tv_layout.specs.Blocks.{BlockCircuit}
-use Rattle.tv_layout.specs.Layout.{boot_lines_of, steps_of, block_at, system_lines}
-use Rattle.tv_layout.specs.Places.{WithinLimits, boot_count, line_count, log_of, tape_at, zero_wires_at, first_at}
+use Rattle.tv_layout.specs.Layout.{boot_lines_of, steps_of, system_lines, step_block}
+use Rattle.tv_layout.specs.Places.{WithinLimits, boot_count, line_count, log_of, tape_at, zero_wires_at, first_at, ProgramRuns, runs_like}
 use Rattle.tv_layout.specs.Sound.{padding}
 use Rattle.tv_word.proofs.WidthLaws.{word_small}
 
 pub words_32 : (w : ℕ) → IsWidth w → (words : List ℕ) → AreWords w words → AreWords 32 words
 words_32 w width words h = All-weaker (λ v. v < 2 ^ w) (λ v. v < 2 ^ 32) (λ v k. word_small w width v k) words h
 
-module _ (image : List ℕ) (n t : ℕ) where
+module _ (runs : ProgramRuns) where
   -- how many lines of padding there are
   abbrev pub spare : ℕ
-  spare = 2 ^ log_of (line_count image n t) - line_count image n t
+  spare = 2 ^ log_of (line_count runs) - line_count runs
 
-  module _ (w : ℕ) (fits : WithinLimits w image n t) where
-    pub few : line_count image n t ≤ 2 ^ 20
+  module _ (fits : WithinLimits runs) where
+    pub few : line_count runs ≤ 2 ^ 20
     few = omega (arith, fits.image_fits, fits.tape_fits, fits.steps_fit)
 
-    pub filled : line_count image n t + spare ≡ 2 ^ log_of (line_count image n t)
-    filled = omega (arith, log_above (line_count image n t) few)
+    pub filled : line_count runs + spare ≡ 2 ^ log_of (line_count runs)
+    filled = omega (arith, log_above (line_count runs) few)
 
-    pub power_few : 2 ^ log_of (line_count image n t) ≤ 2 ^ 20
-    power_few = pow-le-pow_right (omega arith) (log_within (line_count image n t) few)
+    pub power_few : 2 ^ log_of (line_count runs) ≤ 2 ^ 20
+    power_few = pow-le-pow_right (omega arith) (log_within (line_count runs) few)
 
-    pub short : n < 2 ^ 29
+    pub short : runs.n < 2 ^ 29
     short = omega (arith, fits.tape_fits)
 
-    pub early : boot_count image n + 3 * t < 2 ^ 32
+    pub early : boot_count runs.image runs.n + 3 * runs.t < 2 ^ 32
     early = omega (arith, fits.image_fits, fits.tape_fits, fits.steps_fit)
 
 module _ (w : ℕ) (block : BlockCircuit) (made : ℕ) (sizes : BlockSizes block made) (law : BlockIsSound w block) (image x z : List ℕ) (t : ℕ)
-    (fits : WithinLimits w image (length x) t)
+    (fits : WithinLimits (runs_like w image x t))
     (assigns : Assigns z) (words : AreWords w x) (has : HasFrom z tape_at x) (zeros_there : HoldsZeros z (zero_wires_at w (length x)))
     (met : Meets z (steps_of block (length x) (boot_count image (length x)) t (zero_wires_at w (length x)) (first_at w (length x))).list) where
   abbrev pub lines : ℕ → List Line
   lines i = lines_in (transition_at block made sizes z x (boot_count image (length x)) (zero_wires_at w (length x)) (first_at w (length x)) i)
 
-  pub lines_valued : map (line_value z) (system_lines block w image (length x) t)
-      ≡ (boot_lines image x ++ joined_below t lines) ++ padding (line_count image (length x) t) (spare image (length x) t)
+  pub lines_valued : map (line_value z) (system_lines block (runs_like w image x t))
+      ≡ (boot_lines image x ++ joined_below t lines) ++ padding (line_count (runs_like w image x t)) (spare (runs_like w image x t))
   unfolding system_lines
   lines_valued =
-      let count : ℕ = line_count image (length x) t in
+      let count : ℕ = line_count (runs_like w image x t) in
       let a = boot_lines_valued z assigns image x (words_32 w fits.width image fits.words) (omega (arith, fits.image_fits))
       (omega (arith, fits.tape_fits)) has in
       let b = lines_in_transition block made sizes z x (boot_count image (length x)) (zero_wires_at w (length x)) (first_at w (length x)) t in
-      let c = padding_valued z assigns count (spare image (length x) t)
-      (omega (arith, filled image (length x) t w fits, power_few image (length x) t w fits)) in
+      let c = padding_valued z assigns count (spare (runs_like w image x t))
+      (omega (arith, filled (runs_like w image x t) fits, power_few (runs_like w image x t) fits)) in
       map-append (line_value z) (boot_lines_of image (length x)
-      ++ joined_below t (λ i. (block_at block (length x) (boot_count image (length x)) (zero_wires_at w (length x)) (first_at w (length x)) i).lines)) _
-      ∙ ap₂ (λ (u v : List Line). u ++ v)
+      ++ joined_below t (λ i. (step_block block (runs_like w image x t) i).lines)) _ ∙ ap₂ (λ (u v : List Line). u ++ v)
       (map-append (line_value z) (boot_lines_of image (length x)) _ ∙ ap₂ (λ (u v : List Line). u ++ v) a b) c
 
   steps_many : length (joined_below t lines) ≡ t * 3
   steps_many = length-lines_in_transition block made sizes z x (boot_count image (length x)) (zero_wires_at w (length x)) (first_at w (length x)) t
 
-  pub all_placed : LinesFrom 0 ((boot_lines image x ++ joined_below t lines) ++ padding (line_count image (length x) t) (spare image (length x) t))
+  pub all_placed : LinesFrom 0 ((boot_lines image x ++ joined_below t lines) ++ padding (line_count (runs_like w image x t)) (spare (runs_like w image x t)))
   all_placed =
       let e = length-append (boot_lines image x) (joined_below t lines) in
       let g = length-boot_lines image x in
-      LinesFrom-append 0 (line_count image (length x) t) (boot_lines image x ++ joined_below t lines)
-      (padding (line_count image (length x) t) (spare image (length x) t)) (omega (arith, e, g, steps_many))
+      LinesFrom-append 0 (line_count (runs_like w image x t)) (boot_lines image x ++ joined_below t lines)
+      (padding (line_count (runs_like w image x t)) (spare (runs_like w image x t))) (omega (arith, e, g, steps_many))
       (LinesFrom-append 0 (boot_count image (length x)) (boot_lines image x) (joined_below t lines) (omega (arith, g))
       (boot_lines_placed image x (words_32 w fits.width image fits.words) (words_32 w fits.width x words) (omega (arith, fits.image_fits))
       (omega (arith, fits.tape_fits)))
       (lines_placed block made sizes z x (boot_count image (length x)) (zero_wires_at w (length x)) (first_at w (length x)) w fits.width law t assigns
-      (short image (length x) t w fits) (early image (length x) t w fits) zeros_there met t (omega arith)))
-      (padding_placed (line_count image (length x) t) (spare image (length x) t))
+      (short (runs_like w image x t) fits) (early (runs_like w image x t) fits) zeros_there met t (omega arith)))
+      (padding_placed (line_count (runs_like w image x t)) (spare (runs_like w image x t)))
 
-  pub lines_many : length (system_lines block w image (length x) t) ≡ 2 ^ log_of (line_count image (length x) t)
+  pub lines_many : length (system_lines block (runs_like w image x t)) ≡ 2 ^ log_of (line_count (runs_like w image x t))
   lines_many =
       let e = length-append (boot_lines image x) (joined_below t lines) in
-      let f = length-append (boot_lines image x ++ joined_below t lines) (padding (line_count image (length x) t) (spare image (length x) t)) in
+      let f = length-append (boot_lines image x ++ joined_below t lines) (padding (line_count (runs_like w image x t)) (spare (runs_like w image x t))) in
       let g = length-boot_lines image x in
-      let h = length-padding (line_count image (length x) t) (spare image (length x) t) in
-      let l : length ((boot_lines image x ++ joined_below t lines) ++ padding (line_count image (length x) t) (spare image (length x) t))
-      ≡ 2 ^ log_of (line_count image (length x) t) = omega (arith, e, f, g, h, steps_many, filled image (length x) t w fits) in
-      sym (length-map (system_lines block w image (length x) t) (line_value z)) ∙ ap length lines_valued ∙ l
+      let h = length-padding (line_count (runs_like w image x t)) (spare (runs_like w image x t)) in
+      let l : length ((boot_lines image x ++ joined_below t lines) ++ padding (line_count (runs_like w image x t)) (spare (runs_like w image x t)))
+      ≡ 2 ^ log_of (line_count (runs_like w image x t)) = omega (arith, e, f, g, h, steps_many, filled (runs_like w image x t) fits) in
+      sym (length-map (system_lines block (runs_like w image x t)) (line_value z)) ∙ ap length lines_valued ∙ l

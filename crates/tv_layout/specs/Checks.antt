@@ -1,10 +1,10 @@
 -- How the lines of a system are checked: each by its kind, which its position determines.
-use Rattle.std.specs.Prelude.{ℕ, ◌+◌, ◌-◌, ◌/◌, ◌%◌, ◌==◌, nat_lt, ◌&&◌, if◌then◌else◌, List, length}
+use Rattle.std.specs.Prelude.{ℕ, ◌+◌, ◌-◌, ◌/◌, ◌%◌, ◌==◌, nat_lt, ◌&&◌, if◌then◌else◌, length}
 use Rattle.tv_core.specs.declared.limits.TheConstants.{CELL_BITS, TAPE_CELLS}
 use Rattle.tv_argument.specs.Checks.{Checks}
 use Rattle.tv_argument.specs.declared.kinds.Kind.{Kind}
 use Rattle.tv_argument.specs.declared.kinds.Kind.TheVariants.{ZeroOld, Least, Boot, Within}
-use Rattle.tv_layout.specs.Places.{line_count, log_of}
+use Rattle.tv_layout.specs.Places.{line_count, log_of, ProgramRuns}
 
 -- the least line is of cell 0: that of the image's first word, or, where the image has none, the first of the steps,
 -- after those of the tape's n words
@@ -33,9 +33,9 @@ line_kind k words n i =
     else step_kind k words (i - (words + n))
 
 -- all lines but padding are checked
-abbrev pub checks_of : List ℕ → ℕ → ℕ → Checks
-checks_of image n t = record {
-  count = line_count image n t;
-  least = least_place (length image) n;
-  kind = line_kind (log_of (line_count image n t)) (length image) n;
+abbrev pub checks_of : ProgramRuns → Checks
+checks_of runs = record {
+  count = line_count runs;
+  least = least_place (length runs.image) runs.n;
+  kind = line_kind (log_of (line_count runs)) (length runs.image) runs.n;
 }

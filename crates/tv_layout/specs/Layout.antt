@@ -14,7 +14,7 @@ use Rattle.tv_core.specs.declared.lines.LineLc.{LineLc}
 use Rattle.tv_argument.specs.Memory.{argument_of}
 use Rattle.tv_layout.specs.Blocks.{BlockCircuit}
 use Rattle.tv_layout.specs.Checks.{checks_of}
-use Rattle.tv_layout.specs.Places.{boot_count, line_count, log_of, tape_at, zero_wires_at, first_at}
+use Rattle.tv_layout.specs.Places.{boot_count, line_count, log_of, tape_at, zero_wires_at, first_at, ProgramRuns}
 use Rattle.tv_layout.specs.declared.places.TheConstants.{STATE_WIRES}
 use Rattle.tv_block.specs.Block.{reached}
 use Rattle.tv_block.specs.declared.records.Block.{Block}
@@ -111,31 +111,42 @@ module _ (block : BlockCircuit) where
   abbrev pub block_at : ℕ → ℕ → ℕ → ℕ → ℕ → Block
   block_at n time zero_wires first i = (block n (state_at n time zero_wires first i) (time + 3 * i) (steps_of n time i zero_wires first).next).answer
 
+  -- the state before step i of a system, and this step
+  abbrev pub step_state : ProgramRuns → ℕ → StateWires
+  step_state runs i = state_at runs.n (boot_count runs.image runs.n) (zero_wires_at runs.width runs.n) (first_at runs.width runs.n) i
+
+  abbrev pub step_block : ProgramRuns → ℕ → Block
+  step_block runs i = block_at runs.n (boot_count runs.image runs.n) (zero_wires_at runs.width runs.n) (first_at runs.width runs.n) i
+
   -- all lines in time order: boot lines, those of the steps, and padding up to 2 ^ k
-  unfoldable pub system_lines : ℕ → List ℕ → ℕ → ℕ → List LineLc
-  system_lines w image n t =
-      (boot_lines_of image n ++ joined_below t (λ i. (block_at n (boot_count image n) (zero_wires_at w n) (first_at w n) i).lines))
-      ++ padding_of (line_count image n t) (2 ^ log_of (line_count image n t) - line_count image n t)
+  unfoldable pub system_lines : ProgramRuns → List LineLc
+  system_lines runs =
+      (boot_lines_of runs.image runs.n ++ joined_below runs.t (λ i. (step_block runs i).lines))
+      ++ padding_of (line_count runs) (2 ^ log_of (line_count runs) - line_count runs)
 
   -- the wires at which the steps that take a word of the auxiliary tape in an assignment have it, in order; and these
   -- words
-  unfoldable pub taken_wires : ℕ → List ℕ → ℕ → ℕ → List ℕ → List ℕ
-  taken_wires w image n t z = joined_below t (λ i. taken_wire z (block_at n (boot_count image n) (zero_wires_at w n) (first_at w n) i).spot)
+  unfoldable pub taken_wires : ProgramRuns → List ℕ → List ℕ
+  taken_wires runs z = joined_below runs.t (λ i. taken_wire z (step_block runs i).spot)
 
-  abbrev pub taken_of : ℕ → List ℕ → ℕ → ℕ → List ℕ → List ℕ
-  taken_of w image n t z = map (slice_index z) (taken_wires w image n t z)
+  abbrev pub taken_of : ProgramRuns → List ℕ → List ℕ
+  taken_of runs z = map (slice_index z) (taken_wires runs z)
+
+  -- the argument that all lines are honest
+  abbrev pub lines_argument : Net → ProgramRuns → Circuit (Unit {0})
+  lines_argument net runs = argument_of net (checks_of runs) (log_of (line_count runs)) (system_lines runs)
 
   -- the circuit of a system, after its public wires
-  unfoldable pub layout_of : ℕ → Net → List ℕ → ℕ → ℕ → Circuit (Unit {0})
-  layout_of w net image n t = do
-    _ ← words_of w tape_at n
+  unfoldable pub layout_of : Net → ProgramRuns → Circuit (Unit {0})
+  layout_of net runs = do
+    _ ← words_of runs.width tape_at runs.n
     zero_wires ← zero_wires_of
-    last ← steps_of n (boot_count image n) t zero_wires
+    last ← steps_of runs.n (boot_count runs.image runs.n) runs.t zero_wires
     _ ← tie_of last
-    argument_of net (checks_of image n t) (log_of (line_count image n t)) (system_lines w image n t)
+    lines_argument net runs
 
   -- the system: its public wires are the answer and the n words of the tape
-  abbrev pub layout : ℕ → Net → List ℕ → ℕ → ℕ → System
-  layout w net image n t =
-      let made = layout_of w net image n t (2 + n) in
-      record { wires = made.next; outputs = 1; inputs = n; constraints = made.list }
+  abbrev pub layout : Net → ProgramRuns → System
+  layout net runs =
+      let made = layout_of net runs (2 + runs.n) in
+      record { wires = made.next; outputs = 1; inputs = runs.n; constraints = made.list }

@@ -1,27 +1,42 @@
--- How many lines a system has, and where its parts stand.
+-- What a system is made for, how many lines it has, and where its parts stand.
 use Rattle.std.specs.Prelude.{ℕ, zero, suc, ◌+◌, ◌*◌, ◌^◌, ◌≤◌, nat_le, if◌then◌else◌, List, length}
 use Rattle.tv_core.specs.declared.limits.TheConstants.{IMAGE_WORDS, TAPE_WORDS, STEPS}
 use Rattle.tv_step.specs.Range.{AreWords}
 use Rattle.tv_word.specs.Widths.{IsWidth}
 use Rattle.tv_layout.specs.declared.places.TheConstants.{STATE_WIRES}
 
--- an image of words, a primary tape of n words and t steps, within the limits
-pub record WithinLimits (w : ℕ) (image : List ℕ) (n t : ℕ) : Type 0 where
-  pub width : IsWidth w
-  pub words : AreWords w image
-  pub image_fits : length image ≤ IMAGE_WORDS
-  pub tape_fits : n ≤ TAPE_WORDS
-  pub some : 1 ≤ t
-  pub steps_fit : t ≤ STEPS
+-- the runs of a program: the bits of a word, the image, how many words the primary tape has, and the most steps
+pub record ProgramRuns : Type 0 where
+  pub width : ℕ
+  pub image : List ℕ
+  pub n : ℕ
+  pub t : ℕ
+
+-- the runs with these parts
+abbrev pub runs_of : ℕ → List ℕ → ℕ → ℕ → ProgramRuns
+runs_of w image n t = record { width = w; image = image; n = n; t = t }
+
+-- the same on tapes as long as x
+abbrev pub runs_like : ℕ → List ℕ → List ℕ → ℕ → ProgramRuns
+runs_like w image x t = runs_of w image (length x) t
+
+-- an image of words, a primary tape and steps, within the limits
+pub record WithinLimits (runs : ProgramRuns) : Type 0 where
+  pub width : IsWidth runs.width
+  pub words : AreWords runs.width runs.image
+  pub image_fits : length runs.image ≤ IMAGE_WORDS
+  pub tape_fits : runs.n ≤ TAPE_WORDS
+  pub some : 1 ≤ runs.t
+  pub steps_fit : runs.t ≤ STEPS
 
 -- ---- lines
 -- boot lines: one for each word of the image and of the primary tape
 abbrev pub boot_count : List ℕ → ℕ → ℕ
 boot_count image n = length image + n
 
--- and three for each of t steps
-abbrev pub line_count : List ℕ → ℕ → ℕ → ℕ
-line_count image n t = boot_count image n + 3 * t
+-- and three for each step
+abbrev pub line_count : ProgramRuns → ℕ
+line_count runs = boot_count runs.image runs.n + 3 * runs.t
 
 -- the least k of at least 1 with count at most 2 ^ k, and 20 where there is none up to 20
 abbrev pub log_from : ℕ → ℕ → ℕ → ℕ

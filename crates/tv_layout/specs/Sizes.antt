@@ -1,5 +1,5 @@
 -- How many wires, constraints and terms a system has.
-use Rattle.std.specs.Prelude.{◌≡◌, ℕ, ◌+◌, ◌-◌, ◌*◌, ◌^◌, ◌<◌, ◌≤◌, ◌==◌, if◌then◌else◌, List, length}
+use Rattle.std.specs.Prelude.{◌≡◌, ℕ, ◌+◌, ◌-◌, ◌*◌, ◌^◌, ◌<◌, ◌≤◌, ◌==◌, if◌then◌else◌, length}
 use Rattle.tv_benes.specs.declared.shape.Net.{Net}
 use Rattle.tv_benes.specs.declared.shape.Net.TheVariants.{Benes, Waksman}
 use Rattle.tv_block.specs.Block.{block_of}
@@ -16,7 +16,7 @@ use Rattle.tv_argument.specs.declared.kinds.Kind.TheVariants.{ZeroOld, Boot, Wit
 use Rattle.tv_layout.specs.Checks.{first_kind, checks_of}
 use Rattle.tv_layout.specs.declared.totals.CheckCosts.{CheckCosts}
 use Rattle.tv_layout.specs.Layout.{system_lines}
-use Rattle.tv_layout.specs.Places.{WithinLimits, line_count, log_of}
+use Rattle.tv_layout.specs.Places.{ProgramRuns, WithinLimits, line_count, log_of}
 use Rattle.tv_layout.specs.Systems.{system_of}
 use Rattle.tv_layout.specs.declared.places.TheConstants.{STATE_WIRES}
 
@@ -52,50 +52,55 @@ pub record AreCheap (of : CheckCosts) : Type 0 where
   pub first_step : of.first_step ≤ 2 ^ 10
   pub step : of.step ≤ 2 ^ 10
 
-abbrev pub of_system : (Kind → ℕ) → List ℕ → ℕ → ℕ → ℕ
-of_system cost image n t = checks_total (check_costs cost (log_of (line_count image n t)) (length image)) (length image) n t
+abbrev pub of_system : (Kind → ℕ) → ProgramRuns → ℕ
+of_system cost runs =
+    checks_total (check_costs cost (log_of (line_count runs)) (length runs.image)) (length runs.image) runs.n runs.t
 
 -- ---- the memory argument: its network and its checks
-abbrev pub memory_wires : Net → List ℕ → ℕ → ℕ → ℕ
-memory_wires net image n t = network_made net (log_of (line_count image n t)) + of_system check_made image n t
+abbrev pub memory_wires : Net → ProgramRuns → ℕ
+memory_wires net runs = network_made net (log_of (line_count runs)) + of_system check_made runs
 
-abbrev pub memory_constraints : Net → List ℕ → ℕ → ℕ → ℕ
-memory_constraints net image n t = network_made net (log_of (line_count image n t)) + of_system check_added image n t
+abbrev pub memory_constraints : Net → ProgramRuns → ℕ
+memory_constraints net runs = network_made net (log_of (line_count runs)) + of_system check_added runs
 
 -- ---- what is emitted
 -- the wires after the public ones: the bits of the tape's words, the first state's, the steps, and the memory argument
-abbrev pub system_made : ℕ → Net → List ℕ → ℕ → ℕ → ℕ
-system_made w net image n t = n * w + STATE_WIRES + t * block_made w + memory_wires net image n t
+abbrev pub system_made : Net → ProgramRuns → ℕ
+system_made net runs = runs.n * runs.width + STATE_WIRES + runs.t * block_made runs.width + memory_wires net runs
 
 -- the constraints: of the tape's words, of the first state, of the steps, of the last one, and of the memory argument
-abbrev pub system_added : ℕ → Net → List ℕ → ℕ → ℕ → ℕ
-system_added w net image n t = n * (w + 1) + STATE_WIRES + t * block_added w + 2 + memory_constraints net image n t
+abbrev pub system_added : Net → ProgramRuns → ℕ
+system_added net runs = runs.n * (runs.width + 1) + STATE_WIRES + runs.t * block_added runs.width + 2 + memory_constraints net runs
 
 -- the terms of the constraints, of the same parts: those of the memory argument are a sum over its lines
-abbrev pub system_terms : ℕ → Net → List ℕ → ℕ → ℕ → ℕ
-system_terms w net image n t =
-    n * (4 * w + 2) + 2 * STATE_WIRES + t * block_terms w n + 6
-    + argument_terms net (checks_of image n t) (log_of (line_count image n t)) (system_lines (block_of w) w image n t)
+abbrev pub system_terms : Net → ProgramRuns → ℕ
+system_terms net runs =
+    runs.n * (4 * runs.width + 2) + 2 * STATE_WIRES + runs.t * block_terms runs.width runs.n + 6
+    + argument_terms net (checks_of runs) (log_of (line_count runs)) (system_lines (block_of runs.width) runs)
 
 -- ---- what it is at most
 abbrev pub network_most : Net → ℕ → ℕ
 network_most Benes k = 5 * 2 ^ k * (2 * k - 1)
 network_most Waksman k = 10 * (2 ^ k * (k - 1) + 1)
 
+-- with 2 ^ k lines, n words of the tape and t steps
 abbrev pub size_most : Net → ℕ → ℕ → ℕ → ℕ
 size_most net k n t = 2048 * t + network_most net k + 200 * 2 ^ k + 40 * (n + 1) + 64
 
+abbrev pub system_most : Net → ProgramRuns → ℕ
+system_most net runs = size_most net (log_of (line_count runs)) runs.n runs.t
+
 -- The counts of a system within the limits, and at most: wires and constraints in closed form, and terms up to the sum
 -- over the lines. They are numbers of 32 bits, and of 60 bits.
-pub record IsSized (w : ℕ) (net : Net) (image : List ℕ) (n t : ℕ) (system : System) : Type 0 where
-  pub wires : system.wires ≡ 2 + n + system_made w net image n t
-  pub constraints : length system.constraints ≡ system_added w net image n t
-  pub terms : terms_in system.constraints ≡ system_terms w net image n t
-  pub wires_most : system.wires ≤ size_most net (log_of (line_count image n t)) n t
-  pub constraints_most : length system.constraints ≤ size_most net (log_of (line_count image n t)) n t
+pub record IsSized (net : Net) (runs : ProgramRuns) (system : System) : Type 0 where
+  pub wires : system.wires ≡ 2 + runs.n + system_made net runs
+  pub constraints : length system.constraints ≡ system_added net runs
+  pub terms : terms_in system.constraints ≡ system_terms net runs
+  pub wires_most : system.wires ≤ system_most net runs
+  pub constraints_most : length system.constraints ≤ system_most net runs
   pub wires_fit : system.wires < 2 ^ 32
   pub constraints_fit : length system.constraints < 2 ^ 32
   pub terms_fit : terms_in system.constraints < 2 ^ 60
 
 abbrev pub SystemIsSized : Type 0
-SystemIsSized = (w : ℕ) (net : Net) (image : List ℕ) (n t : ℕ) → WithinLimits w image n t → IsSized w net image n t (system_of w net image n t)
+SystemIsSized = (net : Net) (runs : ProgramRuns) → WithinLimits runs → IsSized net runs (system_of net runs)

@@ -11,7 +11,7 @@ use Rattle.tv_step.specs.Reads.{word_taken, ended_after, Reads}
 use Rattle.tv_layout.specs.Checks.{checks_of}
 use Rattle.tv_layout.specs.Blocks.{BlockCircuit, BlockValues, view_of}
 use Rattle.tv_layout.specs.Layout.{taken_of, layout}
-use Rattle.tv_layout.specs.Places.{boot_count, line_count, log_of}
+use Rattle.tv_layout.specs.Places.{boot_count, line_count, log_of, runs_like}
 use Rattle.tv_layout.specs.RunInputs.{RunInput}
 use Rattle.tv_layout.specs.Sound.{all_lines}
 use Rattle.tv_layout.specs.declared.places.TheConstants.{STATE_WIRES}
@@ -27,13 +27,13 @@ module _ (values : BlockValues) where
   -- all values: 1, the answer, the tape, its words' bits, the wires of the first state, the steps, and the memory argument
   unfoldable pub fill : Net → RunInput → ℕ → List ℕ
   fill net run v =
+      let runs = runs_like run.width run.image run.tape run.t in
       1 ∷ ((v ∷ run.tape) ++ (joined_below (length run.tape) (λ i. bits_values (slice_index run.tape i) run.width)
       ++ (replicate STATE_WIRES 0 ++ (joined_below run.t (run_step_values run.width run.image run.tape run.aux)
-      ++ argument_values net (checks_of run.image (length run.tape) run.t) (log_of (line_count run.image (length run.tape) run.t))
-      (all_lines run.width run.image run.tape run.aux run.t)))))
+      ++ argument_values net (checks_of runs) (log_of (line_count runs)) (all_lines run.width run.image run.tape run.aux run.t)))))
 
 -- the values satisfy the system and extend the answer and the tape, and the words taken are those that the run reads
 pub record IsFill (net : Net) (block : BlockCircuit) (run : RunInput) (v : ℕ) (z : List ℕ) : Type 0 where
-  pub sat : Sat (layout block run.width net run.image (length run.tape) run.t) z
-  pub extends : Extends (layout block run.width net run.image (length run.tape) run.t) z (v ∷ run.tape)
-  pub taken : taken_of block run.width run.image (length run.tape) run.t z ≡ Reads run.width run.image run.tape run.aux run.t
+  pub sat : Sat (layout block net (runs_like run.width run.image run.tape run.t)) z
+  pub extends : Extends (layout block net (runs_like run.width run.image run.tape run.t)) z (v ∷ run.tape)
+  pub taken : taken_of block (runs_like run.width run.image run.tape run.t) z ≡ Reads run.width run.image run.tape run.aux run.t

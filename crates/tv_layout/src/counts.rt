@@ -1,7 +1,7 @@
 //! The sizes of a system.
 ghost use Rattle.std.specs.Prelude.{◌≡◌, ◌+◌, ◌^◌, ◌≤◌, ◌<◌};
 ghost use Rattle.tv_core.specs.Meanings.{IsCounted, system_counts};
-ghost use Rattle.tv_layout.specs.Places.{WithinLimits, line_count, log_of};
+ghost use Rattle.tv_layout.specs.Places.{WithinLimits, line_count, log_of, runs_of};
 ghost use Rattle.tv_layout.specs.Sizes.{memory_constraints, memory_wires};
 ghost use Rattle.tv_layout.specs.Systems.{system_of};
 
@@ -16,8 +16,8 @@ use tv_core::{CountSink, Counts};
 
 /// Returns how many wires the system has that `emit_system` emits. Takes constant time.
 pub fn wires<const W: u32>(image: &[u32], n: u32, t: u32, net: Net) -> u32
-    requires { WithinLimits W image.now n t }
-    ensures is { result ≡ (system_of W net image.now n t).wires }
+    requires { WithinLimits (runs_of W image.now n t) }
+    ensures is { result ≡ (system_of net (runs_of W image.now n t)).wires }
     ensures publics { 2 + n ≤ result }
 {
     let memory = memory_wires::<W>(image, n, t, net) as u32;
@@ -28,8 +28,8 @@ pub fn wires<const W: u32>(image: &[u32], n: u32, t: u32, net: Net) -> u32
 /// constraints take constant time, and the terms of the memory argument are a sum over its lines: a
 /// small part of the time of emitting the system. Allocates nothing.
 pub fn sizes<const W: u32>(image: &[u32], n: u32, t: u32, net: Net) -> Counts
-    requires { WithinLimits W image.now n t }
-    ensures counts { result ≡ system_counts (system_of W net image.now n t) }
+    requires { WithinLimits (runs_of W image.now n t) }
+    ensures counts { result ≡ system_counts (system_of net (runs_of W image.now n t)) }
     ensures publics { 2 + n ≤ result.wires }
     ensures terms { result.terms < 2 ^ 60 }
 {
@@ -51,19 +51,19 @@ pub fn sizes<const W: u32>(image: &[u32], n: u32, t: u32, net: Net) -> Counts
 
 // The logarithm of how many lines there are.
 fn log_of_lines<const W: u32>(image: &[u32], n: u32, t: u32) -> u32
-    requires { WithinLimits W image.now n t }
-    ensures is { result ≡ log_of (line_count image.now n t) }
+    requires { WithinLimits (runs_of W image.now n t) }
+    ensures is { result ≡ log_of (line_count (runs_of W image.now n t)) }
     ensures some { 1 ≤ result }
     ensures few { result ≤ 20 }
-    ensures above { line_count image.now n t ≤ 2 ^ result }
+    ensures above { line_count (runs_of W image.now n t) ≤ 2 ^ result }
 {
     log_of(image.len() as u32 + n + 3 * t)
 }
 
 // The wires of the memory argument.
 fn memory_wires<const W: u32>(image: &[u32], n: u32, t: u32, net: Net) -> u64
-    requires { WithinLimits W image.now n t }
-    ensures { result ≡ memory_wires net image.now n t }
+    requires { WithinLimits (runs_of W image.now n t) }
+    ensures { result ≡ memory_wires net (runs_of W image.now n t) }
 {
     let words = image.len() as u32;
     let k = log_of_lines::<W>(image, n, t);
@@ -72,8 +72,8 @@ fn memory_wires<const W: u32>(image: &[u32], n: u32, t: u32, net: Net) -> u64
 
 // Its constraints.
 fn memory_constraints<const W: u32>(image: &[u32], n: u32, t: u32, net: Net) -> u64
-    requires { WithinLimits W image.now n t }
-    ensures { result ≡ memory_constraints net image.now n t }
+    requires { WithinLimits (runs_of W image.now n t) }
+    ensures { result ≡ memory_constraints net (runs_of W image.now n t) }
 {
     let words = image.len() as u32;
     let k = log_of_lines::<W>(image, n, t);
@@ -83,9 +83,9 @@ fn memory_constraints<const W: u32>(image: &[u32], n: u32, t: u32, net: Net) -> 
 /// Emits a system into a sink that counts, which proves that each combination has at most 128
 /// terms, over wires below the system's number of them. Takes as long as emitting the system.
 pub fn count_system<const W: u32>(image: &[u32], n: u32, t: u32, net: Net) -> CountSink
-    requires { WithinLimits W image.now n t }
-    ensures wires { result.wires ≡ (system_of W net image.now n t).wires }
-    ensures counted { IsCounted result (system_of W net image.now n t).constraints }
+    requires { WithinLimits (runs_of W image.now n t) }
+    ensures wires { result.wires ≡ (system_of net (runs_of W image.now n t)).wires }
+    ensures counted { IsCounted result (system_of net (runs_of W image.now n t)).constraints }
 {
     let mut s = CountSink::new(public_wires(n));
     match emit_system::<W, CountSink>(image, n, t, net, &mut s) {

@@ -10,6 +10,7 @@ ghost use Rattle.tv_layout.specs.Layout.{system_lines, line_of_word};
 ghost use Rattle.tv_layout.specs.Places.{WithinLimits, line_count, log_of, zero_wires_at, first_at};
 ghost use Rattle.tv_layout.specs.Systems.{system_of};
 ghost use Rattle.tv_layout.specs.StateBefore.{state_before};
+ghost use Rattle.tv_layout.specs.Places.{runs_of};
 ghost use Rattle.tv_lines.specs.Placed.{line_in};
 ghost use Rattle.tv_lines.specs.Compact.{line_lc, word_lc};
 ghost use Rattle.tv_word.specs.Widths.{IsWidth};
@@ -29,20 +30,22 @@ use tv_lines::{Cell, CompactLine, Word};
 /// Takes constant time and no memory. The combinations have at most 32 terms, of wires of the
 /// system, over either network. A `LineLc` has some 8 KB.
 pub fn line<const W: u32>(image: &[u32], n: u32, t: u32, i: u32) -> LineLc
-    requires fits { WithinLimits W image.now n t }
-    requires within { i < 2 ^ log_of (line_count image.now n t) }
-    ensures is { result ≡ line_in (system_lines (block_of W) W image.now n t) i }
+    requires fits { WithinLimits (runs_of W image.now n t) }
+    requires within { i < 2 ^ log_of (line_count (runs_of W image.now n t)) }
+    ensures is { result ≡ line_in (system_lines (block_of W) (runs_of W image.now n t)) i }
     ensures short { IsShortLine result }
-    ensures below { (net : Net) → LineUnder (system_of W net image.now n t).wires result }
+    ensures below { (net : Net) →
+        LineUnder (system_of net (runs_of W image.now n t)).wires result }
 {
     compact_line::<W>(image, n, t, i).lc()
 }
 
 // Returns line `i` in compact form.
 fn compact_line<const W: u32>(image: &[u32], n: u32, t: u32, i: u32) -> CompactLine
-    requires fits { WithinLimits W image.now n t }
-    requires within { i < 2 ^ log_of (line_count image.now n t) }
-    ensures is { line_lc result ≡ line_in (system_lines (block_of W) W image.now n t) i }
+    requires fits { WithinLimits (runs_of W image.now n t) }
+    requires within { i < 2 ^ log_of (line_count (runs_of W image.now n t)) }
+    ensures is { line_lc result
+        ≡ line_in (system_lines (block_of W) (runs_of W image.now n t)) i }
     ensures short { IsShortLine (line_lc result) }
 {
     let words = image.len() as u32;
@@ -109,14 +112,14 @@ pub(crate) struct LayoutLines<'a, const W: u32> {
     pub(crate) t: u32,
     // There are 2^`k`.
     pub(crate) k: u32,
-    ghost fits: { ∥ WithinLimits W image.now n t ∥₁ },
-    ghost log: { k ≡ log_of (line_count image.now n t) },
+    ghost fits: { ∥ WithinLimits (runs_of W image.now n t) ∥₁ },
+    ghost log: { k ≡ log_of (line_count (runs_of W image.now n t)) },
 }
 
 impl<'a, const W: u32> CompactLines for LayoutLines<'a, W> {
-    ghost lines = { λ l. system_lines (block_of W) W l.image.now l.n l.t };
+    ghost lines = { λ l. system_lines (block_of W) (runs_of W l.image.now l.n l.t) };
 
-    ghost checks = { λ l. checks_of l.image.now l.n l.t };
+    ghost checks = { λ l. checks_of (runs_of W l.image.now l.n l.t) };
 
     fn line(&self, i: u32) -> CompactLine {
         compact_line::<W>(self.image, self.n, self.t, i)

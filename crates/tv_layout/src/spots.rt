@@ -3,7 +3,7 @@ ghost use Rattle.std.specs.Prelude.{◌≡◌, ℕ, ◌<◌};
 ghost use Rattle.tv_benes.specs.declared.shape.Net.{Net};
 ghost use Rattle.tv_block.specs.Block.{block_of};
 ghost use Rattle.tv_layout.specs.Layout.{block_at};
-ghost use Rattle.tv_layout.specs.Places.{WithinLimits, zero_wires_at, first_at};
+ghost use Rattle.tv_layout.specs.Places.{WithinLimits, zero_wires_at, first_at, runs_of};
 ghost use Rattle.tv_layout.specs.Systems.{system_of};
 
 use crate::places::step_at;
@@ -15,12 +15,12 @@ use tv_block::{Spot, block_spot};
 /// them, over either network. It takes constant time. The image, `t` and the network say which
 /// system is meant; the wires depend on none of them.
 pub fn spot<const W: u32>(image: &[u32], n: u32, t: u32, step: u32, net: Net) -> Spot
-    requires fits { WithinLimits W image.now n t }
+    requires fits { WithinLimits (runs_of W image.now n t) }
     requires within { step < t }
     ensures is { (time : ℕ) → result ≡ (block_at (block_of W) n time (zero_wires_at W n)
         (first_at W n) step).spot }
-    ensures taken { (over : Net) → result.taken < (system_of W over image.now n t).wires }
-    ensures word { (over : Net) → result.word < (system_of W over image.now n t).wires }
+    ensures taken { (over : Net) → result.taken < (system_of over (runs_of W image.now n t)).wires }
+    ensures word { (over : Net) → result.word < (system_of over (runs_of W image.now n t)).wires }
 {
     block_spot::<W>(step_at::<W>(n, step))
 }

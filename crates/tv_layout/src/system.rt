@@ -4,7 +4,7 @@ ghost use Rattle.tv_block.specs.Block.{block_of};
 ghost use Rattle.tv_core.specs.Sinks.{PutsIn, Grows, Room};
 ghost use Rattle.tv_layout.specs.Layout.{word_of, words_of, zero_wire_of, zero_wires_of, tie_of};
 ghost use Rattle.tv_layout.specs.Layout.{layout_of};
-ghost use Rattle.tv_layout.specs.Places.{WithinLimits};
+ghost use Rattle.tv_layout.specs.Places.{WithinLimits, runs_of};
 ghost use Rattle.tv_layout.specs.Reached.{ReachedUnder};
 ghost use Rattle.tv_layout.specs.Sizes.{system_made, system_added};
 ghost use Rattle.tv_word.specs.Widths.{IsWidth};
@@ -32,14 +32,15 @@ pub fn emit_system<const W: u32, S: Sink>(
     net: Net,
     s: &mut S,
 ) -> Put<()>
-    requires fits { WithinLimits W image.now n t }
+    requires fits { WithinLimits (runs_of W image.now n t) }
     requires begins { S.meaning.wires s.old ≡ 2 + n }
     requires empty { S.meaning.constraints s.old ≡ 0 }
     requires whole { S.meaning.broken s.old ≡ false }
-    ensures puts { PutsIn S.meaning s.old s.new (layout_of (block_of W) W net image.now n t)
-        result }
-    ensures grows { IfOk result (λ _. Grows S.meaning s.old s.new (system_made W net image.now n t)
-        (system_added W net image.now n t)) }
+    ensures puts { PutsIn S.meaning s.old s.new
+        (layout_of (block_of W) net (runs_of W image.now n t)) result }
+    ensures grows { IfOk result (λ _. Grows S.meaning s.old s.new
+        (system_made net (runs_of W image.now n t))
+        (system_added net (runs_of W image.now n t))) }
 {
     words::<W, S>(s, tape_wire(0), n)?;
     let zero_wires = zero_wires(s)?;

@@ -1,16 +1,16 @@
 //! What the definition of a system says of its lines.
 ghost use Rattle.std.specs.Prelude.{◌≡◌, ◌-◌, ◌^◌, ℕ, [], ◌∷◌};
 ghost use Rattle.tv_benes.specs.declared.shape.Net.TheVariants.{Benes};
-ghost use Rattle.tv_layout.specs.Places.{line_count, log_of};
+ghost use Rattle.tv_layout.specs.Places.{line_count, log_of, runs_of};
 ghost use Rattle.tv_layout.specs.Sizes.{size_most};
 
 /// How many lines systems of an image of two words have before padding: three a step, and one for
 /// each word of the image and of the tape. With two steps there are 8, with a word on the tape
 /// besides 9, and with 65 steps and no tape 197.
 pub fn lines_are_counted()
-    ensures two_steps { (a b : ℕ) → line_count (a ∷ b ∷ []) 0 2 ≡ 8 }
-    ensures tape_word { (a b : ℕ) → line_count (a ∷ b ∷ []) 1 2 ≡ 9 }
-    ensures steps { (a b : ℕ) → line_count (a ∷ b ∷ []) 0 65 ≡ 197 }
+    ensures two_steps { (a b : ℕ) → line_count (runs_of 32 (a ∷ b ∷ []) 0 2) ≡ 8 }
+    ensures tape_word { (a b : ℕ) → line_count (runs_of 32 (a ∷ b ∷ []) 1 2) ≡ 9 }
+    ensures steps { (a b : ℕ) → line_count (runs_of 32 (a ∷ b ∷ []) 0 65) ≡ 197 }
 {}
 
 /// How many lines of padding follow these, up to the next power of 2: none after 8, 7 after 9, up

@@ -1,6 +1,6 @@
 //! The lines of systems by their positions: of the program `answer 0` at 32 bits.
 ghost use Rattle.std.specs.Prelude.{◌≡◌, ◌^◌, ◌<◌};
-ghost use Rattle.tv_layout.specs.Places.{WithinLimits, line_count, log_of};
+ghost use Rattle.tv_layout.specs.Places.{WithinLimits, line_count, log_of, runs_of};
 
 use tv_core::limits::{NULL_CELL, TAPE_CELLS};
 use tv_core::{F, Lc, LineLc, Wire};
@@ -11,8 +11,8 @@ const IMAGE: [u32; 2] = [0xfc00_0000, 0];
 // How many lines of padding a system of 2^k lines has: lines of the null cell, at their own times,
 // that write nothing.
 fn padding(image: &[u32], n: u32, t: u32, all: u32) -> u32
-    requires fits { WithinLimits 32 image.now n t }
-    requires all { all ≡ 2 ^ log_of (line_count image.now n t) }
+    requires fits { WithinLimits (runs_of 32 image.now n t) }
+    requires all { all ≡ 2 ^ log_of (line_count (runs_of 32 image.now n t)) }
 {
     let mut count: u32 = 0;
     for i in 0..all {

@@ -156,7 +156,8 @@ by_cell_is ls sorted moved rises =
 abbrev row_before : ListedLine → ListedLine → Bool
 row_before r s = before (row_line r) (row_line s)
 
-from_of : (k : ListedLine) (rows : List ListedLine) → ((j : ℕ) (d : ListedLine) → j < length rows → row_before (get_or rows j d) k ≡ false) → From (row_line k) (map row_line rows)
+from_of : (k : ListedLine) (rows : List ListedLine) → ((j : ℕ) (d : ListedLine) → j < length rows → row_before (get_or rows j d) k ≡ false)
+    → From (row_line k) (map row_line rows)
 from_of k [] each = tt
 from_of k (r ∷ rows) each = (each 0 k (omega arith), from_of k rows (λ j d h. each (suc j) d (omega arith)))
 

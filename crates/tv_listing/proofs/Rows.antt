@@ -11,7 +11,7 @@ use Rattle.tv_layout.proofs.LinePlaces.{line_number}
 use Rattle.tv_layout.proofs.Positions.{log_above}
 use Rattle.tv_layout.proofs.Whole.{few}
 use Rattle.tv_layout.specs.Layout.{system_lines}
-use Rattle.tv_layout.specs.Places.{WithinLimits, line_count, log_of}
+use Rattle.tv_layout.specs.Places.{WithinLimits, line_count, log_of, ProgramRuns}
 use Rattle.tv_lines.specs.PackedLines.{line_value}
 use Rattle.tv_lines.specs.Placed.{no_line, line_in}
 use Rattle.tv_step.specs.Cells.{boot_from}
@@ -25,22 +25,22 @@ take_next (x ∷ xs) zero d h = refl
 take_next (x ∷ xs) (suc i) d h = let e : suc i + 1 ≡ suc (i + 1) = omega arith in rw e (ap (λ l. x ∷ l) (take_next xs i d (omega arith)))
 
 -- there is a line at each place
-pub placed : (w : ℕ) (image : List ℕ) (n t : ℕ) → WithinLimits w image n t → line_count image n t ≤ 2 ^ log_of (line_count image n t)
-placed w image n t fits = log_above (line_count image n t) (few image n t w fits)
+pub placed : (runs : ProgramRuns) → WithinLimits runs → line_count runs ≤ 2 ^ log_of (line_count runs)
+placed runs fits = log_above (line_count runs) (few runs fits)
 
 -- one more of the lines that an assignment has
-pub rows_more : (w : ℕ) (image : List ℕ) (n t i : ℕ) (z : List ℕ) (rows : List ListedLine) (row : ListedLine) (line : LineLc) → WithinLimits w image n t
-    → i < line_count image n t
-    → map row_line rows ≡ take i (lines_at w image n t z) → line ≡ line_in (system_lines (block_of w) w image n t) i → row_line row ≡ line_value z line
-    → map row_line (rows ++ row ∷ []) ≡ take (i + 1) (lines_at w image n t z)
-rows_more w image n t i z rows row line fits h before is valued =
-    let many : i < length (system_lines (block_of w) w image n t) = omega (arith, line_number w image n t fits, placed w image n t fits) in
-    let here : get_or (lines_at w image n t z) i (row_line row)
-    ≡ row_line row = get_or-map (line_value z) (system_lines (block_of w) w image n t) i no_line (row_line row) many ∙ ap (line_value z) (sym is)
+pub rows_more : (runs : ProgramRuns) (i : ℕ) (z : List ℕ) (rows : List ListedLine) (row : ListedLine) (line : LineLc) → WithinLimits runs
+    → i < line_count runs → map row_line rows ≡ take i (lines_at runs z)
+    → line ≡ line_in (system_lines (block_of runs.width) runs) i → row_line row ≡ line_value z line
+    → map row_line (rows ++ row ∷ []) ≡ take (i + 1) (lines_at runs z)
+rows_more runs i z rows row line fits h before is valued =
+    let many : i < length (system_lines (block_of runs.width) runs) = omega (arith, line_number runs fits, placed runs fits) in
+    let here : get_or (lines_at runs z) i (row_line row)
+    ≡ row_line row = get_or-map (line_value z) (system_lines (block_of runs.width) runs) i no_line (row_line row) many ∙ ap (line_value z) (sym is)
     ∙ sym valued in
     map-append row_line rows (row ∷ [])
     ∙ ap₂ (λ (a b : List Line). a ++ b) before (ap (λ (l : Line). l ∷ []) (sym here))
-    ∙ sym (take_next (lines_at w image n t z) i (row_line row) (omega (arith, length-map (system_lines (block_of w) w image n t) (line_value z))))
+    ∙ sym (take_next (lines_at runs z) i (row_line row) (omega (arith, length-map (system_lines (block_of runs.width) runs) (line_value z))))
 
 -- one more of the lines that write words
 pub words_pushed : (lines : List Line) (rows : List ListedLine) (row : ListedLine) (cell time i : ℕ) (words : List ℕ) → i < length words

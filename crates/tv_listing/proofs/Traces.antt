@@ -4,24 +4,22 @@ use Rattle.std.proofs.Math.Seq.{take-append-add}
 use Rattle.std.proofs.lemmas.Bool.{cases_eq}
 use Rattle.std.proofs.lemmas.List.{length-append, take_all, take-append-le}
 use Rattle.tv_block.specs.Block.{block_of}
-use Rattle.tv_core.specs.Constraints.{Sat}
 use Rattle.tv_core.specs.Lines.{Line}
 use Rattle.tv_extract.proofs.ExtractLaws.{extracted_is_run, satisfying_have_runs}
 use Rattle.tv_extract.specs.declared.run.Run.{Run}
 use Rattle.tv_layout.proofs.Boot.{length-boot_lines}
 use Rattle.tv_layout.proofs.Systems.{system_sound}
 use Rattle.tv_layout.specs.Layout.{taken_of}
-use Rattle.tv_layout.specs.Places.{WithinLimits, boot_count}
+use Rattle.tv_layout.specs.Places.{boot_count, runs_of, runs_like}
 use Rattle.tv_layout.specs.RunInputs.{run_on}
 use Rattle.tv_layout.specs.Sound.{all_lines}
-use Rattle.tv_layout.specs.Systems.{system_of}
 use Rattle.tv_step.proofs.PlaceLaws.{lines_are_three_a_step}
 use Rattle.tv_step.specs.Cells.{boot_lines, run_lines}
 use Rattle.tv_step.specs.Machine.{start}
 use Rattle.tv_step.specs.State.{State}
 use Rattle.tv_step.specs.Trace.{lines_of}
 use Rattle.tv_listing.specs.Laws.{ListsRun, ListingIsTrace, SatisfyingAreListed}
-use Rattle.tv_listing.specs.Listing.{assigned_lines, traced_lines, text_by}
+use Rattle.tv_listing.specs.Listing.{lines_at, assigned_lines, traced_lines, text_by}
 
 -- the first steps' lines among all
 lines_front : (w n time : ℕ) (st : State) (t step : ℕ) → step ≤ t → take (3 * step) (lines_of w n time st t) ≡ lines_of w n time st step
@@ -50,24 +48,25 @@ module _ (w : ℕ) (image x aux : List ℕ) (t step : ℕ) (h : step ≤ t) wher
       ∙ traced
 
 pub listing_is_trace : ListingIsTrace
-listing_is_trace w net image x z t step fits within has sat =
-    let run = system_sound w net image x z t fits has sat in
-    let aux : List ℕ = taken_of (block_of w) w image (length x) t z in
-    let lines : assigned_lines w image (length x) t step z ≡ run_lines w image x aux step =
-    ap (take (boot_count image (length x) + 3 * step)) run.lines ∙ run_front w image x aux t step within in
+listing_is_trace net runs x z step fits long within has sat =
+    let run = system_sound net runs x z fits long has sat in
+    let aux : List ℕ = taken_of (block_of runs.width) runs z in
+    let lines : assigned_lines (runs_like runs.width runs.image x runs.t) step z ≡ run_lines runs.width runs.image x aux step =
+    ap (take (boot_count runs.image (length x) + 3 * step)) (ap (λ n. lines_at (runs_of runs.width runs.image n runs.t) z) long ∙ run.lines)
+    ∙ run_front runs.width runs.image x aux runs.t step within in
     record {
       lines = lines;
-      text = λ trace is by. ap (text_by by) (ap (traced_lines image x step) is.lines ∙ traced w image x aux t step within ∙ sym lines);
+      text = λ trace is by. ap (text_by by)
+          (ap (traced_lines runs.image x step) is.lines ∙ traced runs.width runs.image x aux runs.t step within ∙ sym lines);
     }
 
 pub satisfying_are_listed : SatisfyingAreListed
-satisfying_are_listed w net image z n t fits sat =
-    let has = satisfying_have_runs w net image z n t fits sat in
+satisfying_are_listed net runs z fits sat =
+    let has = satisfying_have_runs net runs z fits sat in
     let run : Run = has.run in
-    let is = extracted_is_run w net image z n t run has.is in
-    let lists = listing_is_trace w net image run.tape z t run.step (subst (λ m. WithinLimits w image m t) (sym is.many) fits) is.within is.tape
-    (subst (λ m. Sat (system_of w net image m t) z) (sym is.many) sat) in
+    let is = extracted_is_run net runs z run has.is in
     record {
       has = has;
-      lists = subst (λ aux. ListsRun (run_on w image run.tape aux t) z run.step) (ap (λ m. taken_of (block_of w) w image m t z) is.many ∙ sym is.aux) lists;
+      lists = subst (λ aux. ListsRun (run_on runs.width runs.image run.tape aux runs.t) z run.step) (sym is.aux)
+          (listing_is_trace net runs run.tape z run.step fits is.many is.within is.tape sat);
     }

@@ -6,7 +6,7 @@ use Rattle.std.specs.declared.cmp.Ordering.{Ordering}
 use Rattle.tv_block.specs.Block.{block_of}
 use Rattle.tv_core.specs.Lines.{Line}
 use Rattle.tv_layout.specs.Layout.{system_lines}
-use Rattle.tv_layout.specs.Places.{boot_count}
+use Rattle.tv_layout.specs.Places.{boot_count, ProgramRuns}
 use Rattle.tv_lines.specs.PackedLines.{line_value}
 use Rattle.tv_step.specs.Cells.{boot_lines}
 use Rattle.tv_listing.specs.declared.row.By.{By}
@@ -14,12 +14,12 @@ use Rattle.tv_listing.specs.declared.row.By.TheVariants.{Time, Cell}
 
 -- ---- the lines
 -- those that an assignment has, in time order: the system's, by their values
-abbrev pub lines_at : ℕ → List ℕ → ℕ → ℕ → List ℕ → List Line
-lines_at w image n t z = map (line_value z) (system_lines (block_of w) w image n t)
+abbrev pub lines_at : ProgramRuns → List ℕ → List Line
+lines_at runs z = map (line_value z) (system_lines (block_of runs.width) runs)
 
 -- the first of them: those of the words of the image and of the tape, and three for each step up to this one
-abbrev pub assigned_lines : ℕ → List ℕ → ℕ → ℕ → ℕ → List ℕ → List Line
-assigned_lines w image n t step z = take (boot_count image n + 3 * step) (lines_at w image n t z)
+abbrev pub assigned_lines : ProgramRuns → ℕ → List ℕ → List Line
+assigned_lines runs step z = take (boot_count runs.image runs.n + 3 * step) (lines_at runs z)
 
 -- those of the words, and of the steps of a trace up to this one
 abbrev pub traced_lines : List ℕ → List ℕ → ℕ → List Line → List Line

@@ -1,6 +1,6 @@
 //! The text of the lines that an assignment has.
 ghost use Rattle.std.specs.Prelude.{◌≡◌, ◌≤◌, IfOk, map, take};
-ghost use Rattle.tv_layout.specs.Places.{WithinLimits, line_count};
+ghost use Rattle.tv_layout.specs.Places.{WithinLimits, line_count, runs_of};
 ghost use Rattle.tv_listing.specs.Listing.{assigned_lines, lines_at, text_by};
 ghost use Rattle.tv_listing.specs.Row.{row_line};
 
@@ -27,10 +27,10 @@ pub fn listing<const W: u32>(
     values: &[F],
     by: By,
 ) -> Result<Vec<u8>, AllocError>
-    requires fits { WithinLimits W image.now n t }
+    requires fits { WithinLimits (runs_of W image.now n t) }
     requires within { step ≤ t }
     ensures { IfOk result (λ text. text.items ≡
-        text_by by (assigned_lines W image.now n t step values.now)) }
+        text_by by (assigned_lines (runs_of W image.now n t) step values.now)) }
 {
     let count = image.len() as u32 + n + 3 * step as u32;
     let rows = rows::<W>(alloc, image, n, t, count, values)?;
@@ -46,10 +46,10 @@ fn rows<const W: u32>(
     count: u32,
     values: &[F],
 ) -> Result<Vec<ListedLine>, AllocError>
-    requires fits { WithinLimits W image.now n t }
-    requires within { count ≤ line_count image.now n t }
+    requires fits { WithinLimits (runs_of W image.now n t) }
+    requires within { count ≤ line_count (runs_of W image.now n t) }
     ensures { IfOk result (λ rows. map row_line rows.items ≡
-        take count (lines_at W image.now n t values.now)) }
+        take count (lines_at (runs_of W image.now n t) values.now)) }
 {
     let mut rows = Vec::with_capacity(alloc, count as usize)?;
     for i in 0..count {

@@ -1,4 +1,4 @@
-//! Lines of memory as text, for a person who asks what a run transition_in, or why an assignment is refused.
+//! Lines of memory as text, for a person who asks what a run did, or why an assignment is refused.
 //! `listing` writes the lines that an assignment of a program's system has, whether or not it
 //! satisfies the system, and `trace_text` those of a trace. For an assignment that satisfies the
 //! system, and the trace of its run, the two texts are one.

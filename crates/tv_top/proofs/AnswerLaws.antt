@@ -1,5 +1,5 @@
 -- What a call promises, from what reading found, from writing and from saying a line.
-use Rattle.std.proofs.Common.{◌≡◌, ◌≢◌, ℕ, ◌⊎◌, ◌≤◌, Bool, false, List, [], ◌∷◌, ◌++◌, take, Option, Some, None, option_map, true, Result, Ok, Err, inl, inr}
+use Rattle.std.proofs.Common.{◌≡◌, ◌≢◌, ℕ, ◌⊎◌, Bool, false, List, [], ◌∷◌, ◌++◌, take, Option, Some, None, option_map, true, Result, Ok, Err, inl, inr}
 use Rattle.std.proofs.Common.{refl, sym, ap, ◌∙◌, arith, rules}
 use Rattle.std.specs.List.{list_any}
 use Rattle.std.specs.Prelude.{IfOk, IsErrAnd, MatchResult}
@@ -16,7 +16,7 @@ use Rattle.tv_top.specs.declared.refusal.Finish.TheVariants as finishes
 use Rattle.tv_top.specs.declared.refusal.Quantity.TheVariants as quantity
 use Rattle.tv_top.specs.declared.refusal.Refusal.TheVariants as refusal
 use Rattle.tv_top.specs.declared.refusal.Size.TheVariants as size
-use Rattle.tv_top.specs.Answers.{is_in_files, is_shared}
+use Rattle.tv_top.specs.Answers.{is_in_files, is_shared, plan_reading}
 use Rattle.tv_top.specs.declared.status.What.TheVariants.{Draws, Steps, TapeWords}
 use Rattle.tv_check.specs.declared.verdict.Verdict.TheVariants as verdict
 use Rattle.tv_top.specs.declared.status.Status.TheVariants as status
@@ -24,6 +24,7 @@ use Rattle.tv_step.specs.declared.end.End.TheVariants as end
 use Rattle.tv_container.proofs.Buffers.{counts_stay, counts_then, ran_out_since}
 use Rattle.tv_top.specs.Codes.{says}
 use Rattle.tv_top.proofs.LookLaws.{finds_comes, finds_without_memory}
+use Rattle.tv_top.specs.Finds.{reading}
 
 -- ---- each status comes from one stage
 
@@ -173,7 +174,8 @@ abbrev found_answer : Plan → ℕ → Outcome → Answer
 found_answer plan at outcome = record { looked = at; writes = files_of plan.writes outcome.files; ending = Finished outcome.finish }
 
 -- what a look is answered that was refused isn't a refusal of words
-stop_refuses : (plan : Plan) (stop : Stop) (why : Refusal) → is_shared plan.amounts plan.sizes ≡ false → IsWithin plan.sizes (Err stop) → IsOfWords (Ok plan) why
+stop_refuses : (plan : Plan) (stop : Stop) (why : Refusal) → is_shared plan.amounts plan.sizes ≡ false → IsWithin plan.sizes (Err stop)
+    → IsOfWords (Ok plan) why
     → ¬ (stop_status stop ≡ refusal_status why)
 stop_refuses plan stop refusal.Usage apart limited known e = let none = stop_is stop in let some : is_plain (stop_status stop) ≡ true = ap is_plain e in cc
 stop_refuses plan stop (refusal.SameName first second) apart limited known e = let none = stop_is stop in
@@ -361,10 +363,10 @@ found_memory (Ok outcome) e = cc
 found_memory (Err stop) e = let same : stop ≡ Memory = cc in ap Err same
 
 -- what was found was written, and the line said
-answers_ended : (plan : Plan) (found : Result Outcome Stop) (words : ℕ) (old mid after new : Outside) (result : Status) → is_shared plan.amounts plan.sizes ≡ false
+answers_ended : (plan : Plan) (found : Result Outcome Stop) (words : ℕ) (old mid after new : Outside) (result : Status)
+    → is_shared plan.amounts plan.sizes ≡ false
     → IfOk found (λ outcome. plan.ends_by outcome.finish ≡ true) →
-    Finds (λ (o : Outcome). o) (words_of plan.reads) plan.sizes plan.leads_to old mid found
-    → Writes {X = Unit {0}} (writes_by plan.writes found) mid after (Ok tt)
+    Finds (λ (o : Outcome). o) (plan_reading plan) old mid found → Writes {X = Unit {0}} (writes_by plan.writes found) mid after (Ok tt)
     → Concludes (ending_by found) words after new result → Answers (Ok plan) words old new result
 answers_ended plan found words old mid after new result apart may finds writes concludes =
     let concluded = concluded_since (ending_by found) words old after new result (writes.only.said ∙ finds.only.said)
@@ -396,7 +398,7 @@ answers_ended plan found words old mid after new result apart may finds writes c
 
 -- a plan whose files were found, and writing was cut short at a word, by a fault or an allocation failure
 answers_cut : (plan : Plan) (outcome : Outcome) (words at : ℕ) (old mid new : Outside) (result : Status)
-    → Finds (λ (o : Outcome). o) (words_of plan.reads) plan.sizes plan.leads_to old mid (Ok outcome) → OnlyWrites mid new →
+    → Finds (λ (o : Outcome). o) (plan_reading plan) old mid (Ok outcome) → OnlyWrites mid new →
     IsCutAt at (files_of plan.writes outcome.files) mid.contents new.contents → ((result ≡ status.FileFault at) × Rose mid.write_faults new.write_faults)
     ⊎ ((result ≡ status.Memory) × RanOut mid new) → Answers (Ok plan) words old new result
 answers_cut plan outcome words at old mid new result finds only cut ended =
@@ -452,8 +454,9 @@ still outside = record { said = refl; absent = λ _ _. refl; later = search rule
 nothing_written : {X : Type 0} {x : X} (outside : Outside) → Writes [] outside outside (Ok x)
 nothing_written outside = record { ended = (refl, tt); quiet = counts_stay outside; only = still outside }
 
-answers_halted : (plan : Plan) (outcome : Outcome) (stop : Stop) (words : ℕ) (old mid after new : Outside) (result : Status) → is_shared plan.amounts plan.sizes ≡ false
-    → Finds (λ (o : Outcome). o) (words_of plan.reads) plan.sizes plan.leads_to old mid (Ok outcome) →
+answers_halted : (plan : Plan) (outcome : Outcome) (stop : Stop) (words : ℕ) (old mid after new : Outside) (result : Status)
+    → is_shared plan.amounts plan.sizes ≡ false
+    → Finds (λ (o : Outcome). o) (plan_reading plan) old mid (Ok outcome) →
     OnlyWrites mid after → IsCut (files_of plan.writes outcome.files) mid after stop → Concludes (Stopped stop) words after new result
     → Answers (Ok plan) words old new result
 answers_halted plan outcome (Fault at) words old mid after new result apart finds only cut concludes =
@@ -482,7 +485,8 @@ answers_done plan (Err stop) words old after new result apart (inr (outcome, mid
       | inl writes ↦ answers_halted plan outcome stop words old mid after new result apart finds writes.only writes.ended concludes
       | inr wanting ↦ let is = wanting.0 in let memory : stop ≡ Memory = cc in
           answers_ended plan (Err Memory) words old mid mid new result apart tt
-          (finds_without_memory (λ (o : Outcome). o) (λ (o : Outcome). o) (words_of plan.reads) plan.sizes plan.leads_to outcome old mid (Err Memory) refl finds)
+          (finds_without_memory (λ (o : Outcome). o) (λ (o : Outcome). o) (words_of plan.reads) plan.sizes plan.leads_to outcome old mid
+          (Err Memory) refl finds)
           (nothing_written mid)
           (rw (memory, wanting.1) at concludes)
     ]
@@ -492,7 +496,7 @@ answers_done plan (Err stop) words old after new result apart (inr (outcome, mid
 -- a look was refused, and `?` passes that on
 pub does_stopped : {X A : Type 0} (plan : Plan) (view : X → A) (ends : A → Outcome) (due : Names → Look A) (stop : Stop) (old new : Outside)
     (result : Result Finish Stop) →
-    plan.leads_to ≡ (λ files. outcome_by ends (due files)) → Finds view (words_of plan.reads) plan.sizes due old new (Err stop)
+    plan.leads_to ≡ (λ files. outcome_by ends (due files)) → Finds view (reading (words_of plan.reads) plan.sizes due) old new (Err stop)
     → IsErrAnd result (λ e. e ≡ stop)
     → Does plan old new result
 does_stopped plan view ends due stop old new (Ok finish) is finds same = absurd same
@@ -502,7 +506,7 @@ does_stopped plan view ends due stop old new (Err other) is finds same = inl
 pub does_found : {X A : Type 0} (plan : Plan) (view : X → A) (ends : A → Outcome) (due : Names → Look A) (found : X) (old mid new : Outside)
     (result : Result Finish Stop) →
     plan.leads_to ≡ (λ files. outcome_by ends (due files)) → plan.ends_by (ends (view found)).finish ≡ true
-    → Finds view (words_of plan.reads) plan.sizes due old mid (Ok found) → Completes plan.writes (ends (view found)) mid new result
+    → Finds view (reading (words_of plan.reads) plan.sizes due) old mid (Ok found) → Completes plan.writes (ends (view found)) mid new result
     → Does plan old new result
 does_found plan view ends due found old mid new result is may finds completes = inr
     (ends (view found), mid, may, rw is (finds_comes view ends (words_of plan.reads) plan.sizes due old mid (Ok found) finds), completes)

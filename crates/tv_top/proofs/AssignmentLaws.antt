@@ -16,7 +16,7 @@ use Rattle.tv_top.proofs.Common.{Names, Outside, Bad, Finish, Stop, Memory, Hold
 use Rattle.tv_top.proofs.Common.{input, look_on, map_ok, settled, Program, bits, program_in}
 use Rattle.tv_layout.specs.Places.{WithinLimits}
 use Rattle.tv_top.specs.declared.refusal.Finish.TheVariants.{NotARun}
-use Rattle.tv_top.specs.Build.{program_system}
+use Rattle.tv_top.specs.Build.{program_system, program_runs}
 use Rattle.tv_top.specs.Containers.{firsts_in_witness, witness_bad, witness_in}
 use Rattle.tv_top.specs.Assignment.{Assigned, Kept, assigned_by, assigned_of, assigned_run, kept_of, kept_run, not_run, run_ends, HasAssigned}
 use Rattle.tv_top.proofs.AnswerLaws.{completes_nothing}
@@ -27,8 +27,8 @@ use Rattle.tv_top.proofs.ProgramLaws.{has_image, within_limits}
 -- it ends as a run does, or says that there is none
 pub ends_in : (kind : Finish → Bool) (run : Run → Outcome) → ((one : Run) → kind (run one).finish ≡ true) → ((why : NotRun) → kind (NotARun why) ≡ true)
     → (found : Result Run NotRun) → kind (run_ends run found).finish ≡ true
-ends_in kind run tells none (Ok one) = tells one
-ends_in kind run tells none (Err why) = none why
+ends_in kind run answers none (Ok one) = answers one
+ends_in kind run answers none (Err why) = none why
 
 -- there is no run, or memory was wanting
 pub completes_none : (places : List Named) (run : Run → Outcome) (found : Result Run NotRun) (fault : ExtractFault) (outside : Outside) → IsFaultOf found fault
@@ -43,7 +43,7 @@ abbrev wires_of : Net → ℕ → ℕ → Program → ℕ
 wires_of net n t program = (program_system net n t program).wires
 
 pub kept_counted : (net : Net) (n t : ℕ) (kept : Kept) → kept.first.count ≡ wires_of net n t kept.program
-    → kept_run net n t kept ≡ run_in (bits kept.program.width) net kept.program.words n t kept.first.values
+    → kept_run net n t kept ≡ run_in net (program_runs n t kept.program) kept.first.values
 unfolding kept_run assigned_run
 kept_counted net n t kept many = rw (eq-eqb kept.first.count (wires_of net n t kept.program) many) refl
 
@@ -117,7 +117,7 @@ HasBoth files text witness = Then (Holds program_in (files text))
 -- the program's system has a size
 pub assigned_fits : (n t : ℕ) (files : Names) (text witness : List ℕ) (assigned : Assigned) → n ≤ TAPE_WORDS → 0 < t → t ≤ STEPS
     → HasBoth files text witness (Ok assigned) →
-    WithinLimits (bits assigned.program.width) assigned.program.words n t
+    WithinLimits (program_runs n t assigned.program)
 assigned_fits n t files text witness assigned few some most (inl (program, holds, inl (z, _, e))) =
     let same : record { program = program; z = z } ≡ assigned = cc in
     within_limits assigned.program n t (has_image (files text) assigned.program (rw (ap (λ (assigned : Assigned). assigned.program) same) at holds)) few
@@ -137,7 +137,7 @@ assigned_shown net files text n t witness few some most =
     (shows_input (name_at 4 witness) witness_in files) (λ z _. shows_made (Ok (record { program = program; z = z })))))
     (λ held has. record {
       holds = has;
-      run = if_ok held _ (λ assigned _ run is. extracted_is_run (bits assigned.program.width) net assigned.program.words assigned.z n t run is);
-      satisfying = if_ok held _ (λ assigned is sat. satisfying_have_runs (bits assigned.program.width) net assigned.program.words assigned.z n t
+      run = if_ok held _ (λ assigned _ run is. extracted_is_run net (program_runs n t assigned.program) assigned.z run is);
+      satisfying = if_ok held _ (λ assigned is sat. satisfying_have_runs net (program_runs n t assigned.program) assigned.z
           (assigned_fits n t files text witness assigned few some most (rw is at has)) sat);
     })

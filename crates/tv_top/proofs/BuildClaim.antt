@@ -2,8 +2,8 @@
 use Rattle.std.proofs.Common.{refl, arith}
 use Rattle.tv_layout.proofs.NormalLaws.{system_normal}
 use Rattle.tv_layout.proofs.Systems.{system_reduces}
-use Rattle.tv_top.specs.Build.{program_system, build_ends, build_plan, HasSystem, OnBuild}
-use Rattle.tv_top.proofs.Common.{name_at, input, bits, program_in}
+use Rattle.tv_top.specs.Build.{program_system, build_ends, build_plan, HasSystem, OnBuild, program_runs}
+use Rattle.tv_top.proofs.Common.{name_at, input, program_in}
 use Rattle.tv_top.proofs.ClaimLaws.{Promises, leads_to, if_ok, shows_input, shows_more}
 use Rattle.tv_top.proofs.ProgramLaws.{has_image, within_limits}
 
@@ -16,8 +16,8 @@ builds words count call answers text first second system last net n t are is_net
     (rw (are, is_net, is_n, is_t) refl) ((differ, tt), (tt, tt)) (omega arith, few, (omega arith, most, tt)) refl known answers
     (shows_more _ _ _ (shows_input (name_at 1 text) program_in files) (λ held holds. record {
       holds = holds;
-      reduces = if_ok held _ (λ program is. system_reduces (bits program.width) net program.words n t
+      reduces = if_ok held _ (λ program is. system_reduces net (program_runs n t program)
           (within_limits program n t (has_image (files text) program (rw is at holds)) few (omega arith) most));
-      normal = if_ok held _ (λ program is. system_normal (bits program.width) net program.words n t
+      normal = if_ok held _ (λ program is. system_normal net (program_runs n t program)
           (within_limits program n t (has_image (files text) program (rw is at holds)) few (omega arith) most));
     }))

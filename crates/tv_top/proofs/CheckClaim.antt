@@ -1,6 +1,6 @@
 -- `check`: reading the system twice is reading it once, and what the command promises.
 use Rattle.std.proofs.Common.{◌≡◌, ◌↔◌, ◌<◌, ◌==◌, ℕ, max, Bool, true, false, if◌then◌else◌, List, [], ◌∷◌, length, take, All, Result, Ok, Err, refl, sym, ap}
-use Rattle.std.proofs.Common.{◌∙◌, arith}
+use Rattle.std.proofs.Common.{arith}
 use Rattle.std.proofs.lemmas.Bool.{eqb-true, eq-eqb, ne_eqb}
 use Rattle.std.proofs.lemmas.List.{take_all}
 use Rattle.tv_check.specs.Meaning.{VerdictMeans}
@@ -22,7 +22,7 @@ use Rattle.tv_top.specs.declared.refusal.Size.TheVariants.{TapeWords}
 use Rattle.tv_top.specs.declared.refusal.Stop.{Stop}
 use Rattle.tv_top.specs.Check.{check_of, check_ends, check_plan, IsJudged, HasVerdict, OnCheck}
 use Rattle.tv_top.specs.Containers.{system_bad, witness_bad, system_in, witness_in, firsts_in_witness, counts_in, verdict_in}
-use Rattle.tv_top.specs.Finds.{Finds}
+use Rattle.tv_top.specs.Finds.{Finds, reading, reading_of}
 use Rattle.tv_top.specs.Plan.{Named, name_at, Look, ◌>>=◌, look_on, held_at, input, settled, map_ok}
 use Rattle.tv_top.specs.Tapes.{publics_in, tape_sizes}
 use Rattle.tv_top.proofs.ContainerReads.{part_held, read_of}
@@ -64,13 +64,13 @@ by_parts : (a b c : ℕ) (s : Result System Stop) (z x : Result (List ℕ) Stop)
     all ≡ map_ok system_counts s → ((most : ℕ) → first most ≡ map_ok (firsts_of most) z) → ((z x : List ℕ) → again z x ≡ map_ok (λ s. judge s z x) s) →
     look_on a all (λ counts. look_on b (first counts.wires) (λ first. look_on c x (λ x. counted a all (again first.values x) counts.wires first)))
     ≡ look_on a s (λ s. look_on b z (λ z. look_on c x (λ x. settled (Ok (judge s z x)))))
-by_parts a b c (Ok s) (Ok z) (Ok x) all first again is firsts tells =
+by_parts a b c (Ok s) (Ok z) (Ok x) all first again is firsts judged =
     let reach : max a (max b (max c a)) ≡ max a (max b (max c 0)) = omega arith in
-    rw (is, firsts s.wires, tells (take s.wires z) x, ← reach)
+    rw (is, firsts s.wires, judged (take s.wires z) x, ← reach)
     (ap (λ (look : Look Verdict). record { at = max a (max b (max c look.at)); gives = look.gives }) (by_count a s z x (length z == s.wires) refl))
-by_parts a b c (Ok s) (Ok z) (Err why) all first again is firsts tells = rw (is, firsts s.wires) refl
-by_parts a b c (Ok s) (Err why) x all first again is firsts tells = rw (is, firsts s.wires) refl
-by_parts a b c (Err why) z x all first again is firsts tells = rw is refl
+by_parts a b c (Ok s) (Ok z) (Err why) all first again is firsts judged = rw (is, firsts s.wires) refl
+by_parts a b c (Ok s) (Err why) x all first again is firsts judged = rw (is, firsts s.wires) refl
+by_parts a b c (Err why) z x all first again is firsts judged = rw is refl
 
 once : (system witness tape : Named) (files : Names) → check_twice system witness tape files ≡ check_of system witness tape files
 unfolding check_twice check_last check_of survey_of verdict_of input
@@ -84,21 +84,23 @@ once system witness tape files =
 
 -- the last look: the verdict where there are as many values as wires, and else the wires
 pub finds_verdict : (system : Named) (wires : ℕ) (first : Firsts) (x : List ℕ) (old new : Outside) (found : Result Verdict Stop) → first.count ≡ wires →
-    Finds (λ v. v) (system.word ∷ []) [] (input system (verdict_in first.values x)) old new found
-    → Finds (λ v. v) (system.word ∷ []) [] (check_last system wires first x) old new found
+    Finds (λ v. v) (reading_of system [] (verdict_in first.values x)) old new found
+    → Finds (λ v. v) (reading (system.word ∷ []) [] (check_last system wires first x)) old new found
 unfolding check_last
 finds_verdict system wires first x old new found same finds = finds_as (λ files. rw (eq-eqb first.count wires same) refl) finds
 
 pub finds_wires : (system : Named) (wires : ℕ) (first : Firsts) (x : List ℕ) (old new : Outside) (found : Result Verdict Stop) → ¬ (first.count ≡ wires) →
-    Finds (λ v. v) (system.word ∷ []) [] (λ files. input system counts_in files >>= λ counts. settled (Ok (WireCount first.count wires))) old new found
-    → Finds (λ v. v) (system.word ∷ []) [] (check_last system wires first x) old new found
+    Finds (λ v. v) (reading (system.word ∷ []) [] (λ files. input system counts_in files >>= λ counts. settled (Ok (WireCount first.count wires))))
+    old new found
+    → Finds (λ v. v) (reading (system.word ∷ []) [] (check_last system wires first x)) old new found
 unfolding check_last
 finds_wires system wires first x old new found other finds = finds_as (λ files. rw (ne_eqb first.count wires other) refl) finds
 
 -- what was found is what the plan looks for
 pub finds_once : (system witness tape : Named) (old new : Outside) (found : Result Verdict Stop)
-    → Finds (λ v. v) (system.word ∷ witness.word ∷ tape.word ∷ system.word ∷ []) (tape_sizes TapeWords) (check_twice system witness tape) old new found →
-    Finds (λ v. v) (system.word ∷ witness.word ∷ tape.word ∷ []) (tape_sizes TapeWords) (check_of system witness tape) old new found
+    → Finds (λ v. v) (reading (system.word ∷ witness.word ∷ tape.word ∷ system.word ∷ []) (tape_sizes TapeWords) (check_twice system witness tape))
+    old new found →
+    Finds (λ v. v) (reading (system.word ∷ witness.word ∷ tape.word ∷ []) (tape_sizes TapeWords) (check_of system witness tape)) old new found
 finds_once system witness tape old new found finds =
     let same = finds_as (λ files. sym (once system witness tape files)) finds in
     record {
@@ -124,7 +126,7 @@ verdict_shown : (s : System) (z x : List ℕ) → HasRoom s → All (λ v. v < P
 verdict_shown s z x room below held e = record {
   verdict = judge s z x;
   is = sym (made_is (Ok (judge s z x)) held e);
-  tells = λ other. judged_exactly s z x other room below;
+  means = λ other. judged_exactly s z x other room below;
 }
 
 all_shown : (system witness tape : List ℕ) (files : Names)

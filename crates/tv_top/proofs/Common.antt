@@ -20,10 +20,10 @@ pub use Rattle.tv_top.specs.Plan.{Named, Amount, name_at, Look, Outcome, Plan, W
 pub use Rattle.tv_top.specs.Plan.{◌>>=◌, held_at, made_of, settled, same_in, same_of, is_out, limit_of, request_of, map_ok, look_on, within}
 pub use Rattle.tv_top.specs.Plan.{refusal_of}
 unfoldable pub use Rattle.tv_top.specs.Plan.{input}
-pub use Rattle.tv_top.specs.Finds.{IsOneOf, IsFound, Finds, Leaves, Makes, Spares}
+pub use Rattle.tv_top.specs.Finds.{IsOneOf, IsFound, reading, reading_of, Finds, Leaves, Makes, Spares}
 pub use Rattle.tv_top.specs.Ends.{AreRead, files_with, IsCutAt, IsCutInWriting, Said, SaidPart, Ends, IsConcluded, IsQuiet, IsUntouched, Concludes, Writes}
 pub use Rattle.tv_top.specs.Ends.{IsCut, Completes, IsAnswered, sink_stop, streamed, HasPartOf}
-pub use Rattle.tv_top.specs.Answers.{words_of, MayStop, MayEnd, quantities_of, IsOfWords, ChangedAt, IsSaid, Answers, Does, ending_of}
+pub use Rattle.tv_top.specs.Answers.{words_of, plan_reading, MayStop, MayEnd, quantities_of, IsOfWords, ChangedAt, IsSaid, Answers, Does, ending_of}
 pub use Rattle.tv_top.specs.Claims.{Call, Holds, Then, IsStopped, status_by, Answered, AnswersOrStops}
 pub use Rattle.tv_top.specs.Programs.{bits, program_in, program_sizes, image_words, image_bytes, program_result, HasImage, width_of_text, program_of}
 unfoldable pub use Rattle.tv_top.specs.Programs.{program_by, image_of}

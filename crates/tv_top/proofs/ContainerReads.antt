@@ -12,6 +12,7 @@ use Rattle.tv_top.specs.declared.refusal.Bad.TheVariants.{Limit}
 use Rattle.tv_top.specs.declared.refusal.Stop.TheVariants as stop
 use Rattle.tv_top.specs.Containers.{container_result, refusal_stop, system_bad, witness_bad}
 use Rattle.tv_top.proofs.LookLaws.{finds_still}
+use Rattle.tv_top.specs.Finds.{reading, reading_of}
 
 -- what a refusal of a reader is: a fault of this word, where it is that of reading, or contents that may be refused so
 abbrev pub StopsBy : ℕ → List Size → Type 0 → Stop → Type 0
@@ -30,8 +31,8 @@ module _ {Y E A : Type 0} (view : Y → A) (of : E → Stop) (fault : E) (word :
       → (IsMissing old name → result ≡ Err fault) → (files : Names) → old.contents ≡ Some files →
       (file : Option (List ℕ)) → files name ≡ file → IsFound view (due file) (came of result)
   unfolding bytes_of
-  known result faulty within gives missing files tells (Some file) is = gives file (rw (tells, is) refl)
-  known result faulty within gives missing files tells None is = rw (missing (record { files = files; known = tells; none = is }), faulty) within
+  known result faulty within gives missing files held (Some file) is = gives file (rw (held, is) refl)
+  known result faulty within gives missing files held None is = rw (missing (record { files = files; known = held; none = is }), faulty) within
 
   -- a file was read by a reader that stands so after a refusal
   pub finds_file : (result : Result Y E) → of fault ≡ stop.Fault word → word ≤ (due None).at → (due None).gives ≡ Err (stop.Fault word)
@@ -39,12 +40,12 @@ module _ {Y E A : Type 0} (view : Y → A) (of : E → Stop) (fault : E) (word :
       ((why : E) → Stands why → OnlyReads old new × MissesOnly old new name × Spares (of why) old new × (why ≡ fault → Rose old.read_faults new.read_faults))
       → Known old name (λ file. IsFound view (due (Some file)) (came of result)) →
       MatchResult result (λ _. new ≡ old) Stands → (IsMissing old name → result ≡ Err fault)
-      → Finds view (word ∷ []) sizes (λ held. due (held name)) old new (came of result)
+      → Finds view (reading (word ∷ []) sizes (λ held. due (held name))) old new (came of result)
   finds_file (Ok y) faulty within none stops stands gives looks missing = rw looks
-      (finds_still (λ files tells. known (Ok y) faulty within gives missing files tells (files name) refl))
+      (finds_still (λ files held. known (Ok y) faulty within gives missing files held (files name) refl))
   finds_file (Err why) faulty within none stops stands gives looks missing = record {
-    known = λ files tells. known (Err why) faulty within gives missing files tells (files name) refl;
-    absent = λ files tells. elim ((stands why looks).1 files tells) [ inl same ↦ inl same | inr missed ↦ inr (word, rw missed none) ];
+    known = λ files held. known (Err why) faulty within gives missing files held (files name) refl;
+    absent = λ files held. elim ((stands why looks).1 files held) [ inl same ↦ inl same | inr missed ↦ inr (word, rw missed none) ];
     only = (stands why looks).0;
     leaves = (stands why looks).2;
     caused = λ at e. let same : of why ≡ stop.Fault at = cc in let is = rw same at (stops why) in (inl is.0, (stands why looks).3 is.1);
@@ -90,7 +91,7 @@ pub finds_read : {Y A : Type 0} (view : Y → A) (place : Named) (bad : Fault �
     (result : Result Y ReadRefusal) → NoLimit bad →
     Known old place.name (λ file. ReadsAsBy result view (read file)) → Looks old new place.name result → (IsMissing old place.name
     → result ≡ Err refusal.Fault) →
-    Finds view (place.word ∷ []) [] (input place (λ file. container_result bad (read file))) old new (came (refusal_stop place.word bad) result)
+    Finds view (reading_of place [] (λ file. container_result bad (read file))) old new (came (refusal_stop place.word bad) result)
 unfolding input
 finds_read view place bad read old new result none gives looks missing =
     finds_file view (refusal_stop place.word bad) refusal.Fault place.word [] place.name

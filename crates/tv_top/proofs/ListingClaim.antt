@@ -2,11 +2,10 @@
 use Rattle.std.proofs.Common.{refl, arith}
 use Rattle.tv_benes.specs.declared.shape.Net.TheVariants.{Benes}
 use Rattle.tv_listing.proofs.Traces.{satisfying_are_listed}
-use Rattle.tv_top.specs.Build.{program_system}
+use Rattle.tv_top.specs.Build.{program_system, program_runs}
 use Rattle.tv_top.specs.Assignment.{assigned_of}
 use Rattle.tv_top.specs.Listing.{listing_ends, listing_plan, HasListed, OnListing}
 use Rattle.tv_top.specs.Plan.{name_at}
-use Rattle.tv_top.specs.Programs.{bits}
 use Rattle.tv_top.proofs.AssignmentLaws.{assigned_fits, assigned_shown}
 use Rattle.tv_top.proofs.ClaimLaws.{Promises, leads_to, if_ok, shows_more}
 
@@ -18,7 +17,6 @@ lists words count call answers text first second witness order out by n t are is
     (rw (are, is_by, is_n, is_t) refl) ((a, tt), ((b, tt), (tt, tt))) (omega arith, few, (omega arith, most, tt)) refl known answers
     (shows_more _ _ _ (assigned_shown Benes files text n t witness few some most) (λ held has. record {
       assigned = has;
-      satisfying = if_ok held _ (λ assigned is sat.
-          satisfying_are_listed (bits assigned.program.width) Benes assigned.program.words assigned.z n t
+      satisfying = if_ok held _ (λ assigned is sat. satisfying_are_listed Benes (program_runs n t assigned.program) assigned.z
           (assigned_fits n t files text witness assigned few some most (rw is at has.holds)) sat);
     }))

@@ -4,6 +4,7 @@ use Rattle.std.proofs.Common.{◌≤◌, arith, rules}
 use Rattle.std.proofs.lemmas.Bool.{cond_both}
 use Rattle.tv_top.proofs.Common.{Names, Outside, OnlyReads, SameCounts, Bad, Size, Stop, Fault, Memory, Contents, IsOneOf, IsFound, Finds, Leaves, Makes}
 use Rattle.tv_top.proofs.Common.{Named, Look, ◌>>=◌, look_on, Outcome, outcome_by, map_ok, input, within, held_at, made_of}
+use Rattle.tv_top.specs.Finds.{reading, reading_of}
 use Rattle.tv_top.specs.declared.refusal.Bad.TheVariants as bad
 
 -- the outside is as it was where its contents, what was said and its counts are
@@ -46,7 +47,7 @@ found_short view to look f Memory any = tt
 
 finds_stop : {X A Y B : Type 0} (view : X → A) (to : Y → B) (some more : List ℕ) (few many : List Size) (due : Names → Look A) (f : Names → A → Look B)
     (old new : Outside) (stop : Stop) →
-    Finds view some few due old new (Err stop) → Finds to (some ++ more) (few ++ many) (λ files. due files >>= f files) old new (Err stop)
+    Finds view (reading some few due) old new (Err stop) → Finds to (reading (some ++ more) (few ++ many) (λ files. due files >>= f files)) old new (Err stop)
 finds_stop view to some more few many due f old new stop one = record {
   known = λ files known. found_short view to (due files) (f files) stop (one.known files known);
   absent = λ files known. elim (one.absent files known) [ inl same ↦ inl same | inr missing ↦ inr (missing.0, rw missing.1 refl) ];
@@ -61,16 +62,16 @@ finds_stop view to some more few many due f old new stop one = record {
 -- the first that is refused is what all of them find
 pub finds_short : {X A Y B : Type 0} {view : X → A} {to : Y → B} {some : List ℕ} {few : List Size} {due : Names → Look A} {old new : Outside} {stop : Stop}
     (more : List ℕ) (many : List Size) (f : Names → A → Look B) (found : Result Y Stop) →
-    IsErrAnd found (λ e. e ≡ stop) → Finds view some few due old new (Err stop)
-    → Finds to (some ++ more) (few ++ many) (λ files. due files >>= f files) old new found
+    IsErrAnd found (λ e. e ≡ stop) → Finds view (reading some few due) old new (Err stop)
+    → Finds to (reading (some ++ more) (few ++ many) (λ files. due files >>= f files)) old new found
 finds_short more many f (Ok y) same one = absurd same
 finds_short more many f (Err other) same one = rw same (finds_stop _ _ _ _ _ _ _ _ _ _ _ one)
 
 -- after one that finds something, what the others find
 pub finds_on : {X A Y B : Type 0} {view : X → A} {to : Y → B} {some more : List ℕ} {few many : List Size} {due : Names
     → Look A} {old mid new : Outside} {x : X} {found : Result Y Stop} (f : Names → A → Look B) →
-    Finds view some few due old mid (Ok x) → Finds to more many (λ files. f files (view x)) mid new found
-    → Finds to (some ++ more) (few ++ many) (λ files. due files >>= f files) old new found
+    Finds view (reading some few due) old mid (Ok x) → Finds to (reading more many (λ files. f files (view x))) mid new found
+    → Finds to (reading (some ++ more) (few ++ many) (λ files. due files >>= f files)) old new found
 finds_on {view} {to} {some} {more} {few} {many} {due} {new} {x} {found} f one two = record {
   known = λ files known. found_on to (due files) (f files) (view x) found (one.known files known) (two.known files (one.only.contents ∙ known));
   absent = λ files known. elim (two.absent files (one.only.contents ∙ known)) [
@@ -89,7 +90,7 @@ finds_on {view} {to} {some} {more} {few} {many} {due} {new} {x} {found} f one tw
 -- what was found once all is as it was
 pub finds_still : {X A : Type 0} {view : X → A} {words : List ℕ} {sizes : List Size} {due : Names → Look A} {outside : Outside} {x : X}
     → ((files : Names) → outside.contents ≡ Some files → (due files).gives ≡ Ok (view x)) →
-    Finds view words sizes due outside outside (Ok x)
+    Finds view (reading words sizes due) outside outside (Ok x)
 finds_still is = record {
   known = is;
   absent = λ files known. inl refl;
@@ -102,7 +103,7 @@ finds_still is = record {
 -- a look that finds the same
 pub finds_as : {X A : Type 0} {view : X → A} {words : List ℕ} {sizes : List Size} {due other : Names → Look A} {old new : Outside} {found : Result X Stop}
     → ((files : Names) → due files ≡ other files) →
-    Finds view words sizes other old new found → Finds view words sizes due old new found
+    Finds view (reading words sizes other) old new found → Finds view (reading words sizes due) old new found
 finds_as is finds = record {
   known = λ files known. rw (is files) (finds.known files known);
   absent = λ files known. rw (is files) (finds.absent files known);
@@ -156,9 +157,9 @@ limited_is word what most f (Some held) bytes text is e =
 -- what was made of a file of this many bytes
 pub made_found : {X Y A : Type 0} (view : X → A) (of_read : Y → List ℕ) (place : Named) (what : Size) (sizes : List Size) (most : ℕ) (f : List ℕ → Result A Bad)
     (read : Y) (text : List ℕ) (made : Result X Stop) (old new : Outside) →
-    Finds of_read (place.word ∷ []) (what ∷ []) (input place (within what most (λ bytes. Ok bytes))) old new (Ok read) → text ≡ of_read read
+    Finds of_read (reading_of place (what ∷ []) (within what most (λ bytes. Ok bytes))) old new (Ok read) → text ≡ of_read read
     → Makes view (f text) made → IsLimited (f text) sizes →
-    Finds view (place.word ∷ []) (what ∷ sizes) (input place (within what most f)) old new made
+    Finds view (reading_of place (what ∷ sizes) (within what most f)) old new made
 unfolding input
 made_found view of_read place what sizes most f read text made old new finds is makes limited = record {
   known = λ files known. found_made view (input place (within what most f) files) (f text) made
@@ -176,7 +177,7 @@ made_found view of_read place what sizes most f read text made old new finds is 
 -- what was found, seen in another way
 pub finds_view : {X Y A : Type 0} (view : X → A) (other : Y → A) (words : List ℕ) (sizes : List Size) (due : Names → Look A) (found : X) (same : Y)
     (old new : Outside) → view found ≡ other same →
-    Finds view words sizes due old new (Ok found) → Finds other words sizes due old new (Ok same)
+    Finds view (reading words sizes due) old new (Ok found) → Finds other (reading words sizes due) old new (Ok same)
 finds_view view other words sizes due found same old new is finds = record {
   known = λ files known. finds.known files known
       ∙ ap Ok is;
@@ -190,7 +191,7 @@ finds_view view other words sizes due found same old new is finds = record {
 -- what a look was refused for, which `?` passes on
 pub finds_passed : {X Y A : Type 0} (view : X → A) (other : Y → A) (words : List ℕ) (sizes : List Size) (due : Names → Look A) (stop : Stop) (old new : Outside)
     (found : Result Y Stop) → IsErrAnd found (λ e. e ≡ stop) →
-    Finds view words sizes due old new (Err stop) → Finds other words sizes due old new found
+    Finds view (reading words sizes due) old new (Err stop) → Finds other (reading words sizes due) old new found
 finds_passed view other words sizes due stop old new (Ok y) same finds = absurd same
 finds_passed view other words sizes due (Contents why) old new (Err e) same finds = rw same
     (record {
@@ -214,9 +215,10 @@ finds_passed view other words sizes due Memory old new (Err e) same finds = rw s
     (record { known = finds.known; absent = finds.absent; only = finds.only; leaves = finds.leaves; caused = λ at e. cc; limits = λ what has most e. cc })
 
 -- memory may be wanting for what follows on a look
-pub finds_without_memory : {X Y A : Type 0} (view : X → A) (other : Y → A) (words : List ℕ) (sizes : List Size) (due : Names → Look A) (found : X) (old new : Outside)
+pub finds_without_memory : {X Y A : Type 0} (view : X → A) (other : Y → A) (words : List ℕ) (sizes : List Size) (due : Names → Look A) (found : X)
+    (old new : Outside)
     (result : Result Y Stop) → IsErrAnd result (λ e. e ≡ Memory) →
-    Finds view words sizes due old new (Ok found) → Finds other words sizes due old new result
+    Finds view (reading words sizes due) old new (Ok found) → Finds other (reading words sizes due) old new result
 finds_without_memory view other words sizes due found old new (Ok y) is finds = absurd is
 finds_without_memory view other words sizes due found old new (Err stop) is finds = rw is
     (record { known = λ _ _. tt; absent = finds.absent; only = finds.only; leaves = inl finds.leaves; caused = λ word e. cc; limits = λ what has most e. cc })
@@ -240,8 +242,8 @@ same_err f (Err other) why e = cc
 
 pub finds_comes : {X A : Type 0} (view : X → A) (f : A → Outcome) (words : List ℕ) (sizes : List Size) (due : Names → Look A) (old new : Outside)
     (found : Result X Stop) →
-    Finds view words sizes due old new found
-    → Finds (λ (o : Outcome). o) words sizes (λ files. outcome_by f (due files)) old new (map_ok (λ x. f (view x)) found)
+    Finds view (reading words sizes due) old new found
+    → Finds (λ (o : Outcome). o) (reading words sizes (λ files. outcome_by f (due files))) old new (map_ok (λ x. f (view x)) found)
 finds_comes view f words sizes due old new found finds = record {
   known = λ files known. found_leads view f (due files) found (finds.known files known);
   absent = λ files known. elim (finds.absent files known) [ inl same ↦ inl same | inr missing ↦ inr (missing.0, ap (map_ok f) missing.1) ];

@@ -7,6 +7,7 @@ use Rattle.tv_asm.specs.Assembly.{assembled}
 use Rattle.tv_asm.specs.declared.fault.AsmFault.{AsmFault}
 use Rattle.tv_core.specs.declared.limits.TheConstants.{IMAGE_WORDS, TAPE_WORDS, AUX_WORDS, STEPS, TEXT_BYTES}
 use Rattle.tv_layout.specs.Places.{WithinLimits}
+use Rattle.tv_top.specs.Build.{program_runs}
 use Rattle.tv_step.specs.Range.{AreWords}
 use Rattle.tv_tape.proofs.Narrow.{numbers_below, numbers_few}
 use Rattle.tv_tape.specs.Tape.{tape_of}
@@ -52,7 +53,7 @@ few_words Bits16 = omega arith
 few_words Bits32 = omega arith
 
 -- the system of a program's runs has a size
-pub within_limits : (program : Program) (n t : ℕ) → HasImage program → n ≤ TAPE_WORDS → 1 ≤ t → t ≤ STEPS → WithinLimits (bits program.width) program.words n t
+pub within_limits : (program : Program) (n t : ℕ) → HasImage program → n ≤ TAPE_WORDS → 1 ≤ t → t ≤ STEPS → WithinLimits (program_runs n t program)
 within_limits program n t image few some most =
     let fits = few_words program.width in
     record {

@@ -13,6 +13,7 @@ use Rattle.tv_top.specs.Containers.{system_in}
 use Rattle.tv_top.specs.Shrink.{shrink_sizes, shrink_stop, shrunk_of, shrunk_look}
 use Rattle.tv_top.proofs.Common.{Outside, Rose, Bad, IsFound, Finds, Spares, Named, Look, ◌>>=◌, look_on, held_at, input, made_of, settled}
 use Rattle.tv_top.proofs.ContainerReads.{StopsBy, came, finds_file}
+use Rattle.tv_top.specs.Finds.{reading}
 
 shrink_stops : (word : ℕ) (why : ShrinkFault) → StopsBy word shrink_sizes (why ≡ fault.Fault) (shrink_stop word why)
 shrink_stops word (fault.Terms has) = inl refl
@@ -54,7 +55,7 @@ pub finds_shrunk : (place : Named) (old new : Outside) (result : Result Shrunken
     → Known old place.name (λ file. MatchResult result (λ shrunken. shrinking.Shrinks shrunken file) (λ fault. FaultMeans fault file))
     → HaltsBy old new place.name result →
     (IsMissing old place.name → result ≡ Err fault.Fault)
-    → Finds (λ (s : Shrunken). s) (place.word ∷ []) shrink_sizes (shrunk_look place) old new (came (shrink_stop place.word) result)
+    → Finds (λ (s : Shrunken). s) (reading (place.word ∷ []) shrink_sizes (shrunk_look place)) old new (came (shrink_stop place.word) result)
 unfolding shrunk_look input
 finds_shrunk place old new result gives halts missing =
     finds_file (λ (s : Shrunken). s) (shrink_stop place.word) fault.Fault place.word shrink_sizes place.name (shrunk_due place.word) old new

@@ -13,8 +13,8 @@ use Rattle.tv_core.specs.declared.field.TheConstants.{P}
 use Rattle.tv_core.specs.declared.limits.TheConstants.{TAPE_WORDS, AUX_WORDS, CHECK_WORDS, TEXT_BYTES}
 use Rattle.tv_extract.specs.Runs.{IsRunOf}
 use Rattle.tv_extract.specs.declared.run.Run.{Run}
-use Rattle.tv_layout.specs.Layout.{taken_wire, taken_wires, taken_of, block_at}
-use Rattle.tv_layout.specs.Places.{boot_count, zero_wires_at, first_at}
+use Rattle.tv_layout.specs.Layout.{taken_wire, taken_wires, taken_of, step_block}
+use Rattle.tv_layout.specs.Places.{runs_of}
 use Rattle.tv_step.proofs.EndLaws.{end_answers}
 use Rattle.tv_step.proofs.RangeLaws.{start_in_range, run_keeps_range, answer_is_word}
 use Rattle.tv_step.specs.Machine.{start}
@@ -88,15 +88,14 @@ joined_few : (t : ℕ) (f : ℕ → List ℕ) → ((i : ℕ) → length (f i) �
 joined_few zero f few = omega (arith, ap length (joined_below-zero f))
 joined_few (suc t) f few = omega (arith, ap length (joined_below-suc t f), length-append (joined_below t f) (f t), joined_few t f few, few t)
 
-few_taken : (w : ℕ) (image : List ℕ) (n t : ℕ) (z : List ℕ) → length (taken_of (block_of w) w image n t z) ≤ t
+few_taken : (w : ℕ) (image : List ℕ) (n t : ℕ) (z : List ℕ) → length (taken_of (block_of w) (runs_of w image n t) z) ≤ t
 unfolding taken_wires
 few_taken w image n t z =
-    let wires = joined_few t (λ i. taken_wire z (block_at (block_of w) n (boot_count image n) (zero_wires_at w n) (first_at w n) i).spot)
-    (λ i. one_taken z _) in
-    omega (arith, length-map (taken_wires (block_of w) w image n t z) (slice_index z), wires)
+    let wires = joined_few t (λ i. taken_wire z (step_block (block_of w) (runs_of w image n t) i).spot) (λ i. one_taken z _) in
+    omega (arith, length-map (taken_wires (block_of w) (runs_of w image n t) z) (slice_index z), wires)
 
 -- the answer of a run on tapes of words is a word
-answer_small : (width : Width) (image z : List ℕ) (n t : ℕ) (run : Run) → IsRunOf (bits width) image n t z run → run.answer < 2 ^ bits width
+answer_small : (width : Width) (image z : List ℕ) (n t : ℕ) (run : Run) → IsRunOf (runs_of (bits width) image n t) z run → run.answer < 2 ^ bits width
 answer_small width image z n t run is =
     let w = bits width in
     let from = start w image run.tape run.aux in

@@ -11,12 +11,12 @@ use Rattle.tv_draw.proofs.RunLaws.{drawn_is}
 use Rattle.tv_draw.specs.Program.{image_drawn, tape_drawn, aux_drawn, IsDrawn}
 use Rattle.tv_top.proofs.Common.{Call, Answers, IsStopped, request_of}
 use Rattle.tv_layout.proofs.Systems.{system_complete}
-use Rattle.tv_layout.specs.Places.{WithinLimits}
+use Rattle.tv_layout.specs.Places.{WithinLimits, runs_like}
 use Rattle.tv_step.specs.Machine.{Accepts}
 use Rattle.tv_step.specs.Range.{AreWords}
 use Rattle.tv_top.specs.declared.status.Status.TheVariants.{FileFault}
 use Rattle.tv_top.specs.Form.{form}
-use Rattle.tv_top.specs.Trial.{trial_of, trial_plan, IsTrial, Tries, OnTrial}
+use Rattle.tv_top.specs.Trial.{trial_of, trial_plan, IsTrial, Tries, OnTrial, drawn_run}
 use Rattle.tv_top.proofs.ClaimLaws.{due_or_stopped, granted}
 
 all_hold : (z : List ℕ) (list : List Constraint) → All (λ constraint. Holds constraint z) list → count_by (holds z) list ≡ length list
@@ -28,7 +28,7 @@ all_hold z (one ∷ rest) each =
 
 -- a drawn program has a system, and its run answers 0
 pub drawn_within : (k : ℕ) (image tape : List ℕ) → k ≤ DRAWS → AreWords 32 image → length image ≡ k * 2 + 2 → length tape ≡ 2
-    → WithinLimits 32 image (length tape) (k + 1)
+    → WithinLimits (runs_like 32 image tape (k + 1))
 drawn_within k image tape few words many two = record {
   width = inr refl;
   words = words;
@@ -46,7 +46,7 @@ unfolding trial_of
 trial_is seed k few =
     let is = drawn_is seed k few in
     let accepts = drawn_accepts k (image_drawn seed k) (tape_drawn seed k) (aux_drawn seed k) is in
-    let fills = system_complete 32 Benes (image_drawn seed k) (tape_drawn seed k) (aux_drawn seed k) (k + 1) 0
+    let fills = system_complete Benes (drawn_run seed k) 0
     (drawn_within k _ _ few is.image_words is.image_count is.tape_count) is.tape_words is.aux_words accepts in
     record { answers = is.answers; fills = fills; satisfied = all_hold _ _ fills.sat.holds }
 

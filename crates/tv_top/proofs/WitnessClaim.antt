@@ -34,8 +34,7 @@ witness_is net t inputs v are some most accepts =
     let fits = within_limits inputs.program (length inputs.tape) t are.image are.tape_fits some most in
     record {
       accepts = accepts;
-      fills = system_complete
-          (bits inputs.program.width) net inputs.program.words inputs.tape inputs.aux t v fits are.tape are.aux accepts;
+      fills = system_complete net (run_on (bits inputs.program.width) inputs.program.words inputs.tape inputs.aux t) v fits are.tape are.aux accepts;
     }
 
 -- what is given for a run that answers: the outcome is of these values

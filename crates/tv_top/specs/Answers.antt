@@ -20,7 +20,7 @@ use Rattle.tv_top.specs.declared.status.Status.{Status}
 use Rattle.tv_top.specs.declared.status.Status.TheVariants.{FileFault, Memory}
 use Rattle.tv_top.specs.Codes.{says}
 use Rattle.tv_top.specs.Ends.{Said, SaidPart, Completes, Ends, IsConcluded, IsQuiet, IsUntouched}
-use Rattle.tv_top.specs.Finds.{Finds, IsOneOf}
+use Rattle.tv_top.specs.Finds.{Finds, IsOneOf, reading, Reading}
 use Rattle.tv_top.specs.Plan.{Named, Amount, Outcome, Plan, answer_of}
 use Rattle.tv_top.specs.Status.{refusal_status, ending_status}
 
@@ -88,12 +88,16 @@ abbrev pub IsSaid : Ending → ℕ → Outside → Outside → Status → Type 0
 IsSaid ending words old new result = ((result ≡ ending_status ending) × Said old new (says ending))
     ⊎ (((result ≡ FileFault words) ⊎ (result ≡ Memory)) × SaidPart old new (says ending))
 
+-- what a plan reads files for
+abbrev pub plan_reading : Plan → Reading Outcome
+plan_reading plan = reading (words_of plan.reads) plan.sizes plan.leads_to
+
 -- what a plan does up to its line: a look was refused; or what was found is completed, and its end may be
 abbrev pub Does : Plan → Outside → Outside → Result Finish Stop → Type 0
 Does plan old new result =
-    ((stop : Stop) × (result ≡ Err stop) × Finds (λ (o : Outcome). o) (words_of plan.reads) plan.sizes plan.leads_to old new (Err stop))
+    ((stop : Stop) × (result ≡ Err stop) × Finds (λ (o : Outcome). o) (plan_reading plan) old new (Err stop))
     ⊎ ((outcome : Outcome) × (mid : Outside) × (plan.ends_by outcome.finish ≡ true)
-    × Finds (λ (o : Outcome). o) (words_of plan.reads) plan.sizes plan.leads_to old mid (Ok outcome) × Completes plan.writes outcome mid new result)
+    × Finds (λ (o : Outcome). o) (plan_reading plan) old mid (Ok outcome) × Completes plan.writes outcome mid new result)
 
 -- the end of what was done
 abbrev pub ending_of : Result Finish Stop → Ending

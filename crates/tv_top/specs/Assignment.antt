@@ -18,11 +18,11 @@ use Rattle.tv_top.specs.declared.refusal.Finish.{Finish}
 use Rattle.tv_top.specs.declared.refusal.Finish.TheVariants as finishes
 use Rattle.tv_top.specs.declared.refusal.Stop.{Stop}
 use Rattle.tv_top.specs.declared.refusal.Stop.TheVariants.{Memory}
-use Rattle.tv_top.specs.Build.{program_system}
+use Rattle.tv_top.specs.Build.{program_system, program_runs}
 use Rattle.tv_top.specs.Claims.{Holds, Then}
 use Rattle.tv_top.specs.Containers.{firsts_in_witness, witness_in}
 use Rattle.tv_top.specs.Plan.{Named, Outcome, Look, ◌>>=◌, settled, input}
-use Rattle.tv_top.specs.Programs.{bits, program_in}
+use Rattle.tv_top.specs.Programs.{program_in}
 
 -- a program, and an assignment of its system
 pub record Assigned : Type 0 where
@@ -38,7 +38,7 @@ assigned_of text witness files = do
 
 -- the run that the assignment has, or why it has none
 unfoldable pub assigned_run : Net → ℕ → ℕ → Assigned → Result Run NotRun
-assigned_run net n t assigned = run_in (bits assigned.program.width) net assigned.program.words n t assigned.z
+assigned_run net n t assigned = run_in net (program_runs n t assigned.program) assigned.z
 
 -- what comes of a run, or of there being none
 abbrev pub run_ends : (Run → Outcome) → Result Run NotRun → Outcome
@@ -87,5 +87,6 @@ kept_run net n t kept =
 pub record HasAssigned (net : Net) (n t : ℕ) (text witness : Option (List ℕ)) (held : Result Assigned Bad) : Type 0 where
   pub holds : Then (Holds program_in text) (λ program. Then (Holds witness_in witness)
       (λ z held. held ≡ Ok (record { program = program; z = z }))) held
-  pub run : IfOk held (λ assigned. (run : Run) → assigned_run net n t assigned ≡ Ok run → IsRunOf (bits assigned.program.width) assigned.program.words n t assigned.z run)
-  pub satisfying : IfOk held (λ assigned. Sat (program_system net n t assigned.program) assigned.z → HasRunIn (bits assigned.program.width) net assigned.program.words n t assigned.z)
+  pub run : IfOk held (λ assigned. (run : Run) → assigned_run net n t assigned ≡ Ok run → IsRunOf (program_runs n t assigned.program) assigned.z run)
+  pub satisfying : IfOk held (λ assigned. Sat (program_system net n t assigned.program) assigned.z
+      → HasRunIn net (program_runs n t assigned.program) assigned.z)

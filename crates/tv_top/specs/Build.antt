@@ -9,6 +9,7 @@ use Rattle.tv_core.specs.declared.limits.TheConstants.{TAPE_WORDS, STEPS}
 use Rattle.tv_files.specs.Outside.{Names, WhereKnown}
 use Rattle.tv_layout.specs.Reduces.{Reduces}
 use Rattle.tv_layout.specs.Systems.{system_of}
+use Rattle.tv_layout.specs.Places.{ProgramRuns, runs_of}
 use Rattle.tv_word.specs.Numeral.{numeral}
 use Rattle.tv_top.specs.declared.build.BuildArgs.{BuildArgs}
 use Rattle.tv_top.specs.declared.programs.Program.{Program}
@@ -31,9 +32,12 @@ net_word _ = None
 abbrev pub size_amounts : ℕ → ℕ → List Amount
 size_amounts n t = record { what = TapeWords; has = n; least = 0; most = TAPE_WORDS } ∷ record { what = Steps; has = t; least = 1; most = STEPS } ∷ []
 
--- the system of a program's runs of t steps on tapes of n words
+-- a program's runs of t steps on tapes of n words, and their system
+abbrev pub program_runs : ℕ → ℕ → Program → ProgramRuns
+program_runs n t program = runs_of (bits program.width) program.words n t
+
 unfoldable pub program_system : Net → ℕ → ℕ → Program → System
-program_system net n t program = system_of (bits program.width) net program.words n t
+program_system net n t program = system_of net (program_runs n t program)
 
 abbrev pub build_ends : Net → ℕ → ℕ → Program → Outcome
 build_ends net n t program = record { files = Constraints (program_system net n t program) ∷ []; finish = Quiet }
@@ -64,7 +68,7 @@ build_asks args = build_plan (record { net = args.net; text = named args.text; n
 -- or it is refused for this.
 pub record HasSystem (net : Net) (n t : ℕ) (text : Option (List ℕ)) (held : Result Program Bad) : Type 0 where
   pub holds : Holds program_in text held
-  pub reduces : IfOk held (λ program. Reduces (bits program.width) (program_system net n t program) program.words n t)
+  pub reduces : IfOk held (λ program. Reduces (program_system net n t program) (program_runs n t program))
   pub normal : IfOk held (λ program. AreNormal (program_system net n t program).constraints)
 
 -- What `build` promises over files whose contents are known, the two names being different and N and T within their

@@ -45,7 +45,7 @@ check_asks args = check_plan (named args.system) (named args.witness) (named arg
 pub record IsJudged (s : System) (z x : List ℕ) (held : Result Verdict Bad) : Type 0 where
   pub verdict : Verdict
   pub is : held ≡ Ok verdict
-  pub tells : (other : Verdict) → (verdict ≡ other) ↔ VerdictMeans other s z x
+  pub means : (other : Verdict) → (verdict ≡ other) ↔ VerdictMeans other s z x
 
 -- the three files hold a system, an assignment and public numbers on which this is the verdict, or the
 -- first of them that is refused is refused for this

@@ -11,6 +11,7 @@ use Rattle.tv_top.specs.declared.refusal.Bad.{Bad}
 use Rattle.tv_top.specs.Inputs.{primary_in, aux_in}
 use Rattle.tv_top.specs.Programs.{bits, image_bytes_most, image_of}
 use Rattle.tv_top.specs.Tapes.{publics_in}
+use Rattle.tv_layout.specs.Places.{runs_of}
 
 -- what `disasm` writes of an image that it may read is a text that `asm` may read, whose image in bytes is
 -- that image again
@@ -36,4 +37,4 @@ pub record IsTaken (width : Width) (run : Run) : Type 0 where
 -- and so they do with each run that an assignment has, as `extract` writes it, N and T being within their limits
 abbrev pub ExtractedAreTaken : Type 0
 ExtractedAreTaken =
-    (width : Width) (image z : List ℕ) (n t : ℕ) (run : Run) → n ≤ TAPE_WORDS → t ≤ STEPS → IsRunOf (bits width) image n t z run → IsTaken width run
+    (width : Width) (image z : List ℕ) (n t : ℕ) (run : Run) → n ≤ TAPE_WORDS → t ≤ STEPS → IsRunOf (runs_of (bits width) image n t) z run → IsTaken width run

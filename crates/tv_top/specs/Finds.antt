@@ -7,7 +7,7 @@ use Rattle.tv_top.specs.declared.refusal.Bad.TheVariants as bad
 use Rattle.tv_top.specs.declared.refusal.Size.{Size}
 use Rattle.tv_top.specs.declared.refusal.Stop.{Stop}
 use Rattle.tv_top.specs.declared.refusal.Stop.TheVariants.{Fault, Memory, Contents}
-use Rattle.tv_top.specs.Plan.{Look}
+use Rattle.tv_top.specs.Plan.{Named, Look, input}
 
 -- what contents are refused for of which something is made; a definition reads no file and never runs out of memory, so
 -- those cases stand for nothing
@@ -42,17 +42,29 @@ Spares Memory old new = (new ≡ old) ⊎ RanOut old new
 abbrev pub Leaves : {X : Type 0} → Result X Stop → Outside → Outside → Type 0
 Leaves found old new = MatchResult found (λ _. new ≡ old) (λ stop. Spares stop old new)
 
--- Files were read, those whose names stand at these words, and this was found. What they hold may pass the limits of
--- these quantities alone, be their contents known or not.
-pub record Finds {X A : Type 0} (view : X → A) (words : List ℕ) (sizes : List Size) (due : Names → Look A)
-    (old new : Outside) (found : Result X Stop) : Type 0 where
-  pub known : WhereKnown old (λ files. IsFound view (due files) found)
-  pub absent : WhereKnown old (λ files.
-      (new.absent ≡ old.absent) ⊎ ((word : ℕ) × ((due files).gives ≡ Err (Fault word))))
+-- a reading of files: the words at which their names stand, the quantities whose limits what they hold may pass, and
+-- what is due by their contents
+pub record Reading (A : Type 0) : Type 0 where
+  pub words : List ℕ
+  pub sizes : List Size
+  pub due : Names → Look A
+
+abbrev pub reading : {A : Type 0} → List ℕ → List Size → (Names → Look A) → Reading A
+reading words sizes due = record { words = words; sizes = sizes; due = due }
+
+-- that of one file
+abbrev pub reading_of : {A : Type 0} → Named → List Size → (List ℕ → Result A Bad) → Reading A
+reading_of place sizes read = reading (place.word ∷ []) sizes (input place read)
+
+-- Files were read, and this was found. What they hold may pass the limits of the reading's quantities alone, be their
+-- contents known or not.
+pub record Finds {X A : Type 0} (view : X → A) (of : Reading A) (old new : Outside) (found : Result X Stop) : Type 0 where
+  pub known : WhereKnown old (λ files. IsFound view (of.due files) found)
+  pub absent : WhereKnown old (λ files. (new.absent ≡ old.absent) ⊎ ((word : ℕ) × ((of.due files).gives ≡ Err (Fault word))))
   pub only : OnlyReads old new
   pub leaves : Leaves found old new
-  pub caused : (word : ℕ) → found ≡ Err (Fault word) → IsOneOf word words × Rose old.read_faults new.read_faults
-  pub limits : (what : Size) (has most : ℕ) → found ≡ Err (Contents (bad.Limit what has most)) → IsOneOf what sizes
+  pub caused : (word : ℕ) → found ≡ Err (Fault word) → IsOneOf word of.words × Rose old.read_faults new.read_faults
+  pub limits : (what : Size) (has most : ℕ) → found ≡ Err (Contents (bad.Limit what has most)) → IsOneOf what of.sizes
 
 -- what was made is what is due, or memory was wanting; no file is read
 abbrev pub Makes : {X A : Type 0} → (X → A) → Result A Bad → Result X Stop → Type 0

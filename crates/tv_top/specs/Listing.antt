@@ -13,12 +13,12 @@ use Rattle.tv_listing.specs.declared.row.By.TheVariants.{Time, Cell}
 use Rattle.tv_word.specs.Numeral.{numeral}
 use Rattle.tv_top.specs.declared.listing.ListingArgs.{ListingArgs}
 use Rattle.tv_top.specs.declared.refusal.Bad.{Bad}
-use Rattle.tv_top.specs.Build.{program_system, size_amounts}
+use Rattle.tv_top.specs.Build.{program_system, size_amounts, program_runs}
 use Rattle.tv_top.specs.Claims.{Call, AnswersOrStops}
 use Rattle.tv_top.specs.Assignment.{Assigned, assigned_of, assigned_run, run_ends, HasAssigned}
 use Rattle.tv_top.specs.Kinds.{is_listing}
 use Rattle.tv_top.specs.Plan.{Named, Plan, Outcome, name_at, named, outcome_by, writes_bytes}
-use Rattle.tv_top.specs.Programs.{bits, program_sizes}
+use Rattle.tv_top.specs.Programs.{program_sizes}
 
 -- the order that a word names
 abbrev pub by_word : List ℕ → Option By
@@ -26,7 +26,7 @@ by_word word = if bytes_eq word (codes "time") then Some Time else (if bytes_eq 
 
 -- the text of the lines of an assignment up to a step
 unfoldable pub assigned_text : By → ℕ → ℕ → ℕ → Assigned → List ℕ
-assigned_text by n t step assigned = text_by by (assigned_lines (bits assigned.program.width) assigned.program.words n t step assigned.z)
+assigned_text by n t step assigned = text_by by (assigned_lines (program_runs n t assigned.program) step assigned.z)
 
 -- what comes of a run of an assignment: the lines up to the step that answers
 abbrev pub lines_written : By → ℕ → ℕ → Assigned → Run → Outcome
@@ -70,7 +70,8 @@ listing_asks args = listing_plan (record {
 -- byte, that of the run's trace.
 pub record HasListed (n t : ℕ) (text witness : Option (List ℕ)) (held : Result Assigned Bad) : Type 0 where
   pub assigned : HasAssigned Benes n t text witness held
-  pub satisfying : IfOk held (λ assigned. Sat (program_system Benes n t assigned.program) assigned.z → HasListing (bits assigned.program.width) Benes assigned.program.words n t assigned.z)
+  pub satisfying : IfOk held (λ assigned. Sat (program_system Benes n t assigned.program) assigned.z
+      → HasListing Benes (program_runs n t assigned.program) assigned.z)
 
 -- What `listing` promises over files whose contents are known, OUT being none of the other names and N and T within
 -- their limits.

@@ -8,6 +8,7 @@ use Rattle.tv_core.specs.declared.field.TheConstants.{P}
 use Rattle.tv_core.specs.declared.limits.TheConstants.{DRAWS}
 use Rattle.tv_draw.specs.Program.{image_drawn, tape_drawn, aux_drawn}
 use Rattle.tv_files.specs.Outside.{Names, WhereKnown}
+use Rattle.tv_layout.specs.Places.{runs_like}
 use Rattle.tv_layout.specs.RunInputs.{RunInput, run_on}
 use Rattle.tv_layout.specs.Systems.{system_of, run_values}
 use Rattle.tv_layout.specs.Values.{IsFill}
@@ -28,7 +29,7 @@ use Rattle.tv_top.specs.Plan.{Plan, Outcome, Look, outcome_by, settled}
 
 -- the system of k drawn instructions and `answer 0` after them, for as many steps, their run, and the values for it
 abbrev pub drawn_system : ℕ → ℕ → System
-drawn_system seed k = system_of 32 Benes (image_drawn seed k) (length (tape_drawn seed k)) (k + 1)
+drawn_system seed k = system_of Benes (runs_like 32 (image_drawn seed k) (tape_drawn seed k) (k + 1))
 
 abbrev pub drawn_run : ℕ → ℕ → RunInput
 drawn_run seed k = run_on 32 (image_drawn seed k) (tape_drawn seed k) (aux_drawn seed k) (k + 1)

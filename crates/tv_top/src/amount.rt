@@ -37,7 +37,8 @@ impl<const LEAST: u32, const MOST: u32> Model for Limited<LEAST, MOST> {
 impl<const LEAST: u32, const MOST: u32> Limited<LEAST, MOST> {
     /// The quantity that a word is, unless it passes its limit or doesn't reach the least.
     pub(crate) fn of(what: Quantity, has: u64) -> Result<Limited<LEAST, MOST>, Refusal>
-        ensures { let out = is_out (record { what = what; has = has; least = LEAST; most = MOST }) in
+        ensures { let out = is_out
+            (record { what = what; has = has; least = LEAST; most = MOST }) in
             MatchResult result (λ number. (number ≡ has) × (out ≡ false))
             (λ why. (why ≡ Limit what has MOST) × (out ≡ true)) }
     {

@@ -1,7 +1,7 @@
 //! `asm TEXT IMAGE`: the image of a program text.
-ghost use Rattle.std.specs.Prelude.{◌≡◌, [], ◌∷◌, IfOk};
+ghost use Rattle.std.specs.Prelude.{◌≡◌, IfOk};
 ghost use Rattle.tv_top.specs.Asm.{image_in};
-ghost use Rattle.tv_top.specs.Finds.{Finds, Makes};
+ghost use Rattle.tv_top.specs.Finds.{Finds, Makes, reading_of};
 ghost use Rattle.tv_top.specs.Plan.{input, named};
 ghost use Rattle.tv_top.specs.Programs.{image_bytes, image_of, program_sizes};
 
@@ -76,8 +76,7 @@ fn image_of(alloc: Global, text: &[u8]) -> Result<Vec<u8>, Stop>
 /// The image of the program text of this name.
 #[tactic(auto, unfolding(crate::specs::Plan::input))]
 fn read_image<D: Files>(alloc: Global, files: &mut D, place: Place<'_>) -> Result<Vec<u8>, Stop>
-    ensures { Finds (λ v. v.items) (place.entry.word ∷ []) program_sizes
-        (input (named place.entry) image_in)
+    ensures { Finds (λ v. v.items) (reading_of (named place.entry) program_sizes image_in)
         (D.seen files.old) (D.seen files.new) result }
 {
     let text = limited_bytes(alloc, files, place, Size::TextBytes, TEXT_BYTES)?;

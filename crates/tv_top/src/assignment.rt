@@ -4,7 +4,7 @@ ghost use Rattle.std.specs.Prelude.{◌≡◌, [], ◌∷◌, Ok, IfOk, IfErr};
 ghost use Rattle.tv_extract.specs.Extraction.{IsFaultOf};
 ghost use Rattle.tv_top.specs.Assignment.{kept_in, kept_of, kept_run, not_run};
 ghost use Rattle.tv_top.specs.Build.{program_system};
-ghost use Rattle.tv_top.specs.Finds.{Finds};
+ghost use Rattle.tv_top.specs.Finds.{Finds, reading};
 ghost use Rattle.tv_top.specs.Plan.{named};
 ghost use Rattle.tv_top.specs.Programs.{HasImage, program_sizes};
 
@@ -52,8 +52,8 @@ pub(crate) fn read_assigned<D: Files>(
     net: Net,
     witness: Place<'_>,
 ) -> Result<Assignment, Stop>
-    ensures found { Finds kept_in (text.entry.word ∷ witness.entry.word ∷ []) program_sizes
-        (kept_of net n.now t.now (named text.entry) (named witness.entry))
+    ensures found { Finds kept_in (reading (text.entry.word ∷ witness.entry.word ∷ []) program_sizes
+        (kept_of net n.now t.now (named text.entry) (named witness.entry)))
         (D.seen files.old) (D.seen files.new) result }
     ensures fits { IfOk result (λ assigned. HasImage assigned.program) }
 {

@@ -1,6 +1,6 @@
 //! `build TEXT N T SYSTEM`, which may have one more word, `waksman`: the system of a program's
 //! runs.
-ghost use Rattle.tv_layout.specs.Places.{WithinLimits};
+ghost use Rattle.tv_layout.specs.Places.{WithinLimits, runs_of};
 ghost use Rattle.tv_layout.specs.Systems.{system_of};
 ghost use Rattle.tv_top.specs.Build.{program_system};
 ghost use Rattle.tv_top.specs.Contents.{Content.{Constraints}};
@@ -80,8 +80,9 @@ fn put_layout<const W: u32, D: Files>(
     t: u32,
     net: Net,
 ) -> Put<()>
-    requires { WithinLimits W image.now n t }
-    ensures { Writes (one_write (named place.entry) (Constraints (system_of W net image.now n t)))
+    requires { WithinLimits (runs_of W image.now n t) }
+    ensures { Writes (one_write (named place.entry)
+        (Constraints (system_of net (runs_of W image.now n t))))
         (D.seen files.old) (D.seen files.new) (streamed place.entry.word result) }
 {
     let counts = sizes::<W>(image, n, t, net);

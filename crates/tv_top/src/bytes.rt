@@ -1,6 +1,6 @@
 //! Whole files of a bounded number of bytes.
 ghost use Rattle.std.specs.Prelude.{◌+◌, ◌<◌, ◌^◌, [], ◌∷◌, Ok};
-ghost use Rattle.tv_top.specs.Finds.{Finds};
+ghost use Rattle.tv_top.specs.Finds.{Finds, reading_of};
 ghost use Rattle.tv_top.specs.Plan.{input, named, within};
 
 use crate::place::Place;
@@ -18,8 +18,8 @@ pub(crate) fn limited_bytes<D: Files>(
     most: u64,
 ) -> Result<Vec<u8>, Stop>
     requires { most + 1 < 2 ^ 64 }
-    ensures { Finds (λ v. v.items) (place.entry.word ∷ []) (what ∷ [])
-        (input (named place.entry) (within what most (λ bytes. Ok bytes)))
+    ensures { Finds (λ v. v.items)
+        (reading_of (named place.entry) (what ∷ []) (within what most (λ bytes. Ok bytes)))
         (D.seen files.old) (D.seen files.new) result }
 {
     slurp(alloc, files, place.name, most).map_err(|why| match why {

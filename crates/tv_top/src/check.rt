@@ -3,7 +3,7 @@
 ghost use Rattle.std.specs.Prelude.{[], ◌∷◌};
 ghost use Rattle.tv_top.specs.Check.{check_of};
 ghost use Rattle.tv_top.specs.declared.refusal.Size.TheVariants.{TapeWords};
-ghost use Rattle.tv_top.specs.Finds.{Finds};
+ghost use Rattle.tv_top.specs.Finds.{Finds, reading};
 ghost use Rattle.tv_top.specs.Plan.{named};
 ghost use Rattle.tv_top.specs.Tapes.{tape_sizes};
 
@@ -58,9 +58,9 @@ impl<'a> Job<'a> for CheckArgs<'a> {
 /// them, the system is read once more as for any other verdict.
 fn verdict_on<D: Files>(alloc: Global, files: &mut D, args: CheckArgs<'_>) -> Result<Verdict, Stop>
     ensures { let args = args.entry in
-        Finds (λ v. v) (args.system.word ∷ args.witness.word ∷ args.tape.word ∷ [])
+        Finds (λ v. v) (reading (args.system.word ∷ args.witness.word ∷ args.tape.word ∷ [])
         (tape_sizes TapeWords)
-        (check_of (named args.system) (named args.witness) (named args.tape))
+        (check_of (named args.system) (named args.witness) (named args.tape)))
         (D.seen files.old) (D.seen files.new) result }
 {
     let counts = survey_system(alloc, files, args.system)?;

@@ -3,8 +3,8 @@ ghost use Rattle.std.specs.Prelude.{◌≡◌, [], ◌∷◌};
 ghost use Rattle.tv_shrink.specs.Shrunk.{Shrunken};
 ghost use Rattle.tv_top.specs.Containers.{counts_in, firsts_in_witness, verdict_in};
 ghost use Rattle.tv_top.specs.Containers.{refusal_stop, system_bad, witness_bad};
-ghost use Rattle.tv_top.specs.Finds.{Finds};
-ghost use Rattle.tv_top.specs.Plan.{input, named};
+ghost use Rattle.tv_top.specs.Finds.{Finds, reading, reading_of};
+ghost use Rattle.tv_top.specs.Plan.{named};
 ghost use Rattle.tv_top.specs.Shrink.{shrink_sizes, shrink_stop, shrunk_look};
 ghost use Rattle.tv_wtns.specs.Wtns.{firsts_in};
 
@@ -47,8 +47,7 @@ pub(crate) fn survey_system<D: Files>(
     files: &mut D,
     place: Place<'_>,
 ) -> Result<Counts, Stop>
-    ensures { Finds (λ counts. counts) (place.entry.word ∷ []) []
-        (input (named place.entry) counts_in)
+    ensures { Finds (λ counts. counts) (reading_of (named place.entry) [] counts_in)
         (D.seen files.old) (D.seen files.new) result }
 {
     survey(alloc, files, place.name).map_err(|why| system_stop(place.word, why))
@@ -61,8 +60,7 @@ pub(crate) fn read_first_witness<D: Files>(
     place: Place<'_>,
     most: u32,
 ) -> Result<FirstValues, Stop>
-    ensures { Finds firsts_in (place.entry.word ∷ []) []
-        (input (named place.entry) (firsts_in_witness most))
+    ensures { Finds firsts_in (reading_of (named place.entry) [] (firsts_in_witness most))
         (D.seen files.old) (D.seen files.new) result }
 {
     read_first_values(alloc, files, place.name, most).map_err(|why| witness_stop(place.word, why))
@@ -76,8 +74,8 @@ pub(crate) fn judge_system<D: Files>(
     values: &[F],
     publics: &[F],
 ) -> Result<Verdict, Stop>
-    ensures { Finds (λ verdict. verdict) (place.entry.word ∷ []) []
-        (input (named place.entry) (verdict_in values.now publics.now))
+    ensures { Finds (λ verdict. verdict)
+        (reading_of (named place.entry) [] (verdict_in values.now publics.now))
         (D.seen files.old) (D.seen files.new) result }
 {
     check(alloc, files, place.name, values, publics).map_err(|why| system_stop(place.word, why))
@@ -110,8 +108,8 @@ pub(crate) fn read_shrunk<D: Files>(
     files: &mut D,
     place: Place<'_>,
 ) -> Result<Shrunk, Stop>
-    ensures { Finds (λ (s : Shrunken). s) (place.entry.word ∷ []) shrink_sizes
-        (shrunk_look (named place.entry))
+    ensures { Finds (λ (s : Shrunken). s)
+        (reading (place.entry.word ∷ []) shrink_sizes (shrunk_look (named place.entry)))
         (D.seen files.old) (D.seen files.new) result }
 {
     shrink(alloc, files, place.name).map_err(|fault| shrink_stop(place.word, fault))

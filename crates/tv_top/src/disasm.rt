@@ -2,7 +2,7 @@
 ghost use Rattle.std.specs.Prelude.{◌≡◌, [], ◌∷◌, map, string_bytes};
 ghost use Rattle.tv_top.specs.Disasm.{text_of, text_in, width_word};
 ghost use Rattle.tv_top.specs.declared.refusal.Size.TheVariants.{ImageBytes};
-ghost use Rattle.tv_top.specs.Finds.{Finds, Makes};
+ghost use Rattle.tv_top.specs.Finds.{Finds, Makes, reading_of};
 ghost use Rattle.tv_top.specs.Plan.{input, named};
 ghost use Rattle.tv_top.specs.Programs.{bits};
 
@@ -71,8 +71,8 @@ fn read_text<D: Files>(
     width: Width,
     place: Place<'_>,
 ) -> Result<Vec<u8>, Stop>
-    ensures { Finds (λ v. v.items) (place.entry.word ∷ []) (ImageBytes ∷ [])
-        (input (named place.entry) (text_in width))
+    ensures { Finds (λ v. v.items)
+        (reading_of (named place.entry) (ImageBytes ∷ []) (text_in width))
         (D.seen files.old) (D.seen files.new) result }
 {
     let most = width.image_bytes_most();

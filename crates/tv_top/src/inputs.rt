@@ -1,6 +1,6 @@
 //! A program and the two tapes of its run, each read and judged before the next.
 ghost use Rattle.std.specs.Prelude.{[], ◌∷◌, IfOk};
-ghost use Rattle.tv_top.specs.Finds.{Finds};
+ghost use Rattle.tv_top.specs.Finds.{Finds, reading};
 ghost use Rattle.tv_top.specs.Inputs.{AreInputs, input_sizes, inputs_of};
 ghost use Rattle.tv_top.specs.Plan.{named};
 
@@ -30,8 +30,8 @@ pub(crate) fn read_inputs<D: Files>(
     aux: Place<'_>,
 ) -> Result<Inputs, Stop>
     ensures found { Finds (λ inputs. inputs)
-        (text.entry.word ∷ tape.entry.word ∷ aux.entry.word ∷ []) input_sizes
-        (inputs_of (named text.entry) (named tape.entry) (named aux.entry))
+        (reading (text.entry.word ∷ tape.entry.word ∷ aux.entry.word ∷ []) input_sizes
+        (inputs_of (named text.entry) (named tape.entry) (named aux.entry)))
         (D.seen files.old) (D.seen files.new) result }
     ensures fit { IfOk result AreInputs }
 {

@@ -1,8 +1,8 @@
 //! The images of program texts, for words of the width that a text sets.
-ghost use Rattle.std.specs.Prelude.{◌≡◌, ◌≤◌, ◌/◌, ◌^◌, [], ◌∷◌, IfOk};
+ghost use Rattle.std.specs.Prelude.{◌≡◌, ◌≤◌, ◌/◌, ◌^◌, IfOk};
 ghost use Rattle.tv_asm.specs.Header.{width_of};
 ghost use Rattle.tv_top.specs.declared.programs.Width.TheVariants.{Bits16};
-ghost use Rattle.tv_top.specs.Finds.{Finds, Makes};
+ghost use Rattle.tv_top.specs.Finds.{Finds, Makes, reading_of};
 ghost use Rattle.tv_top.specs.Plan.{input, named};
 ghost use Rattle.tv_top.specs.Programs.{HasImage, bits, image_bytes_most, width_of_text};
 ghost use Rattle.tv_top.specs.Programs.{program_of, program_in, program_sizes};
@@ -102,8 +102,8 @@ pub(crate) fn read_program<D: Files>(
     files: &mut D,
     place: Place<'_>,
 ) -> Result<Program, Stop>
-    ensures found { Finds (λ program. program) (place.entry.word ∷ []) program_sizes
-        (input (named place.entry) program_in)
+    ensures found { Finds (λ program. program)
+        (reading_of (named place.entry) program_sizes program_in)
         (D.seen files.old) (D.seen files.new) result }
     ensures fits { IfOk result (λ program. HasImage program) }
 {

@@ -49,7 +49,7 @@ pub enum What {
 /// How a command ended.
 #[derive(Clone, Copy, Debug, PartialEq, Eq)]
 pub enum Status {
-    /// The command transition_in what its words say.
+    /// The command did what its words say.
     Done,
     /// `check`: the assignment doesn't satisfy the system, or doesn't extend the tape. `run`: the
     /// machine doesn't answer within the steps.

@@ -1,8 +1,8 @@
 //! The public numbers of a tape, and the words of a tape that the machine reads.
-ghost use Rattle.std.specs.Prelude.{◌≡◌, ◌%◌, ◌^◌, ◌<◌, ◌≤◌, All, [], ◌∷◌, length, map, IfOk};
+ghost use Rattle.std.specs.Prelude.{◌≡◌, ◌%◌, ◌^◌, ◌<◌, ◌≤◌, All, length, map, IfOk};
 ghost use Rattle.tv_core.specs.declared.field.TheConstants.{P};
 ghost use Rattle.tv_top.specs.declared.refusal.Size.TheVariants as size;
-ghost use Rattle.tv_top.specs.Finds.{Finds};
+ghost use Rattle.tv_top.specs.Finds.{Finds, reading_of};
 ghost use Rattle.tv_top.specs.Plan.{input, named};
 ghost use Rattle.tv_top.specs.Tapes.{AreTold, tape_stop, numbers_in, publics_in, tape_sizes};
 
@@ -44,8 +44,8 @@ fn read_numbers<D: Files>(
     below: u64,
     most: u32,
 ) -> Result<Vec<u64>, Stop>
-    ensures found { Finds (λ v. v.items) (place.entry.word ∷ []) (tape_sizes what)
-        (input (named place.entry) (numbers_in place.entry.word what below most))
+    ensures found { Finds (λ v. v.items) (reading_of (named place.entry) (tape_sizes what)
+        (numbers_in place.entry.word what below most))
         (D.seen files.old) (D.seen files.new) result }
     ensures known { IfOk result (λ v. AreTold below most v.items) }
 {
@@ -70,8 +70,8 @@ pub(crate) fn read_publics<D: Files>(
     files: &mut D,
     place: Place<'_>,
 ) -> Result<Vec<F>, Stop>
-    ensures { Finds (λ v. v.items) (place.entry.word ∷ []) (tape_sizes size.TapeWords)
-        (input (named place.entry) (publics_in place.entry.word))
+    ensures { Finds (λ v. v.items)
+        (reading_of (named place.entry) (tape_sizes size.TapeWords) (publics_in place.entry.word))
         (D.seen files.old) (D.seen files.new) result }
 {
     let numbers = read_numbers(alloc, files, place, Size::TapeWords, P, CHECK_WORDS)?;
@@ -99,8 +99,8 @@ pub(crate) fn read_words<D: Files>(
     most: u32,
 ) -> Result<Words, Stop>
     requires { below ≤ 2 ^ 32 }
-    ensures found { Finds (λ words. words) (place.entry.word ∷ []) (tape_sizes what)
-        (input (named place.entry) (numbers_in place.entry.word what below most))
+    ensures found { Finds (λ words. words) (reading_of (named place.entry) (tape_sizes what)
+        (numbers_in place.entry.word what below most))
         (D.seen files.old) (D.seen files.new) result }
     ensures below { IfOk result (λ words. All (λ v. v < below) words) }
     ensures few { IfOk result (λ words. length words ≤ most) }

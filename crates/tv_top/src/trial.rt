@@ -2,7 +2,7 @@
 ghost use Rattle.std.specs.Prelude.{◌≡◌, ◌^◌, ◌<◌, ◌≤◌, length, IfOk};
 ghost use Rattle.tv_benes.specs.declared.shape.Net.TheVariants.{Benes};
 ghost use Rattle.tv_core.specs.declared.limits.TheConstants.{DRAWS};
-ghost use Rattle.tv_layout.specs.Places.{WithinLimits};
+ghost use Rattle.tv_layout.specs.Places.{WithinLimits, runs_of, runs_like};
 ghost use Rattle.tv_layout.specs.RunInputs.{run_on};
 ghost use Rattle.tv_layout.specs.Systems.{system_of, run_values};
 ghost use Rattle.tv_step.specs.Machine.{Accepts};
@@ -66,7 +66,7 @@ fn values_of(
     aux: &[u32],
     t: u32,
 ) -> Result<ListValues, AllocError>
-    requires limits { WithinLimits 32 image.now (length tape.now) t }
+    requires limits { WithinLimits (runs_like 32 image.now tape.now t) }
     requires tape { AreWords 32 tape.now }
     requires aux { AreWords 32 aux.now }
     requires aux_few { length aux.now < 2 ^ 32 }
@@ -85,8 +85,8 @@ fn values_of(
 
 /// The system of an image's runs of `t` steps on tapes of `n` words, tested on these values.
 fn tested(image: &[u32], n: u32, t: u32, z: &[F]) -> Trial
-    requires { WithinLimits 32 image.now n t }
-    ensures { result ≡ tested t (system_of 32 Benes image.now n t) z.now }
+    requires { WithinLimits (runs_of 32 image.now n t) }
+    ensures { result ≡ tested t (system_of Benes (runs_of 32 image.now n t)) z.now }
 {
     let counts = sizes::<32>(image, n, t, Net::Benes);
     let mut tests = TestSink::over(z, public_wires(n));

@@ -1,12 +1,9 @@
-use Rattle.std.proofs.Common.{◌≡◌, ℕ, List, length, map, ap, ap₂, ◌∙◌, arith}
-use Rattle.tv_core.specs.Lines.{Line}
+use Rattle.std.proofs.Common.{◌≡◌, ℕ, length, ap, ◌∙◌, arith}
 use Rattle.tv_fill.proofs.PartValues.{parts_of}
-use Rattle.tv_fill.proofs.Prepared.{log_few, lines_fit, lines_in_range, items_few, items_placed, routable, parts_fit, values_are}
-use Rattle.tv_fill.specs.Filled.{filled_values, filled_lines}
-use Rattle.tv_layout.specs.Places.{line_count, log_of}
+use Rattle.tv_fill.proofs.Prepared.{log_few, lines_fit, lines_in_range, packed_as, items_few, items_placed, routable, parts_fit, values_are}
+use Rattle.tv_fill.specs.Filled.{filled_values}
 use Rattle.tv_layout.specs.RunInputs.{run_on}
 use Rattle.tv_layout.specs.Systems.{run_values}
-use Rattle.tv_lines.specs.PackedLines.{packed_item}
 use Rattle.tv_fill.proofs.filling.prepare.Goals as goal
 
 pub pack_items-requires-clause-few : goal.pack_items-requires-clause-few
@@ -27,10 +24,7 @@ pack_items-requires-clause-steps g c =
 
 pub settings_to_predecessors-requires-clause-few : goal.settings_to_predecessors-requires-clause-few
 settings_to_predecessors-requires-clause-few g c =
-    let packed : c.in_ok-items.items.items ≡ map packed_item
-    (filled_lines c.args.image.now c.args.tape.now c.in_ok-answer.field-0.lines (log_of (line_count c.args.image.now (length c.args.tape.now) c.args.t))) =
-    c.in_ok-items.ensures ∙ ap₂ (λ (ls : List Line) (k : ℕ). map packed_item
-    (filled_lines c.args.image.now c.args.tape.now ls k)) c.as_slice.ensures c.log_of-k.ensures.is in
+    let packed = packed_as c.args.image.now c.args.tape.now _ _ _ _ _ c.in_ok-items.ensures c.as_slice.ensures c.log_of-k.ensures.is in
     rw c.deref.ensures.value
     (items_few g.row.W c.args.net c.args.image.now c.args.tape.now c.args.aux.now c.args.t c.requires.limits c.requires.tape_words c.requires.aux_words
     c.in_ok-answer.field-0.lines c.in_ok-answer.ensures.trace.lines c.in_ok-answer.field-0.states c.in_ok-answer.ensures.trace.states c.in_ok-items.items.items
@@ -38,10 +32,7 @@ settings_to_predecessors-requires-clause-few g c =
 
 pub settings_to_predecessors-requires-clause-times : goal.settings_to_predecessors-requires-clause-times
 settings_to_predecessors-requires-clause-times g c =
-    let packed : c.in_ok-items.items.items ≡ map packed_item
-    (filled_lines c.args.image.now c.args.tape.now c.in_ok-answer.field-0.lines (log_of (line_count c.args.image.now (length c.args.tape.now) c.args.t))) =
-    c.in_ok-items.ensures ∙ ap₂ (λ (ls : List Line) (k : ℕ). map packed_item
-    (filled_lines c.args.image.now c.args.tape.now ls k)) c.as_slice.ensures c.log_of-k.ensures.is in
+    let packed = packed_as c.args.image.now c.args.tape.now _ _ _ _ _ c.in_ok-items.ensures c.as_slice.ensures c.log_of-k.ensures.is in
     rw c.deref.ensures.value
     (items_placed g.row.W c.args.net c.args.image.now c.args.tape.now c.args.aux.now c.args.t c.requires.limits c.requires.tape_words c.requires.aux_words
     c.in_ok-answer.field-0.lines c.in_ok-answer.ensures.trace.lines c.in_ok-answer.field-0.states c.in_ok-answer.ensures.trace.states c.in_ok-items.items.items
@@ -49,10 +40,7 @@ settings_to_predecessors-requires-clause-times g c =
 
 pub settings_to_predecessors-requires-clause-routable : goal.settings_to_predecessors-requires-clause-routable
 settings_to_predecessors-requires-clause-routable g c =
-    let packed : c.in_ok-items.items.items ≡ map packed_item
-    (filled_lines c.args.image.now c.args.tape.now c.in_ok-answer.field-0.lines (log_of (line_count c.args.image.now (length c.args.tape.now) c.args.t))) =
-    c.in_ok-items.ensures ∙ ap₂ (λ (ls : List Line) (k : ℕ). map packed_item
-    (filled_lines c.args.image.now c.args.tape.now ls k)) c.as_slice.ensures c.log_of-k.ensures.is in
+    let packed = packed_as c.args.image.now c.args.tape.now _ _ _ _ _ c.in_ok-items.ensures c.as_slice.ensures c.log_of-k.ensures.is in
     rw c.deref.ensures.value
     (routable g.row.W c.args.net c.args.image.now c.args.tape.now c.args.aux.now c.args.t c.requires.limits c.requires.tape_words c.requires.aux_words
     c.in_ok-answer.field-0.lines c.in_ok-answer.ensures.trace.lines c.in_ok-answer.field-0.states c.in_ok-answer.ensures.trace.states c.in_ok-items.items.items
@@ -60,10 +48,7 @@ settings_to_predecessors-requires-clause-routable g c =
 
 pub invariant_of-result : goal.invariant_of-result
 invariant_of-result g c =
-    let packed : c.in_ok-items.items.items ≡ map packed_item
-    (filled_lines c.args.image.now c.args.tape.now c.in_ok-answer.field-0.lines (log_of (line_count c.args.image.now (length c.args.tape.now) c.args.t))) =
-    c.in_ok-items.ensures ∙ ap₂ (λ (ls : List Line) (k : ℕ). map packed_item
-    (filled_lines c.args.image.now c.args.tape.now ls k)) c.as_slice.ensures c.log_of-k.ensures.is in
+    let packed = packed_as c.args.image.now c.args.tape.now _ _ _ _ _ c.in_ok-items.ensures c.as_slice.ensures c.log_of-k.ensures.is in
     let set = rw c.deref.ensures.value at c.in_ok-settings.ensures in
     let many : length c.in_ok-spare.spare.items
     ≡ length c.in_ok-items.items.items = omega (arith, c.in_ok-spare.spare.ok.0, c.in_ok-items.items.ok.0, c.in_ok-spare.ensures.len, c.len.ensures) in
@@ -83,10 +68,7 @@ returns-clause-filling g c =
     let lines = c.in_ok-answer.field-0.lines in
     let items = c.in_ok-items.items.items in
     let bits = c.in_ok-settings.settings in
-    let packed : c.in_ok-items.items.items ≡ map packed_item
-    (filled_lines c.args.image.now c.args.tape.now c.in_ok-answer.field-0.lines (log_of (line_count c.args.image.now (length c.args.tape.now) c.args.t))) =
-    c.in_ok-items.ensures ∙ ap₂ (λ (ls : List Line) (k : ℕ). map packed_item
-    (filled_lines c.args.image.now c.args.tape.now ls k)) c.as_slice.ensures c.log_of-k.ensures.is in
+    let packed = packed_as c.args.image.now c.args.tape.now _ _ _ _ _ c.in_ok-items.ensures c.as_slice.ensures c.log_of-k.ensures.is in
     let set = rw c.deref.ensures.value at c.in_ok-settings.ensures in
     let whole =
     values_are g.row.W c.args.net c.args.image.now c.args.tape.now c.args.aux.now c.args.t c.requires.limits c.requires.tape_words c.requires.aux_words

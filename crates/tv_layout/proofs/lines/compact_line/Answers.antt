@@ -4,18 +4,17 @@ use Rattle.tv_layout.proofs.lines.compact_line.Goals as goal
 
 pub returns-then-i-words-clause-is : goal.returns-then-i-words-clause-is
 returns-then-i-words-clause-is g c =
-    c.line_of_word.ensures.is ∙ sym (in_image g.row.W c.args.image.now c.args.n c.args.t c.requires.fits c.args.i (omega arith))
+    c.line_of_word.ensures.is ∙ sym (in_image _ c.requires.fits c.args.i (omega arith))
 
 pub returns-then-i-boot-clause-is : goal.returns-then-i-boot-clause-is
 returns-then-i-boot-clause-is g c =
     let is = rw c.tape_wire.ensures at c.line_of_word-then-i-boot.ensures.is in
-    is ∙ sym (in_tape g.row.W c.args.image.now c.args.n c.args.t c.requires.fits c.args.i (omega arith) (omega arith))
+    is ∙ sym (in_tape _ c.requires.fits c.args.i (omega arith) (omega arith))
 
 pub returns-then-i-boot-2-clause-is : goal.returns-then-i-boot-2-clause-is
 returns-then-i-boot-2-clause-is g c =
-    c.step_line.ensures.is ∙ sym (in_steps g.row.W c.args.image.now c.args.n c.args.t c.requires.fits c.args.i (omega arith) (omega arith))
+    c.step_line.ensures.is ∙ sym (in_steps _ c.requires.fits c.args.i (omega arith) (omega arith))
 
 pub returns-else-i-boot-2-clause-is : goal.returns-else-i-boot-2-clause-is
 returns-else-i-boot-2-clause-is g c =
-    c.line_of_word-else-i-boot-2.ensures.is ∙ sym
-    (in_padding g.row.W c.args.image.now c.args.n c.args.t c.requires.fits c.args.i (omega arith) c.requires.within)
+    c.line_of_word-else-i-boot-2.ensures.is ∙ sym (in_padding _ c.requires.fits c.args.i (omega arith) c.requires.within)

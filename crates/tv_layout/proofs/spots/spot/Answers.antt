@@ -17,8 +17,8 @@ returns-clause-is g c time =
 
 pub returns-clause-taken : goal.returns-clause-taken
 returns-clause-taken g c net =
-    of_step g.row.W net _ c.args.n c.args.t c.args.step c.requires.fits c.requires.within _ _ c.step_at.ensures c.block_spot.ensures.below.taken
+    of_step net _ c.args.step c.requires.fits c.requires.within _ _ c.step_at.ensures c.block_spot.ensures.below.taken
 
 pub returns-clause-word : goal.returns-clause-word
 returns-clause-word g c net =
-    of_step g.row.W net _ c.args.n c.args.t c.args.step c.requires.fits c.requires.within _ _ c.step_at.ensures c.block_spot.ensures.below.word
+    of_step net _ c.args.step c.requires.fits c.requires.within _ _ c.step_at.ensures c.block_spot.ensures.below.word

@@ -11,17 +11,17 @@ use Rattle.tv_layout.specs.Checks.{checks_of}
 use Rattle.tv_argument.specs.Checks.{AreShort}
 use Rattle.tv_argument.specs.Memory.{IsMade, argument_made, argument_added}
 use Rattle.tv_layout.specs.Layout.{words_of, zero_wires_of, steps_of, tie_of, system_lines, layout_of}
-use Rattle.tv_layout.specs.Places.{boot_count, first_at}
+use Rattle.tv_layout.specs.Places.{boot_count, first_at, runs_of}
 use Rattle.tv_layout.specs.declared.places.TheConstants.{STATE_WIRES}
 use Rattle.tv_layout.proofs.system.emit_system.Goals as goal
 
 pub memory-requires-clause-many : goal.memory-requires-clause-many
-memory-requires-clause-many g c = line_number g.row.W c.args.image.now c.args.n c.args.t c.requires.fits ∙ ap (λ k. 2 ^ k) (sym c.log_of-k.ensures.is)
+memory-requires-clause-many g c = line_number _ c.requires.fits ∙ ap (λ k. 2 ^ k) (sym c.log_of-k.ensures.is)
 
 pub memory-requires-clause-checks : goal.memory-requires-clause-checks
 memory-requires-clause-checks g c =
-    subst (λ k. AreShort (checks_of c.args.image.now c.args.n c.args.t) (2 ^ k)) (sym c.log_of-k.ensures.is)
-    (checks_short g.row.W c.args.image.now c.args.n c.args.t c.requires.fits)
+    subst (λ k. AreShort (checks_of (runs_of g.row.W c.args.image.now c.args.n c.args.t)) (2 ^ k)) (sym c.log_of-k.ensures.is)
+    (checks_short _ c.requires.fits)
 
 pub memory-requires-clause-room : goal.memory-requires-clause-room
 memory-requires-clause-room g c =
@@ -29,11 +29,11 @@ memory-requires-clause-room g c =
     let zero_wires = c.in_ok-zero_wires.ensures.grows in
     let steps = c.in_ok-last.ensures.grows in
     let tie = c.in_ok-tie.ensures.grows in
-    let fits = system_fits g.row.W c.args.net c.args.image.now c.args.n c.args.t c.requires.fits in
+    let fits = system_fits c.args.net _ c.requires.fits in
     let is = sym c.log_of-k.ensures.is in
-    let checks = checks_of c.args.image.now c.args.n c.args.t in
-    let wires = wires_are c.args.net c.args.image.now c.args.n c.args.t in
-    let constraints = constraints_are c.args.net c.args.image.now c.args.n c.args.t in
+    let checks = checks_of (runs_of g.row.W c.args.image.now c.args.n c.args.t) in
+    let wires = wires_are c.args.net (runs_of g.row.W c.args.image.now c.args.n c.args.t) in
+    let constraints = constraints_are c.args.net (runs_of g.row.W c.args.image.now c.args.n c.args.t) in
     record {
       whole = tie.whole;
       constant = omega (arith, tie.wires, steps.wires, zero_wires.wires, words.wires, c.requires.begins);
@@ -51,8 +51,8 @@ memory-requires-clause-made g c =
     let tie = c.in_ok-tie.ensures.grows in
     let wires : first_at g.row.W c.args.n + c.args.t * block_made g.row.W
     ≡ g.S.Sink.meaning.wires c.tie.new.s = omega (arith, tie.wires, steps.wires, zero_wires.wires, words.wires, c.requires.begins) in
-    subst (λ wires. All (IsMade wires) (system_lines (block_of g.row.W) g.row.W c.args.image.now c.args.n c.args.t)) wires
-    (lines_made g.row.W c.args.image.now c.args.n c.args.t c.requires.fits)
+    subst (λ wires. All (IsMade wires) (system_lines (block_of g.row.W) (runs_of g.row.W c.args.image.now c.args.n c.args.t))) wires
+    (lines_made _ c.requires.fits)
 
 pub returns-in_err-words-clause-puts : goal.returns-in_err-words-clause-puts
 unfolding layout_of
@@ -116,9 +116,9 @@ returns-clause-grows g c =
     let zero_wires = c.in_ok-zero_wires.ensures.grows in
     let steps = c.in_ok-last.ensures.grows in
     let tie = c.in_ok-tie.ensures.grows in
-    let checks = checks_of c.args.image.now c.args.n c.args.t in
-    let wires = wires_are c.args.net c.args.image.now c.args.n c.args.t in
-    let constraints = constraints_are c.args.net c.args.image.now c.args.n c.args.t in
+    let checks = checks_of (runs_of g.row.W c.args.image.now c.args.n c.args.t) in
+    let wires = wires_are c.args.net (runs_of g.row.W c.args.image.now c.args.n c.args.t) in
+    let constraints = constraints_are c.args.net (runs_of g.row.W c.args.image.now c.args.n c.args.t) in
     let made = ap (argument_made c.args.net checks) c.log_of-k.ensures.is in
     let added = ap (argument_added c.args.net checks) c.log_of-k.ensures.is in
     grown m c.args.s.now c.tie.new.s c.memory.new.s c.memory.result

@@ -6,6 +6,7 @@ use Rattle.tv_core.specs.declared.lines.Counts.{Counts}
 use Rattle.tv_block.specs.Block.{block_of}
 use Rattle.tv_layout.specs.Layout.{layout_of}
 use Rattle.tv_layout.specs.Systems.{system_of}
+use Rattle.tv_layout.specs.Places.{runs_of}
 use Rattle.tv_r1cs_write.proofs.StreamLaws.{IsBegun, streamed_some, streamed_all}
 use Rattle.tv_r1cs_write.specs.Streams as streams
 use Rattle.tv_r1cs_write.specs.Streams.{stream}
@@ -18,9 +19,9 @@ use Rattle.tv_top.proofs.build.put_layout.Goals.{In-Ok}
 
 begun : (g : given.Over) (c : In-Ok g) →
     IsBegun {S = StreamSink g.row.D.Denot} (stream g.D.Files.seen) c.args.place.name.now (g.D.Files.seen c.args.files.now)
-    c.in-Ok.sink (layout_of (block_of g.row.W) g.row.W c.args.net c.args.image.now c.args.n c.args.t)
-    (system_of g.row.W c.args.net c.args.image.now c.args.n c.args.t) c.sizes-counts.result
-    (system_of g.row.W c.args.net c.args.image.now c.args.n c.args.t).wires
+    c.in-Ok.sink (layout_of (block_of g.row.W) c.args.net (runs_of g.row.W c.args.image.now c.args.n c.args.t))
+    (system_of c.args.net (runs_of g.row.W c.args.image.now c.args.n c.args.t)) c.sizes-counts.result
+    (system_of c.args.net (runs_of g.row.W c.args.image.now c.args.n c.args.t)).wires
 begun g c = record {
   creates = c.in-Ok.ensures.ok_creates;
   named = c.in-Ok.ensures.begins.name;
@@ -39,7 +40,7 @@ returns-in-Err g c =
     search (
       rules,
       writes_nothing c.args.place.word c.args.place.name.now
-          (Constraints (system_of g.row.W c.args.net c.args.image.now c.args.n c.args.t)) _ _ c.in-Err.refused.why c.in-Err.ensures.err_creates,
+          (Constraints (system_of c.args.net (runs_of g.row.W c.args.image.now c.args.n c.args.t))) _ _ c.in-Err.refused.why c.in-Err.ensures.err_creates,
     )
 
 pub returns-in_err-emit_system : goal.returns-in_err-emit_system

@@ -1,7 +1,8 @@
-use Rattle.std.proofs.Common.{◌≡◌, ℕ, ◌+◌, List, length, ap, ap₂, ◌∙◌, arith}
+use Rattle.std.proofs.Common.{◌≡◌, ℕ, ◌+◌, List, ap, ap₂, ◌∙◌, arith}
 use Rattle.tv_benes.specs.declared.shape.Net.TheVariants.{Benes}
 use Rattle.tv_core.specs.Constraints.{System}
 use Rattle.tv_draw.specs.Program.{image_drawn, tape_drawn, aux_drawn}
+use Rattle.tv_layout.specs.Places.{runs_like}
 use Rattle.tv_layout.specs.RunInputs.{run_on}
 use Rattle.tv_layout.specs.Systems.{system_of, run_values}
 use Rattle.tv_top.specs.Trial.{drawn_values, tested, trial_of}
@@ -22,7 +23,7 @@ values_of-requires c =
 pub tested-requires : goal.tested-requires
 tested-requires c =
     let is = rw (← c.as_slice-image.ensures, ← c.as_slice-tape.ensures, ← c.as_slice.ensures) at c.in_ok-drawn.ensures.run in
-    search (drawn_within c.args.k _ _ c.requires is.image_words is.image_count is.tape_count, is.tape_count)
+    search (drawn_within c.args.k _ _ c.requires is.image_words is.image_count is.tape_count)
 
 pub returns : goal.returns
 unfolding trial_of
@@ -36,4 +37,4 @@ returns c =
     ∙ ap (λ (aux : List ℕ). run_values Benes (run_on 32 (image_drawn c.args.seed c.args.k) (tape_drawn c.args.seed c.args.k) aux (c.args.k + 1)) 0) aux in
     c.tested.ensures
     ∙ ap₂ (λ (s : System) (z : List ℕ). tested (c.args.k + 1) s z)
-    (ap₂ (λ (image tape : List ℕ). system_of 32 Benes image (length tape) (c.args.k + 1)) image tape) values
+    (ap₂ (λ (image tape : List ℕ). system_of Benes (runs_like 32 image tape (c.args.k + 1))) image tape) values

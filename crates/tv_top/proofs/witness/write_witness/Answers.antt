@@ -18,7 +18,8 @@ returns-in_ok-streamed-in-Ok g c =
 
 pub returns-in-Err-NoRun : goal.returns-in-Err-NoRun
 returns-in-Err-NoRun g c =
-    let is = rw (c.in-Err-NoRun.field-0-is, c.number.ensures.number, c.as_slice-image.ensures, c.as_slice-tape.ensures, c.as_slice-aux.ensures) at c.in-Err-NoRun.ensures.fault in
+    let is = rw (c.in-Err-NoRun.field-0-is, c.number.ensures.number, c.as_slice-image.ensures, c.as_slice-tape.ensures, c.as_slice-aux.ensures)
+    at c.in-Err-NoRun.ensures.fault in
     unfilled g.row.W c.args.args.now.net c.args.args.now.t c.args.inputs.now c.in-Err-NoRun.end _ _ c.requires.width is
 
 pub returns-in-Err-Memory : goal.returns-in-Err-Memory

@@ -4,9 +4,9 @@ use Rattle.tv_extract.proofs.ExtractLaws.{extracted_is_run}
 use Rattle.tv_top.specs.Assignment.{assigned_in, assigned_run, kept_in, run_ends}
 use Rattle.tv_top.specs.Kinds.{is_listing}
 use Rattle.tv_top.specs.Listing.{listing_asks, lines_written}
-use Rattle.tv_top.specs.Programs.{bits}
 use Rattle.tv_top.proofs.AnswerLaws.{does_stopped, does_found, completes_as}
 use Rattle.tv_top.proofs.AssignmentLaws.{completes_none, comes_kept, ends_in, kept_ran}
+use Rattle.tv_top.specs.Build.{program_runs}
 use Rattle.tv_top.proofs.listing.ListingArgsJob.perform.Goals as goal
 
 pub write_lines-requires-clause-within : goal.write_lines-requires-clause-within
@@ -14,7 +14,7 @@ unfolding assigned_run
 write_lines-requires-clause-within g c =
     let assigned = assigned_in c.in_ok-assigned.assigned in
     let ran = kept_ran Benes c.args.self.n c.args.self.t (kept_in c.in_ok-assigned.assigned) c.in-Ok.run' c.in-Ok.ensures.run in
-    (extracted_is_run (bits assigned.program.width) Benes assigned.program.words assigned.z c.args.self.n c.args.self.t c.in-Ok.run' ran).within
+    (extracted_is_run Benes (program_runs c.args.self.n c.args.self.t assigned.program) assigned.z c.in-Ok.run' ran).within
 
 pub returns-in_err-assigned : goal.returns-in_err-assigned
 returns-in_err-assigned g c =
