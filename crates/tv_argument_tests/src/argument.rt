@@ -92,7 +92,7 @@ fn honest_lines_meet_it(rt: HostRuntime) -> Result<(), Fail> {
 // line 7, which is padding. Both are 0 by the kind of the line.
 const UNREAD: [usize; 2] = [5, 23];
 
-// Each other wire is pinned, be it a line's, a switch's bit, a number behind a switch or a bit of a
+// Each other wire is pinned, be it a line's, a switch's bit, a number after a switch or a bit of a
 // reach: with another value there, and the rest as it was, a constraint fails.
 #[test]
 fn an_altered_value_fails(rt: HostRuntime) -> Result<(), Fail> {

@@ -1,7 +1,7 @@
 //! Tests of permutation networks and of their settings, and of lines, of the scan and of the memory
 //! argument, through their public calls: worked rows, every permutation of four places, a long one,
-//! sizes, and honest and altered lines. They stand in a crate of their own, since a crate with tests
-//! is proved twice; nothing here is for callers.
+//! sizes, and honest and altered lines. They stand in a crate of their own, since a crate with
+//! tests is proved twice; nothing here is for callers.
 #![tactic(auto)]
 
 #[cfg(test)]

@@ -93,7 +93,7 @@ fn two_places_are_exchanged_by_the_one_switch(rt: HostRuntime) -> Result<(), Fai
 }
 
 #[test]
-fn what_is_no_permutation_is_told(rt: HostRuntime) -> Result<(), Fail> {
+fn what_is_no_permutation_is_refused(rt: HostRuntime) -> Result<(), Fail> {
     let twice = is_permutation(rt.alloc(), &[0, 0])?;
     let beyond = is_permutation(rt.alloc(), &[0, 2])?;
     assert!(rt; !twice && !beyond);

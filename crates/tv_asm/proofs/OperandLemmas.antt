@@ -8,7 +8,7 @@ use Rattle.tv_asm.specs.Instruction.{operand_at, operands_in}
 use Rattle.tv_asm.specs.Text.{trimmed}
 use Rattle.tv_asm.proofs.TextLemmas.{slice_split_whole}
 
-abbrev is_comma : ℕ → Bool
+abbrev pub is_comma : ℕ → Bool
 is_comma b = b == 44
 
 -- how many operands there are

@@ -21,7 +21,7 @@ whole : (text : List ℕ) → 0 < length text → text_lines (text ∷ []) ≡ s
 whole [] h = absurd (omega arith)
 whole (c ∷ cs) h = refl
 
-abbrev is_line_feed : ℕ → Bool
+abbrev pub is_line_feed : ℕ → Bool
 is_line_feed c = c == 10
 
 lines_more_at : (text : List ℕ) → 0 < length text → (position_or_len is_line_feed text < length text) ⊎ (length text ≤ position_or_len is_line_feed text)

@@ -11,14 +11,14 @@ ghost use Rattle.tv_top.specs.declared.programs.Width.TheVariants.{Bits16, Bits3
 ghost use Rattle.tv_top.specs.declared.refusal.Refusal.TheVariants.{SameName};
 
 /// No further word means Benes' network, `waksman` Waksman's, and another word none.
-pub fn a_word_tells_the_network()
+pub fn a_word_names_the_network()
     ensures none { net_word [] ≡ Some Benes }
     ensures waksman { net_word (codes "waksman" ∷ []) ≡ Some Waksman }
     ensures other { net_word (codes "Waksman" ∷ []) ≡ None }
 {}
 
 /// No further word means words of 32 bits, `16` words of 16, and another word none.
-pub fn a_word_tells_the_width()
+pub fn a_word_names_the_width()
     ensures none { width_word [] ≡ Some Bits32 }
     ensures sixteen { width_word (codes "16" ∷ []) ≡ Some Bits16 }
     ensures other { width_word (codes "32" ∷ []) ≡ None }

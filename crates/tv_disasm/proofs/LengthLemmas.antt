@@ -14,7 +14,8 @@ use Rattle.tv_word.proofs.WidthLaws.{for_widths}
 use Rattle.tv_word.specs.Widths.{IsWidth}
 use Rattle.tv_word.specs.Word.{word_at}
 use Rattle.tv_asm.specs.Instruction.{operand_count}
-use Rattle.tv_disasm.specs.Disassembly.{disassembly_of, text_line_of, instruction_text, last_text, raw_text, register_text, row_text, shows_all_bits, two_words_text}
+use Rattle.tv_disasm.specs.Disassembly.{disassembly_of, text_line_of, instruction_text, last_text, raw_text, register_text, row_text}
+use Rattle.tv_disasm.specs.Disassembly.{shows_all_bits, two_words_text}
 use Rattle.tv_disasm.specs.Laws.{DisassemblyIsShort, DisassemblyOf32IsShorter}
 use Rattle.tv_disasm.proofs.InstructionLemmas.{with_opcode-IsRow}
 use Rattle.tv_disasm.proofs.NumberLemmas.{IsHexadecimal-hexadecimal}

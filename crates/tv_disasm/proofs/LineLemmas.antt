@@ -10,6 +10,7 @@ use Rattle.std.proofs.lemmas.List.Sums.{position_or_len_is, suffix_len_is}
 use Rattle.std.specs.List.{All, before_first, list_any, list_all, position_or_len, prefix_len, slice_split, suffix_len}
 use Rattle.std.specs.Str.{bytes_eq}
 use Rattle.tv_asm.proofs.FirstLemmas.{before_first-append_none}
+use Rattle.tv_asm.proofs.OperandLemmas.{is_comma}
 use Rattle.tv_asm.specs.Assembly.{line_words, part_words}
 use Rattle.tv_asm.specs.Instruction.{raw_words, table_words, words_of}
 use Rattle.tv_asm.specs.Header.{is_good_header}
@@ -72,9 +73,6 @@ trimmed-ended text first last = rw (prefix_len-none text first) (trimmed_end-end
 pub trimmed-space : (text : List ℕ) → is_word_byte (slice_index text 0) ≡ true → is_ended text ≡ true → trimmed (32 ∷ text) ≡ text
 unfolding trimmed
 trimmed-space text first last = rw (prefix_len-none text first) (trimmed_end-ended text last)
-
-abbrev is_comma : ℕ → Bool
-is_comma b = b == 44
 
 abbrev is_spaced : ℕ → Bool
 is_spaced c = c == 32 || is_word_byte c

@@ -9,7 +9,7 @@ use Rattle.std.proofs.lemmas.List.Splits.{length-slice_split, slice_split_at}
 use Rattle.std.specs.List.{All, AllByRecursion, flat_map, slice_split}
 use Rattle.std.specs.Simd.{first_chunks}
 use Rattle.std.specs.Str.Lines.{strip_carriage_return}
-use Rattle.tv_asm.proofs.TextLemmas.{lines-nil, text_lines-cons}
+use Rattle.tv_asm.proofs.TextLemmas.{is_line_feed, lines-nil, text_lines-cons}
 use Rattle.tv_asm.specs.Assembly.{Context, assembled, context_after, image_of, line_words, with_line}
 use Rattle.tv_asm.specs.Header.{is_good_header, is_header_of_16, width_of}
 use Rattle.tv_asm.specs.Labels.{address, is_defined}
@@ -23,9 +23,6 @@ use Rattle.tv_disasm.specs.Laws.{DisassemblyAssembles, DisassemblyFixesWidth, Wo
 use Rattle.tv_disasm.proofs.InstructionLemmas.{IsLineOf, two_words-IsLineOf}
 use Rattle.tv_disasm.proofs.LineLemmas.{IsTextLine, last-word, line_words-line}
 use Rattle.tv_disasm.proofs.WordLemmas.{apart, apart_from, is_line_byte, is_word_byte, none_passes}
-
-abbrev is_line_feed : ℕ → Bool
-is_line_feed c = c == 10
 
 no_return : (line : List ℕ) → IsTextLine line → strip_carriage_return line ≡ line
 no_return line h =

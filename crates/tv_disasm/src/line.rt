@@ -2,7 +2,8 @@
 ghost use Rattle.std.specs.Prelude.{◌≡◌, ◌++◌, ◌-◌, ◌/◌, ◌<◌, drop, OnOk};
 ghost use Rattle.tv_word.specs.Widths.{IsWidth};
 ghost use Rattle.tv_disasm.specs.Disassembly.{digit_char, hexadecimal, instruction_text};
-ghost use Rattle.tv_disasm.specs.Disassembly.{leaves_zero, raw_text, shows_all_bits, two_words_text};
+ghost use Rattle.tv_disasm.specs.Disassembly.{leaves_zero, raw_text, shows_all_bits};
+ghost use Rattle.tv_disasm.specs.Disassembly.{two_words_text};
 
 use crate::operands::{push_decimal, push_operands};
 use std::alloc::AllocError;

@@ -1,5 +1,5 @@
-//! The worked system as a file: read where memory is ample, and written. What `check` says of it, and
-//! of it with faults, is `tests/commands.sh`.
+//! The worked system as a file: read where memory is ample, and written. What `check` says of it,
+//! and of it with faults, is `tests/commands.sh`.
 
 use crate::calls::files_of;
 use std::alloc::Global;

@@ -9,7 +9,7 @@ use tv_bits::Bits;
 use tv_core::{F, ListSink, Put, TestSink};
 
 // The number that wires represent.
-fn spelt(z: &[F], bits: &Bits) -> F {
+fn number_of(z: &[F], bits: &Bits) -> F {
     let mut sum = F::ZERO;
     let mut power = F::ONE;
     for i in 0..bits.n {
@@ -97,7 +97,11 @@ fn is_known(alloc: Global, row: &Row) -> Result<bool, Fail> {
     let mut z = filled(alloc, gadget, x, y)?;
     let (made, in_list, as_put) = answers(alloc, &z, gadget)?;
     let [first, second, third] = made;
-    let represented = [spelt(&z, &first), spelt(&z, &second), spelt(&z, &third)];
+    let represented = [
+        number_of(&z, &first),
+        number_of(&z, &second),
+        number_of(&z, &third),
+    ];
     add_one(&mut z, first.first.0);
     let (_, altered_in_list, altered_as_put) = answers(alloc, &z, gadget)?;
     let holds = in_list == 0 && as_put == 0 && represented == numbers.map(F::of);
@@ -116,7 +120,7 @@ fn known_answers_hold_and_an_altered_one_fails(rt: HostRuntime) -> Result<(), Fa
 // hint, the inverse of the high word, after it. With the flag that such a high word has, one
 // constraint alone fails: the parity's.
 #[test]
-fn the_product_0_is_not_spelt_by_the_prime(rt: HostRuntime) -> Result<(), Fail> {
+fn the_product_0_is_not_the_prime(rt: HostRuntime) -> Result<(), Fail> {
     let mut z = filled(rt.alloc(), Gadget::Product, 0, 0)?;
     set(&mut z, 65, F::ONE);
     for wire in 97..129 {

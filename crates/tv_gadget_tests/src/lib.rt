@@ -1,7 +1,7 @@
-//! Tests of the gadgets over words and of a step, through their public calls: known answers, altered
-//! ones, and sizes; a run of all instructions at both widths, step by step, over the generator's
-//! values, and a word that is taken too late. They stand in a crate of their own, since a crate with
-//! tests is proved twice; nothing here is for callers.
+//! Tests of the gadgets over words and of a step, through their public calls: known answers,
+//! altered ones, and sizes; a run of all instructions at both widths, step by step, over the
+//! generator's values, and a word that is taken too late. They stand in a crate of their own, since
+//! a crate with tests is proved twice; nothing here is for callers.
 #![tactic(auto)]
 
 #[cfg(test)]

@@ -212,14 +212,14 @@ fn a_label_behind_all_instructions_is_0(rt: HostRuntime) -> Result<(), Fail> {
 }
 
 #[test]
-fn a_header_tells_the_width(rt: HostRuntime) {
+fn a_header_sets_the_width(rt: HostRuntime) {
     for (text, bits) in &WIDTHS {
         assert!(rt; width(text.as_bytes()) == *bits, "{text}");
     }
 }
 
 #[test]
-fn the_first_fault_is_told(rt: HostRuntime) {
+fn the_first_fault_is_reported(rt: HostRuntime) {
     for (text, line, why) in &FAULTS {
         let fault = assemble::<32>(rt.alloc(), text.as_bytes(), MOST).err();
         let (line, why) = (*line, *why);

@@ -14,7 +14,7 @@ fn tested(product: u64) -> Put<(u32, u32, Option<u32>, F)> {
 }
 
 #[test]
-fn a_test_sink_tells_products_that_fail(rt: HostRuntime) -> Result<(), Fail> {
+fn a_test_sink_finds_products_that_fail(rt: HostRuntime) -> Result<(), Fail> {
     for (product, held, first_failed) in [(15, 1, None), (16, 0, Some(0))] {
         let wanted = (1, held, first_failed, F::of(15));
         assert!(rt; tested(product)? == wanted, "{product}");

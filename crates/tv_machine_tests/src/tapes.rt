@@ -38,10 +38,10 @@ fn reads_items_in_order(rt: HostRuntime) -> Result<(), Fail> {
 }
 
 #[test]
-fn the_first_item_at_fault_is_told(rt: HostRuntime) {
+fn the_first_item_at_fault_is_reported(rt: HostRuntime) {
     for (text, fault) in &FAULTS {
-        let told = read_tape(rt.alloc(), text.as_bytes(), 100, 4).err();
-        assert!(rt; told == Some(*fault), "{text}");
+        let found = read_tape(rt.alloc(), text.as_bytes(), 100, 4).err();
+        assert!(rt; found == Some(*fault), "{text}");
     }
 }
 

@@ -38,7 +38,8 @@ tape_recorded : (w n : ℕ) (st : State) (found : Option ℕ) (time : ℕ) → t
 tape_recorded w n st None time = refl
 tape_recorded w n st (Some v) time = rw (le-ltb (TAPE_CELLS + (n - length st.primary)) TAPE_CELLS (omega arith)) refl
 
-pub line_lc : (w n : ℕ) → IsWidth w → (op : Op) (st : State) (a time : ℕ) → a < 2 ^ w → touched_line w n op st a time ≡ recorded w st time (touched_line w n op st a time)
+pub line_lc : (w n : ℕ) → IsWidth w → (op : Op) (st : State) (a time : ℕ) → a < 2 ^ w
+    → touched_line w n op st a time ≡ recorded w st time (touched_line w n op st a time)
 line_lc w n width StoreB st a time small = memory_recorded w width st a time small
 line_lc w n width LoadB st a time small = memory_recorded w width st a time small
 line_lc w n width StoreW st a time small = memory_recorded w width st a time small

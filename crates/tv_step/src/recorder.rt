@@ -127,7 +127,8 @@ impl<const W: u32> Machine<W> {
         requires width { IsWidth W }
         requires short { n < 2 ^ 29 }
         requires times { time + 2 < 2 ^ 32 }
-        ensures lines { IfOk result (λ recorded. recorded.lines ≡ step_lines W n (state_of self.old) time) }
+        ensures lines { IfOk result (λ recorded. recorded.lines
+            ≡ step_lines W n (state_of self.old) time) }
         ensures ended { IfOk result (λ recorded. recorded.ended
             ≡ (ended || finds_end W (state_of self.old))) }
         ensures state { OnOk result (state_of self.new ≡ state_after W 1 (state_of self.old)) }

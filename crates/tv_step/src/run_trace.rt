@@ -49,8 +49,10 @@ fn record<const W: u32>(
     requires width { IsWidth W }
     requires short { n < 2 ^ 29 }
     requires times { time + 3 * t < 2 ^ 32 }
-    ensures lines { IfOk result (λ recorded. recorded.0 ≡ lines_of W n time (state_of machine.old) t) }
-    ensures states { IfOk result (λ recorded. recorded.1 ≡ states_of W n m (state_of machine.old) t) }
+    ensures lines { IfOk result (λ recorded. recorded.0
+        ≡ lines_of W n time (state_of machine.old) t) }
+    ensures states { IfOk result (λ recorded. recorded.1
+        ≡ states_of W n m (state_of machine.old) t) }
 {
     let steps = t as usize;
     let mut lines = Vec::with_capacity(alloc, 3 * steps)?;

@@ -44,8 +44,8 @@ unfolding numbers_of
 numbers-decimals below most at wide [] h room = refl
 numbers-decimals below most at wide (word ∷ more) h room =
     let here = number-decimal below at word wide (All-head (λ w. w < below) word more h) in
-    let behind = numbers-decimals below most (at + 1) wide more (All-tail (λ w. w < below) word more h) (omega arith) in
-    rw (lt-ltb at most (omega arith), here, behind) refl
+    let after = numbers-decimals below most (at + 1) wide more (All-tail (λ w. w < below) word more h) (omega arith) in
+    rw (lt-ltb at most (omega arith), here, after) refl
 
 pub comes_back : (words : List ℕ) (below most : ℕ) → below ≤ 2 ^ 64 → All (λ word. word < below) words → length words ≤ most
     → tape_of (text_of words) below most ≡ Ok words

@@ -9,8 +9,8 @@ loop-line-init g c =
 
 pub loop-line-preserved : goal.loop-line-preserved
 loop-line-preserved g c =
-    IsAssembled-more g.row.W c.in_ok-labels.labels c.args.most c.loop-line.number c.loop-line.words c.append.new.words c.loop-line.rest.now c.in-Some.remaining.now
-    c.args.text.now c.in-Some.line.now
+    IsAssembled-more g.row.W c.in_ok-labels.labels c.args.most c.loop-line.number c.loop-line.words c.append.new.words c.loop-line.rest.now
+    c.in-Some.remaining.now c.args.text.now c.in-Some.line.now
     c.loop-line.invariant c.in-Some.ensures.0 c.in-Some.ensures.1 c.in_ok-append.ensures.ok c.in_ok-append.ensures.room
 
 pub returns-in_err-append-clause-image : goal.returns-in_err-append-clause-image
