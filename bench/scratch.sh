@@ -4,6 +4,7 @@
 # .rt file of the repository; what its proof needs beside it the caller puts below $scratch/crates/NAME/proofs first. It
 # leaves the program that was proved as $scratch/proved. `rt ci` takes the proofs that the kit keeps, if it keeps them,
 # and else proves the crates, for minutes; that the program prints times, and so nothing that `rt ci` knows, is no matter.
+# Where PROVED is a folder, the program is taken from it, or kept there for the next time.
 scratch=$(mktemp -d)
 trap 'rm -rf "$scratch"' EXIT
 mkdir "$scratch/.git" "$scratch/crates"
@@ -29,6 +30,10 @@ listed() {
 prove() {
     local name=$1
     shift
+    if [ -x "${PROVED-}/$name" ]; then
+        cp "$PROVED/$name" "$scratch/proved"
+        return
+    fi
     listed "$@" > "$scratch/crates.txt"
     local folders
     folders=$(cut -d : -f 1 "$scratch/crates.txt")
@@ -38,4 +43,5 @@ prove() {
     echo "$name: $*" >> "$scratch/crates.txt"
     (cd "$scratch" && rt ci) > "$scratch/log" 2>&1 || :
     mv "$scratch/crates/$name/out/$name" "$scratch/proved" || { tail -20 "$scratch/log"; exit 1; }
+    if [ -d "${PROVED-}" ]; then cp "$scratch/proved" "$PROVED/$name"; fi
 }
