@@ -41,7 +41,7 @@ prove() {
     mkdir -p "$scratch/crates/$name/src"
     cp "$bench/$name.rattle" "$scratch/crates/$name/src/main.rt"
     echo "$name: $*" >> "$scratch/crates.txt"
-    (cd "$scratch" && rt ci) > "$scratch/log" 2>&1 || :
+    (cd "$scratch/crates/$name" && rt fmt && cd "$scratch" && rt ci) > "$scratch/log" 2>&1 || :
     mv "$scratch/crates/$name/out/$name" "$scratch/proved" || { tail -20 "$scratch/log"; exit 1; }
     if [ -d "${PROVED-}" ]; then cp "$scratch/proved" "$PROVED/$name"; fi
 }

@@ -67,8 +67,8 @@ fn are_kept(files: &MemFiles, whole: &MemFiles) -> bool {
 fn are_begun(files: &MemFiles, whole: &MemFiles) -> bool {
     for name in WRITTEN {
         let held = files.bytes_of(name).unwrap_or(&[]);
-        let begins = whole.bytes_of(name).unwrap_or(&[]).starts_with(held);
-        if held != BEFORE && !begins {
+        let wanted = whole.bytes_of(name).unwrap_or(&[]);
+        if held != BEFORE && !wanted.starts_with(held) {
             return false;
         }
     }

@@ -122,7 +122,7 @@ fn each_call_answers_for_itself(rt: HostRuntime) -> Result<(), Fail> {
 
 const BYTES: [u8; 8192] = [7; 8192];
 
-// A length, how many calls write so many bytes, and how many write and read them.
+// A length, in how many calls bytes are written, and in how many they are written and read.
 const LENGTHS: [(usize, u64, u64); 5] = [
     (0, 1, 2),
     (1, 2, 4),
@@ -131,7 +131,7 @@ const LENGTHS: [(usize, u64, u64); 5] = [
     (8192, 3, 6),
 ];
 
-// Whether these bytes are written and read in so many calls.
+// Whether bytes are written and read in these numbers of calls.
 fn come_and_go(alloc: Global, bytes: &[u8], writes: u64, calls: u64) -> Result<bool, Fail> {
     let mut files = MemFiles::new(alloc);
     write_file(&mut files, "file", bytes)?;
