@@ -62,21 +62,9 @@ fn are_kept(files: &MemFiles, whole: &MemFiles) -> bool {
     true
 }
 
-// Whether each name that is written holds what it held before, or a prefix of what it holds where
-// no call fails.
-fn are_begun(files: &MemFiles, whole: &MemFiles) -> bool {
-    for name in WRITTEN {
-        let held = files.bytes_of(name).unwrap_or(&[]);
-        let wanted = whole.bytes_of(name).unwrap_or(&[]);
-        if held != BEFORE && !wanted.starts_with(held) {
-            return false;
-        }
-    }
-    true
-}
-
-// Sees that the call with this number fails and is the last, and what is left then, given the files
-// that these words leave where none fails; and returns the word of the fault.
+// Sees that the call with this number fails and is the last, and that then each name that is
+// written holds what it held before or a prefix of what these words leave where no call fails; and
+// returns the word of the fault.
 fn fails(
     rt: &impl Abort,
     alloc: Global,
@@ -90,11 +78,13 @@ fn fails(
         return Err(Fail::from("no fault"));
     };
     let said = whole.said_bytes().starts_with(files.said_bytes());
-    let left = are_begun(&files, whole) && are_kept(&files, whole);
-    assert!(rt;
-        said && left && files.calls() == number,
-        "{words}: {number}"
-    );
+    let mut left = said && are_kept(&files, whole);
+    for name in WRITTEN {
+        let held = files.bytes_of(name).unwrap_or(&[]);
+        let begins = whole.bytes_of(name).unwrap_or(&[]).starts_with(held);
+        left = left && (held == BEFORE || begins);
+    }
+    assert!(rt; left && files.calls() == number, "{words}: {number}");
     Ok(word)
 }
 
