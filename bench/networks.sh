@@ -1,8 +1,7 @@
 #!/usr/bin/env bash
-# Times a network of 2^18 and of 2^20 items into a sink that counts and into one that forgets, the values of its
-# wires, and its settings, against networks.rs, the same in plain Rust; and
-# prints the most memory that each held. Before each it prints the part, k, how many switches there were,
-# and a sum. It needs rustc.
+# Times a network of 2^18 and of 2^20 items into a sink that counts and into one that forgets, the values of its wires,
+# and its settings, these against networks.rs, the same in plain Rust; and prints the most memory that each held. Before
+# each it prints the part, k, how many switches there were, and a sum. It needs rustc.
 # usage: bench/networks.sh [ROUNDS]
 set -euo pipefail
 bench=$(cd "$(dirname "$0")" && pwd)
@@ -18,9 +17,11 @@ rustc --edition 2024 -O -C target-cpu=x86-64-v2 -o "$scratch/plain" "$bench/netw
 for k in 18 20; do
     for part in count forget fill move route; do
         "$scratch/proved" "$part" "$k"
-        "$bench/compare.py" "${1:-9}" "$scratch/proved" "$scratch/plain" -- "$part" "$k"
-        for program in proved plain; do
-            "$(type -P time)" -f "$program held %M KiB at most" "$scratch/$program" "$part" "$k" > /dev/null
+        programs=("$scratch/proved")
+        if [ "$part" = route ]; then programs+=("$scratch/plain"); fi
+        "$bench/compare.py" "${1:-9}" "${programs[@]}" -- "$part" "$k"
+        for program in "${programs[@]}"; do
+            "$(type -P time)" -f "$(basename "$program") held %M KiB at most" "$program" "$part" "$k" > /dev/null
         done
     done
 done
