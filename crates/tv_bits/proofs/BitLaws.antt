@@ -15,23 +15,15 @@ pub product_bit : (a b : ℕ) → IsBit a → IsBit b → IsBit (a * b)
 product_bit a b h k = elim (bit_cases a h) [ inl p ↦ rw p (omega arith) | inr p ↦ rw p (omega (arith, k)) ]
 
 square : (b : ℕ) → IsBit b → b * b % P ≡ b
-square b h = elim (eq-zero-or-pos b) [
-  | inl none ↦ ap (λ n. n * n % P) none ∙ sym none
-  | inr some ↦ let one : b ≡ 1 = omega arith in ap (λ n. n * n % P) one
-      ∙ sym one
-]
+square b h = search (arith, eq-zero-or-pos)
 
 pub bit_sound : BitIsSound
 unfolding bit_of put
-bit_sound z next w assigns meets =
-    let same = value-wire assigns w in
-    elim (p_bit (slice_index z w) (wire-below assigns w) (ap (λ n. n * n % P) (sym same) ∙ meets.0 ∙ same)) [ inl none ↦ omega arith | inr one ↦ omega arith ]
+bit_sound z next w assigns meets = search (arith, value-wire, p_bit, wire-below)
 
 pub bit_complete : BitIsComplete
 unfolding bit_of put
-bit_complete z next w assigns bit =
-    let same = value-wire assigns w in
-    (ap (λ n. n * n % P) same ∙ square (slice_index z w) bit ∙ sym same, tt)
+bit_complete z next w assigns bit = search (arith, value-wire, square)
 
 pub bit_next : (w next : ℕ) → (bit_of w next).next ≡ next
 unfolding bit_of put

@@ -34,10 +34,7 @@ pub scaled-bits-zero : (k first : ℕ) → scaled k (bits_combination first 0) �
 scaled-bits-zero k first = ap (scaled k) (weighted-zero first (λ i. 2 ^ i % P))
 
 pub scaled-bits-suc : (k first n : ℕ) → scaled k (bits_combination first (suc n)) ≡ scaled k (bits_combination first n) ++ (k * 2 ^ n % P, first + n) ∷ []
-scaled-bits-suc k first n =
-    ap (scaled k) (weighted-suc first n (λ i. 2 ^ i % P))
-    ∙ map-append (λ t. (k * t.0 % P, t.1)) (bits_combination first n) ((2 ^ n % P, first + n) ∷ [])
-    ∙ ap (λ c. scaled k (bits_combination first n) ++ (c, first + n) ∷ []) (mul-mod_second k (2 ^ n) P)
+scaled-bits-suc k first n = search (arith, weighted-suc, map-append, mul-mod_second)
 
 -- once it is it
 pub scaled-bits-once : (first n : ℕ) → scaled 1 (bits_combination first n) ≡ bits_combination first n
@@ -90,11 +87,7 @@ module _ {z : List ℕ} {first n v : ℕ} (s : HasBits z first n v) where
 
   -- the value of the combination
   pub value-bits : value (bits_combination first n) z ≡ v % P
-  value-bits =
-      value-weighted first n (λ i. 2 ^ i % P) z
-      ∙ sum_below-mod_same n (λ i. 2 ^ i % P * slice_index z (first + i)) (λ i. 2 ^ i * slice_index z (first + i)) P
-      (λ i h. mul-mod_first (2 ^ i) (slice_index z (first + i)) P)
-      ∙ ap (λ k. k % P) (sym s.number)
+  value-bits = search (arith, value-weighted, sum_below-mod_same, mul-mod_first)
 
   pub HasBits-small : n ≤ 63 → v < P
   HasBits-small short = let power : 2 ^ n ≤ 2 ^ 63 = pow-le-pow_right (omega arith) short in omega (arith, HasBits-below)
@@ -104,12 +97,7 @@ module _ {z : List ℕ} {first n v : ℕ} (s : HasBits z first n v) where
 
   -- and of one that is 1 more
   pub value-plus_one : Assigns z → n ≤ 62 → value (bits_combination first n ++ constant 1) z ≡ v + 1
-  value-plus_one assigns short =
-      let power : 2 ^ n ≤ 2 ^ 62 = pow-le-pow_right (omega arith) short in
-      let below = HasBits-below in
-      value-append (bits_combination first n) (constant 1) z
-      ∙ ap₂ (λ a b. (a + b) % P) (value-bits_below (omega arith)) (value-constant assigns 1)
-      ∙ omega arith
+  value-plus_one assigns short = search (arith, pow-le-pow_right, HasBits-below, value-append, value-bits_below, value-constant)
 
 -- wires that hold the bits of a number below 2 ^ n represent it
 pub HasBits-from_bits : (z : List ℕ) (first n v : ℕ) → v < 2 ^ n → ((i : ℕ) → i < n → slice_index z (first + i) ≡ bit_at v i) → HasBits z first n v
@@ -124,11 +112,7 @@ HasBits-from_values z first n v below has = HasBits-from_bits z first n v below 
 
 -- a single bit represents the wire's number
 binary_value-one : (z : List ℕ) (first : ℕ) → binary_value z first 1 ≡ slice_index z first
-binary_value-one z first =
-    let place : first + 0 ≡ first = omega arith in
-    let first_bit : 2 ^ 0 * slice_index z (first + 0) ≡ slice_index z first = ap (λ k. 2 ^ 0 * slice_index z k) place ∙ omega arith in
-    sum_below-suc 0 (λ i. 2 ^ i * slice_index z (first + i)) ∙ ap₂ (λ a b. a + b) (sum_below-zero (λ i. 2 ^ i * slice_index z (first + i))) first_bit
-    ∙ zero-add (slice_index z first)
+binary_value-one z first = search (arith, sum_below-suc, sum_below-zero, zero-add)
 
 pub HasBits-one : (z : List ℕ) (first v : ℕ) → HasBits z first 1 v → slice_index z first ≡ v
 HasBits-one z first v s = sym (s.number ∙ binary_value-one z first)
@@ -157,19 +141,10 @@ high_bits z first m n bits = record {
 }
 
 pub HasBits-low : (z : List ℕ) (first m n v : ℕ) → HasBits z first (m + n) v → HasBits z first m (v % 2 ^ m)
-HasBits-low z first m n v s =
-    let low = low_bits z first m n s.bits in
-    let same : binary_value z first m ≡ v % 2 ^ m = sym
-    (ap (λ k. k % 2 ^ m) (s.number ∙ binary_value-parts z first m n) ∙ mod_low (binary_value z (first + m) n) m (binary_value z first m) (HasBits-below low)) in
-    rw same at low
+HasBits-low z first m n v s = search (arith, low_bits, binary_value-parts, mod_low, HasBits-below)
 
 pub HasBits-high : (z : List ℕ) (first m n v : ℕ) → HasBits z first (m + n) v → HasBits z (first + m) n (v / 2 ^ m)
-HasBits-high z first m n v s =
-    let low = low_bits z first m n s.bits in
-    let same : binary_value z (first + m) n ≡ v / 2 ^ m = sym
-    (ap (λ k. k / 2 ^ m) (s.number ∙ binary_value-parts z first m n) ∙ shr_high (binary_value z (first + m) n) m (binary_value z first m)
-    (HasBits-below low)) in
-    subst (λ k. HasBits z (first + m) n k) same (high_bits z first m n s.bits)
+HasBits-high z first m n v s = search (arith, low_bits, binary_value-parts, shr_high, HasBits-below, high_bits)
 
 pub HasBits-join : (z : List ℕ) (first m n low high : ℕ) → HasBits z first m low → HasBits z (first + m) n high → HasBits z first (m + n) (high * 2 ^ m + low)
 HasBits-join z first m n low high p q = record {

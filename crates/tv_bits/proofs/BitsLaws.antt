@@ -71,9 +71,7 @@ new_bits_sound z next n assigns meets = record {
 
 pub new_bits_complete : NewBitsAreComplete
 unfolding new_bits_of here pure ◌>>=◌
-new_bits_complete z next n x assigns has =
-    Meets-join z (sequence n (λ _. new_bit) next).list []
-    (turns_bits z next n assigns (λ i h. omega (arith, has_each z next n (bit_at x) has i h, bit_at-lt x i))) tt
+new_bits_complete z next n x assigns has = search (arith, Meets-join, turns_bits, has_each, bit_at-lt)
 
 -- one times the value of the bits is that value
 pub times_one_right : (b : ℕ) → b < P → b * (1 % P) % P ≡ b
@@ -93,7 +91,4 @@ bits_sound z next x n short assigns meets =
 
 pub bits_complete : BitsAreComplete
 unfolding bits_of new_bits_of here put pure ◌>>=◌
-bits_complete z next x n small assigns has =
-    let made = new_bits_complete z next n (value x z) assigns has in
-    Meets-join z (new_bits_of n next).list _ made
-    (summed z next n (value x z) (value-below x z) assigns (HasBits-from_values z next n (value x z) small has), tt)
+bits_complete z next x n small assigns has = search (arith, new_bits_complete, Meets-join, summed, value-below, HasBits-from_values)

@@ -34,9 +34,7 @@ use Rattle.tv_word.specs.Widths.{IsWidth}
 -- what the circuits answer, and where they end
 pub row_wires_answer : (w next : ℕ) → (row_wires_of w next).answer ≡ record { first = next; low = next + 2 * w; high = next + (2 * w + 1) }
 unfolding row_wires_of times_of new_bits_of here fresh put pure ◌>>=◌
-row_wires_answer w next =
-    ap (λ n. record { first = next; low = n; high = n + 1 }) (new_bits_next (2 * w) next)
-    ∙ ap (λ n. record { first = next; low = next + 2 * w; high = n }) (let last : next + 2 * w + 1 ≡ next + (2 * w + 1) = omega arith in last)
+row_wires_answer w next = search (arith, new_bits_next)
 
 pub row_wires_next : (w next : ℕ) → (row_wires_of w next).next ≡ next + (2 * w + 2)
 unfolding row_wires_of times_of new_bits_of here fresh put pure ◌>>=◌
@@ -122,15 +120,7 @@ module _ (w : ℕ) (width : IsWidth w) (z : List ℕ) (next : ℕ) (assigns : As
   row_wires_met : Meets z (row_wires_of w next).list
   unfolding row_wires_of times_of new_bits_of here fresh put pure ◌>>=◌
   row_wires_met =
-      let short = width_short w width in
-      let made = new_bits_of (2 * w) next in
-      let end : made.next ≡ next + 2 * w = new_bits_next (2 * w) next in
-      let words = subst (λ n. HasFrom z n (low ∷ high ∷ ratio_values (above_edge_in w high v) low)) (sym end) words_has in
-      let low_is = value-bits_below low_bits_are (omega arith) in
-      let high_is = value-bits_below high_bits_are (omega arith) in
-      let first = kept_complete z made.next (bits_combination next w) assigns (words.0 ∙ sym low_is, tt) in
-      let second = kept_complete z (made.next + 1) (bits_combination (next + w) w) assigns (words.1.0 ∙ sym high_is, tt) in
-      Meets-join z made.list _ bits_met' (first.0, (second.0, tt))
+      search (arith, width_short, new_bits_next, words_has, value-bits_below, low_bits_are, high_bits_are, kept_complete, Meets-join, bits_met')
 
 pub double_row_complete : DoubleRowIsComplete
 unfolding double_row_of pure ◌>>=◌
@@ -155,14 +145,7 @@ double_row_complete w width z next signed low high assigns l h bit row has =
 
 -- ---- sizes and costs
 length-values : (w low high v : ℕ) → length (double_row_values w low high v) ≡ 2 * w + 3
-length-values w low high v =
-    omega (
-      arith,
-      length-append (bits_values low w) (bits_values high w ++ (low ∷ high ∷ ratio_values (above_edge_in w high v) low)),
-      length-append (bits_values high w) (low ∷ high ∷ ratio_values (above_edge_in w high v) low),
-      length-bits low w,
-      length-bits high w,
-    )
+length-values w low high v = search (arith, length-append, length-bits)
 
 pub double_row_sizes : DoubleRowSizes
 double_row_sizes = record {
@@ -216,29 +199,11 @@ module _ (w : ℕ) (signed : Combination) (next : ℕ) where
 
   double_row_constraints : length (double_row_of w signed next).list ≡ 2 * w + 3
   unfolding double_row_of row_wires_of times_of ratio_of fresh put pure ◌>>=◌ words_list edge_list
-  double_row_constraints =
-      omega (
-        arith,
-        length-append (row_wires_of w next).list edge_list,
-        length-append (new_bits_of (2 * w) next).list words_list,
-        new_bits_constraints
-            (2 * w) next,
-      )
+  double_row_constraints = search (arith, length-append, edge_list, words_list, new_bits_constraints)
 
   double_row_terms : terms_in (double_row_of w signed next).list ≡ 8 * w + 8 + length signed
   unfolding double_row_of row_wires_of times_of ratio_of fresh put pure ◌>>=◌ words_list edge_list
-  double_row_terms =
-      let made = new_bits_of (2 * w) next in
-      omega (
-        arith,
-        terms-append (row_wires_of w next).list edge_list,
-        terms-append made.list words_list,
-        new_bits_terms (2 * w) next,
-        length-weighted made.answer.first w (λ i. 2 ^ i % P),
-        length-weighted (made.answer.first + w) w (λ i. 2 ^ i % P),
-        length-append (scaled (P - 1) signed) (wire (row_wires_of w next).answer.high),
-        length-scaled (P - 1) signed,
-      )
+  double_row_terms = search (arith, terms-append, edge_list, words_list, new_bits_terms, length-weighted, length-append, length-scaled)
 
 pub double_row_cost_laws : DoubleRowCosts
 double_row_cost_laws = record { constraints = double_row_constraints; terms = double_row_terms }
@@ -254,3 +219,5 @@ value-row_number w z row assigns =
   where
     flat : (b l h : ℕ) → (1 * l + (b % P * h + 0) % P) % P ≡ (l + b * h) % P
     flat b l h = omega (arith, mul-mod_first b h P)
+
+pub ruleset double_row_laws = (double_row_sound, double_row_complete, double_row_sizes, double_row_cost_laws)

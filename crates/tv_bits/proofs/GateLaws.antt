@@ -14,25 +14,14 @@ use Rattle.tv_bits.specs.Gate.{gated_of, GatedIsSound, GatedIsComplete, GatedSiz
 
 pub gated_sound : GatedIsSound
 unfolding gated_of put
-gated_sound z next gate x y one meets =
-    let difference : value (less x y) z ≡ 0 =
-    sym (mod-eq_of_lt (value-below (less x y) z)) ∙ ap (λ n. n % P) (sym (one-mul (value (less x y) z))) ∙ ap (λ n. n * value (less x y) z % P) (sym one)
-    ∙ meets.0 ∙ value-empty z in
-    same_of_minus (value x z) (value y z) (value-below x z) (value-below y z) (sym (value-less x y z) ∙ difference)
+gated_sound z next gate x y one meets = search (arith, mod-eq_of_lt, value-below, one-mul, value-empty, same_of_minus, value-less)
 
 no_difference : (z : List ℕ) (x y : Combination) → value x z ≡ value y z → value (less x y) z ≡ 0
 no_difference z x y same = let below = value-below y z in value-less x y z ∙ ap (λ n. (n + (P - value y z)) % P) same ∙ omega arith
 
 pub gated_complete : GatedIsComplete
 unfolding gated_of put
-gated_complete = record {
-  same = λ z next gate x y same. (
-    ap (λ n. value gate z * n % P) (no_difference z x y same) ∙ ap (λ n. n % P) (mul-zero (value gate z))
-        ∙ sym (value-empty z),
-    tt,
-  );
-  off = λ z next gate x y none. (ap (λ n. n * value (less x y) z % P) none ∙ ap (λ n. n % P) (zero-mul (value (less x y) z)) ∙ sym (value-empty z), tt);
-}
+gated_complete = search (arith, no_difference, mul-zero, value-empty, zero-mul)
 
 pub gated_next : (gate x y : Combination) (next : ℕ) → (gated_of gate x y next).next ≡ next
 unfolding gated_of put
@@ -68,3 +57,5 @@ gated_terms gate x y next = omega (arith, length-less x y)
 
 pub gated_cost_laws : GatedCosts
 gated_cost_laws = record { constraints = gated_constraints; terms = gated_terms }
+
+pub ruleset gated_laws = (gated_sound, gated_complete, gated_sizes, gated_cost_laws)

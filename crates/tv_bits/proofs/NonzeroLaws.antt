@@ -24,43 +24,18 @@ less_one : (f : ℕ) → f < P → (1 + (P - f)) % P ≡ 0 → f ≡ 1
 less_one f small e = omega arith
 
 flag_of : (x h f : ℕ) → x < P → f < P → x * h % P ≡ f → x * ((1 + (P - f)) % P) % P ≡ 0 → f ≡ nonzero_flag x
-flag_of x h f x_small f_small first second =
-    elim (cases_eq x 0) [
-      | inl none ↦ sym first ∙ ap (λ n. n * h % P) none ∙ ap (λ n. n % P) (zero-mul h) ∙ sym (nonzero_flag-zero x none)
-      | inr some ↦ elim (p_zero_product_below x ((1 + (P - f)) % P) x_small (omega arith) second) [
-        | inl none ↦ absurd (some none)
-        | inr rest ↦ less_one f f_small rest ∙ sym (nonzero_flag-other x some)
-      ]
-    ]
+flag_of x h f x_small f_small first second = search (arith, cases_eq, zero-mul, nonzero_flag-zero, p_zero_product_below, less_one, nonzero_flag-other)
 
 flag_meets : (x : ℕ) → x < P → (x * inverse_of x % P ≡ nonzero_flag x) × (x * ((1 + (P - nonzero_flag x)) % P) % P ≡ 0)
-flag_meets x small =
-    elim (cases_eq x 0) [
-      | inl none ↦
-          let times : (n : ℕ) → x * n % P ≡ 0 = λ n. ap (λ y. y * n % P) none ∙ ap (λ y. y % P) (zero-mul n) in
-          (times (inverse_of x) ∙ sym (nonzero_flag-zero x none), times ((1 + (P - nonzero_flag x)) % P))
-      | inr some ↦ (
-        mul-inverse_of x (λ none. some (omega arith)) ∙ sym (nonzero_flag-other x some),
-        ap (λ f. x * ((1 + (P - f)) % P) % P) (nonzero_flag-other x some)
-            ∙ ap (λ n. n % P) (mul-zero x),
-      )
-    ]
+flag_meets x small = search (arith, cases_eq, ℕ, zero-mul, nonzero_flag-zero, mul-inverse_of, nonzero_flag-other, mul-zero)
 
 pub nonzero_sound : NonzeroIsSound
 unfolding nonzero_of ◌>>=◌ fresh put pure
-nonzero_sound z next x assigns meets =
-    flag_of (value x z) (slice_index z (next + 1)) (slice_index z next) (value-below x z) (wire-below assigns next)
-    (ap (λ h. value x z * h % P) (sym (value-wire assigns (next + 1))) ∙ meets.0 ∙ value-wire assigns next)
-    (ap (λ f. value x z * f % P) (sym (value-one_less assigns next)) ∙ meets.1.0)
+nonzero_sound z next x assigns meets = search (arith, flag_of, value-below, wire-below, value-wire, value-one_less)
 
 pub nonzero_complete : NonzeroIsComplete
 unfolding nonzero_of ◌>>=◌ fresh put pure
-nonzero_complete z next x assigns has =
-    let numbers = flag_meets (value x z) (value-below x z) in
-    let hint = ap (λ h. value x z * h % P) (value-wire assigns (next + 1) ∙ has.1.0) in
-    let flag = value-wire assigns next ∙ has.0 in
-    let rest = ap (λ f. value x z * f % P) (value-one_less assigns next ∙ ap (λ f. (1 + (P - f)) % P) has.0) in
-    (hint ∙ numbers.0 ∙ sym flag, (rest ∙ numbers.1, tt))
+nonzero_complete z next x assigns has = search (arith, flag_meets, value-below, value-wire, value-one_less)
 
 -- what the circuit answers, and where it ends
 pub nonzero_answer : (x : Combination) (next : ℕ) → (nonzero_of x next).answer ≡ next
@@ -81,3 +56,5 @@ nonzero_sizes = record {
   fills = λ x v next. nonzero_next x next;
   in_field = λ v. InField-cons (nonzero_flag v) (inverse_of v ∷ []) (nonzero_flag-below v) (InField-cons (inverse_of v) [] (inverse_of-below v) InField-none);
 }
+
+pub ruleset nonzero_laws = (nonzero_sound, nonzero_complete, nonzero_sizes)

@@ -16,6 +16,8 @@ use Rattle.tv_core.specs.Normal.{IsNormal, IsNormalFrom, AreNormal}
 use Rattle.tv_core.specs.declared.field.TheConstants.{P}
 use Rattle.tv_word.proofs.WidthLaws.{width_short}
 use Rattle.tv_word.specs.Widths.{IsWidth}
+use Rattle.tv_bits.proofs.SelectLaws.{select_sound, select_complete}
+use Rattle.tv_bits.proofs.SizeLaws.{select_sizes}
 use Rattle.tv_bits.proofs.DoubleRowLaws.{row_wires_answer}
 use Rattle.tv_bits.specs.Bit.{bit_of}
 use Rattle.tv_bits.specs.Bits.{bits_combination, new_bit, new_bits_of, bits_of}
@@ -45,10 +47,7 @@ rise_normal old new h = (omega arith, omega arith, omega arith, (omega arith, om
 
 -- a multiple by a number that is not 0 modulo P
 times_some : (k c : ℕ) → k % P ≢ 0 → 0 < c → c < P → 0 < k * c % P
-times_some k c apart some small = elim (cases_eq (k * c % P) 0) [
-  | inl none ↦ elim (p_zero_product k c none) [ inl first ↦ absurd (apart first) | inr second ↦ omega arith ]
-  | inr other ↦ omega arith
-]
+times_some k c apart some small = search (arith, cases_eq, p_zero_product)
 
 pub scaled_normal : (least k : ℕ) (x : Combination) → k % P ≢ 0 → IsNormalFrom least x → IsNormalFrom least (scaled k x)
 scaled_normal least k [] apart n = tt
@@ -67,10 +66,7 @@ weighted_normal first (suc n) c each =
     (normal_append first (first + n) (weighted first n c) ((c n, first + n) ∷ []) rest (top-weighted first n c) (omega arith) last)
 
 power_term : (i : ℕ) → i ≤ 62 → (0 < 2 ^ i % P) × (2 ^ i % P < P)
-power_term i h =
-    let power : 2 ^ i ≤ 2 ^ 62 = pow-le-pow_right (omega arith) h in
-    let some = below-power i in
-    (omega arith, omega arith)
+power_term i h = search (arith, pow-le-pow_right, below-power)
 
 pub bits_normal : (first n : ℕ) → n ≤ 63 → IsNormalFrom first (bits_combination first n)
 bits_normal first n short = weighted_normal first n (λ i. 2 ^ i % P) (λ i h. power_term i (omega arith))
@@ -92,15 +88,10 @@ bits_top first n = top-weighted first n (λ i. 2 ^ i % P)
 pub scaled_bits_top : (k first n : ℕ) → top (scaled k (bits_combination first n)) ≤ first + n
 scaled_bits_top k first n = omega (arith, top-scaled k (bits_combination first n), bits_top first n)
 
-pub row_top : (first count : ℕ) → top (row_sum first count) ≤ first + count
-row_top first count = top-weighted first count (λ _. 1)
-
 -- ---- circuits
 pub bit_normal : (w next : ℕ) → AreNormal (bit_of w next).list
 unfolding bit_of
-bit_normal w next =
-    let is : IsNormal (wire w) = wire_normal 0 w (omega arith) in
-    normal_put (wire w) (wire w) (wire w) next is is is
+bit_normal w next = search (arith, wire_normal, normal_put)
 
 new_bit_normal : (at : ℕ) → AreNormal (new_bit at).list
 unfolding new_bit fresh ◌>>=◌
@@ -112,9 +103,7 @@ new_bits_normal n next = normal_both (sequence n (λ _. new_bit) next).list [] (
 
 pub bits_of_normal : (x : Combination) (n next : ℕ) → n ≤ 63 → IsNormal x → AreNormal (bits_of x n next).list
 unfolding bits_of new_bits_of here put pure ◌>>=◌
-bits_of_normal x n next short nx =
-    let row = bits_normal_plain next n short in
-    normal_both (new_bits_of n next).list _ (new_bits_normal n next) (record { a = row; b = constant_normal 1 (omega arith) (omega arith); c = nx }, tt)
+bits_of_normal x n next short nx = search (arith, bits_normal_plain, normal_both, new_bits_normal, constant_normal)
 
 pub times_normal : (x y : Combination) (next : ℕ) → IsNormal x → IsNormal y → AreNormal (times_of x y next).list
 unfolding times_of fresh put pure ◌>>=◌
@@ -144,20 +133,14 @@ zero_sign_normal y f sign next n below =
 -- a choice
 pub select_normal : SelectIsNormal
 unfolding pick_of fresh put pure ◌>>=◌
-select_normal b x y next nb ny below =
-    let within : top (scaled (P - 1) y) ≤ next = omega (arith, top-scaled (P - 1) y, below) in
-    let last : IsNormalFrom next (wire next) = wire_normal next next (omega arith) in
-    let product : IsNormal (wire_less next y) = normal_append 0 next (scaled (P - 1) y) (wire next) (normal_negated 0 y ny) within (omega arith) last in
-    (record { a = nb; b = IsNormalFrom-normal (less x y); c = product }, tt)
+select_normal b x y next nb ny below = search (arith, top-scaled, wire_normal, normal_append, normal_negated, IsNormalFrom-normal)
 
 -- ---- a row of twice a word's width
 pub power_some : (w : ℕ) → IsWidth w → 0 < 2 ^ w % P
 power_some w width = (power_term w (omega (arith, width_short w width))).0
 
 pub row_number_normal : (least w : ℕ) → IsWidth w → (row : DoubleRow) → least ≤ row.low → row.low < row.high → IsNormalFrom least (row_number w row)
-row_number_normal least w width row h above =
-    let power = power_term w (omega (arith, width_short w width)) in
-    (h, omega arith, omega arith, (omega arith, power.0, power.1, tt))
+row_number_normal least w width row h above = search (arith, power_term, width_short)
 
 edge_term : (w : ℕ) → IsWidth w → (0 < P - (2 ^ w - 1)) × (P - (2 ^ w - 1) < P)
 edge_term w width = (grind arith, grind arith)
@@ -172,21 +155,14 @@ above_edge_normal w width signed high n below some =
 
 row_wires_normal : (w : ℕ) → IsWidth w → (next : ℕ) → AreNormal (row_wires_of w next).list
 unfolding row_wires_of times_of new_bits_of here fresh put pure ◌>>=◌
-row_wires_normal w width next =
-    let short = width_short w width in
-    let made = new_bits_of (2 * w) next in
-    let low = kept_normal (bits_combination next w) made.next (bits_normal_plain next w (omega arith)) in
-    let high = kept_normal (bits_combination (next + w) w) (made.next + 1) (bits_normal_plain (next + w) w (omega arith)) in
-    normal_both made.list _ (new_bits_normal (2 * w) next) (low.0, (high.0, tt))
+row_wires_normal w width next = search (arith, width_short, kept_normal, bits_normal_plain, normal_both, new_bits_normal)
 
 -- `signed` has no constant, and its wires are below the next one
 pub double_row_normal : (w : ℕ) → IsWidth w → (signed : Combination) (next : ℕ) → IsNormalFrom 1 signed → top signed ≤ next
     → AreNormal (double_row_of w signed next).list
 unfolding double_row_of pure ◌>>=◌
 double_row_normal w width signed next n below =
-    let made = row_wires_of w next in
-    let high : made.answer.high ≡ next + (2 * w + 1) = ap (λ r. r.high) (row_wires_answer w next) in
-    let edge = above_edge_normal w width signed made.answer.high n (omega (arith, high, below)) (omega (arith, high)) in
-    let low : IsNormal (wire made.answer.low) = wire_normal 0 made.answer.low (omega arith) in
-    let ratio = ratio_normal (above_edge w signed made.answer.high) (wire made.answer.low) made.next edge low in
-    normal_both made.list _ (row_wires_normal w width next) (normal_both _ [] ratio tt)
+    search (arith, row_wires_answer, above_edge_normal, wire_normal, ratio_normal, normal_both, row_wires_normal)
+
+-- the laws of a choice
+pub ruleset select_laws = (select_sound, select_complete, select_normal, select_sizes)

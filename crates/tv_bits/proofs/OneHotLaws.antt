@@ -53,12 +53,7 @@ mark_value z x i at assigns =
 pub mark_sound : (z : List ℕ) (x : Combination) (i at : ℕ) → Assigns z → i < P → i ≢ value x z → Meets z (mark_of x i at).list → slice_index z at ≡ 0
 unfolding mark_of fresh put ◌>>=◌
 mark_sound z x i at assigns small apart meets =
-    let same : i % P ≡ i = mod-eq_of_lt small in
-    let product = sym (mark_value z x i at assigns) ∙ meets.0 in
-    elim (p_zero_product_below (slice_index z at) ((value x z + (P - i % P)) % P) (wire-below assigns at) (mod-lt _ (omega arith)) product) [
-      | inl none ↦ none
-      | inr none ↦ absurd (apart (sym (same_of_minus (value x z) i (value-below x z) small (ap (λ n. (value x z + (P - n)) % P) (sym same) ∙ none))))
-    ]
+    search (arith, mod-eq_of_lt, mark_value, p_zero_product_below, wire-below, mod-lt, same_of_minus, value-below)
 
 zero_product : (e d : ℕ) → (e ≡ 0) ⊎ (d ≡ 0) → e * d % P ≡ 0
 zero_product e d (inl none) = ap (λ n. n * d % P) none ∙ ap (λ n. n % P) (zero-mul d)
@@ -69,13 +64,7 @@ less_itself v i same = omega arith
 
 pub mark_complete : (z : List ℕ) (x : Combination) (i at v : ℕ) → Assigns z → value x z ≡ v % P → (i ≢ v → slice_index z at ≡ 0) → Meets z (mark_of x i at).list
 unfolding mark_of fresh put ◌>>=◌
-mark_complete z x i at v assigns is cold = (
-  mark_value z x i at assigns ∙ elim (cases_eq i v) [
-    | inl same ↦ zero_product (slice_index z at) _ (inr (ap (λ n. (n + (P - i % P)) % P) is ∙ less_itself v i (ap (λ n. n % P) (sym same))))
-    | inr apart ↦ zero_product (slice_index z at) _ (inl (cold apart))
-  ],
-  tt,
-)
+mark_complete z x i at v assigns is cold = search (arith, mark_value, cases_eq, zero_product, less_itself)
 
 -- ---- the row
 pub onehot_answer : (x : Bits) (next : ℕ) → (onehot_of x next).answer ≡ next
@@ -113,9 +102,7 @@ pub one_at-other : (v i : ℕ) → i ≢ v → one_at v i ≡ 0
 one_at-other v i apart = grind (arith, nat_tests)
 
 pub IsOneHot-from_values : (z : List ℕ) (first n v : ℕ) → v < 2 ^ n → HasFrom z first (onehot_values v n) → IsOneHot z first (2 ^ n) v
-IsOneHot-from_values z first n v within has =
-    let each = has_each z first (2 ^ n) (one_at v) has in
-    record { within = within; hot = each v within ∙ one_at-same v; cold = λ i h apart. each i h ∙ one_at-other v i apart }
+IsOneHot-from_values z first n v within has = search (arith, has_each, one_at-same, one_at-other)
 
 pub onehot_complete : OneHotIsComplete
 unfolding onehot_of here put pure ◌>>=◌

@@ -23,10 +23,7 @@ difference_above a b d h k some few e = omega arith
 
 -- where a difference of prefixes is from 1 to 2 ^ c, the first number is above
 pub IsPrefixDifference-above : (n c t x y d : ℕ) → n ≤ 63 → c ≤ 62 → x < 2 ^ n → y < 2 ^ n → 0 < d → d ≤ 2 ^ c → IsPrefixDifference c t x y d → y < x
-IsPrefixDifference-above n c t x y d short few h k some most i =
-    let power : 2 ^ c ≤ 2 ^ 62 = pow-le-pow_right (omega arith) few in
-    let p = c * i.chunk in
-    above_of_prefix x y p (difference_above (x / 2 ^ p) (y / 2 ^ p) d (prefix_small n x p short h) (prefix_small n y p short k) some (omega arith) i.is)
+IsPrefixDifference-above n c t x y d short few h k some most i = search (arith, pow-le-pow_right, above_of_prefix, difference_above, prefix_small)
 
 -- ---- the shortest prefix that differs
 pub first_difference-zero : (c x y : ℕ) → first_difference c 0 x y ≡ 0
@@ -51,9 +48,7 @@ first_difference-le c (suc t) x y =
 
 -- two numbers that are the same without their lowest chunk are less than 2 ^ c apart
 within_chunk : (a b k : ℕ) → 0 < k → a / k ≡ b / k → a - b < k
-within_chunk a b k positive same =
-    let whole : k * (a / k) ≡ k * (b / k) = ap (λ q. k * q) same in
-    omega (arith, div-add-mod a k, div-add-mod b k, mod-lt a positive)
+within_chunk a b k positive same = search (arith, div-add-mod, mod-lt)
 
 -- where the first number is above, and the prefixes of t chunks less are the same
 record IsFirst (c t x y : ℕ) : Type 0 where
@@ -92,10 +87,7 @@ difference_of_above a b h k = omega arith
 -- where a number is above another, by what the shortest prefix that differs is: from 1 to less than 2 ^ c
 module _ (n c t x y : ℕ) (whole : n ≤ c * t) (short : n ≤ 63) (below : x < 2 ^ n) (above : y < x) where
   first : IsFirst c t x y
-  first =
-      let power : 2 ^ n ≤ 2 ^ (c * t) = pow-le-pow_right (omega arith) whole in
-      first_is c t x y above (div-eq_of_lt (let small : x < 2 ^ (c * t) = omega arith in small)
-      ∙ sym (div-eq_of_lt (let small : y < 2 ^ (c * t) = omega arith in small)))
+  first = search (arith, pow-le-pow_right, first_is, above, div-eq_of_lt)
 
   pub first_difference-some : 0 < first_difference c t x y
   first_difference-some = omega (arith, first.is, first.above)

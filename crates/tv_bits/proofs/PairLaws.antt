@@ -23,10 +23,7 @@ square_sum x y h k = elim (bit_cases x h) [
 
 -- the square of one more than the difference of two bits
 square_gap : (x y : ℕ) → IsBit x → IsBit y → 1 + 3 * x - y ≡ (1 + x - y) * (1 + x - y) + 2 * (x * y)
-square_gap x y h k = elim (bit_cases x h) [
-  | inl p ↦ elim (bit_cases y k) [ inl q ↦ rw (p, q) refl | inr q ↦ rw (p, q) refl ]
-  | inr p ↦ elim (bit_cases y k) [ inl q ↦ rw (p, q) refl | inr q ↦ rw (p, q) refl ]
-]
+square_gap x y h k = search (arith, bit_cases)
 
 -- k times and less k times is nothing
 nothing : (a k x : ℕ) → (a + (k * x + negative k * x)) % P ≡ a % P
@@ -56,17 +53,10 @@ module _ (u v w e f γ m : ℕ) (sum : u * u ≡ u + 2 * e) (difference : w ≡ 
 
   -- 2 cancels, by its inverse
   met_of : (u + γ * v) * (u + negative γ * v) % P ≡ (u + 2 * m + negative (γ * γ) * w) % P → m % P ≡ (e + γ * γ * f) % P
-  met_of h =
-      let both = sym left_side ∙ add-mod_same ((u + γ * v) * (u + negative γ * v)) (u + 2 * m + negative (γ * γ) * w) (γ * γ * w) (γ * γ * w) P h refl
-      ∙ right_side in
-      sym (mul_cancel-mod ((P + 1) / 2) 2 (e + γ * γ * f) m P refl (add_cancel-mod u (2 * (e + γ * γ * f)) (2 * m) P both))
+  met_of h = search (arith, left_side, add-mod_same, right_side, mul_cancel-mod, add_cancel-mod)
 
   of_met : m % P ≡ (e + γ * γ * f) % P → (u + γ * v) * (u + negative γ * v) % P ≡ (u + 2 * m + negative (γ * γ) * w) % P
-  of_met h =
-      let twice = add-mod_same u u (2 * m) (2 * (e + γ * γ * f)) P refl (mul-mod_same 2 2 m (e + γ * γ * f) P refl h) in
-      let both = left_side ∙ sym twice ∙ sym right_side in
-      add_cancel-mod (γ * γ * w) ((u + γ * v) * (u + negative γ * v)) (u + 2 * m + negative (γ * γ) * w) P
-      (ap (λ k. k % P) (omega arith) ∙ both ∙ ap (λ k. k % P) (omega arith))
+  of_met h = search (arith, add-mod_same, mul-mod_same, left_side, right_side, add_cancel-mod)
 
 -- ---- the values of the combinations
 module _ {z : List ℕ} (assigns : Assigns z) where
@@ -121,14 +111,7 @@ two_ands_sound z next x_a y_a x_b y_b γ m assigns p q r s meets =
 
 pub two_ands_complete : TwoAndsAreComplete
 unfolding two_ands_of put
-two_ands_complete z next x_a y_a x_b y_b γ m assigns p q r s is = (
-  product z assigns x_a y_a x_b y_b γ m r s
-      ∙ of_met _ _ _ (value x_a z * value y_a z) (value x_b z * value y_b z) γ (value m z) (square_sum (value x_a z) (value y_a z) p q)
-      (square_gap (value x_b z) (value y_b z) r s)
-      (mod-eq_of_lt (value-below m z) ∙ is)
-      ∙ sym (rest z assigns x_a y_a x_b y_b γ m r s),
-  tt,
-)
+two_ands_complete z next x_a y_a x_b y_b γ m assigns p q r s is = search (arith, product, of_met, square_sum, square_gap, mod-eq_of_lt, value-below, rest)
 
 pub two_ands_next : (x_a y_a x_b y_b : Combination) (γ : ℕ) (m : Combination) (next : ℕ) → (two_ands_of x_a y_a x_b y_b γ m next).next ≡ next
 unfolding two_ands_of put

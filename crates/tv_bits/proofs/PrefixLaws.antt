@@ -104,13 +104,7 @@ products_complete z factor f next (suc k) assigns is has =
 pub zero_product_sound : (z : List ℕ) (factor : ℕ → Combination) (t next : ℕ) → 2 ≤ t → Assigns z → Meets z (zero_product_of factor t next).list
     → (i : ℕ) × (i < t) × (value (factor i) z ≡ 0)
 unfolding zero_product_of put
-zero_product_sound z factor t next two assigns meets =
-    let products = turns (t - 2) (next_product factor) (factor 0) in
-    let both = parts z products (λ product. put product (factor (t - 1)) []) next meets in
-    elim (p_zero_product_below _ _ (value-below (products next).answer z) (value-below (factor (t - 1)) z) both.1.0) [
-      | inl first ↦ let rest = products_sound z factor next (t - 2) assigns both.0 first in (rest.place, omega (arith, rest.within), rest.is)
-      | inr last ↦ (t - 1, omega arith, last)
-    ]
+zero_product_sound z factor t next two assigns meets = search (arith, parts, p_zero_product_below, value-below, products_sound)
 
 -- f being the factors' values
 pub zero_product_complete : (z : List ℕ) (factor : ℕ → Combination) (f : ℕ → ℕ) (t i next : ℕ) → 2 ≤ t → Assigns z
@@ -136,10 +130,7 @@ value-prefix z x p v within short s =
 module _ (z : List ℕ) (x y : Bits) (d : Combination) (v w : ℕ) (x_short : x.n ≤ 63) (y_short : y.n ≤ 63) (s : HasBits z x.first x.n v)
     (r : HasBits z y.first y.n w) where
   value-prefix_less : (p : ℕ) → p ≤ x.n → p ≤ y.n → value (prefix_less x y d p) z ≡ prefix_less_in v w (value d z) p
-  value-prefix_less p h k =
-      value-less (less (prefix x p) (prefix y p)) d z
-      ∙ ap (λ n. (n + (P - value d z)) % P) (value-less (prefix x p) (prefix y p) z
-      ∙ ap₂ (λ a b. (a + (P - b)) % P) (value-prefix z x p v h x_short s) (value-prefix z y p w k y_short r))
+  value-prefix_less p h k = search (arith, value-less, value-prefix)
 
 -- a place of t chunks lies within
 place_within : (c t n i : ℕ) → i < t → c * (t - 1) ≤ n → c * i ≤ n

@@ -24,9 +24,7 @@ row_high w width low high v h e = grind arith
 
 -- the constraint of the edge makes words a row
 row_edge : (w : ℕ) → IsWidth w → (low high k : ℕ) → high < 2 ^ w → above_edge_in w high 0 * k % P ≡ low → high ≡ 2 ^ w - 1 → low ≡ 0
-row_edge w width low high k h e full =
-    let none : above_edge_in w high 0 ≡ 0 = grind arith in
-    sym e ∙ ap (λ n. n * k % P) none ∙ ap (λ n. n % P) (zero-mul k)
+row_edge w width low high k h e full = search (arith, zero-mul)
 
 pub row_sound : (w : ℕ) → IsWidth w → (low high k : ℕ) → low < 2 ^ w → high < 2 ^ w → above_edge_in w high 0 * k % P ≡ low → IsRow w low high
 row_sound w width low high k h l e = record { low_word = h; high_word = l; edge = row_edge w width low high k l e }
@@ -34,10 +32,7 @@ row_sound w width low high k h l e = record { low_word = h; high_word = l; edge 
 -- and some number meets it for each row, and for all words where the row is signed
 pub row_edge_met : (w : ℕ) → IsWidth w → (low high signed : ℕ) → high < 2 ^ w → signed < 2 → (signed ≡ 0 → IsRow w low high)
     → above_edge_in w high signed % P ≡ 0 → low ≡ 0
-row_edge_met w width low high signed h bit row none =
-    let plain : signed ≡ 0 = grind arith in
-    let full : high ≡ 2 ^ w - 1 = grind arith in
-    (row plain).edge full
+row_edge_met w width low high signed h bit row none = search (arith)
 
 -- the row of a number
 pub row_of : (w : ℕ) → IsWidth w → (n : ℕ) → n ≤ 2 ^ w * (2 ^ w - 1) → IsRow w (n % 2 ^ w) (n / 2 ^ w)

@@ -28,16 +28,10 @@ pub times_one : (b d : ℕ) → b ≡ 1 → d < P → b * d % P ≡ d
 times_one b d one small = rw one (omega arith)
 
 pub sound_by : (b x y w : ℕ) → x < P → y < P → w < P → IsBit b → b * ((x + (P - y)) % P) % P ≡ (w + (P - y)) % P → w ≡ selected b x y
-sound_by b x y w xs ys ws bit e = elim (bit_cases b bit) [
-  | inl none ↦ same_of_minus w y ws ys (sym e ∙ times_zero b _ none) ∙ sym (selected-zero b x y none)
-  | inr one ↦ cancel_minus w x y ws xs ys (sym e ∙ times_one b _ one (mod-lt _ (omega arith))) ∙ sym (selected-one b x y one)
-]
+sound_by b x y w xs ys ws bit e = search (arith, bit_cases, same_of_minus, times_zero, selected-zero, cancel_minus, times_one, mod-lt, selected-one)
 
 pub complete_by : (b x y w : ℕ) → y < P → IsBit b → w ≡ selected b x y → b * ((x + (P - y)) % P) % P ≡ (w + (P - y)) % P
-complete_by b x y w ys bit e = elim (bit_cases b bit) [
-  | inl none ↦ times_zero b _ none ∙ omega (arith, e ∙ selected-zero b x y none)
-  | inr one ↦ times_one b _ one (mod-lt _ (omega arith)) ∙ ap (λ v. (v + (P - y)) % P) (sym (e ∙ selected-one b x y one))
-]
+complete_by b x y w ys bit e = search (arith, bit_cases, times_zero, selected-zero, times_one, mod-lt, selected-one)
 
 pub pick_answer : (b x y : Combination) (next : ℕ) → (pick_of b x y next).answer ≡ next
 unfolding pick_of fresh put pure ◌>>=◌
@@ -60,17 +54,11 @@ module _ (z : List ℕ) (assigns : Assigns z) (b : Combination) (w : ℕ) (x y :
 
 pub pick_sound : PickIsSound
 unfolding pick_of fresh put pure ◌>>=◌
-pick_sound z next b x y assigns bit meets =
-    sound_by (value b z) (value x z) (value y z) (slice_index z next) (value-below x z) (value-below y z) (wire-below assigns next) bit
-    (sym (left z assigns b next x y) ∙ meets.0 ∙ right z assigns b next x y)
+pick_sound z next b x y assigns bit meets = search (arith, sound_by, value-below, wire-below, left, right)
 
 pub pick_complete : PickIsComplete
 unfolding pick_of fresh put pure ◌>>=◌
-pick_complete z next b x y assigns bit has = (
-  left z assigns b next x y ∙ complete_by (value b z) (value x z) (value y z) (slice_index z next) (value-below y z) bit has.0
-      ∙ sym (right z assigns b next x y),
-  tt,
-)
+pick_complete z next b x y assigns bit has = search (arith, left, complete_by, value-below, right)
 
 -- ---- the same where the bit is a wire
 pub select_answer : (b : ℕ) (x y : Combination) (next : ℕ) → (select_of b x y next).answer ≡ next
@@ -80,11 +68,7 @@ pub select_next : (b : ℕ) (x y : Combination) (next : ℕ) → (select_of b x 
 select_next b x y next = pick_next (wire b) x y next
 
 pub select_sound : SelectIsSound
-select_sound z next b x y assigns bit meets =
-    let is = value-wire assigns b in
-    pick_sound z next (wire b) x y assigns (subst IsBit (sym is) bit) meets ∙ ap (λ n. selected n (value x z) (value y z)) is
+select_sound z next b x y assigns bit meets = search (arith, value-wire, pick_sound)
 
 pub select_complete : SelectIsComplete
-select_complete z next b x y assigns bit has =
-    let is = value-wire assigns b in
-    pick_complete z next (wire b) x y assigns (subst IsBit (sym is) bit) (has.0 ∙ ap (λ n. selected n (value x z) (value y z)) (sym is), tt)
+select_complete z next b x y assigns bit has = search (arith, value-wire, pick_complete)

@@ -9,12 +9,12 @@ use Rattle.tv_core.proofs.InverseLaws.{inverse_of-below}
 use Rattle.tv_core.specs.Inverse.{inverse_of}
 use Rattle.tv_core.specs.Laws.{InField}
 use Rattle.tv_core.specs.declared.field.TheConstants.{P}
-use Rattle.tv_bits.proofs.BitLaws.{bit_next}
+use Rattle.tv_bits.proofs.BitLaws.{bit_next, bit_sound, bit_complete}
 use Rattle.tv_bits.proofs.OneHotLaws.{onehot_answer, onehot_next}
-use Rattle.tv_bits.proofs.PairLaws.{two_ands_next}
-use Rattle.tv_bits.proofs.SelectLaws.{pick_answer, pick_next, select_answer, select_next}
-use Rattle.tv_bits.proofs.BitsLaws.{new_bits_answer, new_bits_next, bits_answer, bits_next}
-use Rattle.tv_bits.proofs.ZeroLaws.{zero_answer, zero_next}
+use Rattle.tv_bits.proofs.PairLaws.{two_ands_next, two_ands_sound, two_ands_complete}
+use Rattle.tv_bits.proofs.SelectLaws.{pick_answer, pick_next, select_answer, select_next, pick_sound, pick_complete}
+use Rattle.tv_bits.proofs.BitsLaws.{new_bits_answer, new_bits_next, bits_answer, bits_next, new_bits_sound, new_bits_complete, bits_sound, bits_complete}
+use Rattle.tv_bits.proofs.ZeroLaws.{zero_answer, zero_next, zero_sound, zero_complete}
 use Rattle.tv_bits.specs.Bit.{BitSizes}
 use Rattle.tv_bits.specs.Bits.{bits_values, NewBitsSizes, BitsSizes}
 use Rattle.tv_bits.specs.OneHot.{one_at, onehot_values, OneHotSizes}
@@ -107,3 +107,15 @@ two_ands_sizes = record {
   fills = λ x_a y_a x_b y_b γ m next. two_ands_next x_a y_a x_b y_b γ m next ∙ sym (add-zero next);
   in_field = InField-none;
 }
+
+pub ruleset bit_laws = (bit_sound, bit_complete, bit_sizes)
+
+pub ruleset new_bits_laws = (new_bits_sound, new_bits_complete, new_bits_sizes)
+
+pub ruleset bits_laws = (bits_sound, bits_complete, bits_sizes)
+
+pub ruleset two_ands_laws = (two_ands_sound, two_ands_complete, two_ands_sizes)
+
+pub ruleset pick_laws = (pick_sound, pick_complete, pick_sizes)
+
+pub ruleset zero_laws = (zero_sound, zero_complete, zero_sizes)

@@ -90,16 +90,7 @@ zero_times : (a n : ℕ) → a % P ≡ 0 → a * n % P ≡ 0
 zero_times a n none = sym (mul-mod_first a n P) ∙ ap (λ k. k * n % P) none ∙ ap (λ k. k % P) (zero-mul n)
 
 pub ratio_divides : RatioDivides
-ratio_divides a b small zero =
-    elim (cases_eq (a % P) 0) [
-      | inl none ↦ zero_times a (ratio a b) none ∙ sym (zero none)
-      | inr some ↦
-          mul-mod_second a (b * inverse_of a) P
-          ∙ ap (λ n. n % P) (turned a b (inverse_of a))
-          ∙ sym (mul-mod_first (a * inverse_of a) b P)
-          ∙ ap (λ n. n * b % P) (mul-inverse_of a some)
-          ∙ times_one b small
-    ]
+ratio_divides a b small zero = search (arith, cases_eq, zero_times, mul-mod_second, turned, mul-mod_first, mul-inverse_of, times_one)
 
 pub ratio_sizes : RatioSizes
 ratio_sizes = record {
@@ -109,4 +100,8 @@ ratio_sizes = record {
   in_field = λ a b. InField-cons (ratio a b) [] (residue_below (b * inverse_of a)) InField-none;
 }
 
-pub ruleset ratio_laws = (ratio_complete, ratio_divides)
+pub ruleset times_laws = (times_sound, times_complete, times_sizes)
+
+pub ruleset kept_laws = (kept_sound, kept_complete, kept_sizes)
+
+pub ruleset ratio_laws = (ratio_sound, ratio_complete, ratio_divides, ratio_sizes)

@@ -29,15 +29,8 @@ difference_none : (sign f : ℕ) → sign < P → f < P → (sign + (P - f)) % P
 difference_none sign f h k e = omega arith
 
 sign_is : (y h sign f : ℕ) → y < P → sign < P → f < P → y * h % P ≡ (sign + (P - f)) % P → y * f % P ≡ 0 → f ≡ sign_at_zero y sign
-sign_is y h sign f y_small sign_small f_small first second = elim (cases_eq y 0) [
-  | inl none ↦
-      let nothing = sym first ∙ ap (λ n. n * h % P) none ∙ ap (λ n. n % P) (zero-mul h) in
-      difference_none sign f sign_small f_small nothing ∙ sym (sign-zero y sign none)
-  | inr some ↦ elim (p_zero_product_below y f y_small f_small second) [
-    | inl none ↦ absurd (some none)
-    | inr zero ↦ zero ∙ sym (sign-other y sign some)
-  ]
-]
+sign_is y h sign f y_small sign_small f_small first second =
+    search (arith, cases_eq, zero-mul, difference_none, sign-zero, p_zero_product_below, sign-other)
 
 -- and the other way round
 difference_same : (sign : ℕ) → sign < P → (sign + (P - sign)) % P ≡ 0
@@ -47,17 +40,7 @@ difference_zero : (sign : ℕ) → sign < P → (sign + (P - 0)) % P ≡ sign
 difference_zero sign small = omega arith
 
 sign_meets : (y sign : ℕ) → y < P → sign < P → (y * ratio y sign % P ≡ (sign + (P - sign_at_zero y sign)) % P) × (y * sign_at_zero y sign % P ≡ 0)
-sign_meets y sign h k = elim (cases_eq y 0) [
-  | inl none ↦ (
-    ap (λ n. n * ratio y sign % P) none ∙ ap (λ n. n % P) (zero-mul (ratio y sign))
-        ∙ sym (ap (λ f. (sign + (P - f)) % P) (sign-zero y sign none) ∙ difference_same sign k),
-    ap (λ n. n * sign_at_zero y sign % P) none ∙ ap (λ n. n % P) (zero-mul (sign_at_zero y sign)),
-  )
-  | inr some ↦ (
-    ratio_divides y sign k (λ none. absurd (some (omega arith))) ∙ sym (ap (λ f. (sign + (P - f)) % P) (sign-other y sign some) ∙ difference_zero sign k),
-    ap (λ f. y * f % P) (sign-other y sign some) ∙ ap (λ n. n % P) (mul-zero y),
-  )
-]
+sign_meets y sign h k = search (arith, cases_eq, zero-mul, sign-zero, difference_same, ratio_divides, sign-other, difference_zero, mul-zero)
 
 pub zero_sign_sound : ZeroSignIsSound
 unfolding zero_sign_of ◌>>=◌ fresh put pure
@@ -97,3 +80,5 @@ zero_sign_terms y f sign next = omega (arith, length-append sign ((P - 1, f) ∷
 
 pub zero_sign_costs : ZeroSignCosts
 zero_sign_costs = record { constraints = zero_sign_count; terms = zero_sign_terms }
+
+pub ruleset zero_sign_laws = (zero_sign_sound, zero_sign_complete, zero_sign_sizes, zero_sign_costs)

@@ -36,20 +36,13 @@ pub fn fill_bit<V: Values>(v: &mut V, _w: F) -> Put<()>
     Ok(())
 }
 
-/// Where an assignment satisfies the constraints of `bit`, the wire holds 0 or 1.
-#[tactic(auto, using(crate::proofs::BitLaws::bit_sound))]
-pub fn bit_is_sound()
-    ensures { BitIsSound }
-{}
-
-/// Where an assignment has 0 or 1 at the wire, it satisfies the constraints of `bit`.
-#[tactic(auto, using(crate::proofs::BitLaws::bit_complete))]
-pub fn bit_is_complete()
-    ensures { BitIsComplete }
-{}
-
-/// Says that `bit` makes no wire, and that `fill_bit` assigns no number.
-#[tactic(auto, using(crate::proofs::SizeLaws::bit_sizes))]
-pub fn bit_fills()
-    ensures { BitSizes }
+/// The laws of `bit`:
+/// - `sound`: where an assignment satisfies the constraints of `bit`, the wire holds 0 or 1.
+/// - `complete`: where an assignment has 0 or 1 at the wire, it satisfies the constraints of `bit`.
+/// - `sizes`: `bit` makes no wire, and that `fill_bit` assigns no number.
+#[tactic(auto, using(crate::proofs::SizeLaws::bit_laws))]
+pub fn bit_laws()
+    ensures sound { BitIsSound }
+    ensures complete { BitIsComplete }
+    ensures sizes { BitSizes }
 {}

@@ -95,42 +95,29 @@ fn bit_at(x: F, i: u32) -> F
     F::of((x.number() >> i) % 2)
 }
 
-/// Where an assignment satisfies the constraints of `new_bits`, the wires hold 0 or 1.
-#[tactic(auto, using(crate::proofs::BitsLaws::new_bits_sound))]
-pub fn new_bits_are_sound()
-    ensures { NewBitsAreSound }
+/// The laws of `new_bits`:
+/// - `sound`: where an assignment satisfies the constraints of `new_bits`, the wires hold 0 or 1.
+/// - `complete`: where an assignment has the values that `fill_bits` assigns for any number, it
+///   satisfies the constraints of `new_bits`.
+/// - `sizes`: which wires `new_bits` returns, and that `fill_bits` assigns one number to each wire
+///   that it makes.
+#[tactic(auto, using(crate::proofs::SizeLaws::new_bits_laws))]
+pub fn new_bits_laws()
+    ensures sound { NewBitsAreSound }
+    ensures complete { NewBitsAreComplete }
+    ensures sizes { NewBitsSizes }
 {}
 
-/// Where an assignment has the values that `fill_bits` assigns for any number, it satisfies the
-/// constraints of `new_bits`.
-#[tactic(auto, using(crate::proofs::BitsLaws::new_bits_complete))]
-pub fn new_bits_are_complete()
-    ensures { NewBitsAreComplete }
-{}
-
-/// Where an assignment satisfies the constraints of `bits`, the wires hold the bits of the value.
-#[tactic(auto, using(crate::proofs::BitsLaws::bits_sound))]
-pub fn bits_are_sound()
-    ensures { BitsAreSound }
-{}
-
-/// Where the value is below 2^n and an assignment has the values that `fill_bits` assigns, it
-/// satisfies the constraints of `bits`.
-#[tactic(auto, using(crate::proofs::BitsLaws::bits_complete))]
-pub fn bits_are_complete()
-    ensures { BitsAreComplete }
-{}
-
-/// Says which wires `new_bits` returns, and that `fill_bits` assigns one number to each wire that
-/// it makes.
-#[tactic(auto, using(crate::proofs::SizeLaws::new_bits_sizes))]
-pub fn new_bits_fill()
-    ensures { NewBitsSizes }
-{}
-
-/// Says which wires `bits` returns, and that `fill_bits` assigns one number to each wire that it
-/// makes.
-#[tactic(auto, using(crate::proofs::SizeLaws::bits_sizes))]
-pub fn bits_fill()
-    ensures { BitsSizes }
+/// The laws of `bits`:
+/// - `sound`: where an assignment satisfies the constraints of `bits`, the wires hold the bits of
+///   the value.
+/// - `complete`: where the value is below 2^n and an assignment has the values that `fill_bits`
+///   assigns, it satisfies the constraints of `bits`.
+/// - `sizes`: which wires `bits` returns, and that `fill_bits` assigns one number to each wire that
+///   it makes.
+#[tactic(auto, using(crate::proofs::SizeLaws::bits_laws))]
+pub fn bits_laws()
+    ensures sound { BitsAreSound }
+    ensures complete { BitsAreComplete }
+    ensures sizes { BitsSizes }
 {}

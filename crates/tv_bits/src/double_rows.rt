@@ -145,29 +145,18 @@ fn above_edge<const W: u32>(high: u32, signed: bool) -> F
     F::from(high) - F::of((1 << W) - 1) - F::from(signed)
 }
 
-/// Where an assignment satisfies the constraints of `double_row`, the bits are those of the two
-/// words at its wires, which are a row unless it is signed.
-#[tactic(auto, using(crate::proofs::DoubleRowLaws::double_row_sound))]
-pub fn double_row_is_sound()
-    ensures { DoubleRowIsSound }
-{}
-
-/// Where two words are a row, or it is signed, an assignment that has the values that
-/// `fill_double_row` assigns satisfies the constraints of `double_row`.
-#[tactic(auto, using(crate::proofs::DoubleRowLaws::double_row_complete))]
-pub fn double_row_is_complete()
-    ensures { DoubleRowIsComplete }
-{}
-
-/// Says which wires `double_row` returns and how many it makes, whatever the next wire is, and that
-/// `fill_double_row` assigns one value to each of them, below P.
-#[tactic(auto, using(crate::proofs::DoubleRowLaws::double_row_sizes))]
-pub fn double_row_fills()
-    ensures { DoubleRowSizes }
-{}
-
-/// Says how many constraints and terms `double_row` puts.
-#[tactic(auto, using(crate::proofs::DoubleRowLaws::double_row_cost_laws))]
-pub fn double_row_costs()
-    ensures { DoubleRowCosts }
+/// The laws of `double_row`:
+/// - `sound`: where an assignment satisfies the constraints of `double_row`, the bits are those of
+///   the two words at its wires, which are a row unless it is signed.
+/// - `complete`: where two words are a row, or it is signed, an assignment that has the values that
+///   `fill_double_row` assigns satisfies the constraints of `double_row`.
+/// - `sizes`: which wires `double_row` returns and how many it makes, whatever the next wire is,
+///   and that `fill_double_row` assigns one value to each of them, below P.
+/// - `costs`: how many constraints and terms `double_row` puts.
+#[tactic(auto, using(crate::proofs::DoubleRowLaws::double_row_laws))]
+pub fn double_row_laws()
+    ensures sound { DoubleRowIsSound }
+    ensures complete { DoubleRowIsComplete }
+    ensures sizes { DoubleRowSizes }
+    ensures costs { DoubleRowCosts }
 {}

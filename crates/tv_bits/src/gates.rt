@@ -32,28 +32,17 @@ pub fn gated<S: Sink>(
     s.put(gate, &scratch.b, &scratch.c)
 }
 
-/// Where the gate is 1 and an assignment satisfies the constraints of `gated`, the two values are
-/// the same.
-#[tactic(auto, using(crate::proofs::GateLaws::gated_sound))]
-pub fn gated_is_sound()
-    ensures { GatedIsSound }
-{}
-
-/// Where the two values are the same, or the gate is 0, an assignment satisfies the constraints of
-/// `gated`.
-#[tactic(auto, using(crate::proofs::GateLaws::gated_complete))]
-pub fn gated_is_complete()
-    ensures { GatedIsComplete }
-{}
-
-/// Says that `gated` makes no wire.
-#[tactic(auto, using(crate::proofs::GateLaws::gated_sizes))]
-pub fn gated_fills()
-    ensures { GatedSizes }
-{}
-
-/// Says how many constraints and terms `gated` puts.
-#[tactic(auto, using(crate::proofs::GateLaws::gated_cost_laws))]
-pub fn gated_costs()
-    ensures { GatedCosts }
+/// The laws of `gated`:
+/// - `sound`: where the gate is 1 and an assignment satisfies the constraints of `gated`, the two
+///   values are the same.
+/// - `complete`: where the two values are the same, or the gate is 0, an assignment satisfies the
+///   constraints of `gated`.
+/// - `sizes`: `gated` makes no wire.
+/// - `costs`: how many constraints and terms `gated` puts.
+#[tactic(auto, using(crate::proofs::GateLaws::gated_laws))]
+pub fn gated_laws()
+    ensures sound { GatedIsSound }
+    ensures complete { GatedIsComplete }
+    ensures sizes { GatedSizes }
+    ensures costs { GatedCosts }
 {}

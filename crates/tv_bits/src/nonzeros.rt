@@ -43,22 +43,15 @@ fn nonzero_values(x: F) -> [F; 2]
     [F::from(x != F::ZERO), x.inverse_or_zero()]
 }
 
-/// Where an assignment satisfies the constraints of `nonzero_by`, its flag is right.
-#[tactic(auto, using(crate::proofs::NonzeroLaws::nonzero_sound))]
-pub fn nonzero_is_sound()
-    ensures { NonzeroIsSound }
-{}
-
-/// Where an assignment has the values that `fill_nonzero` assigns, it satisfies the constraints of
-/// `nonzero_by`.
-#[tactic(auto, using(crate::proofs::NonzeroLaws::nonzero_complete))]
-pub fn nonzero_is_complete()
-    ensures { NonzeroIsComplete }
-{}
-
-/// Says which wire `nonzero_by` returns, and that `fill_nonzero` assigns one number to each wire
-/// that it makes.
-#[tactic(auto, using(crate::proofs::NonzeroLaws::nonzero_sizes))]
-pub fn nonzero_fills()
-    ensures { NonzeroSizes }
+/// The laws of `nonzero_by`:
+/// - `sound`: where an assignment satisfies the constraints of `nonzero_by`, its flag is right.
+/// - `complete`: where an assignment has the values that `fill_nonzero` assigns, it satisfies the
+///   constraints of `nonzero_by`.
+/// - `sizes`: which wire `nonzero_by` returns, and that `fill_nonzero` assigns one number to each
+///   wire that it makes.
+#[tactic(auto, using(crate::proofs::NonzeroLaws::nonzero_laws))]
+pub fn nonzero_laws()
+    ensures sound { NonzeroIsSound }
+    ensures complete { NonzeroIsComplete }
+    ensures sizes { NonzeroSizes }
 {}

@@ -71,22 +71,15 @@ fn set_side(
     lc.plus_scaled(-c, y_b);
 }
 
-/// In an assignment that satisfies the constraints of `two_ands`, `m` is the sum of the products,
-/// the four being bits.
-#[tactic(auto, using(crate::proofs::PairLaws::two_ands_sound))]
-pub fn two_ands_are_sound()
-    ensures { TwoAndsAreSound }
-{}
-
-/// An assignment in which `m` is the sum of the products satisfies the constraints of `two_ands`,
-/// the four being bits.
-#[tactic(auto, using(crate::proofs::PairLaws::two_ands_complete))]
-pub fn two_ands_are_complete()
-    ensures { TwoAndsAreComplete }
-{}
-
-/// Says that `two_ands` makes no wire.
-#[tactic(auto, using(crate::proofs::SizeLaws::two_ands_sizes))]
-pub fn two_ands_fill()
-    ensures { TwoAndsSizes }
+/// The laws of `two_ands`:
+/// - `sound`: in an assignment that satisfies the constraints of `two_ands`, `m` is the sum of the
+///   products, the four being bits.
+/// - `complete`: an assignment in which `m` is the sum of the products satisfies the constraints of
+///   `two_ands`, the four being bits.
+/// - `sizes`: `two_ands` makes no wire.
+#[tactic(auto, using(crate::proofs::SizeLaws::two_ands_laws))]
+pub fn two_ands_laws()
+    ensures sound { TwoAndsAreSound }
+    ensures complete { TwoAndsAreComplete }
+    ensures sizes { TwoAndsSizes }
 {}

@@ -120,23 +120,15 @@ pub fn first_difference(x: u64, y: u64, chunk: u32, count: u32) -> u64
     difference
 }
 
-/// Where an assignment satisfies the constraints of `prefix_difference_by` for the bits of two
-/// numbers, `d` is the difference of some prefixes of the two.
-#[tactic(auto, using(crate::proofs::PrefixLaws::prefix_difference_sound))]
-pub fn prefix_difference_is_sound()
-    ensures { PrefixDifferenceIsSound }
-{}
-
-/// Where `d` is the difference of some prefixes, and an assignment has the values that
-/// `fill_prefix_difference` assigns, it satisfies the constraints of `prefix_difference_by`.
-#[tactic(auto, using(crate::proofs::PrefixLaws::prefix_difference_complete))]
-pub fn prefix_difference_is_complete()
-    ensures { PrefixDifferenceIsComplete }
-{}
-
-/// Says where `prefix_difference_by` ends, and that `fill_prefix_difference` assigns one number to
-/// each wire that it makes.
-#[tactic(auto, using(crate::proofs::PrefixLaws::prefix_difference_sizes))]
-pub fn prefix_difference_fills()
-    ensures { PrefixDifferenceSizes }
+/// The laws of `prefix_difference_by`:
+/// - `sound`: where an assignment satisfies the constraints of `prefix_difference_by` for the bits
+///   of two numbers, `d` is the difference of some prefixes of the two.
+/// - `complete`: where `d` is the difference of some prefixes, and an assignment has the values
+///   that `fill_prefix_difference` assigns, it satisfies the constraints of `prefix_difference_by`.
+/// - `sizes`: says where `prefix_difference_by` ends, and that `fill_prefix_difference` assigns one
+///   number to each wire that it makes.
+pub fn prefix_difference_laws()
+    ensures sound { PrefixDifferenceIsSound }
+    ensures complete { PrefixDifferenceIsComplete }
+    ensures sizes { PrefixDifferenceSizes }
 {}

@@ -54,65 +54,46 @@ pub fn ratio_by<S: Sink>(s: &mut S, ratio: &mut Lc, x: &Lc, y: &Lc) -> Put<Wire>
     Ok(w)
 }
 
-/// Where an assignment satisfies the constraints of `times_by`, the wire holds the product.
-#[tactic(auto, using(crate::proofs::TimesLaws::times_sound))]
-pub fn times_is_sound()
-    ensures { TimesIsSound }
+/// The laws of `times_by`:
+/// - `sound`: where an assignment satisfies the constraints of `times_by`, the wire holds the
+///   product.
+/// - `complete`: where an assignment has the product at the wire that was made, it satisfies the
+///   constraints of `times_by`.
+/// - `sizes`: which wire `times_by` returns, and that there is one value for it, the product, a
+///   number of the field.
+#[tactic(auto, using(crate::proofs::TimesLaws::times_laws))]
+pub fn times_laws()
+    ensures sound { TimesIsSound }
+    ensures complete { TimesIsComplete }
+    ensures sizes { TimesSizes }
 {}
 
-/// Where an assignment has the product at the wire that was made, it satisfies the constraints of
-/// `times_by`.
-#[tactic(auto, using(crate::proofs::TimesLaws::times_complete))]
-pub fn times_is_complete()
-    ensures { TimesIsComplete }
+/// The laws of `kept_by`:
+/// - `sound`: where an assignment satisfies the constraints of `kept_by`, its wire holds the value.
+/// - `complete`: where an assignment has the value at the wire that was made, it satisfies the
+///   constraints of `kept_by`.
+/// - `sizes`: which wire `kept_by` returns, and that there is one value for it, the number kept, a
+///   number of the field.
+#[tactic(auto, using(crate::proofs::TimesLaws::kept_laws))]
+pub fn kept_laws()
+    ensures sound { KeptIsSound }
+    ensures complete { KeptIsComplete }
+    ensures sizes { KeptSizes }
 {}
 
-/// Says which wire `times_by` returns, and that there is one value for it, the product, a number of
-/// the field.
-#[tactic(auto, using(crate::proofs::TimesLaws::times_sizes))]
-pub fn times_fills()
-    ensures { TimesSizes }
-{}
-
-/// Where an assignment satisfies the constraints of `kept_by`, its wire holds the value.
-#[tactic(auto, using(crate::proofs::TimesLaws::kept_sound))]
-pub fn kept_is_sound()
-    ensures { KeptIsSound }
-{}
-
-/// Where an assignment has the value at the wire that was made, it satisfies the constraints of
-/// `kept_by`.
-#[tactic(auto, using(crate::proofs::TimesLaws::kept_complete))]
-pub fn kept_is_complete()
-    ensures { KeptIsComplete }
-{}
-
-/// Says which wire `kept_by` returns, and that there is one value for it, the number kept, a number
-/// of the field.
-#[tactic(auto, using(crate::proofs::TimesLaws::kept_sizes))]
-pub fn kept_fills()
-    ensures { KeptSizes }
-{}
-
-/// Where an assignment satisfies the constraints of `ratio_by`, the wire times the first number is
-/// the second.
-#[tactic(auto, using(crate::proofs::TimesLaws::ratio_sound))]
-pub fn ratio_is_sound()
-    ensures { RatioIsSound }
-{}
-
-/// Where an assignment has at the wire a number whose product with the first is the second, it
-/// satisfies the constraints of `ratio_by`; and the second times the inverse of the first, 0 where
-/// the first is 0, is one, unless the first number is 0 and the second isn't.
+/// The laws of `ratio_by`:
+/// - `sound`: where an assignment satisfies the constraints of `ratio_by`, the wire times the first
+///   number is the second.
+/// - `complete`: where an assignment has at the wire a number whose product with the first is the
+///   second, it satisfies the constraints of `ratio_by`.
+/// - `divides`: the second number times the inverse of the first, 0 where the first is 0, is one,
+///   unless the first is 0 and the second isn't.
+/// - `sizes`: which wire `ratio_by` returns, and that there is one value for it, the second number
+///   times the inverse of the first, a number of the field.
 #[tactic(auto, using(crate::proofs::TimesLaws::ratio_laws))]
-pub fn ratio_is_complete()
-    ensures meets { RatioIsComplete }
+pub fn ratio_laws()
+    ensures sound { RatioIsSound }
+    ensures complete { RatioIsComplete }
     ensures divides { RatioDivides }
-{}
-
-/// Says which wire `ratio_by` returns, and that there is one value for it, the second number times
-/// the inverse of the first, a number of the field.
-#[tactic(auto, using(crate::proofs::TimesLaws::ratio_sizes))]
-pub fn ratio_fills()
-    ensures { RatioSizes }
+    ensures sizes { RatioSizes }
 {}

@@ -96,23 +96,15 @@ fn row_len(n: u32) -> u32
     1 << n
 }
 
-/// Where an assignment satisfies the constraints of `onehot` for the bits of a number, that
-/// number's wire is 1 and each other one 0.
-#[tactic(auto, using(crate::proofs::OneHotLaws::onehot_sound))]
-pub fn onehot_is_sound()
-    ensures { OneHotIsSound }
-{}
-
-/// Where wires hold the bits of a number and an assignment has the values that `fill_onehot`
-/// assigns for it, it satisfies the constraints of `onehot`.
-#[tactic(auto, using(crate::proofs::OneHotLaws::onehot_complete))]
-pub fn onehot_is_complete()
-    ensures { OneHotIsComplete }
-{}
-
-/// Says which wire `onehot` returns, and that `fill_onehot` assigns one number to each wire that it
-/// makes.
-#[tactic(auto, using(crate::proofs::SizeLaws::onehot_sizes))]
-pub fn onehot_fills()
-    ensures { OneHotSizes }
+/// The laws of `onehot`:
+/// - `sound`: where an assignment satisfies the constraints of `onehot` for the bits of a number,
+///   that number's wire is 1 and each other one 0.
+/// - `complete`: where wires hold the bits of a number and an assignment has the values that
+///   `fill_onehot` assigns for it, it satisfies the constraints of `onehot`.
+/// - `sizes`: which wire `onehot` returns, and that `fill_onehot` assigns one number to each wire
+///   that it makes.
+pub fn onehot_laws()
+    ensures sound { OneHotIsSound }
+    ensures complete { OneHotIsComplete }
+    ensures sizes { OneHotSizes }
 {}

@@ -127,51 +127,33 @@ fn selected(b: F, x: F, y: F) -> F
     if b.number() == 1 { x } else { y }
 }
 
-/// Where an assignment has a bit at `b` and satisfies the constraints of `select`, it has the
-/// selected value.
-#[tactic(auto, using(crate::proofs::SelectLaws::select_sound))]
-pub fn select_is_sound()
-    ensures { SelectIsSound }
+/// The laws of `select`:
+/// - `sound`: where an assignment has a bit at `b` and satisfies the constraints of `select`, it
+///   has the selected value.
+/// - `complete`: where an assignment has a bit at `b` and the value that `fill_select` assigns, it
+///   satisfies the constraints of `select`.
+/// - `normal`: where the bit and `y` are normal combinations and the wires of `y` are below the
+///   next one, the constraint that `select` or `pick_by` put is of normal combinations.
+/// - `sizes`: which wire `select` returns, and that `fill_select` assigns one number to each wire
+///   that it makes.
+#[tactic(auto, using(crate::proofs::NormalLaws::select_laws))]
+pub fn select_laws()
+    ensures sound { SelectIsSound }
+    ensures complete { SelectIsComplete }
+    ensures normal { SelectIsNormal }
+    ensures sizes { SelectSizes }
 {}
 
-/// Where an assignment has a bit at `b` and the value that `fill_select` assigns, it satisfies the
-/// constraints of `select`.
-#[tactic(auto, using(crate::proofs::SelectLaws::select_complete))]
-pub fn select_is_complete()
-    ensures { SelectIsComplete }
-{}
-
-/// Where the bit and `y` are normal combinations and the wires of `y` are below the next one, the
-/// constraint that `select` or `pick_by` put is of normal combinations.
-#[tactic(auto, using(crate::proofs::NormalLaws::select_normal))]
-pub fn select_is_normal()
-    ensures { SelectIsNormal }
-{}
-
-/// Says which wire `select` returns, and that `fill_select` assigns one number to each wire that it
-/// makes.
-#[tactic(auto, using(crate::proofs::SizeLaws::select_sizes))]
-pub fn select_fills()
-    ensures { SelectSizes }
-{}
-
-/// Where the combination is a bit in an assignment that satisfies the constraints of `pick_by`, its
-/// wire holds the selected value.
-#[tactic(auto, using(crate::proofs::SelectLaws::pick_sound))]
-pub fn pick_is_sound()
-    ensures { PickIsSound }
-{}
-
-/// Where the combination is a bit in an assignment that has the selected value at the wire that
-/// was made, it satisfies the constraints of `pick_by`.
-#[tactic(auto, using(crate::proofs::SelectLaws::pick_complete))]
-pub fn pick_is_complete()
-    ensures { PickIsComplete }
-{}
-
-/// Says which wire `pick_by` returns, whatever the next wire is, and that `fill_select` assigns one
-/// value to it, below P.
-#[tactic(auto, using(crate::proofs::SizeLaws::pick_sizes))]
-pub fn pick_fills()
-    ensures { PickSizes }
+/// The laws of `pick_by`:
+/// - `sound`: where the combination is a bit in an assignment that satisfies the constraints of
+///   `pick_by`, its wire holds the selected value.
+/// - `complete`: where the combination is a bit in an assignment that has the selected value at the
+///   wire that was made, it satisfies the constraints of `pick_by`.
+/// - `sizes`: which wire `pick_by` returns, whatever the next wire is, and that `fill_select`
+///   assigns one value to it, below P.
+#[tactic(auto, using(crate::proofs::SizeLaws::pick_laws))]
+pub fn pick_laws()
+    ensures sound { PickIsSound }
+    ensures complete { PickIsComplete }
+    ensures sizes { PickSizes }
 {}

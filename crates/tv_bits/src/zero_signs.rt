@@ -48,28 +48,18 @@ pub fn fill_zero_sign<V: Values>(v: &mut V, y: F, sign: F) -> Put<()>
     v.give(sign * y.inverse_or_zero())
 }
 
-/// Where an assignment satisfies the constraints of `zero_sign`, it has the sign at `f` where it
-/// has 0 at `y`, and else 0.
-#[tactic(auto, using(crate::proofs::ZeroSignLaws::zero_sign_sound))]
-pub fn zero_sign_is_sound()
-    ensures { ZeroSignIsSound }
-{}
-
-/// Where an assignment has the sign at `f` if it has 0 at `y`, else 0 there, and the value that
-/// `fill_zero_sign` assigns, it satisfies the constraints of `zero_sign`.
-#[tactic(auto, using(crate::proofs::ZeroSignLaws::zero_sign_complete))]
-pub fn zero_sign_is_complete()
-    ensures { ZeroSignIsComplete }
-{}
-
-/// Says that `fill_zero_sign` assigns one number of the field for each wire that `zero_sign` makes.
-#[tactic(auto, using(crate::proofs::ZeroSignLaws::zero_sign_sizes))]
-pub fn zero_sign_fills()
-    ensures { ZeroSignSizes }
-{}
-
-/// Says how many constraints and terms `zero_sign` puts.
-#[tactic(auto, using(crate::proofs::ZeroSignLaws::zero_sign_costs))]
-pub fn zero_sign_costs()
-    ensures { ZeroSignCosts }
+/// The laws of `zero_sign`:
+/// - `sound`: where an assignment satisfies the constraints of `zero_sign`, it has the sign at `f`
+///   where it has 0 at `y`, and else 0.
+/// - `complete`: where an assignment has the sign at `f` if it has 0 at `y`, else 0 there, and the
+///   value that `fill_zero_sign` assigns, it satisfies the constraints of `zero_sign`.
+/// - `sizes`: `fill_zero_sign` assigns one number of the field for each wire that `zero_sign`
+///   makes.
+/// - `costs`: how many constraints and terms `zero_sign` puts.
+#[tactic(auto, using(crate::proofs::ZeroSignLaws::zero_sign_laws))]
+pub fn zero_sign_laws()
+    ensures sound { ZeroSignIsSound }
+    ensures complete { ZeroSignIsComplete }
+    ensures sizes { ZeroSignSizes }
+    ensures costs { ZeroSignCosts }
 {}

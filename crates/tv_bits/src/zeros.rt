@@ -46,28 +46,22 @@ pub fn fill_zero<V: Values>(v: &mut V, x: F) -> Put<()>
     give_values(v, &zero_values(x))
 }
 
-fn zero_values(x: F) -> [F; 2]
+/// Returns the values that `fill_zero` assigns for `x`.
+pub fn zero_values(x: F) -> [F; 2]
     ensures { result ≡ zero_values x }
 {
     [F::from(x == F::ZERO), x.inverse_or_zero()]
 }
 
-/// Where an assignment satisfies the constraints of `zero`, its flag is right.
-#[tactic(auto, using(crate::proofs::ZeroLaws::zero_sound))]
-pub fn zero_is_sound()
-    ensures { ZeroIsSound }
-{}
-
-/// Where an assignment has the values that `fill_zero` assigns, it satisfies the constraints of
-/// `zero`.
-#[tactic(auto, using(crate::proofs::ZeroLaws::zero_complete))]
-pub fn zero_is_complete()
-    ensures { ZeroIsComplete }
-{}
-
-/// Says which wire `zero` returns, and that `fill_zero` assigns one number to each wire that it
-/// makes.
-#[tactic(auto, using(crate::proofs::SizeLaws::zero_sizes))]
-pub fn zero_fills()
-    ensures { ZeroSizes }
+/// The laws of `zero`:
+/// - `sound`: where an assignment satisfies the constraints of `zero`, its flag is right.
+/// - `complete`: where an assignment has the values that `fill_zero` assigns, it satisfies the
+///   constraints of `zero`.
+/// - `sizes`: which wire `zero` returns, and that `fill_zero` assigns one number to each wire that
+///   it makes.
+#[tactic(auto, using(crate::proofs::SizeLaws::zero_laws))]
+pub fn zero_laws()
+    ensures sound { ZeroIsSound }
+    ensures complete { ZeroIsComplete }
+    ensures sizes { ZeroSizes }
 {}

@@ -8,24 +8,26 @@ use Rattle.tv_bits.proofs.PrefixLaws.{prefix_difference_sound, prefix_difference
 use Rattle.tv_bits.proofs.SizeLaws.{length-bits, bits_in_field}
 use Rattle.tv_bits.proofs.BitNumbers.{HasBits-below, HasBits-bit_at, HasBits-from_values, value-bits_below, value-plus_one}
 use Rattle.tv_bits.proofs.BitsLaws.{new_bits_sound, new_bits_complete, new_bits_next}
+use Rattle.tv_bits.proofs.TimesLaws.{kept_sound, kept_complete}
 use Rattle.tv_bits.specs.Bit.{bit_of}
 use Rattle.tv_bits.specs.Bits.{HasBits, binary_value, bits_combination, bits_values, new_bits_of}
 use Rattle.tv_bits.specs.Order.{IsPrefixDifference}
 use Rattle.tv_bits.specs.Prefixes.{prefix_less_in, prefix_difference_of, prefix_difference_values}
+use Rattle.tv_bits.specs.Times.{times_of}
 use Rattle.tv_bits.specs.declared.bit_wires.Bits.{Bits}
 use Rattle.tv_cmp.proofs.Decisions.{sign_in, decided, settled}
 use Rattle.tv_cmp.proofs.Flags.{greater_is, greater_flag-bit}
-use Rattle.tv_cmp.specs.Compare.{above_flag, greater_flag, equal_flag, word_bits, sign, but_for_signs, order_flags_of, signed_size_of, greater_of, compare_of}
+use Rattle.tv_cmp.specs.Compare.{above_flag, greater_flag, equal_flag, word_bits, sign, but_for_signs, order_flags_of, signed_size_of, compare_of}
 use Rattle.tv_cmp.specs.Compare.{size, signed_size, compare_values, CompareIsSound, CompareIsComplete, CompareSizes}
 use Rattle.tv_word.proofs.WidthLaws.{width_short}
 use Rattle.tv_word.specs.Widths.{IsWidth}
 use Rattle.tv_word.specs.Word.{signed}
 use Rattle.tv_core.proofs.BelowLaws.{length-each_below}
-use Rattle.tv_core.proofs.CombinationLaws.{value-less, value-constant, value-wire, wire-below}
+use Rattle.tv_core.proofs.CombinationLaws.{value-less, value-wire, wire-below}
 use Rattle.tv_core.proofs.FieldLaws.{InField-none, InField-cons, InField-append}
 use Rattle.tv_core.proofs.MeetsLaws.{Meets-split, Meets-join, HasFrom-split}
 use Rattle.tv_core.specs.Circuits.{here, fresh, put, pure, ◌>>=◌}
-use Rattle.tv_core.specs.Combinations.{wire, constant, less}
+use Rattle.tv_core.specs.Combinations.{wire, less}
 use Rattle.tv_core.specs.Constraints.{value}
 use Rattle.tv_core.specs.Laws.{Assigns, Meets, HasFrom, InField}
 use Rattle.tv_core.specs.declared.field.TheConstants.{P}
@@ -41,9 +43,7 @@ module _ (z : List ℕ) (assigns : Assigns z) where
   -- ---- the flags
   module _ (w : ℕ) (short : w ≤ 32) (e a : ℕ) (x y : Bits) (at u v : ℕ) (s : HasBits z x.first w u) (r : HasBits z y.first w v) where
     apart_value : value (wire e) z * value (less (bits_combination x.first w) (bits_combination y.first w)) z % P ≡ slice_index z e * ((u + (P - v)) % P) % P
-    apart_value = ap₂ (λ m n. m * n % P) (value-wire assigns e)
-        (value-less (bits_combination x.first w) (bits_combination y.first w) z
-        ∙ ap₂ (λ m n. (m + (P - n)) % P) (value-bits_below s (omega arith)) (value-bits_below r (omega arith)))
+    apart_value = search (arith, value-wire, value-less, value-bits_below)
 
     one_value : value (wire a) z * value (wire e) z % P ≡ slice_index z a * slice_index z e % P
     one_value = ap₂ (λ m n. m * n % P) (value-wire assigns a) (value-wire assigns e)
@@ -64,7 +64,7 @@ module _ (z : List ℕ) (assigns : Assigns z) where
   -- ---- the size with its sign
   signed_size_sound : (c e a at : ℕ) → c ≤ 62 → Meets z (signed_size_of c e a at).list
       → (d : ℕ) × (0 < d) × (d ≤ 2 ^ c) × (sign_in (slice_index z e) (slice_index z a) * d % P ≡ slice_index z (signed_size_of c e a at).answer)
-  unfolding signed_size_of new_bits_of here fresh put pure ◌>>=◌
+  unfolding signed_size_of times_of new_bits_of here fresh put pure ◌>>=◌
   signed_size_sound c e a at short meets =
       let both = Meets-split z (new_bits_of c at).list _ meets in
       let s = new_bits_sound z at c assigns both.0 in
@@ -74,23 +74,19 @@ module _ (z : List ℕ) (assigns : Assigns z) where
 
   signed_size_complete : (c e a at n : ℕ) → c ≤ 62 → n < 2 ^ c → HasFrom z at (bits_values n c)
       → sign_in (slice_index z e) (slice_index z a) * (n + 1) % P ≡ slice_index z (at + c) → Meets z (signed_size_of c e a at).list
-  unfolding signed_size_of new_bits_of here fresh put pure ◌>>=◌
+  unfolding signed_size_of times_of new_bits_of here fresh put pure ◌>>=◌
   signed_size_complete c e a at n short small has product =
       let number = value-plus_one (HasBits-from_values z at c n small has) assigns short in
       let place = new_bits_next c at in
       Meets-join z (new_bits_of c at).list _ (new_bits_complete z at c n assigns has)
       (ap₂ (λ m n. m * n % P) (value-sign e a) number ∙ product ∙ ap (λ k. slice_index z k) (sym place) ∙ sym (value-wire assigns _), tt)
 
-  -- ---- whether the first is greater
-  greater_value : (g : ℕ) → value (wire g) z * value (constant 1) z % P ≡ slice_index z g
-  greater_value g = let small = wire-below assigns g in ap₂ (λ m n. m * n % P) (value-wire assigns g) (value-constant assigns 1) ∙ omega arith
-
 signed_size_next : (c e a at : ℕ) → (signed_size_of c e a at).next ≡ at + c + 1
-unfolding signed_size_of fresh put pure ◌>>=◌
+unfolding signed_size_of times_of fresh put pure ◌>>=◌
 signed_size_next c e a at = ap (λ n. n + 1) (new_bits_next c at)
 
 signed_size_answer : (c e a at : ℕ) → (signed_size_of c e a at).answer ≡ at + c
-unfolding signed_size_of fresh put pure ◌>>=◌
+unfolding signed_size_of times_of fresh put pure ◌>>=◌
 signed_size_answer c e a at = new_bits_next c at
 
 order_flags_next : (w e a : ℕ) (x y : Bits) (at : ℕ) → (order_flags_of w e a x y at).next ≡ at
@@ -99,7 +95,7 @@ order_flags_next w e a x y at = refl
 
 -- ---- what the circuit answers, and where it ends
 pub compare_answer : (w : ℕ) (x y : Bits) (next : ℕ) → (compare_of w x y next).answer ≡ record { equal = next; above = next + 1; greater = next + (w / 4 + 5) }
-unfolding compare_of greater_of fresh put pure ◌>>=◌
+unfolding compare_of times_of fresh put pure ◌>>=◌
 compare_answer w x y next =
     ap (λ g. record { equal = next; above = next + 1; greater = g }) (last w x y next)
   where
@@ -115,15 +111,8 @@ compare_answer w x y next =
         )
 
 pub compare_next : (w : ℕ) (x y : Bits) (next : ℕ) → (compare_of w x y next).next ≡ next + (w / 4 + 6)
-unfolding compare_of greater_of fresh put pure ◌>>=◌
-compare_next w x y next =
-    let size = signed_size_of (w / 4) next (next + 1) (order_flags_of w next (next + 1) x y (next + 1 + 1)).next in
-    omega (
-      arith,
-      prefix_difference_next (word_bits w x) (word_bits w y) (wire size.answer) (w / 4) 4 size.next,
-      signed_size_next (w / 4) next (next + 1) (order_flags_of w next (next + 1) x y (next + 1 + 1)).next,
-      order_flags_next w next (next + 1) x y (next + 1 + 1),
-    )
+unfolding compare_of times_of fresh put pure ◌>>=◌
+compare_next w x y next = search (arith, prefix_difference_next, signed_size_next, order_flags_next)
 
 -- ---- the laws
 -- whether the first is greater, from whether it is above and the sign bits
@@ -136,7 +125,7 @@ but_for_bits : (w : ℕ) → IsWidth w → (a x y u v : ℕ) → u < 2 ^ w → v
 but_for_bits w width a x y u v h k is_a is_x is_y = let both = greater_is w width u v h k in let bit = greater_flag-bit w u v in grind arith
 
 pub compare_sound : CompareIsSound
-unfolding compare_of greater_of fresh put pure ◌>>=◌
+unfolding compare_of times_of fresh put pure ◌>>=◌
 compare_sound w width z next x y u v assigns s r meets =
     let short = width_short w width in
     let e = next in
@@ -160,7 +149,8 @@ compare_sound w width z next x y u v assigns s r meets =
       signed = sized.3;
       prefix = subst (λ n. IsPrefixDifference (w / 4) 4 u v n) (value-wire assigns made.answer) difference;
     }) in
-    let signs = sym (greater_value z assigns prefix.next) ∙ third.1.0 ∙ value-but_for_signs z assigns a (x.first + (w - 1)) (y.first + (w - 1)) in
+    let signs = kept_sound z prefix.next (but_for_signs a (x.first + (w - 1)) (y.first + (w - 1))) assigns third.1
+    ∙ value-but_for_signs z assigns a (x.first + (w - 1)) (y.first + (w - 1)) in
     record {
       equal = decision.0;
       above = decision.1;
@@ -169,7 +159,7 @@ compare_sound w width z next x y u v assigns s r meets =
     }
 
 pub compare_complete : CompareIsComplete
-unfolding compare_of greater_of fresh put pure ◌>>=◌
+unfolding compare_of times_of fresh put pure ◌>>=◌
 compare_complete w width z next x y u v assigns s r has =
     let short = width_short w width in
     let e = next in
@@ -202,8 +192,9 @@ compare_complete w width z next x y u v assigns s r has =
     let greater : slice_index z prefix.next ≡ greater_flag w u v = ap (λ n. slice_index z n) prefix_end ∙ last.0 in
     let signs = but_for_bits w width (slice_index z a) (slice_index z (x.first + (w - 1))) (slice_index z (y.first + (w - 1))) u v (HasBits-below s)
     (HasBits-below r) has.1.0 (HasBits-bit_at s (w - 1) (grind arith)) (HasBits-bit_at r (w - 1) (grind arith)) in
-    let greater_met = greater_value z assigns prefix.next ∙ greater ∙ signs ∙ sym (value-but_for_signs z assigns a (x.first + (w - 1)) (y.first + (w - 1))) in
-    Meets-join z flags.list _ flags_met (Meets-join z made.list _ made_met (Meets-join z prefix.list _ prefix_met (greater_met, tt)))
+    let greater_met = kept_complete z prefix.next (but_for_signs a (x.first + (w - 1)) (y.first + (w - 1))) assigns
+    (greater ∙ signs ∙ sym (value-but_for_signs z assigns a (x.first + (w - 1)) (y.first + (w - 1))), tt) in
+    Meets-join z flags.list _ flags_met (Meets-join z made.list _ made_met (Meets-join z prefix.list _ prefix_met greater_met))
 
 -- ---- how many values there are, and that they are numbers of the field
 length-compare : (w u v : ℕ) → length (compare_values w u v) ≡ w / 4 + 6

@@ -28,13 +28,7 @@ module _ (w : ℕ) (width : IsWidth w) (x y e a d t : ℕ) (h : x < 2 ^ w) (k : 
     (holds : Holds (w / 4) x y e a d t) where
   -- where the words are the same, the sign is 0
   sign_none : x ≡ y → sign_in e a ≡ 0
-  sign_none same =
-      let none : t ≡ 0 = IsPrefixDifference-same (w / 4) 4 x t (grind arith) (subst (λ n. IsPrefixDifference (w / 4) 4 x n t) (sym same) holds.prefix) in
-      elim (p_zero_product_below (sign_in e a) d (mod-lt _ (grind arith)) (grind arith) (holds.signed ∙ none)) [
-        | inl zero ↦ zero
-        | inr zero ↦ absurd
-            (grind arith)
-      ]
+  sign_none same = search (arith, IsPrefixDifference-same, p_zero_product_below, mod-lt)
 
   same_flags : x ≡ y → (e ≡ 1) × (a ≡ 0)
   same_flags same =
@@ -48,10 +42,7 @@ module _ (w : ℕ) (width : IsWidth w) (x y e a d t : ℕ) (h : x < 2 ^ w) (k : 
 
   -- where they are not, the first is above, or the second
   equal_none : x ≢ y → e ≡ 0
-  equal_none other = elim (p_zero_product_below e _ small (mod-lt _ (grind arith)) holds.apart) [
-    | inl zero ↦ zero
-    | inr zero ↦ absurd (other (same_of_minus x y (grind arith) (grind arith) zero))
-  ]
+  equal_none other = search (arith, p_zero_product_below, mod-lt, same_of_minus)
 
   above_one : x ≢ y → a ≡ 1 → y < x
   above_one other one =
@@ -144,7 +135,4 @@ module _ (w : ℕ) (width : IsWidth w) (x y : ℕ) (h : x < 2 ^ w) (k : y < 2 ^ 
       )
 
   pub settled : (size w x y - 1 < 2 ^ (w / 4)) × Holds (w / 4) x y (equal_flag x y) (above_flag x y) (size w x y - 1 + 1) (signed_size w x y)
-  settled = elim (cases_lt y x) [
-    | inl above ↦ settled_above above
-    | inr not ↦ elim (cases_eq x y) [ inl same ↦ settled_same same | inr other ↦ settled_below (grind arith) ]
-  ]
+  settled = search (arith, cases_lt, settled_above, cases_eq, settled_same, settled_below)

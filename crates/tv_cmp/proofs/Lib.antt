@@ -1,4 +1,3 @@
 pub mod CompareLaws
-pub mod CompareRows
 pub mod Decisions
 pub mod Flags

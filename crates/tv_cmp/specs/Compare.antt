@@ -4,6 +4,7 @@ use Rattle.tv_bits.specs.Bit.{bit_of}
 use Rattle.tv_bits.specs.Bits.{HasBits, bits_combination, bits_values, new_bits_of}
 use Rattle.tv_bits.specs.Order.{first_difference}
 use Rattle.tv_bits.specs.Prefixes.{prefix_difference_of, prefix_difference_values}
+use Rattle.tv_bits.specs.Times.{times_of, kept_of}
 use Rattle.tv_bits.specs.declared.bit_wires.Bits.{Bits}
 use Rattle.tv_cmp.specs.declared.comparison.Cmp.{Cmp}
 use Rattle.tv_core.specs.Circuits.{Circuit, fresh, put, pure, ◌>>=◌}
@@ -52,20 +53,15 @@ sign equal above = (2, above) ∷ (1, equal) ∷ (P - 1, 0) ∷ []
 unfoldable pub signed_size_of : ℕ → ℕ → ℕ → Circuit ℕ
 signed_size_of c equal above = do
   size ← new_bits_of c
-  difference ← fresh
-  _ ← put (sign equal above) (bits_combination size.first size.n ++ constant 1) (wire difference)
-  pure difference
+  times_of (sign equal above) (bits_combination size.first size.n ++ constant 1)
 
 -- above, but where the sign bits x and y of the words differ, whether it is y that is 1
 abbrev pub but_for_signs : ℕ → ℕ → ℕ → Combination
 but_for_signs above x y = (1, above) ∷ (1, y) ∷ (P - 1, x) ∷ []
 
 -- a new wire that is so
-unfoldable pub greater_of : ℕ → ℕ → Bits → Bits → Circuit ℕ
-greater_of w above x y = do
-  greater ← fresh
-  _ ← put (wire greater) (constant 1) (but_for_signs above (x.first + (w - 1)) (y.first + (w - 1)))
-  pure greater
+abbrev pub greater_of : ℕ → ℕ → Bits → Bits → Circuit ℕ
+greater_of w above x y = kept_of (but_for_signs above (x.first + (w - 1)) (y.first + (w - 1)))
 
 -- words of w bits, cut into four chunks: where x is above, some prefix is so by from 1 to 2 ^ (w / 4);
 -- where y is above, some prefix of y; and where they are the same, each prefix is

@@ -11,8 +11,8 @@ ghost use Rattle.tv_word.specs.Widths.{IsWidth};
 ghost use Rattle.tv_word.specs.Word.{signed};
 
 use tv_bits::{
-    Bits, bit_by, fill_bits, fill_prefix_difference, first_difference, new_bits_by,
-    prefix_difference_by,
+    Bits, bit_by, fill_bits, fill_prefix_difference, first_difference, kept_by, new_bits_by,
+    prefix_difference_by, times_by,
 };
 use tv_core::{F, Lc, Put, Scratch, Sink, Values, Wire, give_values};
 use tv_word::arithmetic::signed_word;
@@ -103,13 +103,10 @@ fn signed_size<const W: u32, S: Sink>(
     ensures below { IfOk result (λ difference. difference < S.meaning.wires s.new) }
 {
     let size = new_bits_by(s, &mut scratch.a, W / CHUNKS)?;
-    let difference = s.fresh();
     set_sign(&mut scratch.a, equal, above);
     size.set_number(&mut scratch.b);
     scratch.b.plus(F::ONE, Wire(0));
-    scratch.c.set_wire(difference);
-    s.put(&scratch.a, &scratch.b, &scratch.c)?;
-    Ok(difference)
+    times_by(s, &mut scratch.c, &scratch.a, &scratch.b)
 }
 
 // Makes `lc` 1 where `above` is 1, 0 where `equal` is 1, and -1 where both are 0.
@@ -140,13 +137,9 @@ fn greater<const W: u32, S: Sink>(
     ensures grows { IfOk result (λ _. Grows S.meaning s.old s.new 1 1) }
     ensures below { IfOk result (λ greater. greater < S.meaning.wires s.new) }
 {
-    let greater = s.fresh();
     let (x, y) = (x.first.offset(W - 1), y.first.offset(W - 1));
-    scratch.a.set_wire(greater);
-    scratch.b.set_wire(Wire(0));
-    set_but_for_signs(&mut scratch.c, above, x, y);
-    s.put(&scratch.a, &scratch.b, &scratch.c)?;
-    Ok(greater)
+    set_but_for_signs(&mut scratch.a, above, x, y);
+    kept_by(s, &mut scratch.b, &mut scratch.c, &scratch.a)
 }
 
 // Makes `lc` the sum of `above` and `y`, less `x`.
@@ -205,23 +198,15 @@ fn is_greater<const W: u32>(x: u32, y: u32) -> bool
     signed_word::<W>(x) > signed_word::<W>(y)
 }
 
-/// Where an assignment satisfies the constraints of `compare` for the bits of two words of `W`
-/// bits, the wires that it returned hold how the words compare.
-#[tactic(auto, using(crate::proofs::CompareLaws::compare_sound))]
-pub fn compare_is_sound()
-    ensures { CompareIsSound }
-{}
-
-/// Where wires hold the bits of two words and an assignment has the values that `fill_compare`
-/// assigns for them, it satisfies the constraints of `compare`.
-#[tactic(auto, using(crate::proofs::CompareLaws::compare_complete))]
-pub fn compare_is_complete()
-    ensures { CompareIsComplete }
-{}
-
-/// Says which wires `compare` returns and how many it makes, whatever the next wire is, and that
-/// `fill_compare` assigns one value to each of them, below P.
-#[tactic(auto, using(crate::proofs::CompareLaws::compare_sizes))]
-pub fn compare_fills()
-    ensures { CompareSizes }
+/// The laws of `compare`:
+/// - `sound`: where an assignment satisfies the constraints of `compare` for the bits of two words
+///   of `W` bits, the wires that it returned hold how the words compare.
+/// - `complete`: where wires hold the bits of two words and an assignment has the values that
+///   `fill_compare` assigns for them, it satisfies the constraints of `compare`.
+/// - `sizes`: which wires `compare` returns and how many it makes, whatever the next wire is, and
+///   that `fill_compare` assigns one value to each of them, below P.
+pub fn compare_laws()
+    ensures sound { CompareIsSound }
+    ensures complete { CompareIsComplete }
+    ensures sizes { CompareSizes }
 {}

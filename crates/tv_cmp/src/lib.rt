@@ -4,6 +4,4 @@
 
 mod comparison;
 
-pub use comparison::{
-    Cmp, compare, compare_fills, compare_is_complete, compare_is_sound, fill_compare,
-};
+pub use comparison::{Cmp, compare, compare_laws, fill_compare};

@@ -62,15 +62,11 @@ added-before t u rest h = ap (λ b. cond b (with_term t.0 t.1 (u ∷ rest)) (con
 
 added-here : (t u : ℕ × ℕ) (rest : Combination) → t.1 ≡ u.1 → added t (u ∷ rest) ≡ with_term (t.0 + u.0) t.1 rest
 unfolding added
-added-here t u rest e =
-    ap (λ b. cond b (with_term t.0 t.1 (u ∷ rest)) (cond (eqb t.1 u.1) (with_term (t.0 + u.0) t.1 rest) (u ∷ added t rest))) (le-ltb t.1 u.1 (omega arith))
-    ∙ ap (λ b. cond b (with_term (t.0 + u.0) t.1 rest) (u ∷ added t rest)) (eq-eqb t.1 u.1 e)
+added-here t u rest e = search (arith, cond, eqb, le-ltb, eq-eqb)
 
 added-after : (t u : ℕ × ℕ) (rest : Combination) → u.1 < t.1 → added t (u ∷ rest) ≡ u ∷ added t rest
 unfolding added
-added-after t u rest h =
-    ap (λ b. cond b (with_term t.0 t.1 (u ∷ rest)) (cond (eqb t.1 u.1) (with_term (t.0 + u.0) t.1 rest) (u ∷ added t rest))) (le-ltb t.1 u.1 (omega arith))
-    ∙ ap (λ b. cond b (with_term (t.0 + u.0) t.1 rest) (u ∷ added t rest)) (ne_eqb t.1 u.1 (λ e. absurd (omega arith)))
+added-after t u rest h = search (arith, cond, eqb, le-ltb, ne_eqb)
 
 added-empty : (t : ℕ × ℕ) → added t [] ≡ with_term t.0 t.1 []
 unfolding added
@@ -82,10 +78,7 @@ unfolding with_term
 put_at-first k w x = refl
 
 put_at-later : (k w place : ℕ) (u : ℕ × ℕ) (x : Combination) → put_at k w (suc place) (u ∷ x) ≡ u ∷ put_at k w place x
-put_at-later k w place u x =
-    cond_both (eqb (k % P) 0) x (insert x place (k % P, w)) (λ y. put_at k w (suc place) (u ∷ x) ≡ u ∷ y)
-    (λ e. ap (λ b. cond b (u ∷ x) (insert (u ∷ x) (suc place) (k % P, w))) e)
-    (λ e. ap (λ b. cond b (u ∷ x) (insert (u ∷ x) (suc place) (k % P, w))) e)
+put_at-later k w place u x = search (arith, cond_both, eqb, suc, cond)
 
 -- at a wire that stands there
 add_same : (t : ℕ × ℕ) (x : Combination) (d : ℕ × ℕ) → place t.1 x < length x → (get_or x (place t.1 x) d).1 ≡ t.1 →
@@ -169,11 +162,7 @@ module _ (x terms : Combination) (i : ℕ) (t : ℕ × ℕ) (h : i < length term
 
   pub added_multiple : (k c : ℕ) → c ≡ k * t.0 % P → out ≡ normal (x ++ scaled k (take i terms)) → after ≡ normal (out ++ (c, t.1) ∷ [])
       → after ≡ normal (x ++ scaled k (take (i + 1) terms))
-  added_multiple k c is before adds =
-      added_more x (scaled k (take i terms)) out after (c, t.1) before adds
-      ∙ ap (λ m. normal (x ++ (scaled k (take i terms) ++ (m, t.1) ∷ []))) is
-      ∙ ap (λ y. normal (x ++ y)) (sym (map-append (λ (u : ℕ × ℕ). (k * u.0 % P, u.1)) (take i terms) (t ∷ [])))
-      ∙ ap (λ y. normal (x ++ scaled k y)) (sym taken)
+  added_multiple k c is before adds = search (arith, added_more, take, map-append, ℕ, taken)
 
 -- what is known of a combination that was made normal
 pub normal_of : (x out : Combination) → out ≡ normal x → IsNormal out

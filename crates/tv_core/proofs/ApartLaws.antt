@@ -12,11 +12,7 @@ use Rattle.tv_core.proofs.Unique.{normal-same}
 
 -- ---- multiples
 scaled_term : (k c : ℕ) → 0 < k → k < P → 0 < c → c < P → 0 < k * c % P
-scaled_term k c some small has below =
-    elim (cases_eq (k * c % P) 0) [
-      | inl none ↦ elim (p_zero_product k c none) [ inl first ↦ absurd (omega arith) | inr second ↦ absurd (omega arith) ]
-      | inr apart ↦ omega arith
-    ]
+scaled_term k c some small has below = search (arith, cases_eq, p_zero_product)
 
 pub normal_scaled : (k least : ℕ) (x : Combination) → 0 < k → k < P → IsNormalFrom least x → IsNormalFrom least (scaled k x)
 normal_scaled k least [] some small n = tt

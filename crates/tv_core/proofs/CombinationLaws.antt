@@ -46,11 +46,7 @@ top-scaled k (t ∷ x) = ap (λ n. max (t.1 + 1) n) (top-scaled k x)
 
 module _ {z : List ℕ} (assigns : Assigns z) where
   pub wire-below : (w : ℕ) → slice_index z w < P
-  wire-below w = elim (cases_lt w (length z)) [
-    | inl within ↦ All-get_or (λ v. v < P) z w 0 within assigns.below
-    | inr past ↦ omega
-        (arith, get_or_past z w 0 past)
-  ]
+  wire-below w = search (arith, cases_lt, length, All-get_or, get_or_past)
 
   pub value-wire : (w : ℕ) → value (wire w) z ≡ slice_index z w
   value-wire w = let small = wire-below w in omega arith
@@ -63,9 +59,7 @@ module _ {z : List ℕ} (assigns : Assigns z) where
 
 -- one times a number of the field is that number
 pub value-once : (z : List ℕ) (x : Combination) → Assigns z → value x z * value (constant 1) z % P ≡ value x z
-value-once z x assigns =
-    let small = value-below x z in
-    ap (λ k. value x z * k % P) (value-constant assigns 1) ∙ omega arith
+value-once z x assigns = search (arith, value-below, value-constant)
 
 pub value-less : (x y : Combination) (z : List ℕ) → value (less x y) z ≡ (value x z + (P - value y z)) % P
 value-less x y z = value-append x (scaled (P - 1) y) z ∙ ap (λ n. (value x z + n) % P) (value-scaled (P - 1) y z)
@@ -91,9 +85,4 @@ slice_get_first [] e = absurd (omega arith)
 slice_get_first (v ∷ z) e = ap Some e
 
 pub Sat-from_Meets : (system : System) (z : List ℕ) → length z ≡ system.wires → Assigns z → Meets z system.constraints → Sat system z
-Sat-from_Meets system z each assigns meets = record {
-  each_wire = each;
-  below = assigns.below;
-  one = slice_get_first z assigns.one;
-  holds = All-from_recursion _ system.constraints meets;
-}
+Sat-from_Meets system z each assigns meets = search (arith, slice_get_first, All-from_recursion)

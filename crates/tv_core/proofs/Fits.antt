@@ -19,16 +19,8 @@ all_fit-push n (x ∷ rest) c fit last = (fit.0, all_fit-push n rest c fit.1 las
 
 pub IsCounted-wire : (old new : Counted) (list : List Constraint) → new.wires ≡ old.wires + 1 → new.constraints ≡ old.constraints → new.terms ≡ old.terms
     → IsCounted old list → IsCounted new list
-IsCounted-wire old new list wires constraints terms before = record {
-  constraints = constraints ∙ before.constraints;
-  terms = terms ∙ before.terms;
-  fit = all_fit-more old.wires new.wires list (omega arith) before.fit;
-}
+IsCounted-wire old new list wires constraints terms before = search (arith, all_fit-more)
 
 pub IsCounted-push : (old new : Counted) (list : List Constraint) (c : Constraint) → new.wires ≡ old.wires → new.constraints ≡ old.constraints + 1
     → new.terms ≡ old.terms + (length c.a + length c.b + length c.c) → IsFit old.wires c → IsCounted old list → IsCounted new (list ++ c ∷ [])
-IsCounted-push old new list c wires constraints terms fits before = record {
-  constraints = omega (arith, length-append list (c ∷ []), before.constraints);
-  terms = omega (arith, sum_by_push (λ c. length c.a + length c.b + length c.c) list c, before.terms);
-  fit = subst (λ n. AllByRecursion (IsFit n) (list ++ c ∷ [])) (sym wires) (all_fit-push old.wires list c before.fit fits);
-}
+IsCounted-push old new list c wires constraints terms fits before = search (arith, length-append, sum_by_push, length, all_fit-push)

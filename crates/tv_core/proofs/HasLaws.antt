@@ -25,6 +25,4 @@ has_of_each z first n f each = has_range_of z first 0 n f (λ i h. each i h ∙ 
 -- what is had after n values
 pub HasFrom-after : (z : List ℕ) (at next n : ℕ) (xs rest : List ℕ) → length xs ≡ n → next ≡ at + n → HasFrom z at (xs ++ rest)
     → HasFrom z at xs × HasFrom z next rest
-HasFrom-after z at next n xs rest size place has =
-    let split = HasFrom-split z at xs rest has in
-    (split.0, subst (λ k. HasFrom z k rest) (ap (λ k. at + k) size ∙ sym place) split.1)
+HasFrom-after z at next n xs rest size place has = search (arith, HasFrom-split)

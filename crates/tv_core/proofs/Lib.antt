@@ -9,7 +9,6 @@ pub mod Euclid
 pub mod FieldLaws
 pub mod Fits
 pub mod ValuesChain
-pub mod ValuesTails
 pub mod HasLaws
 pub mod InverseLaws
 pub mod JoinedLaws

@@ -29,28 +29,15 @@ module _ (z : List ℕ) where
   -- a term more
   pub value-with_term : (k w : ℕ) (x : Combination) → value (with_term k w x) z ≡ (k * slice_index z w + value x z) % P
   unfolding with_term
-  value-with_term k w x =
-      cond_both (eqb (k % P) 0) x ((k % P, w) ∷ x) (λ y. value y z ≡ (k * slice_index z w + value x z) % P)
-      (λ e. no_term (k * slice_index z w) (value x z) (value-below x z) (mul-mod_zero k (slice_index z w) P (eqb-true _ _ e)))
-      (λ e. value-cons (k % P) w x z ∙ residue_first k (slice_index z w) (value x z))
+  value-with_term k w x = search (arith, cond_both, eqb, no_term, value-below, mul-mod_zero, eqb-true, value-cons, residue_first)
 
   module _ (t u : ℕ × ℕ) (rest : Combination) where
     same_wire : t.1 ≡ u.1 → value (with_term (t.0 + u.0) t.1 rest) z ≡ (t.0 * slice_index z t.1 + value (u ∷ rest) z) % P
-    same_wire e =
-        let both : (t.0 + u.0) * slice_index z t.1 ≡ t.0 * slice_index z t.1 + u.0 * slice_index z u.1 =
-        add-mul t.0 u.0 (slice_index z t.1) ∙ ap (λ w. t.0 * slice_index z t.1 + u.0 * slice_index z w) e in
-        value-with_term (t.0 + u.0) t.1 rest
-        ∙ ap (λ n. (n + value rest z) % P) both
-        ∙ regrouped (t.0 * slice_index z t.1) (u.0 * slice_index z u.1) (value rest z)
-        ∙ ap (λ n. (t.0 * slice_index z t.1 + n) % P) (sym (value-cons u.0 u.1 rest z))
+    same_wire e = search (arith, add-mul, value-with_term, regrouped, value-cons)
 
     later_wire : value (added t rest) z ≡ (t.0 * slice_index z t.1 + value rest z) % P
         → value (u ∷ added t rest) z ≡ (t.0 * slice_index z t.1 + value (u ∷ rest) z) % P
-    later_wire before =
-        value-cons u.0 u.1 (added t rest) z
-        ∙ ap (λ n. (u.0 * slice_index z u.1 + n) % P) before
-        ∙ exchanged (t.0 * slice_index z t.1) (u.0 * slice_index z u.1) (value rest z)
-        ∙ ap (λ n. (t.0 * slice_index z t.1 + n) % P) (sym (value-cons u.0 u.1 rest z))
+    later_wire before = search (arith, value-cons, exchanged)
 
   pub value-added : (t : ℕ × ℕ) (x : Combination) → value (added t x) z ≡ (t.0 * slice_index z t.1 + value x z) % P
   unfolding added
@@ -114,9 +101,7 @@ Over-weaker Q R (t ∷ x) weaker h = (weaker t.1 h.0, Over-weaker Q R x weaker h
 pub IsNormalFrom-with_term : (least k w : ℕ) (x : Combination) → least ≤ w → IsNormalFrom (w + 1) x → IsNormalFrom least x
     → IsNormalFrom least (with_term k w x)
 unfolding with_term
-IsNormalFrom-with_term least k w x h behind n =
-    cond_both (eqb (k % P) 0) x ((k % P, w) ∷ x) (IsNormalFrom least) (λ e. n)
-    (λ e. let apart : k % P ≢ 0 = eqb-false _ _ e in (h, omega arith, omega arith, behind))
+IsNormalFrom-with_term least k w x h behind n = search (arith, cond_both, eqb, eqb-false)
 
 pub IsNormalFrom-lower : (least more : ℕ) (x : Combination) → least ≤ more → IsNormalFrom more x → IsNormalFrom least x
 IsNormalFrom-lower least more [] h n = tt

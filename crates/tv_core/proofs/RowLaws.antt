@@ -21,11 +21,7 @@ module _ {X : Type 0} where
 
 -- more terms leave the constraints of earlier rows
 constraint_at-append : (terms more : Combination) (row : TermRow) → Within terms row → constraint_at (terms ++ more) row ≡ constraint_at terms row
-constraint_at-append terms more row w =
-    let a = slice_range-append terms more row.start (row.start + row.a_end) (omega arith) (omega (arith, w.b_from, w.c_from, w.within)) in
-    let b = slice_range-append terms more (row.start + row.a_end) (row.start + row.b_end) (omega (arith, w.b_from)) (omega (arith, w.c_from, w.within)) in
-    let c = slice_range-append terms more (row.start + row.b_end) (row.start + row.c_end) (omega (arith, w.c_from)) (omega (arith, w.within)) in
-    rw (a, b, c) refl
+constraint_at-append terms more row w = search (arith, slice_range-append)
 
 constraints-append : (terms more : Combination) (rows : List TermRow) → AllByRecursion (Within terms) rows
     → map (constraint_at (terms ++ more)) rows ≡ map (constraint_at terms) rows
@@ -53,6 +49,4 @@ constraint_at-after terms a b c =
 pub constraints-push : (terms a b c : Combination) (rows : List TermRow) → All (Within terms) rows
     → map (constraint_at (terms ++ (a ++ (b ++ c)))) (rows ++ row_after terms a b c ∷ []) ≡ map (constraint_at terms) rows
     ++ (record { a = a; b = b; c = c }) ∷ []
-constraints-push terms a b c rows w =
-    map-append _ rows _ ∙ ap₂ (λ xs x. xs ++ x ∷ []) (constraints-append terms (a ++ (b ++ c)) rows (recursion_from_All _ rows w))
-    (constraint_at-after terms a b c)
+constraints-push terms a b c rows w = search (arith, map-append, constraints-append, recursion_from_All, constraint_at-after)

@@ -30,12 +30,7 @@ abbrev unit : ℕ → List ℕ
 unit w = map (λ v. cond (eqb v w) 1 0) (range_with_len 0 (w + 1))
 
 unit_at : (w v : ℕ) → slice_index (unit w) v ≡ cond (eqb v w) 1 0
-unit_at w v =
-    elim (cases_lt v (w + 1)) [
-      | inl inside ↦ get_or-map-range_with_len (λ u. cond (eqb u w) 1 0) 0 (w + 1) v v 0 inside (omega arith)
-      | inr past ↦ get_or_past (unit w) v 0 (omega (arith, length-map-range_with_len {X = ℕ} (λ u. cond (eqb u w) 1 0) 0 (w + 1)))
-          ∙ sym (ap (λ b. cond b 1 0) (ne_eqb v w (λ e. absurd (omega arith))))
-    ]
+unit_at w v = search (arith, cases_lt, get_or-map-range_with_len, cond, eqb, get_or_past, length-map-range_with_len, ℕ, ne_eqb)
 
 times_unit : (k : ℕ) (b : Bool) → k * cond b 1 0 ≡ cond b k 0
 times_unit k true = omega arith
@@ -44,9 +39,7 @@ times_unit k false = omega arith
 -- the value there is the wire's coefficient
 value-unit : (w : ℕ) (x : Combination) → value x (unit w) ≡ coefficient w x
 unfolding coefficient
-value-unit w x =
-    sum_by-mod_same (λ t. t.0 * slice_index (unit w) t.1) (λ t. cond (eqb t.1 w) t.0 0) P x
-    (λ t. ap (λ n. n % P) (ap (λ n. t.0 * n) (unit_at w t.1) ∙ times_unit t.0 (eqb t.1 w)))
+value-unit w x = search (arith, sum_by-mod_same, cond, eqb, unit_at, times_unit)
 
 -- coefficients of a normal combination
 pub coefficient-first : (t : ℕ × ℕ) (x : Combination) → t.0 < P → IsNormalFrom (t.1 + 1) x → coefficient t.1 (t ∷ x) ≡ t.0
@@ -73,11 +66,7 @@ lone_first t x y least some small n m h e =
 
 same_rest : (t u : ℕ × ℕ) (x y : Combination) → t.1 ≡ u.1 → IsNormalFrom (t.1 + 1) x → IsNormalFrom (u.1 + 1) y
     → ((w : ℕ) → coefficient w (t ∷ x) ≡ coefficient w (u ∷ y)) → (w : ℕ) → coefficient w x ≡ coefficient w y
-same_rest t u x y is n m same w =
-    elim (cases_eq t.1 w) [
-      | inl here ↦ coefficient-before (t.1 + 1) w x n (omega arith) ∙ sym (coefficient-before (u.1 + 1) w y m (omega arith))
-      | inr apart ↦ sym (coefficient-other t w x apart) ∙ same w ∙ coefficient-other u w y (λ e. apart (is ∙ e))
-    ]
+same_rest t u x y is n m same w = search (arith, cases_eq, coefficient-before, coefficient-other)
 
 pub one_normal : (least more : ℕ) (x y : Combination) → IsNormalFrom least x → IsNormalFrom more y → ((w : ℕ) → coefficient w x ≡ coefficient w y) → x ≡ y
 one_normal least more [] [] n m same = refl

@@ -1,6 +1,6 @@
 -- Calls one after another give their lists one after another. What each call did proves what the whole did; at the exit
 -- of a `?` it stands after `gives_refused`.
-use Rattle.std.proofs.Common.{◌≡◌, ℕ, List, [], ◌∷◌, ◌++◌, Result, IsErrAnd, sym, ◌∙◌, ap, subst, append_assoc, arith}
+use Rattle.std.proofs.Common.{◌≡◌, ℕ, List, [], ◌∷◌, ◌++◌, Result, Ok, Err, IsErrAnd, sym, ◌∙◌, ap, subst, append_assoc, arith}
 use Rattle.std.proofs.lemmas.List.{append-nil}
 use Rattle.std.proofs.lemmas.Result.{err_from_is_err_and}
 use Rattle.tv_core.proofs.Chain.{IsCause-after}
@@ -68,3 +68,25 @@ module _ {V : Type 0} (m : ValuesMeaning V) where
   gives_refused old new values result {fault} r p =
       let e = err_from_is_err_and result r in
       rw (e.1, e.2) p
+
+  -- a last call, whose result is the whole's
+  pub gives_in_then : (xs ys : List ℕ) (old mid new : V) (result : Result (Unit {0}) SinkFault)
+      → GivesAll m old mid xs → GivesIn m mid new ys result → GivesIn m old new (xs ++ ys) result
+  gives_in_then xs ys old mid new (Ok done) p q = gives_then xs ys old mid new p q
+  gives_in_then xs ys old mid new (Err fault) p q = gives_then_refused xs ys old mid new fault p q
+
+-- The same by the calls' records alone: `_` for the list after the first call's, which antt finds in the goal.
+module _ {V : Type 0} {m : ValuesMeaning V} {xs : List ℕ} (ys : List ℕ) {old mid new : V} where
+  pub all_given : GivesAll m old mid xs → GivesAll m mid new ys → GivesAll m old new (xs ++ ys)
+  all_given p q = gives_then m _ ys _ _ _ p q
+
+  pub some_given : {fault : SinkFault} → GivesAll m old mid xs → GivesSome m mid new ys fault → GivesSome m old new (xs ++ ys) fault
+  some_given p q = gives_then_refused m _ ys _ _ _ _ p q
+
+pub first_given : {V : Type 0} {m : ValuesMeaning V} {xs : List ℕ} (ys : List ℕ) {old new : V} {fault : SinkFault}
+    → GivesSome m old new xs fault → GivesSome m old new (xs ++ ys) fault
+first_given ys p = gives_refused_then _ _ ys _ _ _ p
+
+pub in_given : {V : Type 0} {m : ValuesMeaning V} {xs : List ℕ} (ys : List ℕ) {old mid : V} (new : V) (result : Result (Unit {0}) SinkFault)
+    → GivesAll m old mid xs → GivesIn m mid new ys result → GivesIn m old new (xs ++ ys) result
+in_given ys new result p q = gives_in_then _ _ ys _ _ new result p q

@@ -116,12 +116,7 @@ module _ (w : ℕ) (h a : Bits) (next : ℕ) where
 
   pub fields_answer : (fields_of w h a next).answer ≡ fields_wires w h next
   unfolding fields_of pure ◌>>=◌
-  fields_answer =
-      let op = onehot_answer (part h (w - 5) 5) next in
-      let dest = onehot_answer (part h (w - 10) 4) after_op ∙ op_end in
-      let source = onehot_answer (part h (w - 14) 4) after_dest ∙ dest_end in
-      let reg = onehot_answer (part a 0 4) after_source ∙ source_end in
-      rw (op, dest, source, reg) refl
+  fields_answer = search (arith, onehot_answer, op_end, dest_end, source_end)
 
 fields_length : (i : Instr) → length (fields_values i) ≡ 80
 unfolding each_below

@@ -15,7 +15,6 @@ use Rattle.tv_bits.proofs.BitsLaws.{new_bits_next, new_bits_complete}
 use Rattle.tv_bits.proofs.TimesLaws.{kept_sound, kept_complete, kept_answer, kept_next}
 use Rattle.tv_bits.specs.Bit.{IsBit, bit_of}
 use Rattle.tv_bits.specs.Bits.{HasBits, binary_value, bits_combination, bits_values, new_bit, new_bits_of}
-use Rattle.tv_bits.specs.Number.{number_of}
 use Rattle.tv_bits.specs.OneHot.{IsOneHot, row_sum, one_at}
 use Rattle.tv_bits.specs.Times.{kept_of, times_of}
 use Rattle.tv_core.proofs.BelowLaws.{sum_below-zero, sum_below-suc, sum_below-add, sum_below-same, sum_below-single, sum_below-zeros, value-weighted}
@@ -119,10 +118,7 @@ plain n = omega arith
 -- the row, from its bits and their sum
 row_of : (z : List ℕ) (first : ℕ) → Assigns z → ((i : ℕ) → i < 29 → IsBit (slice_index z (first + i))) → value (row_sum first 29) z ≡ 1
     → One 29 (λ i. slice_index z (first + i))
-row_of z first assigns bits sum =
-    let f : ℕ → ℕ = λ i. slice_index z (first + i) in
-    let same = sum_below-same 29 (λ i. 1 * f i) f (λ i h. plain (f i)) in
-    one_of_sum 29 f bits (omega (arith, value-weighted first 29 (λ _. 1) z, sum, same, sum_small 29 f bits))
+row_of z first assigns bits sum = search (arith, ℕ, sum_below-same, plain, one_of_sum, value-weighted, sum_small)
 
 -- ---- the numbers of the first word: v below the opcode k
 module _ (w : ℕ) (width : IsWidth w) (v k : ℕ) (low : v < 2 ^ (w - 5)) (high : k < 32) where
@@ -354,19 +350,7 @@ wires_at w first op second head tail = record {
 
 pub instruction_end : (w : ℕ) → IsWidth w → (next : ℕ) → (instruction_of w next).next ≡ next + (2 * w + 26)
 unfolding instruction_of here pure put ◌>>=◌
-instruction_end w width next =
-    let low = new_bits_of (w - 5) next in
-    let row = new_bits_of 29 low.next in
-    let second = new_bits_of w row.next in
-    let head = kept_of (head_of w low.answer.first row.answer.first) second.next in
-    omega (
-      arith,
-      new_bits_next (w - 5) next,
-      new_bits_next 29 low.next,
-      new_bits_next w row.next,
-      kept_next (head_of w low.answer.first row.answer.first) second.next,
-      kept_next (number_of second.answer) head.next,
-    )
+instruction_end w width next = search (arith, new_bits_next, kept_next)
 
 pub instruction_answer : (w next : ℕ) → (instruction_of w next).answer ≡ instruction_wires w next
 unfolding instruction_of new_bits_of here pure put ◌>>=◌
@@ -430,3 +414,5 @@ instruction_terms w width next = for_widths (λ w. terms_in (instruction_of w ne
 
 pub instruction_costs : InstructionCosts
 instruction_costs = record { constraints = instruction_constraints; terms = instruction_terms }
+
+pub ruleset instruction_laws = (instruction_sound, instruction_complete, instruction_sizes, instruction_costs)

@@ -57,22 +57,16 @@ pub fn fill_fields<const W: u32, V: Values>(v: &mut V, h: u32, a: u32) -> Put<()
     fill_onehot(v, instr.a % 16, 4)
 }
 
-/// Where bits represent two words of `W` bits and an assignment satisfies the constraints of
-/// `fields`, the rows and the bit that it returned are the fields of these words' instruction.
-pub fn fields_are_sound()
-    ensures { FieldsAreSound }
-{}
-
-/// Where bits represent two words and an assignment has the values that `fill_fields` assigns for
-/// them, it satisfies the constraints of `fields`.
-#[tactic(auto, using(crate::proofs::FieldsLaws::fields_complete))]
-pub fn fields_are_complete()
-    ensures { FieldsAreComplete }
-{}
-
-/// Says which wires `fields` returns and how many it makes, whatever the next wire is, and that
-/// `fill_fields` assigns one value to each of them, below P.
-#[tactic(auto, using(crate::proofs::FieldsLaws::fields_sizes))]
-pub fn fields_fill()
-    ensures { FieldsSizes }
+/// The laws of `fields`:
+/// - `sound`: where bits represent two words of `W` bits and an assignment satisfies the
+///   constraints of `fields`, the rows and the bit that it returned are the fields of these words'
+///   instruction.
+/// - `complete`: where bits represent two words and an assignment has the values that `fill_fields`
+///   assigns for them, it satisfies the constraints of `fields`.
+/// - `sizes`: which wires `fields` returns and how many it makes, whatever the next wire is, and
+///   that `fill_fields` assigns one value to each of them, below P.
+pub fn fields_laws()
+    ensures sound { FieldsAreSound }
+    ensures complete { FieldsAreComplete }
+    ensures sizes { FieldsSizes }
 {}

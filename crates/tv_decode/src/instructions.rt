@@ -173,32 +173,21 @@ fn fill_row<V: Values>(v: &mut V, k: u8) -> Put<()>
     Ok(())
 }
 
-/// Where an assignment satisfies the constraints of `instruction`, the wires hold two words of `W`
-/// bits and the fields of their instruction, whose opcode is used.
-#[tactic(auto, using(crate::proofs::InstructionLaws::instruction_sound))]
-pub fn instruction_is_sound()
-    ensures { InstructionIsSound }
-{}
-
-/// Where an assignment has the values that `fill_instruction` assigns for two words of `W` bits
-/// with a used opcode, it satisfies the constraints of `instruction`, and the wires hold these
-/// words.
-#[tactic(auto, using(crate::proofs::InstructionLaws::instruction_complete))]
-pub fn instruction_is_complete()
-    ensures { InstructionIsComplete }
-{}
-
-/// Says which wires `instruction` returns and how many it makes, whatever the next wire is, and
-/// that `fill_instruction` assigns one value to each of them, below P.
-#[tactic(auto, using(crate::proofs::InstructionLaws::instruction_sizes))]
-pub fn instruction_fills()
-    ensures { InstructionSizes }
-{}
-
-/// Says how many constraints and terms `instruction` puts.
-#[tactic(auto, using(crate::proofs::InstructionLaws::instruction_costs))]
-pub fn instruction_costs()
-    ensures { InstructionCosts }
+/// The laws of `instruction`:
+/// - `sound`: where an assignment satisfies the constraints of `instruction`, the wires hold two
+///   words of `W` bits and the fields of their instruction, whose opcode is used.
+/// - `complete`: where an assignment has the values that `fill_instruction` assigns for two words
+///   of `W` bits with a used opcode, it satisfies the constraints of `instruction`, and the wires
+///   hold these words.
+/// - `sizes`: which wires `instruction` returns and how many it makes, whatever the next wire is,
+///   and that `fill_instruction` assigns one value to each of them, below P.
+/// - `costs`: how many constraints and terms `instruction` puts.
+#[tactic(auto, using(crate::proofs::InstructionLaws::instruction_laws))]
+pub fn instruction_laws()
+    ensures sound { InstructionIsSound }
+    ensures complete { InstructionIsComplete }
+    ensures sizes { InstructionSizes }
+    ensures costs { InstructionCosts }
 {}
 
 /// The wire of an opcode is 1 exactly where it is the instruction's, and else 0.

@@ -7,9 +7,6 @@ mod decoder;
 mod instructions;
 mod records;
 
-pub use decoder::{fields, fields_are_complete, fields_are_sound, fields_fill, fill_fields};
-pub use instructions::{
-    fill_instruction, instruction, instruction_costs, instruction_fills, instruction_is_complete,
-    instruction_is_sound, opcode_wire_is_right,
-};
+pub use decoder::{fields, fields_laws, fill_fields};
+pub use instructions::{fill_instruction, instruction, instruction_laws, opcode_wire_is_right};
 pub use records::{Fields, InstructionWires};

@@ -23,19 +23,7 @@ negated_some w width = grind arith
 pub row_sum_normal : (w : ℕ) → IsWidth w → (gate : Combination) (x y : ℕ) (row : DoubleRow) (next : ℕ) → IsNormal gate
     → x < y → y < row.low → row.low < row.high → AreNormal (row_sum_of w gate x y row next).list
 unfolding row_sum_of gated_of put
-row_sum_normal w width gate x y row next g x_y y_low rises = (
-  record {
-    a = g;
-    b = (
-      omega arith,
-      omega arith,
-      omega arith,
-      (omega arith, omega arith, omega arith, (omega arith, omega arith, omega arith, (omega arith, negated_some w width, omega arith, tt))),
-    );
-    c = tt;
-  },
-  tt,
-)
+row_sum_normal w width gate x y row next g x_y y_low rises = search (arith, negated_some)
 
 -- ---- the difference
 minuend_normal : (w : ℕ) → IsWidth w → (strict : Combination) (x : ℕ) → IsNormalFrom 1 strict → top strict ≤ x → 0 < x → IsNormal (minuend w strict x)
@@ -61,7 +49,12 @@ row_difference_normal w width gate by_sign strict x y row next g signed n below 
       omega arith,
       omega arith,
       omega arith,
-      (omega arith, omega arith, omega arith, (omega arith, some, omega arith, (omega arith, some, omega arith, tt))),
+      (
+        omega arith,
+        omega arith,
+        omega arith,
+        (omega arith, some, omega arith, (omega arith, some, omega arith, tt)),
+      ),
     ) in
     let second : IsNormalConstraint (record { a = gate; b = less (minuend w strict x.word) (subtrahend w y.word row next); c = [] }) = record {
       a = g;

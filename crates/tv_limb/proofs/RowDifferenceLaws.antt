@@ -121,11 +121,7 @@ row_difference_sizes = record {
 row_difference_constraints : (w : ℕ) (gate by_sign strict : Combination) (x y : SignedWord) (row : DoubleRow) (next : ℕ)
     → length (row_difference_of w gate (comparing by_sign strict) x y row next).list ≡ 2
 unfolding row_difference_of times_of fresh put pure ◌>>=◌
-row_difference_constraints w gate by_sign strict x y row next = omega (
-  arith,
-  gated_constraints gate (minuend w strict x.word) (subtrahend w y.word row next)
-      (next + 1),
-)
+row_difference_constraints w gate by_sign strict x y row next = search (arith, gated_constraints)
 
 row_difference_terms : (w : ℕ) (gate by_sign strict : Combination) (x y : SignedWord) (row : DoubleRow) (next : ℕ)
     → terms_in (row_difference_of w gate (comparing by_sign strict) x y row next).list ≡ length gate + length by_sign + length strict + 9

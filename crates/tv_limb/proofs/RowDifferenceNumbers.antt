@@ -33,10 +33,7 @@ not_not false = refl
 
 -- the four orders: whether p = b + strict + 2 ^ w * k is at most q = a + 2 ^ w * l, k and l being the crossed bits or 0
 order_plain : (w a b strict : ℕ) → strict < 2 → (if nat_lt (a + 2 ^ w * 0) (b + strict + 2 ^ w * 0) then 0 else 1) ≡ difference_high w 0 strict a b
-order_plain w a b strict h = elim (cases_eq strict 0) [
-  | inl none ↦ rw none (grind (arith, nat_tests))
-  | inr some ↦ let one : strict ≡ 1 = omega arith in rw one (grind (arith, nat_tests))
-]
+order_plain w a b strict h = search (arith, cases_eq, nat_tests)
 
 order_signed : (w : ℕ) → IsWidth w → (a b strict : ℕ) → a < 2 ^ w → b < 2 ^ w → strict < 2
     → (if nat_lt (a + 2 ^ w * bit_at b (w - 1)) (b + strict + 2 ^ w * bit_at a (w - 1)) then 0 else 1) ≡ difference_high w 1 strict a b
@@ -101,10 +98,7 @@ back_signed w width n a b strict c h k l is e = grind arith
 
 -- the difference of the signs, as the constraint has it
 signs_in : (by_sign d : ℕ) → d < P → by_sign < 2 → ((by_sign ≡ 0) × (by_sign * d % P ≡ 0)) ⊎ ((by_sign ≡ 1) × (by_sign * d % P ≡ d))
-signs_in by_sign d small h = elim (cases_eq by_sign 0) [
-  | inl none ↦ inl (none, ap (λ n. n * d % P) none ∙ ap (λ n. n % P) (zero-mul d))
-  | inr some ↦ let one : by_sign ≡ 1 = omega arith in inr (one, ap (λ n. n * d % P) one ∙ ap (λ n. n % P) (one-mul d) ∙ omega arith)
-]
+signs_in by_sign d small h = search (arith, cases_eq, zero-mul, one-mul)
 
 pub bit_small : (v i : ℕ) → bit_at v i < 2
 bit_small v i = omega arith
@@ -138,18 +132,8 @@ module _ (w : ℕ) (width : IsWidth w) (low high a b strict by_sign c : ℕ) (h 
 
   pub difference_met : low ≡ difference_low w strict a b → high ≡ difference_high w by_sign strict a b
       → (2 ^ w + a + (P - 1) * strict) % P ≡ (b + whole w low high + 2 ^ w * c) % P
-  difference_met e f = elim signs [
-    | inl plain ↦
-        let bounds = bounds_plain w a b strict h k l in
-        let order = f ∙ ap (λ n. difference_high w n strict a b) plain.0 ∙ sym (order_plain w a b strict l) in
-        back_plain w width (whole w low high) a b strict c h k l (is
-        ∙ plain.1) (whole_is w width low high a b strict 0 0 h k l (omega arith) (omega arith) bounds.0 bounds.1 e order)
-    | inr turned ↦
-        let bounds = bounds_signed w width a b strict h k l in
-        let order = f ∙ ap (λ n. difference_high w n strict a b) turned.0 ∙ sym (order_signed w width a b strict h k l) in
-        back_signed w width (whole w low high) a b strict c h k l (is ∙ turned.1)
-        (whole_is w width low high a b strict (bit_at a (w - 1)) (bit_at b (w - 1)) h k l (bit_small a (w - 1)) (bit_small b (w - 1)) bounds.0 bounds.1 e order)
-  ]
+  difference_met e f =
+      grind (arith, nat_tests, signs, bounds_plain, order_plain, back_plain, whole_is, bounds_signed, order_signed, back_signed, bit_small)
 
 -- the honest halves are a row
 row_of_flag : (w : ℕ) → IsWidth w → (low high : ℕ) → low < 2 ^ w → high < 2 → IsRow w low high

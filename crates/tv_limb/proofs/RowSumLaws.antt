@@ -1,5 +1,5 @@
 -- The laws of a sum in a row.
-use Rattle.std.proofs.Common.{◌≡◌, ℕ, ◌+◌, ◌*◌, ◌%◌, ◌^◌, ◌<◌, List, ◌++◌, sym, ◌∙◌, ap, ap₂, arith}
+use Rattle.std.proofs.Common.{◌≡◌, ℕ, ◌+◌, ◌*◌, ◌%◌, ◌^◌, ◌<◌, List, ◌++◌, sym, ◌∙◌, ap₂, arith}
 use Rattle.std.specs.Prelude.{slice_index}
 use Rattle.std.proofs.lemmas.Bool.Decides.{nat_tests}
 use Rattle.tv_bits.proofs.DoubleRowLaws.{value-row_number}
@@ -46,11 +46,7 @@ row_sum_sound w width z next gate x y row assigns one a_word b_word r meets =
 row_sum_on : (w : ℕ) → IsWidth w → (z : List ℕ) (x y : ℕ) (row : DoubleRow) → Assigns z → slice_index z x < 2 ^ w → slice_index z y < 2 ^ w
     → IsRowSum w z row (slice_index z x) (slice_index z y)
     → value (wire x ++ wire y) z ≡ value (row_number w row) z
-row_sum_on w width z x y row assigns a_word b_word is =
-    let a = slice_index z x in
-    let b = slice_index z y in
-    let numbers : whole w (slice_index z row.low) (slice_index z row.high) ≡ a + b = ap₂ (whole w) is.low is.high ∙ sum_whole w width a b a_word b_word in
-    value-words z x y assigns ∙ ap (λ n. n % P) (sym numbers) ∙ sym (value-row_number w z row assigns)
+row_sum_on w width z x y row assigns a_word b_word is = search (arith, sum_whole, value-words, value-row_number)
 
 pub row_sum_complete : RowSumIsComplete
 unfolding row_sum_of
@@ -75,3 +71,5 @@ row_sum_cost_laws = record {
   constraints = λ w gate x y row next. gated_constraints gate (wire x ++ wire y) (row_number w row) next;
   terms = λ w gate x y row next. gated_terms gate (wire x ++ wire y) (row_number w row) next ∙ omega arith;
 }
+
+pub ruleset row_sum_laws = (row_sum_sound, row_sum_complete, row_sum_sizes, row_sum_cost_laws)

@@ -43,3 +43,5 @@ split_sizes = record {
   fills = λ w x n v next. omega (arith, split_next w x n next, length-bits v n);
   in_field = bits_in_field;
 }
+
+pub ruleset split_laws = (split_sound, split_complete, split_sizes)

@@ -88,22 +88,15 @@ fn difference_and_borrow<const W: u32>(x: u32, y: u32) -> F
     F::of(if x < y { power + power + x - y } else { x - y })
 }
 
-/// Where the inputs represent words of `W` bits and an assignment satisfies the constraints of
-/// `sub`, the answer represents their difference modulo 2^`W` and the borrow.
-pub fn sub_is_sound()
-    ensures { SubIsSound }
-{}
-
-/// Where the inputs represent words and an assignment has the values that `fill_sub` assigns for
-/// them, it satisfies the constraints of `sub`.
-#[tactic(auto, using(crate::proofs::SubLaws::sub_complete))]
-pub fn sub_is_complete()
-    ensures { SubIsComplete }
-{}
-
-/// Says which wires `sub` returns and how many it makes, whatever the next wire is, and that
-/// `fill_sub` assigns one value below P to each of them.
-#[tactic(auto, using(crate::proofs::SubLaws::sub_sizes))]
-pub fn sub_fills()
-    ensures { SubSizes }
+/// The laws of `sub`:
+/// - `sound`: where the inputs represent words of `W` bits and an assignment satisfies the
+///   constraints of `sub`, the answer represents their difference modulo 2^`W` and the borrow.
+/// - `complete`: where the inputs represent words and an assignment has the values that `fill_sub`
+///   assigns for them, it satisfies the constraints of `sub`.
+/// - `sizes`: which wires `sub` returns and how many it makes, whatever the next wire is, and that
+///   `fill_sub` assigns one value below P to each of them.
+pub fn sub_laws()
+    ensures sound { SubIsSound }
+    ensures complete { SubIsComplete }
+    ensures sizes { SubSizes }
 {}

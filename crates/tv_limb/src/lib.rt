@@ -14,13 +14,12 @@ mod row_sums;
 mod splits;
 mod sums;
 
-pub use differences::{fill_sub, sub, sub_fills, sub_is_complete, sub_is_sound};
+pub use differences::{fill_sub, sub, sub_laws};
 pub use halves::{limbs, limbs_are_sound};
 pub use parts::Split;
 pub use row_differences::{
-    difference_halves, fill_row_difference, row_difference, row_difference_costs,
-    row_difference_fills, row_difference_is_complete, row_difference_is_sound,
+    difference_halves, fill_row_difference, row_difference, row_difference_laws,
 };
-pub use row_sums::{row_sum, row_sum_costs, row_sum_fills, row_sum_is_complete, row_sum_is_sound};
-pub use splits::{fill_split, split, split_fills, split_is_complete, split_is_sound};
-pub use sums::{add, add_fills, add_is_complete, add_is_sound, fill_add};
+pub use row_sums::{row_sum, row_sum_laws};
+pub use splits::{fill_split, split, split_laws};
+pub use sums::{add, add_laws, fill_add};

@@ -163,31 +163,20 @@ fn is_above<const W: u32>(by_sign: bool, strict: bool, x: u32, y: u32) -> bool
     }
 }
 
-/// Where the gate is 1, the wires hold words and an assignment satisfies the constraints of
-/// `row_difference`, the row holds their difference and their order. Its low half is 0 exactly
-/// where the words are the same, `strict` being 0.
-pub fn row_difference_is_sound()
+/// The laws of `row_difference`:
+/// - `sound`: where the gate is 1, the wires hold words and an assignment satisfies the constraints
+///   of `row_difference`, the row holds their difference and their order.
+/// - `equal`: its low half is 0 exactly where the words are the same, `strict` being 0.
+/// - `complete`: where the row holds the difference of the words, or the gate is 0, an assignment
+///   that has the value that `fill_row_difference` assigns satisfies the constraints of
+///   `row_difference`; and the difference of two words is a row.
+/// - `sizes`: `row_difference` makes one wire, to which `fill_row_difference` assigns one value
+///   below P.
+/// - `costs`: how many constraints and terms `row_difference` puts.
+pub fn row_difference_laws()
     ensures sound { RowDifferenceIsSound }
     ensures equal { RowDifferenceEqual }
-{}
-
-/// Where the row holds the difference of the words, or the gate is 0, an assignment that has the
-/// value that `fill_row_difference` assigns satisfies the constraints of `row_difference`; and the
-/// difference of two words is a row.
-#[tactic(auto, using(crate::proofs::RowDifferenceLaws::row_difference_complete))]
-pub fn row_difference_is_complete()
-    ensures { RowDifferenceIsComplete }
-{}
-
-/// Says that `row_difference` makes one wire, to which `fill_row_difference` assigns one value
-/// below P.
-#[tactic(auto, using(crate::proofs::RowDifferenceLaws::row_difference_sizes))]
-pub fn row_difference_fills()
-    ensures { RowDifferenceSizes }
-{}
-
-/// Says how many constraints and terms `row_difference` puts.
-#[tactic(auto, using(crate::proofs::RowDifferenceLaws::row_difference_cost_laws))]
-pub fn row_difference_costs()
-    ensures { RowDifferenceCosts }
+    ensures complete { RowDifferenceIsComplete }
+    ensures sizes { RowDifferenceSizes }
+    ensures costs { RowDifferenceCosts }
 {}

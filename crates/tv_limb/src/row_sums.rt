@@ -39,28 +39,17 @@ pub fn row_sum<const W: u32, S: Sink>(
     )
 }
 
-/// Where the gate is 1, the wires hold words and an assignment satisfies the constraints of
-/// `row_sum`, the row holds their sum.
-#[tactic(auto, using(crate::proofs::RowSumLaws::row_sum_sound))]
-pub fn row_sum_is_sound()
-    ensures { RowSumIsSound }
-{}
-
-/// Where the row holds the sum of the words, or the gate is 0, an assignment satisfies the
-/// constraints of `row_sum`; and the sum of two words is a row.
-#[tactic(auto, using(crate::proofs::RowSumLaws::row_sum_complete))]
-pub fn row_sum_is_complete()
-    ensures { RowSumIsComplete }
-{}
-
-/// Says that `row_sum` makes no wire.
-#[tactic(auto, using(crate::proofs::RowSumLaws::row_sum_sizes))]
-pub fn row_sum_fills()
-    ensures { RowSumSizes }
-{}
-
-/// Says how many constraints and terms `row_sum` puts.
-#[tactic(auto, using(crate::proofs::RowSumLaws::row_sum_cost_laws))]
-pub fn row_sum_costs()
-    ensures { RowSumCosts }
+/// The laws of `row_sum`:
+/// - `sound`: where the gate is 1, the wires hold words and an assignment satisfies the constraints
+///   of `row_sum`, the row holds their sum.
+/// - `complete`: where the row holds the sum of the words, or the gate is 0, an assignment
+///   satisfies the constraints of `row_sum`; and the sum of two words is a row.
+/// - `sizes`: `row_sum` makes no wire.
+/// - `costs`: how many constraints and terms `row_sum` puts.
+#[tactic(auto, using(crate::proofs::RowSumLaws::row_sum_laws))]
+pub fn row_sum_laws()
+    ensures sound { RowSumIsSound }
+    ensures complete { RowSumIsComplete }
+    ensures sizes { RowSumSizes }
+    ensures costs { RowSumCosts }
 {}

@@ -39,23 +39,16 @@ pub fn fill_split<const W: u32, V: Values>(v: &mut V, x: F, n: u32) -> Put<()>
     fill_bits(v, x, n)
 }
 
-/// Where an assignment satisfies the constraints of `split`, the parts represent the value's
-/// remainder and quotient by the word's power of 2.
-#[tactic(auto, using(crate::proofs::SplitLaws::split_sound))]
-pub fn split_is_sound()
-    ensures { SplitIsSound }
-{}
-
-/// Where the value is below 2^n and an assignment has the values that `fill_split` assigns, it
-/// satisfies the constraints of `split`.
-#[tactic(auto, using(crate::proofs::SplitLaws::split_complete))]
-pub fn split_is_complete()
-    ensures { SplitIsComplete }
-{}
-
-/// Says which wires `split` returns and how many it makes, whatever the next wire is, and that
-/// `fill_split` assigns one value below P to each of them.
-#[tactic(auto, using(crate::proofs::SplitLaws::split_sizes))]
-pub fn split_fills()
-    ensures { SplitSizes }
+/// The laws of `split`:
+/// - `sound`: where an assignment satisfies the constraints of `split`, the parts represent the
+///   value's remainder and quotient by the word's power of 2.
+/// - `complete`: where the value is below 2^n and an assignment has the values that `fill_split`
+///   assigns, it satisfies the constraints of `split`.
+/// - `sizes`: which wires `split` returns and how many it makes, whatever the next wire is, and
+///   that `fill_split` assigns one value below P to each of them.
+#[tactic(auto, using(crate::proofs::SplitLaws::split_laws))]
+pub fn split_laws()
+    ensures sound { SplitIsSound }
+    ensures complete { SplitIsComplete }
+    ensures sizes { SplitSizes }
 {}

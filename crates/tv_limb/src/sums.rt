@@ -38,22 +38,15 @@ pub fn fill_add<const W: u32, V: Values>(v: &mut V, x: u32, y: u32) -> Put<()>
     fill_bits(v, F::of(u64::from(x) + u64::from(y)), W + 1)
 }
 
-/// Where the inputs represent words of `W` bits and an assignment satisfies the constraints of
-/// `add`, the answer represents their sum modulo 2^`W` and the carry.
-pub fn add_is_sound()
-    ensures { AddIsSound }
-{}
-
-/// Where the inputs represent words and an assignment has the values that `fill_add` assigns for
-/// them, it satisfies the constraints of `add`.
-#[tactic(auto, using(crate::proofs::AddLaws::add_complete))]
-pub fn add_is_complete()
-    ensures { AddIsComplete }
-{}
-
-/// Says which wires `add` returns and how many it makes, whatever the next wire is, and that
-/// `fill_add` assigns one value below P to each of them.
-#[tactic(auto, using(crate::proofs::AddLaws::add_sizes))]
-pub fn add_fills()
-    ensures { AddSizes }
+/// The laws of `add`:
+/// - `sound`: where the inputs represent words of `W` bits and an assignment satisfies the
+///   constraints of `add`, the answer represents their sum modulo 2^`W` and the carry.
+/// - `complete`: where the inputs represent words and an assignment has the values that `fill_add`
+///   assigns for them, it satisfies the constraints of `add`.
+/// - `sizes`: which wires `add` returns and how many it makes, whatever the next wire is, and that
+///   `fill_add` assigns one value below P to each of them.
+pub fn add_laws()
+    ensures sound { AddIsSound }
+    ensures complete { AddIsComplete }
+    ensures sizes { AddSizes }
 {}

@@ -91,7 +91,9 @@ key_less_in l m p = (2 ^ (time_bits - p) * cells_apart l m + prefix_difference m
 
 abbrev pub prefix_less_in : Line → Line → ℕ → ℕ
 prefix_less_in l m j =
-    if j == 0 then cells_apart l m else if nat_lt j cell_chunks then prefix_difference m.cell l.cell (chunk * j) else key_less_in l m (chunk * (j - cell_chunks))
+    if j == 0 then cells_apart l m
+    else if nat_lt j cell_chunks then prefix_difference m.cell l.cell (chunk * j)
+    else key_less_in l m (chunk * (j - cell_chunks))
 
 abbrev pub factor_in : Line → Line → ℕ → ℕ
 factor_in l m j = (prefix_less_in l m j + (P - size l m)) % P

@@ -30,20 +30,14 @@ pub use packed_lines::{
     unpack_line,
 };
 pub use predecessor::{
-    fill_follows, follows, follows_costs, follows_fills, follows_is_complete, follows_is_normal,
-    follows_is_sound, follows_reaches, follows_rises, follows_terms,
+    fill_follows, follows, follows_laws, follows_reaches, follows_rises, follows_terms,
 };
 pub use rows::LineBits;
 pub use sorted_pairs::{
-    fill_first_line, fill_sorted_pair, first_line, first_line_fills, first_line_is_complete,
-    first_line_is_sound, neighbours_are_ordered, sorted_pair, sorted_pair_fills,
-    sorted_pair_is_complete, sorted_pair_is_sound,
+    fill_first_line, fill_sorted_pair, first_line, first_line_laws, neighbours_are_ordered,
+    sorted_pair, sorted_pair_laws,
 };
 pub use starts::{
-    boot_line, boot_line_fills, boot_line_is_complete, boot_line_is_sound, boot_line_terms,
-    least_line, least_line_fills, least_line_is_complete, least_line_is_sound, least_line_terms,
+    boot_line, boot_line_laws, boot_line_terms, least_line, least_line_laws, least_line_terms,
 };
-pub use unpacked_lines::{
-    fill_unpack, line_bits, unpack, unpack_fills, unpack_is_complete, unpack_is_sound,
-    unpack_undoes_pack,
-};
+pub use unpacked_lines::{fill_unpack, line_bits, unpack, unpack_laws, unpack_undoes_pack};

@@ -119,16 +119,19 @@ fn words(number: F) -> (u32, u32)
 
 /// For a line in range, a cell below 2^31, a time below 2^20 and two words, the values of the
 /// packed line are its packed values, as whole numbers.
+#[tactic(auto, using(crate::proofs::PackingLaws::pack_right))]
 pub fn pack_is_right()
     ensures { PackIsRight }
 {}
 
 /// For a line in range, the values of its item are the item's numbers, as whole numbers.
+#[tactic(auto, using(crate::proofs::PackingLaws::item_right))]
 pub fn item_is_right()
     ensures { ItemIsRight }
 {}
 
 /// Two lines in range that are packed to the same pair of numbers are the same.
+#[tactic(auto, using(crate::proofs::PackingLaws::pack_one_to_one))]
 pub fn pack_is_one_to_one()
     ensures { PackIsOneToOne }
 {}

@@ -183,42 +183,34 @@ fn excess_between(before: &Line, after: &Line) -> u64
     }
 }
 
-/// In an assignment that satisfies the constraints of `follows`, the line follows that of the item:
-/// its cell is above, or its time in the same cell, and its old word is the other's new word where
-/// the cells are the same, and else 0.
-pub fn follows_is_sound()
-    ensures { FollowsIsSound }
-{}
-
-/// Where the line follows that of the item at a distance of `m` bits, an assignment with the values
-/// of `fill_follows` meets the constraints of `follows`.
-pub fn follows_is_complete()
-    ensures { FollowsIsComplete }
-{}
-
-/// `fill_follows` assigns one value to each wire that `follows` makes, below P for lines in range.
-pub fn follows_fills()
-    ensures { FollowsSizes }
-{}
-
-/// The constraints of `follows`, and their terms where the item is two wires after those of the
-/// line: 137 at 31 bits where cell, time and old word are wires of their own.
-pub fn follows_costs()
-    ensures { FollowsCosts }
-{}
-
-/// The constraints of `follows` are normal, whatever the line's combinations are.
-pub fn follows_is_normal()
-    ensures { FollowsIsNormal }
+/// The laws of `follows`:
+/// - `sound`: in an assignment that satisfies the constraints of `follows`, the line follows that
+///   of the item: its cell is above, or its time in the same cell, and its old word is the other's
+///   new word where the cells are the same, and else 0.
+/// - `complete`: where the line follows that of the item at a distance of `m` bits, an assignment
+///   with the values of `fill_follows` meets the constraints of `follows`.
+/// - `normal`: the constraints of `follows` are normal, whatever the line's combinations are.
+/// - `sizes`: `fill_follows` assigns one value to each wire that `follows` makes, below P for lines
+///   in range.
+/// - `costs`: the constraints of `follows`, and their terms where the item is two wires after those
+///   of the line: 137 at 31 bits where cell, time and old word are wires of their own.
+pub fn follows_laws()
+    ensures sound { FollowsIsSound }
+    ensures complete { FollowsIsComplete }
+    ensures normal { FollowsIsNormal }
+    ensures sizes { FollowsSizes }
+    ensures costs { FollowsCosts }
 {}
 
 /// 31 bits of reach suffice for lines in range; `k` bits suffice for times below 2^k where the cell
 /// is at most the one after the predecessor's.
+#[tactic(auto, using(crate::proofs::PredecessorReach::follows_reaches))]
 pub fn follows_reaches()
     ensures { FollowsReaches }
 {}
 
 /// The key, the cell above the time, rises from a line to one that follows it.
+#[tactic(auto, using(crate::proofs::PredecessorReach::follows_rises))]
 pub fn follows_rises()
     ensures { FollowsRises }
 {}

@@ -132,39 +132,29 @@ pub fn fill_first_line<V: Values>(v: &mut V, _line: &LineNum) -> Put<()>
     Ok(())
 }
 
-/// In an assignment that satisfies the constraints of `sorted_pair` for bits that represent two
-/// lines, the second follows the first.
-pub fn sorted_pair_is_sound()
-    ensures { SortedPairIsSound }
+/// The laws of `sorted_pair`:
+/// - `sound`: in an assignment that satisfies the constraints of `sorted_pair` for bits that
+///   represent two lines, the second follows the first.
+/// - `complete`: where the second line follows the first, an assignment that has the values that
+///   `fill_sorted_pair` assigns satisfies the constraints of `sorted_pair`.
+/// - `sizes`: `fill_sorted_pair` assigns one value to each wire that `sorted_pair` makes, and for
+///   lines in range each is below P.
+pub fn sorted_pair_laws()
+    ensures sound { SortedPairIsSound }
+    ensures complete { SortedPairIsComplete }
+    ensures sizes { SortedPairSizes }
 {}
 
-/// Where the second line follows the first, an assignment that has the values that
-/// `fill_sorted_pair` assigns satisfies the constraints of `sorted_pair`.
-pub fn sorted_pair_is_complete()
-    ensures { SortedPairIsComplete }
-{}
-
-/// `fill_sorted_pair` assigns one value to each wire that `sorted_pair` makes, and for lines in
-/// range each is below P.
-pub fn sorted_pair_fills()
-    ensures { SortedPairSizes }
-{}
-
-/// In an assignment that satisfies the constraints of `first_line` for bits that represent a line,
-/// its old word is 0.
-pub fn first_line_is_sound()
-    ensures { FirstLineIsSound }
-{}
-
-/// An assignment in which bits represent a line with an old word of 0 satisfies the constraints of
-/// `first_line`.
-pub fn first_line_is_complete()
-    ensures { FirstLineIsComplete }
-{}
-
-/// `first_line` makes no wire.
-pub fn first_line_fills()
-    ensures { FirstLineSizes }
+/// The laws of `first_line`:
+/// - `sound`: in an assignment that satisfies the constraints of `first_line` for bits that
+///   represent a line, its old word is 0.
+/// - `complete`: an assignment in which bits represent a line with an old word of 0 satisfies the
+///   constraints of `first_line`.
+/// - `sizes`: `first_line` makes no wire.
+pub fn first_line_laws()
+    ensures sound { FirstLineIsSound }
+    ensures complete { FirstLineIsComplete }
+    ensures sizes { FirstLineSizes }
 {}
 
 /// Along a list of lines, `first_line` on the first and `sorted_pair` on each two neighbours

@@ -75,33 +75,24 @@ pub fn least_line_terms(scratch: &mut Lc, line: &CompactLine) -> u32
     scratch.terms().len() as u32 + 1
 }
 
-/// In an assignment that meets the constraint of `boot_line`, a line of the next cell whose old
-/// word is 0 follows that of the item.
-pub fn boot_line_is_sound()
-    ensures { BootLineIsSound }
+/// The laws of `boot_line`:
+/// - `sound`: in an assignment that meets the constraint of `boot_line`, a line of the next cell
+///   whose old word is 0 follows that of the item.
+/// - `complete`: where the item is of that cell, an assignment meets the constraint of `boot_line`.
+/// - `sizes`: `boot_line` makes no wire, and one constraint, which is normal.
+pub fn boot_line_laws()
+    ensures sound { BootLineIsSound }
+    ensures complete { BootLineIsComplete }
+    ensures sizes { BootLineSizes }
 {}
 
-/// Where the item is of that cell, an assignment meets the constraint of `boot_line`.
-pub fn boot_line_is_complete()
-    ensures { BootLineIsComplete }
-{}
-
-/// `boot_line` makes no wire, and one constraint, which is normal.
-pub fn boot_line_fills()
-    ensures { BootLineSizes }
-{}
-
-/// In an assignment that meets the constraint of `least_line`, the line's old word is 0.
-pub fn least_line_is_sound()
-    ensures { LeastLineIsSound }
-{}
-
-/// Where the line's old word is 0, an assignment meets the constraint of `least_line`.
-pub fn least_line_is_complete()
-    ensures { LeastLineIsComplete }
-{}
-
-/// `least_line` makes no wire, and one constraint, which is normal.
-pub fn least_line_fills()
-    ensures { LeastLineSizes }
+/// The laws of `least_line`:
+/// - `sound`: in an assignment that meets the constraint of `least_line`, the line's old word is 0.
+/// - `complete`: where the line's old word is 0, an assignment meets the constraint of
+///   `least_line`.
+/// - `sizes`: `least_line` makes no wire, and one constraint, which is normal.
+pub fn least_line_laws()
+    ensures sound { LeastLineIsSound }
+    ensures complete { LeastLineIsComplete }
+    ensures sizes { LeastLineSizes }
 {}

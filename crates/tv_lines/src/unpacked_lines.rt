@@ -70,24 +70,20 @@ pub fn fill_unpack<V: Values>(v: &mut V, pair: &PairNum) -> Put<()>
     fill_bits(v, pair.second, WORD_BITS + TIME_BITS)
 }
 
-/// In an assignment that satisfies the constraints of `unpack`, the bits represent the line that
-/// the pair stands for.
-pub fn unpack_is_sound()
-    ensures { UnpackIsSound }
-{}
-
-/// Where the pair packs a line in range, an assignment that has the values that `fill_unpack`
-/// assigns satisfies the constraints of `unpack`.
-pub fn unpack_is_complete()
-    ensures { UnpackIsComplete }
-{}
-
-/// `fill_unpack` assigns one value below P to each wire that `unpack` makes.
-pub fn unpack_fills()
-    ensures { UnpackSizes }
+/// The laws of `unpack`:
+/// - `sound`: in an assignment that satisfies the constraints of `unpack`, the bits represent the
+///   line that the pair stands for.
+/// - `complete`: where the pair packs a line in range, an assignment that has the values that
+///   `fill_unpack` assigns satisfies the constraints of `unpack`.
+/// - `sizes`: `fill_unpack` assigns one value below P to each wire that `unpack` makes.
+pub fn unpack_laws()
+    ensures sound { UnpackIsSound }
+    ensures complete { UnpackIsComplete }
+    ensures sizes { UnpackSizes }
 {}
 
 /// The line that the pair of a packed line stands for is that line, where it is in range.
+#[tactic(auto, using(crate::proofs::PackingLaws::unpack_packed))]
 pub fn unpack_undoes_pack()
     ensures { UnpackUndoesPack }
 {}

@@ -44,16 +44,11 @@ and_answer w x y next = refl
 
 pub and_next : (w : ℕ) → IsWidth w → (x y : Bits) (next : ℕ) → (and_of w x y next).next ≡ next + w / 2
 unfolding and_of fresh here pure ◌>>=◌
-and_next w width x y next =
-    pair_next w x y 0 (lowest_pair w next (next + 1)) (sequence (w / 2 - 1) (new_and_pair_of w x y) (next + 1)).next ∙ turn-next w x y (next + 1) (w / 2 - 1)
-    ∙ omega arith
+and_next w width x y next = search (arith, pair_next, turn-next)
 
 -- ---- the value of the combination for the lowest pair
 value-row : (z : List ℕ) (first n : ℕ) → value (bits_combination first n) z ≡ binary_value z first n % P
-value-row z first n =
-    value-weighted first n (λ i. 2 ^ i % P) z
-    ∙ sum_below-mod_same n (λ i. 2 ^ i % P * slice_index z (first + i)) (λ i. 2 ^ i * slice_index z (first + i)) P
-    (λ i h. mul-mod_first (2 ^ i) (slice_index z (first + i)) P)
+value-row z first n = search (arith, value-weighted, sum_below-mod_same, mul-mod_first)
 
 module _ (w : ℕ) (width : IsWidth w) (z : List ℕ) (assigns : Assigns z) (x y : Bits) (a b : ℕ) (p : HasBits z x.first w a) (q : HasBits z y.first w b) where
   value-lowest : (word first : ℕ) → ((i : ℕ) → i < w / 2 - 1 → slice_index z (first + i) ≡ pair_in w (bit_and a b) (i + 1))
@@ -76,10 +71,7 @@ module _ (w : ℕ) (width : IsWidth w) (z : List ℕ) (assigns : Assigns z) (x y
   pair_number : (i : ℕ) → i < w / 2
       → two_ands (value (wire (x.first + i)) z) (value (wire (y.first + i)) z) (value (wire (x.first + (w / 2 + i))) z) (value (wire (y.first + (w / 2 + i))) z)
       (2 ^ (w / 4)) ≡ pair_in w (bit_and a b) i
-  pair_number i h =
-      let ones = ap₂ (λ m n. m * n) (x_bit i (omega arith)) (y_bit i (omega arith)) in
-      let others = ap₂ (λ m n. m * n) (x_bit (w / 2 + i) (omega arith)) (y_bit (w / 2 + i) (omega arith)) in
-      ap₂ (λ m n. (m + 2 ^ (w / 4) * 2 ^ (w / 4) * n) % P) ones others ∙ pair-ands w width a b i
+  pair_number i h = search (arith, x_bit, y_bit, pair-ands)
 
   bit_of_x : (i : ℕ) → i < w → IsBit (value (wire (x.first + i)) z)
   bit_of_x i h = omega (arith, x_bit i h, bit_at-lt a i)

@@ -104,9 +104,7 @@ gate_off z gate sum none = ap (λ n. n * value sum z % P) none ∙ ap (λ n. n %
 
 -- the digits from the first wires on are those from number 0 on
 from_first : (w n x y row : ℕ) → digit_sum w n x y row ≡ digit_sum w n (x + 0) (y + 0) (row + 0)
-from_first w n x y row =
-    ap (λ k. digit_sum w n k y row) (sym (add-zero x)) ∙ ap (λ k. digit_sum w n (x + 0) k row) (sym (add-zero y))
-    ∙ ap (λ k. digit_sum w n (x + 0) (y + 0) k) (sym (add-zero row))
+from_first w n x y row = search (arith, add-zero)
 
 abbrev low_sum : ℕ → Bits → Bits → DoubleRow → Combination
 low_sum w x y row = digit_sum w (w / 2) x.first y.first row.first
@@ -130,9 +128,7 @@ module _ (w : ℕ) (width : IsWidth w) (z : List ℕ) (next : ℕ) (gate : Combi
   halves_within = grind arith
 
   low_digits : value (low_sum w x y row) z ≡ 0 → SameDigits w 0 a b both one
-  low_digits none =
-      same_of_none z w (w / 2) x.first y.first row.first a b both one 0 half_within p q r.low r.high
-      (sym (ap (λ c. value c z) (from_first w (w / 2) x.first y.first row.first)) ∙ none)
+  low_digits none = search (arith, same_of_none, half_within, from_first)
 
   high_digits : value (high_sum w x y row) z ≡ 0 → SameDigits w (w / 2) a b both one
   high_digits none = same_of_none z w (w / 2) x.first y.first row.first a b both one (w / 2) halves_within p q r.low r.high none
@@ -187,21 +183,7 @@ length-digits : (k first n : ℕ) → length (digits_combination k first n) ≡ 
 length-digits k first n = length-weighted first n (λ j. k * BASE ^ j % P)
 
 length-sum : (w n x y row : ℕ) → length (digit_sum w n x y row) ≡ 4 * n
-length-sum w n x y row =
-    let xs = digits_combination 1 x n in
-    let ys = digits_combination 1 y n in
-    let boths = digits_combination (P - 2) row n in
-    let ones = digits_combination (P - 1) (row + w) n in
-    omega (
-      arith,
-      length-append ys (xs ++ (boths ++ ones)),
-      length-append xs (boths ++ ones),
-      length-append boths ones,
-      length-digits 1 x n,
-      length-digits 1 y n,
-      length-digits (P - 2) row n,
-      length-digits (P - 1) (row + w) n,
-    )
+length-sum w n x y row = search (arith, length-append, length-digits)
 
 bitwise_count : (w : ℕ) (gate : Combination) (x y : Bits) (row : DoubleRow) (next : ℕ) → length (bitwise_of w gate x y row next).list ≡ 2
 unfolding bitwise_of digits_of put ◌>>=◌
@@ -213,13 +195,7 @@ halved w width = grind arith
 bitwise_terms : (w : ℕ) → IsWidth w → (gate : Combination) (x y : Bits) (row : DoubleRow) (next : ℕ)
     → terms_in (bitwise_of w gate x y row next).list ≡ 2 * length gate + 4 * w
 unfolding bitwise_of digits_of put ◌>>=◌
-bitwise_terms w width gate x y row next =
-    omega (
-      arith,
-      length-sum w (w / 2) x.first y.first row.first,
-      length-sum w (w / 2) (x.first + w / 2) (y.first + w / 2) (row.first + w / 2),
-      halved w width,
-    )
+bitwise_terms w width gate x y row next = search (arith, length-sum, halved)
 
 pub bitwise_cost_laws : BitwiseCosts
 bitwise_cost_laws = record { constraints = bitwise_count; terms = bitwise_terms }

@@ -1,5 +1,5 @@
 -- Numbers by their digits, and the bitwise operations of words by theirs.
-use Rattle.std.proofs.Common.{◌≡◌, ℕ, zero, suc, ◌+◌, ◌-◌, ◌*◌, ◌/◌, ◌%◌, ◌^◌, ◌<◌, ◌≤◌, inl, inr, sym, ◌∙◌, ap, ap₂, arith, mul_comm}
+use Rattle.std.proofs.Common.{◌≡◌, ℕ, zero, suc, ◌+◌, ◌-◌, ◌*◌, ◌/◌, ◌%◌, ◌^◌, ◌<◌, ◌≤◌, inl, inr, sym, ◌∙◌, ap, arith, mul_comm}
 use Rattle.std.proofs.Common.{min, bit_and, bit_or, bit_xor}
 use Rattle.std.specs.Int.{bit_at}
 use Rattle.std.specs.Int.Bits.{and_lt, or_add_and, xor_add_and}
@@ -36,7 +36,11 @@ number-below (suc n) d small =
 -- the same number has the same digits: the top one, and what is left
 top_same : (b p q r s : ℕ) → r < b → s < b → r + b * p ≡ s + b * q → (p ≡ q) × (r ≡ s)
 top_same b p q r s h k e =
-    let turned : p * b + r ≡ q * b + s = omega (arith, mul_comm b p, mul_comm b q) in (
+    let turned : p * b + r ≡ q * b + s = omega (
+      arith,
+      mul_comm b p,
+      mul_comm b q,
+    ) in (
       sym (div-mul-add p b r h) ∙ ap (λ n. n / b) turned ∙ div-mul-add q b s k,
       sym (mod-mul-add p b r h) ∙ ap (λ n. n % b) turned ∙ mod-mul-add q b s k,
     )
@@ -106,12 +110,7 @@ module _ (w : ℕ) (width : IsWidth w) (a b : ℕ) (h : a < 2 ^ w) (k : b < 2 ^ 
 
 -- and the other way round
 pub same_digits : (w from a b : ℕ) → SameDigits w from a b (bit_and a b) (bit_xor a b)
-same_digits w from a b =
-    let each : (i : ℕ) → bit_at a i + bit_at b i ≡ 2 * bit_at (bit_and a b) i + bit_at (bit_xor a b) i =
-    λ i. digit_back (bit_at a i) (bit_at b i) (bit_at-lt a i) (bit_at-lt b i) ∙ sym (ap₂ (λ m n. 2 * m + n) (bit_at_and a b i) (bit_at_xor a b i)) in
-    ap (λ n. n % P)
-    (sum_below-same (w / 2) (λ j. BASE ^ j * sums a b from j) (λ j. BASE ^ j * parts (bit_and a b) (bit_xor a b) from j)
-    (λ j below. ap (λ n. BASE ^ j * n) (each (from + j))))
+same_digits w from a b = search (arith, ℕ, bit_and, bit_xor, digit_back, bit_at-lt, bit_at_and, bit_at_xor, sum_below-same)
 
 -- the or is their sum, and where all bits of the exclusive or are set there is none in both: they are a row
 pub or_sum : (a b : ℕ) → bit_or a b ≡ bit_and a b + bit_xor a b

@@ -1,5 +1,5 @@
 -- The laws of the zero flags.
-use Rattle.std.proofs.Common.{◌≡◌, ℕ, ◌+◌, ◌*◌, ◌%◌, List, [], ◌∷◌, ◌++◌, inl, inr, sym, subst, ◌∙◌, ap, ap₂, arith}
+use Rattle.std.proofs.Common.{◌≡◌, ℕ, ◌+◌, ◌*◌, ◌%◌, List, [], ◌∷◌, ◌++◌, sym, subst, ◌∙◌, ap, ap₂, arith}
 use Rattle.std.specs.Prelude.{slice_index}
 use Rattle.std.proofs.lemmas.Bool.{cases_eq}
 use Rattle.tv_bits.proofs.TimesLaws.{times_answer, times_next}
@@ -19,13 +19,7 @@ use Rattle.tv_logic.specs.declared.answers.LogicWords.{LogicWords}
 
 -- a sum is 0 exactly where both numbers are
 pub flag-sum : (m n sum : ℕ) → sum ≡ m + n → zero_flag m * zero_flag n % P ≡ zero_flag sum
-flag-sum m n sum is = elim (cases_eq m 0) [
-  | inl none ↦ elim (cases_eq n 0) [
-    | inl neither ↦ ap₂ (λ a b. a * b % P) (zero_flag-zero m none) (zero_flag-zero n neither) ∙ sym (zero_flag-zero sum (omega arith))
-    | inr some ↦ ap₂ (λ a b. a * b % P) (zero_flag-zero m none) (zero_flag-other n some) ∙ sym (zero_flag-other sum (λ e. some (omega arith)))
-  ]
-  | inr some ↦ ap (λ a. a * zero_flag n % P) (zero_flag-other m some) ∙ omega arith ∙ sym (zero_flag-other sum (λ e. some (omega arith)))
-]
+flag-sum m n sum is = search (arith, cases_eq, zero_flag-zero, zero_flag-other)
 
 -- ---- a wire's flag
 flag_sound : (z : List ℕ) (next w v : ℕ) → Assigns z → slice_index z w ≡ v → Meets z (zero_of (wire w) next).list
@@ -80,12 +74,7 @@ module _ (words : LogicWords) (next : ℕ) where
 
   pub flags_answer : (logic_flags_of words next).answer ≡ record { and_zero = next; or_zero = next + 6; xor_zero = next + 2; not_zero = next + 4 }
   unfolding logic_flags_of pure ◌>>=◌
-  flags_answer =
-      flags_same _ _ _ _ next (next + 6) (next + 2) (next + 4)
-      (zero_answer (wire words.and_word) next)
-      (times_answer (wire ands_wire) (wire xors_wire) or_from ∙ or_from_is ∙ omega arith)
-      (zero_answer (wire words.xor_word) xor_from ∙ xor_from_is)
-      (zero_answer (wire words.not_word) not_from ∙ not_from_is ∙ omega arith)
+  flags_answer = search (arith, flags_same, zero_answer, times_answer, or_from_is, xor_from_is, not_from_is)
 
 module _ (z : List ℕ) (next : ℕ) (words : LogicWords) (ands ors xors nots : ℕ) (assigns : Assigns z) (p : slice_index z words.and_word ≡ ands)
     (q : slice_index z words.xor_word ≡ xors) (r : slice_index z words.not_word ≡ nots) (sum : ors ≡ ands + xors) where

@@ -2,7 +2,6 @@
 use Rattle.std.proofs.Common.{◌≡◌, ℕ, ◌+◌, ◌-◌, ◌/◌, ◌^◌, ◌<◌, ◌∷◌, [], ◌++◌, bit_and, bit_or, bit_xor, length, length-append, subst, ◌∙◌, ap₂, arith}
 use Rattle.std.specs.Int.Bits.{or_add_and, xor_add_and}
 use Rattle.tv_bits.proofs.SizeLaws.{zero_in_field, zero_flag-below}
-use Rattle.tv_bits.specs.Zero.{zero_flag, zero_values}
 use Rattle.tv_bits.specs.declared.bit_wires.Bits.{Bits}
 use Rattle.tv_core.proofs.BelowLaws.{length-each_below}
 use Rattle.tv_core.proofs.MeetsLaws.{Meets-split, Meets-join, HasFrom-split}
@@ -24,9 +23,7 @@ use Rattle.tv_word.specs.Widths.{IsWidth}
 use Rattle.tv_word.proofs.WidthLaws.{word_small}
 
 words_size : (w : ℕ) → IsWidth w → (a b : ℕ) → length (word_values w a b) ≡ w / 2 + 3
-words_size w width a b =
-    let v = bit_and a b in
-    omega (arith, length-append (pair_values w v) (bit_or a b ∷ bit_xor a b ∷ not_result w b ∷ []), length-each_below (w / 2 - 1) (λ i. pair_in w v (i + 1)))
+words_size w width a b = search (arith, bit_and, length-append, bit_or, bit_xor, length-each_below)
 
 pub logic_sound : LogicIsSound
 unfolding logic_of pure ◌>>=◌
@@ -75,10 +72,7 @@ flags_at : (w : ℕ) (words : LogicWords) (at next : ℕ) → at ≡ next + (w /
       xor_zero = next + (w / 2 + 5);
       not_zero = next + (w / 2 + 7);
     }
-flags_at w words at next is =
-    flags_answer words at
-    ∙ flags_same words at at (at + 6) (at + 2) (at + 4) (next + (w / 2 + 3)) (next + (w / 2 + 9)) (next + (w / 2 + 5)) (next + (w / 2 + 7)) is (omega arith)
-    (omega arith) (omega arith)
+flags_at w words at next is = search (arith, flags_answer, flags_same)
 
 logic_answer : (w : ℕ) → IsWidth w → (x y : Bits) (next : ℕ) → (logic_of w x y next).answer ≡ logic_wires w next
 unfolding logic_of pure ◌>>=◌
@@ -88,9 +82,7 @@ logic_answer w width x y next =
 
 -- as many values as wires
 logic_fills : (w : ℕ) → IsWidth w → (x y : Bits) (a b : ℕ) → Fills (logic_of w x y) (logic_values w a b)
-logic_fills w width x y a b next =
-    let flags = flag_values (bit_and a b) (bit_or a b) (bit_xor a b) (not_result w b) in
-    omega (arith, logic_next w width x y next, length-append (word_values w a b) flags, words_size w width a b)
+logic_fills w width x y a b next = search (arith, bit_and, bit_or, bit_xor, logic_next, length-append, words_size)
 
 -- ---- the values are below the prime
 or-below : (w : ℕ) → IsWidth w → (a b : ℕ) → a < 2 ^ w → b < 2 ^ w → bit_or a b < P
@@ -116,16 +108,10 @@ words-below w width a b h k =
     (InField-append (pair_values w v) (bit_or a b ∷ bit_xor a b ∷ not_result w b ∷ []) (pairs-below w width v) ors)
 
 flags-below : (ands ors xors nots : ℕ) → InField (flag_values ands ors xors nots)
-flags-below ands ors xors nots =
-    let last = InField-append (zero_values nots) (zero_flag ors ∷ []) (zero_in_field nots)
-    (InField-cons (zero_flag ors) [] (zero_flag-below ors) InField-none) in
-    InField-append (zero_values ands) (zero_values xors ++ (zero_values nots ++ zero_flag ors ∷ [])) (zero_in_field ands)
-    (InField-append (zero_values xors) (zero_values nots ++ zero_flag ors ∷ []) (zero_in_field xors) last)
+flags-below ands ors xors nots = search (arith, InField-append, zero_in_field, InField-cons, zero_flag-below, InField-none)
 
 logic_in_field : (w : ℕ) → IsWidth w → (a b : ℕ) → a < 2 ^ w → b < 2 ^ w → InField (logic_values w a b)
-logic_in_field w width a b h k =
-    let flags = flag_values (bit_and a b) (bit_or a b) (bit_xor a b) (not_result w b) in
-    InField-append (word_values w a b) flags (words-below w width a b h k) (flags-below (bit_and a b) (bit_or a b) (bit_xor a b) (not_result w b))
+logic_in_field w width a b h k = search (arith, bit_and, bit_or, bit_xor, InField-append, words-below, flags-below)
 
 pub logic_sizes : LogicSizes
 logic_sizes = record { answer = logic_answer; end = logic_next; fills = logic_fills; in_field = logic_in_field }

@@ -70,9 +70,4 @@ halves_within w width = grind arith
 pub bitwise_normal : (w : ℕ) → IsWidth w → (gate : Combination) (x y : Bits) (row : DoubleRow) (next : ℕ) → IsNormal gate
     → y.first + w ≤ x.first → x.first + w ≤ row.first → AreNormal (bitwise_of w gate x y row next).list
 unfolding bitwise_of digits_of put ◌>>=◌
-bitwise_normal w width gate x y row next g y_x x_row =
-    let short = half_short w width in
-    let within = halves_within w width in
-    let low = digit_sum_normal w (w / 2) x.first y.first row.first short (omega arith) (omega arith) (omega arith) in
-    let high = digit_sum_normal w (w / 2) (x.first + w / 2) (y.first + w / 2) (row.first + w / 2) short (omega arith) (omega arith) (omega arith) in
-    (record { a = g; b = low; c = tt }, (record { a = g; b = high; c = tt }, tt))
+bitwise_normal w width gate x y row next g y_x x_row = search (arith, half_short, halves_within, digit_sum_normal)

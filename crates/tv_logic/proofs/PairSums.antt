@@ -63,9 +63,7 @@ bit-product a b i = products (bit_at a i) (bit_at b i) (bit_at-lt a i) (bit_at-l
 
 pub pair-ands : (w : ℕ) → IsWidth w → (a b i : ℕ)
     → two_ands (bit_at a i) (bit_at b i) (bit_at a (w / 2 + i)) (bit_at b (w / 2 + i)) (2 ^ (w / 4)) ≡ pair_in w (bit_and a b) i
-pair-ands w width a b i =
-    ap₂ (λ m n. (m + 2 ^ (w / 4) * 2 ^ (w / 4) * n) % P) (bit-product a b i) (bit-product a b (w / 2 + i))
-    ∙ pair-number w width (bit_at (bit_and a b) i) (bit_at (bit_and a b) (w / 2 + i)) (bit_at-lt (bit_and a b) i) (bit_at-lt (bit_and a b) (w / 2 + i))
+pair-ands w width a b i = search (arith, bit-product, pair-number, bit_and, bit_at-lt)
 
 pub and-below : (w a b : ℕ) → a < 2 ^ w → bit_and a b < 2 ^ w
 and-below w a b h = omega (arith, and_le_l a b)

@@ -13,7 +13,7 @@ use Rattle.tv_core.proofs.BelowLaws.{length-each_below}
 use Rattle.tv_core.proofs.CombinationLaws.{value-append, value-scaled, value-less, value-constant}
 use Rattle.tv_core.proofs.MeetsLaws.{Meets-split, Meets-join, HasFrom-split}
 use Rattle.tv_core.specs.Circuits.{pure, ◌>>=◌}
-use Rattle.tv_core.specs.Combinations.{constant, scaled}
+use Rattle.tv_core.specs.Combinations.{constant}
 use Rattle.tv_core.specs.Constraints.{value}
 use Rattle.tv_core.specs.Laws.{Assigns, Meets, HasFrom}
 use Rattle.tv_core.specs.declared.field.TheConstants.{P}
@@ -40,13 +40,7 @@ module _ (w : ℕ) (width : IsWidth w) (z : List ℕ) (assigns : Assigns z) (x y
   short = let most = width_short w width in omega arith
 
   value-sum_less : (k at : ℕ) → value (sum_less w x y k at) z ≡ ((a + 1 * b % P) % P + negative k * slice_index z at % P) % P
-  value-sum_less k at =
-      let left = bits_combination x.first w in
-      let right = bits_combination y.first w in
-      let last : value ((negative k, at) ∷ []) z ≡ negative k * slice_index z at % P = ap (λ n. n % P) (omega arith) in
-      value-append (left ++ scaled 1 right) ((negative k, at) ∷ []) z
-      ∙ ap₂ (λ m n. (m + n) % P) (value-append left (scaled 1 right) z
-      ∙ ap₂ (λ m n. (m + n) % P) (value-bits_below p short) (value-scaled 1 right z ∙ ap (λ n. 1 * n % P) (value-bits_below q short))) last
+  value-sum_less k at = search (arith, value-append, value-bits_below, short, value-scaled)
 
   value-or : (at : ℕ) → slice_index z at ≡ bit_and a b → value (sum_less w x y 1 at) z ≡ bit_or a b
   value-or at is =
@@ -100,12 +94,7 @@ module _ (w : ℕ) (width : IsWidth w) (x y : Bits) (next : ℕ) where
   pub words_answer : (logic_words_of w x y next).answer
       ≡ record { and_word = next; or_word = next + w / 2; xor_word = next + (w / 2 + 1); not_word = next + (w / 2 + 2) }
   unfolding logic_words_of pure ◌>>=◌
-  words_answer =
-      words_same _ _ _ _ next (next + w / 2) (next + (w / 2 + 1)) (next + (w / 2 + 2))
-      (and_answer w x y next)
-      (kept_answer (sum_less w x y 1 (and_of w x y next).answer) or_from ∙ and_next w width x y next)
-      (kept_answer (sum_less w x y 2 (and_of w x y next).answer) xor_from ∙ xor_from_is ∙ omega arith)
-      (kept_answer (complement w y) not_from ∙ not_from_is ∙ omega arith)
+  words_answer = search (arith, words_same, and_answer, kept_answer, and_next, xor_from_is, not_from_is)
 
 pub words_sound : (w : ℕ) → IsWidth w → (z : List ℕ) (next : ℕ) (x y : Bits) (a b : ℕ) → Assigns z → HasBits z x.first w a → HasBits z y.first w b
     → Meets z (logic_words_of w x y next).list

@@ -92,26 +92,16 @@ fn plus_digits(lc: &mut Lc, factor: F, first: Wire, n: u32)
     }
 }
 
-/// Where the gate is 1 and an assignment satisfies the constraints of `bitwise`, the row's halves
-/// are the words' and and exclusive or, and their sum is the or.
-pub fn bitwise_is_sound()
-    ensures { BitwiseIsSound }
-{}
-
-/// Where the row's halves are the words' and and exclusive or, or the gate is 0, an assignment
-/// satisfies the constraints of `bitwise`. These halves are those of a row.
-pub fn bitwise_is_complete()
-    ensures { BitwiseIsComplete }
-{}
-
-/// Says that `bitwise` makes no wire.
-#[tactic(auto, using(crate::proofs::DigitLaws::bitwise_sizes))]
-pub fn bitwise_fills()
-    ensures { BitwiseSizes }
-{}
-
-/// Says how many constraints and terms `bitwise` emits.
-#[tactic(auto, using(crate::proofs::DigitLaws::bitwise_cost_laws))]
-pub fn bitwise_costs()
-    ensures { BitwiseCosts }
+/// The laws of `bitwise`:
+/// - `sound`: where the gate is 1 and an assignment satisfies the constraints of `bitwise`, the
+///   row's halves are the words' and and exclusive or, and their sum is the or.
+/// - `complete`: where the row's halves are the words' and and exclusive or, or the gate is 0, an
+///   assignment satisfies the constraints of `bitwise`. These halves are those of a row.
+/// - `sizes`: `bitwise` makes no wire.
+/// - `costs`: how many constraints and terms `bitwise` emits.
+pub fn bitwise_laws()
+    ensures sound { BitwiseIsSound }
+    ensures complete { BitwiseIsComplete }
+    ensures sizes { BitwiseSizes }
+    ensures costs { BitwiseCosts }
 {}

@@ -7,8 +7,8 @@ ghost use Rattle.tv_core.specs.Sinks.{PutsIn, Grows, Room};
 ghost use Rattle.tv_logic.specs.Flags.{logic_flags_of, flag_values};
 
 use crate::answers::{LogicFlags, LogicWords};
-use tv_bits::{fill_zero, times_by, zero_by};
-use tv_core::{F, Put, Scratch, Sink, Values, Wire};
+use tv_bits::{times_by, zero_by, zero_values};
+use tv_core::{F, Put, Scratch, Sink, Values, Wire, give_values};
 
 /// Emits the constraints of the zero flags of four words, and returns the flags. The second word is
 /// 0 exactly where the first and the third are. It makes 7 wires and 7 constraints.
@@ -54,8 +54,22 @@ pub(crate) fn fill_flags<V: Values>(v: &mut V, ands: u32, ors: u32, xors: u32, n
     ensures gives { GivesIn V.giving v.old v.new (flag_values ands ors xors nots) result }
     ensures whole { OnOk result (V.giving.broken v.new ≡ false) }
 {
-    fill_zero(v, F::from(ands))?;
-    fill_zero(v, F::from(xors))?;
-    fill_zero(v, F::from(nots))?;
-    v.give(F::from(ors == 0))
+    give_values(v, &flag_values(ands, ors, xors, nots))
+}
+
+fn flag_values(ands: u32, ors: u32, xors: u32, nots: u32) -> [F; 7]
+    ensures { result ≡ flag_values ands ors xors nots }
+{
+    let [and_zero, and_inverse] = zero_values(F::from(ands));
+    let [xor_zero, xor_inverse] = zero_values(F::from(xors));
+    let [not_zero, not_inverse] = zero_values(F::from(nots));
+    [
+        and_zero,
+        and_inverse,
+        xor_zero,
+        xor_inverse,
+        not_zero,
+        not_inverse,
+        F::from(ors == 0),
+    ]
 }

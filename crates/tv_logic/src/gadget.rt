@@ -55,21 +55,15 @@ pub fn fill_logic<const W: u32, V: Values>(v: &mut V, x: u32, y: u32) -> Put<()>
     fill_flags(v, x & y, x | y, x ^ y, inverted::<W>(y))
 }
 
-/// Where the inputs represent words and an assignment satisfies the constraints of `logic`, its
-/// answer has the words and flags of the four operations.
-pub fn logic_is_sound()
-    ensures { LogicIsSound }
-{}
-
-/// Where the inputs represent words and an assignment has the values that `fill_logic` assigns for
-/// them, it satisfies the constraints of `logic`.
-pub fn logic_is_complete()
-    ensures { LogicIsComplete }
-{}
-
-/// Says which wires `logic` returns and how many it makes, whatever the next wire is, and that
-/// `fill_logic` assigns one value to each of them, below the prime for words.
-#[tactic(auto, using(crate::proofs::LogicLaws::logic_sizes))]
-pub fn logic_fills()
-    ensures { LogicSizes }
+/// The laws of `logic`:
+/// - `sound`: where the inputs represent words and an assignment satisfies the constraints of
+///   `logic`, its answer has the words and flags of the four operations.
+/// - `complete`: where the inputs represent words and an assignment has the values that
+///   `fill_logic` assigns for them, it satisfies the constraints of `logic`.
+/// - `sizes`: which wires `logic` returns and how many it makes, whatever the next wire is, and
+///   that `fill_logic` assigns one value to each of them, below the prime for words.
+pub fn logic_laws()
+    ensures sound { LogicIsSound }
+    ensures complete { LogicIsComplete }
+    ensures sizes { LogicSizes }
 {}

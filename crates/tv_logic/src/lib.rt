@@ -12,5 +12,5 @@ mod gadget;
 mod words;
 
 pub use answers::{Logic, LogicFlags, LogicWords};
-pub use digits::{bitwise, bitwise_costs, bitwise_fills, bitwise_is_complete, bitwise_is_sound};
-pub use gadget::{fill_logic, logic, logic_fills, logic_is_complete, logic_is_sound};
+pub use digits::{bitwise, bitwise_laws};
+pub use gadget::{fill_logic, logic, logic_laws};

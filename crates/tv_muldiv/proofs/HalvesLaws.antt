@@ -14,9 +14,7 @@ use Rattle.tv_word.specs.Widths.{IsWidth}
 use Rattle.tv_muldiv.specs.Weighed.{halves_values}
 
 pub length-halves : (w v : ℕ) → length (halves_values w v) ≡ 2 * w
-length-halves w v =
-    length-append (each_below w (bit_at (v % 2 ^ w))) (each_below w (bit_at (v / 2 ^ w)))
-    ∙ omega (arith, length-each_below w (bit_at (v % 2 ^ w)), length-each_below w (bit_at (v / 2 ^ w)))
+length-halves w v = simp (length-append, length-each_below) (omega arith)
 
 pub halves_are : (w : ℕ) → IsWidth w → (z : List ℕ) (first v : ℕ) → v < 2 ^ (2 * w) → HasFrom z first (halves_values w v) → HasBits z first (2 * w) v
 halves_are w width z first v small has =

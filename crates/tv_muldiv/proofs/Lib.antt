@@ -1,4 +1,3 @@
-pub mod Examples
 pub mod HalvesLaws
 pub mod NormalLaws
 pub mod ProductLaws

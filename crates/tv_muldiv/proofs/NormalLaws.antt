@@ -2,7 +2,6 @@
 use Rattle.std.proofs.Common.{ℕ, ◌+◌, ◌-◌, ◌*◌, ◌<◌, ◌++◌, arith}
 use Rattle.tv_bits.proofs.NormalLaws.{wire_normal, less_normal, bits_normal, power_some, row_number_normal, times_normal, gated_normal}
 use Rattle.tv_bits.specs.Bits.{bits_combination}
-use Rattle.tv_bits.specs.DoubleRow.{row_number}
 use Rattle.tv_bits.specs.Gate.{gated_of}
 use Rattle.tv_bits.specs.Times.{times_of}
 use Rattle.tv_bits.specs.declared.bit_wires.Bits.{Bits}
@@ -17,7 +16,7 @@ use Rattle.tv_core.specs.Normal.{IsNormal, AreNormal}
 use Rattle.tv_core.specs.declared.field.TheConstants.{P}
 use Rattle.tv_muldiv.specs.RowDivision.{dividing, room_below, bits_less, row_division_of}
 use Rattle.tv_muldiv.specs.RowProduct.{row_product_of}
-use Rattle.tv_muldiv.specs.RowSignedProduct.{row_signed_product_of, sign_weight, signed_word, signed_row}
+use Rattle.tv_muldiv.specs.RowSignedProduct.{row_signed_product_of, sign_weight, signed_word}
 use Rattle.tv_word.proofs.WidthLaws.{width_short}
 use Rattle.tv_word.specs.Widths.{IsWidth}
 
@@ -33,7 +32,7 @@ weight_small n = omega arith
 
 -- ---- combinations
 word_normal : (w : ℕ) → IsWidth w → (x : SignedWord) → x.word < x.sign → IsNormal (signed_word w x)
-word_normal w width x rises = (omega arith, omega arith, omega arith, (omega arith, weight_some w width, weight_small w, tt))
+word_normal w width x rises = search (arith, weight_some, weight_small)
 
 -- ---- circuits
 -- the product of two wires
@@ -44,24 +43,14 @@ wires_normal x y next = times_normal (wire x) (wire y) next (wire_normal 0 x (om
 pub row_product_normal : (w : ℕ) → IsWidth w → (gate : Combination) (x y : ℕ) (row : DoubleRow) (next : ℕ) → IsNormal gate
     → row.low < row.high → row.high < next → AreNormal (row_product_of w gate x y row next).list
 unfolding row_product_of times_of gated_of fresh put pure ◌>>=◌
-row_product_normal w width gate x y row next g rises made =
-    let held = less_normal 0 next (row_number w row) (wire next) (row_number_normal 0 w width row (omega arith) rises) (omega arith) (omega arith)
-    (wire_normal next next (omega arith)) in
-    ((wires_normal x y next).0, gated_normal gate (row_number w row) (wire next) (next + 1) g held)
+row_product_normal w width gate x y row next g rises made = search (arith, less_normal, row_number_normal, wire_normal, wires_normal, gated_normal)
 
 pub row_signed_product_normal : (w : ℕ) → IsWidth w → (gate : Combination) (x y : SignedWord) (row : DoubleRow) (next : ℕ) → IsNormal gate
     → x.word < x.sign → y.word < y.sign → row.first + (2 * w - 1) < row.low → row.low < row.high → row.high < next
     → AreNormal (row_signed_product_of w gate x y row next).list
 unfolding row_signed_product_of times_of gated_of fresh put pure ◌>>=◌
 row_signed_product_normal w width gate x y row next g x_rises y_rises first rises made =
-    let product = times_normal (signed_word w x) (signed_word w y) next (word_normal w width x x_rises) (word_normal w width y y_rises) in
-    let held : IsNormal (less (signed_row w row) (wire next)) = (
-      omega arith,
-      long_weight_some w width,
-      weight_small (2 * w),
-      (omega arith, omega arith, omega arith, (omega arith, power_some w width, omega arith, (omega arith, omega arith, omega arith, tt))),
-    ) in
-    (product.0, gated_normal gate (signed_row w row) (wire next) (next + 1) g held)
+    search (arith, times_normal, word_normal, long_weight_some, weight_small, power_some, gated_normal)
 
 -- where the other word's wire is the first, then the divisor's, that of the test, and those of the row and the bits
 pub row_division_normal : (w : ℕ) → IsWidth w → (gate : Combination) (x y by_zero : ℕ) (bits : Bits) (row : DoubleRow) (next : ℕ) → IsNormal gate
@@ -71,25 +60,10 @@ unfolding row_division_of times_of gated_of fresh put pure ◌>>=◌
 row_division_normal w width gate x y f bits row next g some_x x_y y_f x_bits f_low made =
     let short = width_short w width in
     let spelled = IsNormalFrom-lower (x + 1) bits.first (bits_combination bits.first w) (omega arith) (bits_normal bits.first w (omega arith)) in
-    let divisor : IsNormal (wire y ++ wire f) = (omega arith, omega arith, omega arith, (omega arith, omega arith, omega arith, tt)) in
+    let divisor : IsNormal (wire y ++ wire f) = search arith in
     let product = times_normal (wire row.high) (wire y ++ wire f) (next + 1) (wire_normal 0 row.high (omega arith)) divisor in
-    let parts : IsNormal (less (wire x) (wire row.low ++ (wire next ++ wire (next + 1)))) = (
-      omega arith,
-      omega arith,
-      omega arith,
-      (omega arith, omega arith, omega arith, (omega arith, omega arith, omega arith, (omega arith, omega arith, omega arith, tt))),
-    ) in
+    let parts : IsNormal (less (wire x) (wire row.low ++ (wire next ++ wire (next + 1)))) = search arith in
     let held = gated_normal gate (wire x) (wire row.low ++ (wire next ++ wire (next + 1))) (next + 2) g parts in
-    let room : IsNormal (room_below w x y f row) = (
-      omega arith,
-      omega arith,
-      omega arith,
-      (
-        omega arith,
-        omega arith,
-        omega arith,
-        (omega arith, omega arith, omega arith, (omega arith, power_some w width, omega arith, (omega arith, omega arith, omega arith, tt))),
-      ),
-    ) in
+    let room : IsNormal (room_below w x y f row) = search (arith, power_some) in
     let tie = normal_put gate (room_below w x y f row) (bits_less w x bits) (next + 2) g room (omega arith, omega arith, omega arith, spelled) in
     ((wires_normal f x next).0, (product.0, (held.0, tie)))

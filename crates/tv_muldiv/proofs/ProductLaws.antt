@@ -42,9 +42,7 @@ product_small w width a b h k = let most = product_most w width a b h k in (grin
 
 -- the lowest bit of a product is the product of the lowest bits
 first_of_product : (a b : ℕ) → bit_at (a * b) 0 ≡ bit_at a 0 * bit_at b 0
-first_of_product a b =
-    let small = product_bit (a % 2) (b % 2) (omega arith) (omega arith) in
-    bit_at_lowest (a * b) ∙ mul-mod a b 2 ∙ mod-eq_of_lt small ∙ sym (ap₂ (λ m n. m * n) (bit_at_lowest a) (bit_at_lowest b))
+first_of_product a b = search (arith, product_bit, bit_at_lowest, mul-mod, mod-eq_of_lt)
 
 odd : (m n p w : ℕ) → bit_at m 0 ≡ p → IsBit p → p % P ≡ w → w ≡ bit_at n 0 → m % 2 ≡ n % 2
 odd m n p w lowest small whole same = sym (bit_at_lowest m) ∙ lowest ∙ sym (mod-eq_of_lt (let below : p < P = omega arith in below)) ∙ whole ∙ same
@@ -129,9 +127,7 @@ product_whole : (w : ℕ) → IsWidth w → (z : List ℕ) (x y : Bits) (next : 
     → Meets z (nonzero_of (bits_combination (next + w) w) (next + 2 * w)).list
     → Meets z (product_of w x y next).list
 unfolding product_of pure ◌>>=◌
-product_whole w width z x y next p q =
-    Meets-join z (product_bits_of w x y next).list _ p
-    (rw (product_bits_answer, product_bits_next w width x y next) (Meets-join z (nonzero_of (bits_combination (next + w) w) (next + 2 * w)).list [] q tt))
+product_whole w width z x y next p q = search (arith, Meets-join, product_bits_answer, product_bits_next)
 
 pub product_sound : ProductIsSound
 product_sound w width z next x y a b assigns p q meets =

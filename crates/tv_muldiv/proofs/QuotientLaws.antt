@@ -1,106 +1,80 @@
 -- The laws of the quotient.
-use Rattle.std.proofs.Common.{◌≡◌, ℕ, ◌+◌, ◌-◌, ◌*◌, ◌/◌, ◌%◌, ◌^◌, ◌<◌, List, [], ◌∷◌, ◌++◌, length, refl, sym, subst, ◌∙◌, ap, ap₂, arith, length-append}
+use Rattle.std.proofs.Common.{◌≡◌, ℕ, ◌+◌, ◌-◌, ◌*◌, ◌/◌, ◌%◌, ◌^◌, ◌<◌, List, []}
+use Rattle.std.proofs.Common.{◌∷◌, ◌++◌, length, inl, inr, refl, sym, subst, ◌∙◌, ap₂, arith, length-append}
 use Rattle.std.specs.Prelude.{slice_index}
 use Rattle.std.specs.Int.{bit_at}
+use Rattle.std.proofs.lemmas.Bool.{cases_lt}
 use Rattle.std.proofs.lemmas.Bool.Decides.{nat_tests}
 use Rattle.tv_core.proofs.BelowLaws.{length-each_below}
 use Rattle.tv_core.proofs.CombinationLaws.{value-append, value-scaled, value-less, value-wire, value-constant}
 use Rattle.tv_core.proofs.FieldLaws.{InField-cons, InField-append}
 use Rattle.tv_core.proofs.MeetsLaws.{Meets-split, Meets-join, HasFrom-split}
 use Rattle.tv_core.specs.Below.{each_below}
-use Rattle.tv_core.specs.Circuits.{fresh, put, pure, ◌>>=◌}
+use Rattle.tv_core.specs.Circuits.{here, fresh, put, pure, ◌>>=◌}
 use Rattle.tv_core.specs.Combinations.{wire, constant, scaled, less}
 use Rattle.tv_core.specs.Constraints.{value}
 use Rattle.tv_core.specs.Laws.{Assigns, Meets, HasFrom, InField}
 use Rattle.tv_core.specs.declared.field.TheConstants.{P}
-use Rattle.tv_bits.proofs.BitLaws.{bit_sound, bit_complete, bit_next}
 use Rattle.tv_bits.proofs.NewBitsLaws.{bits_are, bits_met}
 use Rattle.tv_bits.proofs.PrefixLaws.{prefix_difference_sound, prefix_difference_complete, prefix_difference_next, length-products, products_in_field}
-use Rattle.tv_bits.proofs.SizeLaws.{length-bits, bits_in_field, zero_flag-below}
-use Rattle.tv_bits.proofs.BitNumbers.{HasBits-below, HasBits-from_values, value-bits_below}
+use Rattle.tv_bits.proofs.SizeLaws.{bits_in_field, zero_flag-below}
+use Rattle.tv_bits.proofs.BitNumbers.{HasBits-below, HasBits-join, HasBits-from_values, value-bits_below}
 use Rattle.tv_bits.proofs.BitsLaws.{new_bits_answer, new_bits_next}
-use Rattle.tv_bits.specs.Bit.{IsBit, bit_of}
-use Rattle.tv_bits.specs.Bits.{HasBits, binary_value, bits_combination, bits_values, new_bits_of}
+use Rattle.tv_bits.specs.Bit.{IsBit}
+use Rattle.tv_bits.specs.Times.{times_of}
+use Rattle.tv_bits.specs.Bits.{HasBits, binary_value, bits_combination, new_bits_of}
 use Rattle.tv_bits.specs.Order.{IsPrefixDifference}
-use Rattle.tv_bits.specs.Prefixes.{prefix_less_in, prefix_difference_values}
+use Rattle.tv_bits.specs.Prefixes.{prefix_difference_values}
 use Rattle.tv_bits.specs.Zero.{zero_flag}
 use Rattle.tv_bits.specs.declared.bit_wires.Bits.{Bits}
 use Rattle.tv_word.proofs.WidthLaws.{width_short}
 use Rattle.tv_word.specs.Operations.{udiv_result, umod_result}
 use Rattle.tv_word.specs.Widths.{IsWidth}
 use Rattle.tv_muldiv.proofs.QuotientNumbers.{Divides, Divides-sound, Divides-complete, quotient-small, remainder-small, above-below, above-difference}
-use Rattle.tv_muldiv.specs.Quotient.{gate_in, above_in, words_values, above_values, zero_divisor_of, quotient_wires_of, gate_of}
+use Rattle.tv_muldiv.specs.Quotient.{gate_in, above_in, words_values, above_values, quotient_at, quotient_wires_of}
 use Rattle.tv_muldiv.specs.Quotient.{division_of, remainder_below_of, quotient_of, quotient_values, QuotientIsSound, QuotientIsComplete, QuotientSizes}
 use Rattle.tv_muldiv.specs.declared.records.Quot.{Quot}
 
--- the returned wires
-made_at : ℕ → ℕ → Quot
-made_at w next = record { quot = record { first = next; n = w }; rem = record { first = next + w; n = w }; by_zero = next + 2 * w }
-
 -- ---- where the parts end, and what they answer
-zero_divisor_answer : (w : ℕ) (y : Bits) (next : ℕ) → (zero_divisor_of w y next).answer ≡ next
-unfolding zero_divisor_of fresh put pure ◌>>=◌
-zero_divisor_answer w y next = refl
-
-zero_divisor_next : (w : ℕ) (y : Bits) (next : ℕ) → (zero_divisor_of w y next).next ≡ next + 1
-unfolding zero_divisor_of fresh put pure ◌>>=◌
-zero_divisor_next w y next = bit_next next (next + 1)
-
-quotient_wires_answer : (w : ℕ) (y : Bits) (next : ℕ) → (quotient_wires_of w y next).answer ≡ made_at w next
-unfolding quotient_wires_of pure ◌>>=◌ made_at
-quotient_wires_answer w y next =
-    let place : next + w + w ≡ next + 2 * w = omega arith in
-    simp (new_bits_answer, new_bits_next, zero_divisor_answer)
-    (ap (λ k. record { quot = record { first = next; n = w }; rem = record { first = next + w; n = w }; by_zero = k }) place)
+quotient_wires_answer : (w : ℕ) (y : Bits) (next : ℕ) → (quotient_wires_of w y next).answer ≡ quotient_at w next
+unfolding quotient_wires_of new_bits_of here put pure ◌>>=◌
+quotient_wires_answer w y next = refl
 
 quotient_wires_next : (w : ℕ) (y : Bits) (next : ℕ) → (quotient_wires_of w y next).next ≡ next + 2 * w + 1
-unfolding quotient_wires_of pure ◌>>=◌
-quotient_wires_next w y next =
-    let place : next + w + w + 1 ≡ next + 2 * w + 1 = omega arith in
-    simp (new_bits_next, zero_divisor_next) place
+unfolding quotient_wires_of put pure ◌>>=◌
+quotient_wires_next w y next = omega (arith, new_bits_next (2 * w + 1) next)
 
 division_next : (w : ℕ) (x y : Bits) (made : Quot) (next : ℕ) → (division_of w x y made next).next ≡ next + 1
-unfolding division_of gate_of fresh put pure ◌>>=◌
+unfolding division_of times_of fresh put pure ◌>>=◌
 division_next w x y made next = refl
 
 remainder_below_next : (w : ℕ) (y : Bits) (made : Quot) (next : ℕ) → (remainder_below_of w y made next).next ≡ next + (w / 4 + 2)
 unfolding remainder_below_of ◌>>=◌
 remainder_below_next w y made next = prefix_difference_next _ _ _ (w / 4) 4 (new_bits_of (w / 4) next).next ∙ omega (arith, new_bits_next (w / 4) next)
 
--- ---- the bit that is 1 where the divisor is 0
-module _ (w : ℕ) (width : IsWidth w) (z : List ℕ) (assigns : Assigns z) (y : Bits) (b : ℕ) (q : HasBits z y.first w b) (next : ℕ) where
-  divisor : value (wire next) z * value (bits_combination y.first w) z % P ≡ slice_index z next * b % P
-  divisor = let short = width_short w width in ap₂ (λ m n. m * n % P) (value-wire assigns next) (value-bits_below q (omega arith))
-
-  zero_divisor_sound : Meets z (zero_divisor_of w y next).list → IsBit (slice_index z next) × (slice_index z next * b % P ≡ 0)
-  unfolding zero_divisor_of fresh put pure ◌>>=◌
-  zero_divisor_sound meets =
-      let both = Meets-split z (bit_of next (next + 1)).list _ meets in
-      (bit_sound z (next + 1) next assigns both.0, sym divisor ∙ both.1.0)
-
-  zero_divisor_complete : IsBit (slice_index z next) → slice_index z next * b % P ≡ 0 → Meets z (zero_divisor_of w y next).list
-  unfolding zero_divisor_of fresh put pure ◌>>=◌
-  zero_divisor_complete bit none = Meets-join z (bit_of next (next + 1)).list _ (bit_complete z (next + 1) next assigns bit) (divisor ∙ none, tt)
-
 -- ---- the wires
-quotient_wires_parts : (w : ℕ) (z : List ℕ) (y : Bits) (next : ℕ) → Meets z (quotient_wires_of w y next).list
-    → Meets z (new_bits_of w next).list × Meets z (new_bits_of w (next + w)).list × Meets z (zero_divisor_of w y (next + 2 * w)).list
-unfolding quotient_wires_of pure ◌>>=◌
-quotient_wires_parts w z y next meets =
-    let place : next + w + w ≡ next + 2 * w = omega arith in
-    let first = Meets-split z (new_bits_of w next).list _ meets in
-    let second = Meets-split z (new_bits_of w (next + w)).list _ (rw (new_bits_next w next) at first.1) in
-    let third = Meets-split z (zero_divisor_of w y (next + 2 * w)).list [] (rw (new_bits_next, place) at second.1) in
-    (first.0, second.0, third.0)
+module _ (w : ℕ) (width : IsWidth w) (z : List ℕ) (assigns : Assigns z) (y : Bits) (b : ℕ) (q : HasBits z y.first w b) (next : ℕ) where
+  divisor : value (wire (next + 2 * w)) z * value (bits_combination y.first w) z % P ≡ slice_index z (next + 2 * w) * b % P
+  divisor = let short = width_short w width in ap₂ (λ m n. m * n % P) (value-wire assigns (next + 2 * w)) (value-bits_below q (omega arith))
 
-quotient_wires_whole : (w : ℕ) (z : List ℕ) (y : Bits) (next : ℕ) → Meets z (new_bits_of w next).list → Meets z (new_bits_of w (next + w)).list
-    → Meets z (zero_divisor_of w y (next + 2 * w)).list
-    → Meets z (quotient_wires_of w y next).list
-unfolding quotient_wires_of pure ◌>>=◌
-quotient_wires_whole w z y next p q r =
-    let place : next + w + w ≡ next + 2 * w = omega arith in
-    let last = Meets-join z (zero_divisor_of w y (next + 2 * w)).list [] r tt in
-    Meets-join z (new_bits_of w next).list _ p (rw (new_bits_next w next) (Meets-join z (new_bits_of w (next + w)).list _ q (rw (new_bits_next, place) last)))
+  quotient_wires_sound : Meets z (quotient_wires_of w y next).list
+      → ((i : ℕ) → i < 2 * w + 1 → IsBit (slice_index z (next + i))) × (slice_index z (next + 2 * w) * b % P ≡ 0)
+  unfolding quotient_wires_of new_bits_of here put pure ◌>>=◌
+  quotient_wires_sound meets =
+      let both = Meets-split z (new_bits_of (2 * w + 1) next).list _ meets in
+      let all = bits_are z (2 * w + 1) next assigns both.0 in
+      (all.bits, sym divisor ∙ both.1.0)
+
+  quotient_wires_complete : (quot rem : ℕ) → HasBits z next w quot → HasBits z (next + w) w rem → IsBit (slice_index z (next + 2 * w))
+      → slice_index z (next + 2 * w) * b % P ≡ 0 → Meets z (quotient_wires_of w y next).list
+  unfolding quotient_wires_of new_bits_of here put pure ◌>>=◌
+  quotient_wires_complete quot rem s t bit none =
+      let words = HasBits-join z next w w quot rem s t in
+      let each : (i : ℕ) → i < 2 * w + 1 → IsBit (slice_index z (next + i)) = λ i h. elim (cases_lt i (w + w)) [
+        | inl below ↦ words.bits i below
+        | inr last ↦ subst (λ k. IsBit (slice_index z k)) (let same : next + 2 * w ≡ next + i = omega arith in same) bit
+      ] in
+      Meets-join z (new_bits_of (2 * w + 1) next).list _ (bits_met z (2 * w + 1) next assigns each) (divisor ∙ none, tt)
 
 -- ---- the division
 module _ (w : ℕ) (width : IsWidth w) (z : List ℕ) (assigns : Assigns z) (x y : Bits) (a b quot rem : ℕ) (p : HasBits z x.first w a) (q : HasBits z y.first w b)
@@ -108,14 +82,7 @@ module _ (w : ℕ) (width : IsWidth w) (z : List ℕ) (assigns : Assigns z) (x y
     (s : HasBits z made.quot.first w quot) (t : HasBits z made.rem.first w rem) (next : ℕ) where
   gate_left : value (wire made.by_zero) z * value (bits_combination x.first w ++ scaled 1 (bits_combination made.quot.first w)) z % P
       ≡ slice_index z made.by_zero * ((a + quot) % P) % P
-  gate_left =
-      let short = width_short w width in
-      let small = HasBits-below p in
-      let sum : (a + 1 * quot % P) % P ≡ (a + quot) % P = omega arith in
-      let second = value-scaled 1 (bits_combination made.quot.first w) z ∙ ap (λ n. 1 * n % P) (value-bits_below s (omega arith)) in
-      ap₂ (λ m n. m * n % P) (value-wire assigns made.by_zero)
-      (value-append (bits_combination x.first w) (scaled 1 (bits_combination made.quot.first w)) z
-      ∙ ap₂ (λ m n. (m + n) % P) (value-bits_below p (omega arith)) second ∙ sum)
+  gate_left = search (arith, width_short, HasBits-below, value-scaled, value-bits_below, value-wire, value-append)
 
   whole_left : value (bits_combination made.quot.first w) z * value (bits_combination y.first w) z % P ≡ quot * b % P
   whole_left = let short = width_short w width in ap₂ (λ m n. m * n % P) (value-bits_below s (omega arith)) (value-bits_below q (omega arith))
@@ -132,13 +99,13 @@ module _ (w : ℕ) (width : IsWidth w) (z : List ℕ) (assigns : Assigns z) (x y
 
   division_sound : Meets z (division_of w x y made next).list
       → (slice_index z made.by_zero * ((a + quot) % P) % P ≡ slice_index z next) × (quot * b % P ≡ ((a + (P - rem)) % P + (P - slice_index z next)) % P)
-  unfolding division_of gate_of fresh put pure ◌>>=◌
+  unfolding division_of times_of fresh put pure ◌>>=◌
   division_sound meets = (sym gate_left ∙ meets.0 ∙ value-wire assigns next, sym whole_left ∙ meets.1.0 ∙ whole_right)
 
   division_complete : slice_index z made.by_zero * ((a + quot) % P) % P ≡ slice_index z next
       → quot * b % P ≡ ((a + (P - rem)) % P + (P - slice_index z next)) % P
       → Meets z (division_of w x y made next).list
-  unfolding division_of gate_of fresh put pure ◌>>=◌
+  unfolding division_of times_of fresh put pure ◌>>=◌
   division_complete e f = (gate_left ∙ e ∙ sym (value-wire assigns next), (whole_left ∙ f ∙ sym whole_right, tt))
 
 -- ---- the remainder below the divisor
@@ -183,51 +150,48 @@ module _ (w : ℕ) (width : IsWidth w) (z : List ℕ) (assigns : Assigns z) (y :
 -- ---- the quotient
 pub quotient_answer : (w : ℕ) (x y : Bits) (next : ℕ)
     → (quotient_of w x y next).answer ≡ record { quot = record { first = next; n = w }; rem = record { first = next + w; n = w }; by_zero = next + 2 * w }
-unfolding quotient_of pure ◌>>=◌ made_at
+unfolding quotient_of pure ◌>>=◌
 quotient_answer w x y next = quotient_wires_answer w y next
 
 pub quotient_next : (w : ℕ) (x y : Bits) (next : ℕ) → (quotient_of w x y next).next ≡ next + (2 * w + w / 4 + 4)
 unfolding quotient_of pure ◌>>=◌
-quotient_next w x y next =
-    let place : next + 2 * w + 1 + 1 + (w / 4 + 2) ≡ next + (2 * w + w / 4 + 4) = omega arith in
-    simp (remainder_below_next, division_next, quotient_wires_next) place
+quotient_next w x y next = search (arith, remainder_below_next, division_next, quotient_wires_next)
 
 quotient_parts : (w : ℕ) (z : List ℕ) (x y : Bits) (next : ℕ) → Meets z (quotient_of w x y next).list
-    → Meets z (quotient_wires_of w y next).list × Meets z (division_of w x y (made_at w next) (next + 2 * w + 1)).list
-    × Meets z (remainder_below_of w y (made_at w next) (next + 2 * w + 2)).list
+    → Meets z (quotient_wires_of w y next).list × Meets z (division_of w x y (quotient_at w next) (next + 2 * w + 1)).list
+    × Meets z (remainder_below_of w y (quotient_at w next) (next + 2 * w + 2)).list
 unfolding quotient_of pure ◌>>=◌
 quotient_parts w z x y next meets =
     let place : next + 2 * w + 1 + 1 ≡ next + 2 * w + 2 = omega arith in
     let first = Meets-split z (quotient_wires_of w y next).list _ meets in
-    let second = Meets-split z (division_of w x y (made_at w next) (next + 2 * w + 1)).list _ (rw (quotient_wires_answer, quotient_wires_next) at first.1) in
-    let third = Meets-split z (remainder_below_of w y (made_at w next) (next + 2 * w + 2)).list [] (rw (division_next, place) at second.1) in
+    let second = Meets-split z (division_of w x y (quotient_at w next) (next + 2 * w + 1)).list _ (rw (quotient_wires_answer, quotient_wires_next)
+    at first.1) in
+    let third = Meets-split z (remainder_below_of w y (quotient_at w next) (next + 2 * w + 2)).list [] (rw (division_next, place) at second.1) in
     (first.0, second.0, third.0)
 
 quotient_whole : (w : ℕ) (z : List ℕ) (x y : Bits) (next : ℕ) → Meets z (quotient_wires_of w y next).list
-    → Meets z (division_of w x y (made_at w next) (next + 2 * w + 1)).list
-    → Meets z (remainder_below_of w y (made_at w next) (next + 2 * w + 2)).list → Meets z (quotient_of w x y next).list
+    → Meets z (division_of w x y (quotient_at w next) (next + 2 * w + 1)).list
+    → Meets z (remainder_below_of w y (quotient_at w next) (next + 2 * w + 2)).list → Meets z (quotient_of w x y next).list
 unfolding quotient_of pure ◌>>=◌
-quotient_whole w z x y next p q r =
-    let place : next + 2 * w + 1 + 1 ≡ next + 2 * w + 2 = omega arith in
-    let last = Meets-join z (remainder_below_of w y (made_at w next) (next + 2 * w + 2)).list [] r tt in
-    Meets-join z (quotient_wires_of w y next).list _ p
-    (rw (quotient_wires_answer, quotient_wires_next)
-    (Meets-join z (division_of w x y (made_at w next) (next + 2 * w + 1)).list _ q (rw (division_next, place) last)))
+quotient_whole w z x y next p q r = search (arith, Meets-join, quotient_wires_answer, quotient_wires_next, division_next)
 
 pub quotient_sound : QuotientIsSound
-unfolding made_at
 quotient_sound w width z next x y a b assigns p q meets =
     let all = quotient_parts w z x y next meets in
-    let wires = quotient_wires_parts w z y next all.0 in
+    let wires = quotient_wires_sound w width z assigns y b q next all.0 in
     let quot = binary_value z next w in
     let rem = binary_value z (next + w) w in
-    let s = bits_are z w next assigns wires.0 in
-    let t = bits_are z w (next + w) assigns wires.1 in
-    let flag = zero_divisor_sound w width z assigns y b q (next + 2 * w) wires.2 in
-    let whole = division_sound w width z assigns x y a b quot rem p q (made_at w next) s t (next + 2 * w + 1) all.1 in
+    let s : HasBits z next w quot = record { bits = λ i h. wires.0 i (omega arith); number = refl } in
+    let t : HasBits z (next + w) w rem = record {
+      bits = λ i h. let place : next + (w + i) ≡ next + w + i = omega arith in
+          subst (λ k. IsBit (slice_index z k)) place (wires.0 (w + i) (omega arith));
+      number = refl;
+    } in
+    let bit = wires.0 (2 * w) (omega arith) in
+    let whole = division_sound w width z assigns x y a b quot rem p q (quotient_at w next) s t (next + 2 * w + 1) all.1 in
     let found = remainder_below_sound w width z assigns y b rem q (record { first = next; n = w }) (next + w) (next + 2 * w) t (next + 2 * w + 2) all.2 in
     let divides : Divides w a b quot rem (slice_index z (next + 2 * w))
-    (slice_index z (next + 2 * w + 1)) found.0 = record { bit = flag.0; zero = flag.1; gated = whole.0; whole = whole.1; below = found.2 } in
+    (slice_index z (next + 2 * w + 1)) found.0 = record { bit = bit; zero = wires.1; gated = whole.0; whole = whole.1; below = found.2 } in
     let divided = Divides-sound w width a b quot rem (slice_index z (next + 2 * w)) (slice_index z (next + 2 * w + 1)) found.0
     (HasBits-below p) (HasBits-below q) (HasBits-below s) (HasBits-below t) found.1 divides in
     rw quotient_answer (record {
@@ -237,12 +201,9 @@ quotient_sound w width z next x y a b assigns p q meets =
     })
 
 length-words : (w a b : ℕ) → length (words_values w a b) ≡ 2 * w
-length-words w a b =
-    length-append (each_below w (bit_at (udiv_result a b))) (each_below w (bit_at (umod_result a b)))
-    ∙ omega (arith, length-each_below w (bit_at (udiv_result a b)), length-each_below w (bit_at (umod_result a b)))
+length-words w a b = simp (length-append, length-each_below) (omega arith)
 
 pub quotient_complete : QuotientIsComplete
-unfolding made_at
 quotient_complete w width z next x y a b assigns p q has =
     let a_small = HasBits-below p in
     let b_small = HasBits-below q in
@@ -260,9 +221,8 @@ quotient_complete w width z next x y a b assigns p q has =
     let divides = Divides-complete w width a b a_small b_small in
     let flag : slice_index z (next + 2 * w) ≡ zero_flag b = both.1.0 in
     let difference = above-difference w width a b b_small in
-    let wires = quotient_wires_whole w z y next (bits_met z w next assigns s.bits) (bits_met z w (next + w) assigns t.bits)
-    (zero_divisor_complete w width z assigns y b q (next + 2 * w) (rw flag divides.bit) (rw flag divides.zero)) in
-    let division = division_complete w width z assigns x y a b (udiv_result a b) (umod_result a b) p q (made_at w next) s t (next + 2 * w + 1)
+    let wires = quotient_wires_complete w width z assigns y b q next (udiv_result a b) (umod_result a b) s t (rw flag divides.bit) (rw flag divides.zero) in
+    let division = division_complete w width z assigns x y a b (udiv_result a b) (umod_result a b) p q (quotient_at w next) s t (next + 2 * w + 1)
     (rw (flag, gate) divides.gated) (rw gate divides.whole) in
     let below = remainder_below_complete w width z assigns y b (umod_result a b) q (record { first = next; n = w }) (next + w) (next + 2 * w) t
     (next + 2 * w + 2) (above - 1) above bits
@@ -271,29 +231,17 @@ quotient_complete w width z next x y a b assigns p q has =
 
 -- ---- how many values there are, and that they are numbers of the field
 length-above : (w a b : ℕ) → length (above_values w a b) ≡ w / 4 + 2
-length-above w a b =
-    length-append (bits_values (above_in w a b - 1) (w / 4)) (prefix_difference_values b (umod_result a b) (above_in w a b) (w / 4) 4)
-    ∙ omega (arith, length-bits (above_in w a b - 1) (w / 4), length-products (λ j. prefix_less_in b (umod_result a b) (above_in w a b) (w / 4 * j)) 4)
+length-above w a b = simp (length-append, length-each_below, length-products) (omega arith)
 
 length-quotient_values : (w a b : ℕ) → length (quotient_values w a b) ≡ 2 * w + w / 4 + 4
-length-quotient_values w a b =
-    length-append (words_values w a b) (zero_flag b ∷ gate_in a b ∷ above_values w a b) ∙ omega (arith, length-words w a b, length-above w a b)
+length-quotient_values w a b = simp (length-append, length-each_below, length-products) (omega arith)
 
 gate-small : (w : ℕ) → IsWidth w → (a b : ℕ) → a < 2 ^ w → gate_in a b < P
 gate-small w width a b h = grind (arith, nat_tests)
 
 quotient_in_field : (w : ℕ) → IsWidth w → (a b : ℕ) → a < 2 ^ w → InField (quotient_values w a b)
 quotient_in_field w width a b h =
-    let quot = bits_values (udiv_result a b) w in
-    let rem = bits_values (umod_result a b) w in
-    let bits = bits_values (above_in w a b - 1) (w / 4) in
-    let products = prefix_difference_values b (umod_result a b) (above_in w a b) (w / 4) 4 in
-    let words_in = InField-append quot rem (bits_in_field (udiv_result a b) w) (bits_in_field (umod_result a b) w) in
-    let products_in = products_in_field (λ j. prefix_less_in b (umod_result a b) (above_in w a b) (w / 4 * j)) 4 in
-    let rest_in = InField-append bits products (bits_in_field (above_in w a b - 1) (w / 4)) products_in in
-    let gate_small = InField-cons (gate_in a b) (bits ++ products) (gate-small w width a b h) rest_in in
-    let flag_small = InField-cons (zero_flag b) (gate_in a b ∷ (bits ++ products)) (zero_flag-below b) gate_small in
-    InField-append (quot ++ rem) (zero_flag b ∷ gate_in a b ∷ (bits ++ products)) words_in flag_small
+    search (arith, InField-append, InField-cons, bits_in_field, products_in_field, zero_flag-below, gate-small)
 
 pub quotient_sizes : QuotientSizes
 quotient_sizes = record {

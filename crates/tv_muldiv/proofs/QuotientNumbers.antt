@@ -45,16 +45,10 @@ gate-other : (a b : ℕ) → b ≢ 0 → gate_in a b ≡ 0
 gate-other a b some = grind (arith, nat_tests)
 
 pub quotient-small : (a b most : ℕ) → a < most → udiv_result a b < most
-quotient-small a b most h = elim (cases_eq b 0) [
-  | inl none ↦ omega (arith, quotient-zero a b none)
-  | inr some ↦ omega (arith, quotient-other a b some, div-le_self a b)
-]
+quotient-small a b most h = let less = div-le_self a b in grind (arith, nat_tests)
 
 pub remainder-small : (a b most : ℕ) → b < most → umod_result a b < most
-remainder-small a b most h = elim (cases_eq b 0) [
-  | inl none ↦ omega (arith, remainder-zero a b none)
-  | inr some ↦ let less : a % b < b = mod-lt a (omega arith) in omega (arith, remainder-other a b some)
-]
+remainder-small a b most h = grind (arith, nat_tests, mod-lt)
 
 pub remainder-below : (a b : ℕ) → b ≢ 0 → umod_result a b < b
 remainder-below a b some = let less : a % b < b = mod-lt a (omega arith) in omega (arith, remainder-other a b some)
@@ -81,10 +75,7 @@ module _ (w : ℕ) (width : IsWidth w) (a b : ℕ) where
   ]
 
   above-is : b < 2 ^ w → IsPrefixDifference (w / 4) 4 b (umod_result a b) (above_in w a b)
-  above-is h = elim (cases_eq b 0) [
-    | inl none ↦ rw (above-zero none, remainder-zero a b none, none) (IsPrefixDifference-none (w / 4) 4 0 (grind arith) (grind arith))
-    | inr some ↦ IsPrefixDifference-first w (w / 4) 4 b (umod_result a b) (grind arith) (grind arith) h (remainder-below a b some)
-  ]
+  above-is h = search (arith, cases_eq, above-zero, remainder-zero, IsPrefixDifference-none, IsPrefixDifference-first, remainder-below)
 
 -- ---- from the constraints to the division
 no_gate : (flag c gate : ℕ) → flag ≡ 0 → flag * c % P ≡ gate → gate ≡ 0
@@ -138,31 +129,19 @@ module _ (w : ℕ) (width : IsWidth w) (a b q r by_zero gate above : ℕ) (h : a
 -- ---- and the other way round
 module _ (w : ℕ) (width : IsWidth w) (a b : ℕ) (h : a < 2 ^ w) (k : b < 2 ^ w) where
   flag_bit : IsBit (zero_flag b)
-  flag_bit = elim (cases_eq b 0) [ inl none ↦ omega (arith, zero_flag-zero b none) | inr some ↦ omega (arith, zero_flag-other b some) ]
+  flag_bit = grind (arith, nat_tests)
 
   no_divisor : zero_flag b * b % P ≡ 0
-  no_divisor = elim (cases_eq b 0) [
-    | inl none ↦ ap (λ n. zero_flag b * n % P) none ∙ ap (λ n. n % P) (mul-zero (zero_flag b))
-    | inr some ↦ ap (λ n. n * b % P) (zero_flag-other b some) ∙ ap (λ n. n % P) (zero-mul b)
-  ]
+  no_divisor = grind (arith, nat_tests)
 
   gated : zero_flag b * ((a + udiv_result a b) % P) % P ≡ gate_in a b
-  gated = elim (cases_eq b 0) [
-    | inl none ↦ ap (λ n. n * ((a + udiv_result a b) % P) % P) (zero_flag-zero b none)
-        ∙ (let quot = quotient-zero a b none in let gate = gate-zero a b none in grind arith)
-    | inr some ↦ ap (λ n. n * ((a + udiv_result a b) % P) % P) (zero_flag-other b some) ∙ ap (λ n. n % P) (zero-mul ((a + udiv_result a b) % P))
-        ∙ sym (gate-other a b some)
-  ]
+  gated = grind (arith, nat_tests)
 
   whole_some : b ≢ 0 → udiv_result a b * b + umod_result a b ≡ a
   whole_some some = ap₂ (λ m n. m * b + n) (quotient-other a b some) (remainder-other a b some) ∙ ap (λ n. n + a % b) (mul_comm (a / b) b) ∙ div-add-mod a b
 
   whole : udiv_result a b * b % P ≡ ((a + (P - umod_result a b)) % P + (P - gate_in a b)) % P
-  whole = elim (cases_eq b 0) [
-    | inl none ↦ ap (λ n. udiv_result a b * n % P) none ∙ ap (λ n. n % P) (mul-zero (udiv_result a b))
-        ∙ (let rem = remainder-zero a b none in let gate = gate-zero a b none in grind arith)
-    | inr some ↦ let whole = whole_some some in let gate = gate-other a b some in grind arith
-  ]
+  whole = search (arith, cases_eq, mul-zero)
 
   pub Divides-complete : Divides w a b (udiv_result a b) (umod_result a b) (zero_flag b) (gate_in a b) (above_in w a b - 1)
   Divides-complete = record {

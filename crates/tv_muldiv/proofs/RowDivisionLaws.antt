@@ -6,7 +6,7 @@ use Rattle.tv_bits.proofs.GateLaws.{gated_sound, gated_complete}
 use Rattle.tv_bits.proofs.BitNumbers.{HasBits-below, value-bits_below}
 use Rattle.tv_bits.proofs.TimesLaws.{times_sound, times_complete, residue_below}
 use Rattle.tv_bits.specs.Bit.{IsBit}
-use Rattle.tv_bits.specs.Bits.{HasBits, bits_combination}
+use Rattle.tv_bits.specs.Bits.{HasBits}
 use Rattle.tv_bits.specs.DoubleRow.{IsRow}
 use Rattle.tv_bits.specs.Gate.{gated_of}
 use Rattle.tv_bits.specs.Times.{times_of}
@@ -66,9 +66,7 @@ module _ (z : List ℕ) (assigns : Assigns z) where
 
   value-bits_less : (w : ℕ) → IsWidth w → (x : ℕ) (bits : Bits) (v : ℕ) → HasBits z bits.first w v
       → value (bits_less w x bits) z ≡ ((P - 1) * slice_index z x + v) % P
-  value-bits_less w width x bits v s =
-      let short = width_short w width in
-      value-cons (P - 1) x (bits_combination bits.first w) z ∙ ap (λ n. ((P - 1) * slice_index z x + n) % P) (value-bits_below s (omega arith))
+  value-bits_less w width x bits v s = search (arith, width_short, value-cons, value-bits_below)
 
 -- the tie of the bits, as numbers: x, y, the low half, the bit's part, and the bits' number
 tie_on : (a b l f v : ℕ) → (P - 1 + (P - 1) * a + b + (P - 1) * l + f) % P ≡ ((P - 1) * a + v) % P → (b + f) % P ≡ (1 + l + v) % P
@@ -94,9 +92,7 @@ module _ (w : ℕ) (width : IsWidth w) (z : List ℕ) (next : ℕ) (gate : Combi
   product_is : Meets z (row_division_of w gate (dividing x y by_zero) bits row next).list
       → slice_index z (next + 1) ≡ slice_index z row.high * ((slice_index z y + slice_index z by_zero) % P) % P
   unfolding row_division_of times_of fresh put pure ◌>>=◌
-  product_is meets =
-      times_sound z (next + 1) (wire row.high) (wire y ++ wire by_zero) assigns (meets.1.0, tt)
-      ∙ ap₂ (λ m n. m * n % P) (value-wire assigns row.high) (value-two z assigns y by_zero)
+  product_is meets = search (arith, times_sound, value-wire, value-two)
 
   parts_are : value gate z ≡ 1 → Meets z (row_division_of w gate (dividing x y by_zero) bits row next).list
       → slice_index z x ≡ (slice_index z row.low + slice_index z next + slice_index z (next + 1)) % P
@@ -140,11 +136,7 @@ module _ (w : ℕ) (width : IsWidth w) (z : List ℕ) (next : ℕ) (gate : Combi
   -- ---- the other way round
   products_met : HasFrom z next (row_division_values (slice_index z by_zero) (slice_index z x) (slice_index z row.high) (slice_index z y))
       → Meets z (times_of (wire by_zero) (wire x) next).list × Meets z (times_of (wire row.high) (wire y ++ wire by_zero) (next + 1)).list
-  products_met has = (
-    times_complete z next (wire by_zero) (wire x) assigns (has.0 ∙ sym (ap₂ (λ m n. m * n % P) (value-wire assigns by_zero) (value-wire assigns x)), tt),
-    times_complete z (next + 1) (wire row.high) (wire y ++ wire by_zero) assigns
-        (has.1.0 ∙ sym (ap₂ (λ m n. m * n % P) (value-wire assigns row.high) (value-two z assigns y by_zero)), tt),
-  )
+  products_met has = search (arith, times_complete, value-wire, value-two)
 
   met_by : HasFrom z next (row_division_values (slice_index z by_zero) (slice_index z x) (slice_index z row.high) (slice_index z y))
       → Meets z (gated_of gate (wire x) sums (next + 2)).list
@@ -213,19 +205,10 @@ kept_times w z next gate x y flag bits row assigns meets = times_sound z next (w
     ∙ ap₂ (λ m n. m * n % P) (value-wire assigns flag) (value-wire assigns x)
 
 pub row_division_sound : RowDivisionIsSound
-row_division_sound = record {
-  kept = kept_times;
-  on = λ w width z next gate x y by_zero bits row v assigns. on_by w width z next gate x y by_zero bits row assigns v;
-  off = λ w width z next gate x y by_zero bits row v assigns. off_by w width z next gate x y by_zero bits row assigns v;
-}
+row_division_sound = search (arith, kept_times, on_by, off_by)
 
 pub row_division_complete : RowDivisionIsComplete
-row_division_complete = record {
-  row = division_row;
-  bits = below_word;
-  on = λ w width z next gate x y by_zero bits row assigns. on_met w width z next gate x y by_zero bits row assigns;
-  off = λ w width z next gate x y by_zero bits row assigns. off_met w width z next gate x y by_zero bits row assigns;
-}
+row_division_complete = search (arith, division_row, below_word, on_met, off_met)
 
 pub row_division_sizes : RowDivisionSizes
 row_division_sizes = record {
@@ -248,3 +231,5 @@ row_division_terms w gate x y flag bits row next = omega (arith, length-weighted
 
 pub row_division_cost_laws : RowDivisionCosts
 row_division_cost_laws = record { constraints = row_division_constraints; terms = row_division_terms }
+
+pub ruleset row_division_laws = (row_division_sound, row_division_complete, row_division_sizes, row_division_cost_laws)

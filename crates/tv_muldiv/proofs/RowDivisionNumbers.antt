@@ -40,10 +40,7 @@ module _ (w : ℕ) (width : IsWidth w) (a b low high by_zero kept product bits :
     (r : IsRow w low high) (d : Divides w a b low high by_zero kept product bits) where
   -- the product as a whole number and the sum, modulo P
   sum : a % P ≡ (low + kept + high * (b + by_zero)) % P
-  sum =
-      let p : product % P ≡ high * (b + by_zero) % P = ap (λ n. n % P) (sym d.multiplies) ∙ mod-mod (high * ((b + by_zero) % P)) P
-      ∙ mul-mod_second high (b + by_zero) P in
-      d.parts ∙ add-mod_same (low + kept) (low + kept) product (high * (b + by_zero)) P refl p
+  sum = search (arith, mod-mod, mul-mod_second, add-mod_same)
 
   -- the divisor is another than 0
   some_divisor : by_zero ≡ 0 → IsDivided a b low high by_zero
@@ -89,10 +86,7 @@ module _ (w : ℕ) (width : IsWidth w) (a b low high by_zero kept product bits :
       record { quot = quot ∙ sym (none_if b (a / b) zero); rem = rem ∙ sym (none_if b (a % b) zero); zero = one ∙ sym (zero_flag-zero b zero) }
 
   pub Divides-sound : IsDivided a b low high by_zero
-  Divides-sound = elim (cases_eq by_zero 0) [
-    | inl none ↦ some_divisor none
-    | inr some ↦ no_divisor (omega arith)
-  ]
+  Divides-sound = search (arith, cases_eq, some_divisor, no_divisor)
 
 -- ---- the honest division
 parts_some : (a b : ℕ) → b ≢ 0 → udiv_result a b * b + umod_result a b ≡ a
@@ -106,20 +100,10 @@ edge_some w a b h some full =
 
 module _ (w : ℕ) (width : IsWidth w) (a b : ℕ) (h : a < 2 ^ w) (k : b < 2 ^ w) where
   pub division_row : IsRow w (umod_result a b) (udiv_result a b)
-  division_row = elim (cases_eq b 0) [
-    | inl none ↦ let q = quotient-zero a b none in let r = remainder-zero a b none in record { low_word = grind arith; high_word = grind arith; edge = λ e. r }
-    | inr some ↦
-        let q = quotient-other a b some in
-        let less = remainder-below a b some in
-        let most = div-le_self a b in
-        record { low_word = omega arith; high_word = omega arith; edge = edge_some w a b h some }
-  ]
+  division_row = search (arith, cases_eq, quotient-zero, remainder-zero, quotient-other, remainder-below, div-le_self, edge_some)
 
   pub below_word : below_divisor w a b < 2 ^ w
-  below_word = elim (cases_eq b 0) [
-    | inl none ↦ let z = zero_flag-zero b none in let r = remainder-zero a b none in grind arith
-    | inr some ↦ let z = zero_flag-other b some in let less = remainder-below a b some in grind arith
-  ]
+  below_word = search (arith, cases_eq, zero_flag-zero, remainder-zero, zero_flag-other, remainder-below)
 
   met_zero : b ≡ 0 → Divides w a b (umod_result a b) (udiv_result a b) (zero_flag b) (zero_flag b * a % P) (udiv_result a b * ((b + zero_flag b) % P) % P)
       (below_divisor w a b)

@@ -1,5 +1,5 @@
 -- The laws of a product in a row.
-use Rattle.std.proofs.Common.{◌≡◌, ℕ, ◌+◌, ◌-◌, ◌*◌, ◌%◌, ◌^◌, ◌<◌, ◌≤◌, List, length, sym, ◌∙◌, ap, ap₂, arith}
+use Rattle.std.proofs.Common.{◌≡◌, ℕ, ◌+◌, ◌-◌, ◌*◌, ◌%◌, ◌^◌, ◌<◌, ◌≤◌, List, length, ◌∙◌, arith}
 use Rattle.std.specs.Prelude.{slice_index}
 use Rattle.std.proofs.lemmas.Nat.{mul-le}
 use Rattle.tv_bits.proofs.DoubleRowLaws.{value-row_number}
@@ -7,8 +7,7 @@ use Rattle.tv_bits.proofs.GateLaws.{gated_sound, gated_complete, gated_next, gat
 use Rattle.tv_bits.proofs.RowNumbers.{row_below, row_is, row_low, row_high, row_of, row_whole}
 use Rattle.tv_bits.proofs.TimesLaws.{times_sizes}
 use Rattle.tv_bits.proofs.WireProducts.{wires_sound, wires_complete}
-use Rattle.tv_bits.specs.DoubleRow.{whole, row_number}
-use Rattle.tv_bits.specs.Gate.{gated_of}
+use Rattle.tv_bits.specs.DoubleRow.{row_number}
 use Rattle.tv_bits.specs.Times.{times_of}
 use Rattle.tv_bits.specs.declared.double_rows.DoubleRow.{DoubleRow}
 use Rattle.tv_core.proofs.CombinationLaws.{value-wire}
@@ -32,22 +31,11 @@ product_short w width a b h k = let most = mul-le a b (2 ^ w - 1) (2 ^ w - 1) (o
 pub row_product_sound : RowProductIsSound
 unfolding row_product_of times_of fresh put pure ◌>>=◌
 row_product_sound w width z next gate x y row assigns one a_word b_word r meets =
-    let low = slice_index z row.low in
-    let high = slice_index z row.high in
-    let a = slice_index z x in
-    let b = slice_index z y in
-    let same = sym (value-row_number w z row assigns) ∙ gated_sound z (next + 1) gate (row_number w row) (wire next) one meets.1 ∙ value-wire assigns next
-    ∙ wires_sound z next x y assigns (meets.0, tt) in
-    let is : whole w low high ≡ a * b = row_is (whole w low high) (a * b) (row_below w width low high r) (product_small w width a b a_word b_word) same in
-    record { low = row_low w width low high (a * b) r.low_word is; high = row_high w width low high (a * b) r.low_word is }
+    search (arith, value-row_number, gated_sound, value-wire, wires_sound, row_is, row_below, product_small, row_low, row_high)
 
 row_product_on : (w : ℕ) (z : List ℕ) (next x y : ℕ) (row : DoubleRow) → Assigns z → IsRowProduct w z row (slice_index z x) (slice_index z y)
     → slice_index z next ≡ slice_index z x * slice_index z y % P → value (row_number w row) z ≡ value (wire next) z
-row_product_on w z next x y row assigns is product =
-    let a = slice_index z x in
-    let b = slice_index z y in
-    let numbers : whole w (slice_index z row.low) (slice_index z row.high) ≡ a * b = ap₂ (whole w) is.low is.high ∙ row_whole w (a * b) in
-    value-row_number w z row assigns ∙ ap (λ n. n % P) numbers ∙ sym product ∙ sym (value-wire assigns next)
+row_product_on w z next x y row assigns is product = search (arith, row_whole, value-row_number, value-wire)
 
 pub row_product_complete : RowProductIsComplete
 unfolding row_product_of times_of fresh put pure ◌>>=◌
@@ -79,12 +67,9 @@ row_product_constraints w gate x y row next = omega (arith, gated_constraints ga
 
 row_product_terms : (w : ℕ) (gate : Combination) (x y : ℕ) (row : DoubleRow) (next : ℕ) → terms_in (row_product_of w gate x y row next).list ≡ length gate + 6
 unfolding row_product_of times_of fresh put pure ◌>>=◌
-row_product_terms w gate x y row next =
-    omega (
-      arith,
-      terms-append (times_of (wire x) (wire y) next).list (gated_of gate (row_number w row) (wire next) (next + 1)).list,
-      gated_terms gate (row_number w row) (wire next) (next + 1),
-    )
+row_product_terms w gate x y row next = search (arith, terms-append, gated_terms)
 
 pub row_product_cost_laws : RowProductCosts
 row_product_cost_laws = record { constraints = row_product_constraints; terms = row_product_terms }
+
+pub ruleset row_product_laws = (row_product_sound, row_product_complete, row_product_sizes, row_product_cost_laws)

@@ -8,7 +8,6 @@ use Rattle.tv_bits.proofs.RowNumbers.{row_low, row_high, row_whole}
 use Rattle.tv_bits.proofs.BitNumbers.{HasBits-below, HasBits-bit_at}
 use Rattle.tv_bits.proofs.TimesLaws.{times_sound, times_complete, times_sizes}
 use Rattle.tv_bits.specs.DoubleRow.{HasRowBits, whole, row_number}
-use Rattle.tv_bits.specs.Gate.{gated_of}
 use Rattle.tv_bits.specs.Nonzero.{nonzero_flag}
 use Rattle.tv_bits.specs.SignedWords.{HoldsSigned}
 use Rattle.tv_bits.specs.Times.{times_of}
@@ -74,10 +73,7 @@ module _ (z : List ℕ) (assigns : Assigns z) where
 
   value-product : (w : ℕ) → IsWidth w → (x y : SignedWord) (a b : ℕ) → HoldsSigned w z x a → HoldsSigned w z y b
       → value (signed_word w x) z * value (signed_word w y) z % P ≡ signed_value w a * signed_value w b % P
-  value-product w width x y a b p q =
-      let left = value-signed_word w x ∙ ap₂ (signed_in w) p.word p.sign ∙ signed_in_is w width a p.small in
-      let right = value-signed_word w y ∙ ap₂ (signed_in w) q.word q.sign ∙ signed_in_is w width b q.small in
-      ap₂ (λ m n. m * n % P) left right
+  value-product w width x y a b p q = search (arith, value-signed_word, signed_in_is)
 
   value-signed_row : (w : ℕ) → IsWidth w → (row : DoubleRow) → HasRowBits w z row
       → value (signed_row w row) z ≡ signed_value (2 * w) (whole w (slice_index z row.low) (slice_index z row.high))
@@ -128,12 +124,7 @@ on_values w width z next x y row a b assigns p q s is product =
 product_met : (w : ℕ) (z : List ℕ) (next : ℕ) (x y : SignedWord) → Assigns z
     → HasFrom z next (row_signed_product_values w (slice_index z x.word) (slice_index z x.sign) (slice_index z y.word) (slice_index z y.sign))
     → Meets z (times_of (signed_word w x) (signed_word w y) next).list
-product_met w z next x y assigns has =
-    times_complete z next (signed_word w x) (signed_word w y) assigns (
-      has.0
-          ∙ sym (ap₂ (λ m n. m * n % P) (value-signed_word z assigns w x) (value-signed_word z assigns w y)),
-      tt,
-    )
+product_met w z next x y assigns has = search (arith, times_complete, value-signed_word)
 
 pub row_signed_product_complete : RowSignedProductIsComplete
 unfolding row_signed_product_of times_of fresh put pure ◌>>=◌
@@ -172,12 +163,7 @@ row_signed_product_constraints w gate x y row next = omega (arith, gated_constra
 row_signed_product_terms : (w : ℕ) (gate : Combination) (x y : SignedWord) (row : DoubleRow) (next : ℕ)
     → terms_in (row_signed_product_of w gate x y row next).list ≡ length gate + 9
 unfolding row_signed_product_of times_of fresh put pure ◌>>=◌
-row_signed_product_terms w gate x y row next =
-    omega (
-      arith,
-      terms-append (times_of (signed_word w x) (signed_word w y) next).list (gated_of gate (signed_row w row) (wire next) (next + 1)).list,
-      gated_terms gate (signed_row w row) (wire next) (next + 1),
-    )
+row_signed_product_terms w gate x y row next = search (arith, terms-append, gated_terms)
 
 pub row_signed_product_cost_laws : RowSignedProductCosts
 row_signed_product_cost_laws = record { constraints = row_signed_product_constraints; terms = row_signed_product_terms }

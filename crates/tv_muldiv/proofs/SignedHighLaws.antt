@@ -39,11 +39,7 @@ value-more z first n v c w short s =
 
 module _ (z : List ℕ) where
   value-signed : (first n v : ℕ) → 1 ≤ n → n ≤ 64 → HasBits z first n v → value (signed_combination first n) z ≡ signed_value n v
-  value-signed first n v some short s =
-      let parts : n ≡ n - 1 + 1 = omega arith in
-      let low = HasBits-low z first (n - 1) 1 v (subst (λ k. HasBits z first k v) parts s) in
-      value-more z first (n - 1) (v % 2 ^ (n - 1)) ((P - 2 ^ (n - 1) % P) % P) (first + (n - 1)) (omega arith) low
-      ∙ ap (λ b. (v % 2 ^ (n - 1) + (P - 2 ^ (n - 1) % P) % P * b) % P) (HasBits-bit_at s (n - 1) (omega arith))
+  value-signed first n v some short s = search (arith, HasBits-low, value-more, HasBits-bit_at)
 
   module _ (w : ℕ) (width : IsWidth w) where
     value-excess : (first n : ℕ) → HasBits z first (2 * w) n → value (excess first w) z ≡ excess_in w n
@@ -115,9 +111,7 @@ high_parts w z x y next meets =
 high_whole : (w : ℕ) (z : List ℕ) (x y : Bits) (next : ℕ) → Meets z (signed_bits_of w x y next).list → Meets z (nonzero_of (excess next w) (next + 2 * w)).list
     → Meets z (signed_high_of w x y next).list
 unfolding signed_high_of pure ◌>>=◌
-high_whole w z x y next p q =
-    Meets-join z (signed_bits_of w x y next).list _ p
-    (rw (signed_bits_answer, signed_bits_next) (Meets-join z (nonzero_of (excess next w) (next + 2 * w)).list [] q tt))
+high_whole w z x y next p q = search (arith, Meets-join, signed_bits_answer, signed_bits_next)
 
 pub signed_high_sound : SignedHighIsSound
 signed_high_sound w width z next x y a b assigns p q meets =

@@ -122,10 +122,7 @@ exact_neg w width v m n small long e f = grind arith
 
 -- 2 w bits that are a small signed number modulo P are it in two's complement, and the other way round
 pub Stands-exact : (w : ℕ) → IsWidth w → (v n : ℕ) (s : ℤ) → Stands v s (most_product w) → n < 2 ^ (2 * w) → v % P ≡ signed_value (2 * w) n → n ≡ twos (2 * w) s
-Stands-exact w width v n s p long e = elim p.is [
-  | inl x ↦ exact_pos w width v p.size n p.small long x.1 e ∙ sym (ap (twos (2 * w)) x.0)
-  | inr x ↦ exact_neg w width v p.size n p.small long x.1 e ∙ sym (ap (twos (2 * w)) x.0 ∙ twos-neg w width p.size (product_short w width p.size p.small))
-]
+Stands-exact w width v n s p long e = search (arith, exact_pos, exact_neg, twos-neg, product_short)
 
 meets_pos : (w : ℕ) → IsWidth w → (v m n : ℕ) → m ≤ most_product w → n ≡ m % 2 ^ (2 * w) → v % P ≡ m % P → v % P ≡ signed_value (2 * w) n
 meets_pos w width v m n small e f = grind arith
@@ -134,10 +131,7 @@ meets_neg : (w : ℕ) → IsWidth w → (v m n : ℕ) → m ≤ most_product w �
 meets_neg w width v m n small e f = grind arith
 
 pub Stands-meets : (w : ℕ) → IsWidth w → (v n : ℕ) (s : ℤ) → Stands v s (most_product w) → n ≡ twos (2 * w) s → v % P ≡ signed_value (2 * w) n
-Stands-meets w width v n s p e = elim p.is [
-  | inl x ↦ meets_pos w width v p.size n p.small (e ∙ ap (twos (2 * w)) x.0) x.1
-  | inr x ↦ meets_neg w width v p.size n p.small (e ∙ ap (twos (2 * w)) x.0 ∙ twos-neg w width p.size (product_short w width p.size p.small)) x.1
-]
+Stands-meets w width v n s p e = search (arith, meets_pos, meets_neg, twos-neg, product_short)
 
 pub twos-below : (w : ℕ) → IsWidth w → (s : ℤ) → twos (2 * w) s < 2 ^ (2 * w)
 twos-below w width (pos n) = grind arith
@@ -149,10 +143,7 @@ cast_neg w width zero h = refl
 cast_neg w width (suc m) h = grind arith
 
 cast_twos : (w : ℕ) → IsWidth w → (v : ℕ) (s : ℤ) → Stands v s (most_product w) → cast_unsigned w64 s % 2 ^ (2 * w) ≡ twos (2 * w) s
-cast_twos w width v s p = elim p.is [
-  | inl x ↦ ap (λ t. cast_unsigned w64 t % 2 ^ (2 * w)) x.0 ∙ sym (ap (twos (2 * w)) x.0)
-  | inr x ↦ ap (λ t. cast_unsigned w64 t % 2 ^ (2 * w)) x.0 ∙ cast_neg w width p.size p.small ∙ sym (ap (twos (2 * w)) x.0)
-]
+cast_twos w width v s p = search (arith, w64, cast_neg)
 
 pub product_cast : (w : ℕ) → IsWidth w → (a b : ℕ) → a < 2 ^ w → b < 2 ^ w → cast_unsigned w64 (signed w a *ℤ signed w b) % 2 ^ (2 * w) ≡ product_twos w a b
 product_cast w width a b h k =

@@ -1,12 +1,12 @@
 -- The quotient and the remainder of two words.
 use Rattle.std.specs.Prelude.{◌≡◌, ℕ, ◌+◌, ◌-◌, ◌*◌, ◌^◌, ◌<◌, ◌/◌, ◌==◌, if◌then◌else◌, List, [], ◌∷◌, ◌++◌, slice_index}
-use Rattle.tv_bits.specs.Bit.{bit_of}
 use Rattle.tv_bits.specs.Bits.{HasBits, AreBitsBelow, bits_combination, bits_values, new_bits_of}
 use Rattle.tv_bits.specs.Order.{first_difference}
 use Rattle.tv_bits.specs.Prefixes.{prefix_difference_of, prefix_difference_values}
+use Rattle.tv_bits.specs.Times.{times_of}
 use Rattle.tv_bits.specs.Zero.{zero_flag}
 use Rattle.tv_bits.specs.declared.bit_wires.Bits.{Bits}
-use Rattle.tv_core.specs.Circuits.{Circuit, fresh, put, pure, ◌>>=◌}
+use Rattle.tv_core.specs.Circuits.{Circuit, put, pure, ◌>>=◌}
 use Rattle.tv_core.specs.Combinations.{wire, constant, scaled, less}
 use Rattle.tv_core.specs.Laws.{Assigns, Meets, HasFrom, Fills, InField}
 use Rattle.tv_muldiv.specs.declared.records.Quot.{Quot}
@@ -26,35 +26,28 @@ pub record IsQuotientBelow (wires w : ℕ) (made : Quot) : Type 0 where
   pub rem : AreBitsBelow wires w made.rem
   pub by_zero : made.by_zero < wires
 
--- a new bit that is 0 where y isn't
-unfoldable pub zero_divisor_of : ℕ → Bits → Circuit ℕ
-zero_divisor_of w y = do
-  by_zero ← fresh
-  _ ← bit_of by_zero
-  _ ← put (wire by_zero) (bits_combination y.first w) []
-  pure by_zero
+-- the wires of the quotient, of the remainder and of whether the divisor is 0, from a first one on
+abbrev pub quotient_at : ℕ → ℕ → Quot
+quotient_at w first = record { quot = record { first = first; n = w }; rem = record { first = first + w; n = w }; by_zero = first + 2 * w }
 
--- new bits for the quotient and the remainder, and that bit
+-- new bits for them, the last of which is 0 where y isn't
 unfoldable pub quotient_wires_of : ℕ → Bits → Circuit Quot
 quotient_wires_of w y = do
-  quot ← new_bits_of w
-  rem ← new_bits_of w
-  by_zero ← zero_divisor_of w y
-  pure (record { quot = quot; rem = rem; by_zero = by_zero })
+  bits ← new_bits_of (2 * w + 1)
+  _ ← put (wire (bits.first + 2 * w)) (bits_combination y.first w) []
+  pure (quotient_at w bits.first)
 
 -- a new wire that is x plus the quotient where the divisor is 0, and else 0
-unfoldable pub gate_of : ℕ → Bits → Quot → Circuit ℕ
-gate_of w x made = do
-  gate ← fresh
-  _ ← put (wire made.by_zero) (bits_combination x.first w ++ scaled 1 (bits_combination made.quot.first w)) (wire gate)
-  pure gate
+abbrev pub gate_of : ℕ → Bits → Quot → Circuit ℕ
+gate_of w x made = times_of (wire made.by_zero) (bits_combination x.first w ++ scaled 1 (bits_combination made.quot.first w))
 
 -- the quotient times y is x less the remainder and the gate: where the divisor is 0, the quotient and the
 -- remainder so add up to 0
 unfoldable pub division_of : ℕ → Bits → Bits → Quot → Circuit (Unit {0})
 division_of w x y made = do
   gate ← gate_of w x made
-  put (bits_combination made.quot.first w) (bits_combination y.first w) (less (less (bits_combination x.first w) (bits_combination made.rem.first w)) (wire gate))
+  put (bits_combination made.quot.first w) (bits_combination y.first w)
+      (less (less (bits_combination x.first w) (bits_combination made.rem.first w)) (wire gate))
 
 -- the remainder is below y, or the divisor is 0: one more than some new bits, less the wire that is 1
 -- where the divisor is 0, is a difference of prefixes of y and of the remainder

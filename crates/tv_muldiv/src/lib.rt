@@ -14,24 +14,12 @@ mod row_products;
 mod row_signed_products;
 mod signed_products;
 
-pub use products::{fill_product, product, product_fills, product_is_complete, product_is_sound};
-pub use quotients::{
-    fill_quotient, quotient, quotient_fills, quotient_is_complete, quotient_is_sound,
-};
+pub use products::{fill_product, product, product_laws};
+pub use quotients::{fill_quotient, quotient, quotient_laws};
 pub use records::{High, Product, Quot};
-pub use row_divisions::{
-    below_divisor, fill_row_division, row_division, row_division_costs, row_division_fills,
-    row_division_is_complete, row_division_is_sound,
-};
-pub use row_products::{
-    fill_row_product, row_product, row_product_costs, row_product_fills, row_product_is_complete,
-    row_product_is_sound,
-};
+pub use row_divisions::{below_divisor, fill_row_division, row_division, row_division_laws};
+pub use row_products::{fill_row_product, row_product, row_product_laws};
 pub use row_signed_products::{
-    fill_row_signed_product, row_signed_product, row_signed_product_costs,
-    row_signed_product_fills, row_signed_product_is_complete, row_signed_product_is_sound,
-    signed_product_halves,
+    fill_row_signed_product, row_signed_product, row_signed_product_laws, signed_product_halves,
 };
-pub use signed_products::{
-    fill_signed_high, signed_high, signed_high_fills, signed_high_is_complete, signed_high_is_sound,
-};
+pub use signed_products::{fill_signed_high, signed_high, signed_high_laws};

@@ -82,22 +82,15 @@ pub fn fill_product<const W: u32, V: Values>(v: &mut V, x: u32, y: u32) -> Put<(
     fill_nonzero(v, F::of(product >> W))
 }
 
-/// Where bits represent words and an assignment satisfies the constraints of `product`, its wires
-/// represent their product.
-pub fn product_is_sound()
-    ensures { ProductIsSound }
-{}
-
-/// Where bits represent words and an assignment has the values that `fill_product` assigns, it
-/// satisfies the constraints of `product`.
-#[tactic(auto, using(crate::proofs::ProductLaws::product_complete))]
-pub fn product_is_complete()
-    ensures { ProductIsComplete }
-{}
-
-/// Says which wires `product` returns and how many it makes, whatever the next wire is, and that
-/// `fill_product` assigns one value below P to each of them.
-#[tactic(auto, using(crate::proofs::ProductLaws::product_sizes))]
-pub fn product_fills()
-    ensures { ProductSizes }
+/// The laws of `product`:
+/// - `sound`: where bits represent words and an assignment satisfies the constraints of `product`,
+///   its wires represent their product.
+/// - `complete`: where bits represent words and an assignment has the values that `fill_product`
+///   assigns, it satisfies the constraints of `product`.
+/// - `sizes`: which wires `product` returns and how many it makes, whatever the next wire is, and
+///   that `fill_product` assigns one value below P to each of them.
+pub fn product_laws()
+    ensures sound { ProductIsSound }
+    ensures complete { ProductIsComplete }
+    ensures sizes { ProductSizes }
 {}

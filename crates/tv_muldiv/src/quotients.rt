@@ -4,7 +4,7 @@ ghost use Rattle.tv_bits.specs.Bits.{AreBitsBelow};
 ghost use Rattle.tv_bits.specs.Zero.{zero_flag};
 ghost use Rattle.tv_core.specs.Values.{GivesIn};
 ghost use Rattle.tv_core.specs.Sinks.{PutsIn, Grows, Room};
-ghost use Rattle.tv_muldiv.specs.Quotient.{IsQuotientBelow, zero_divisor_of};
+ghost use Rattle.tv_muldiv.specs.Quotient.{IsQuotientBelow};
 ghost use Rattle.tv_muldiv.specs.Quotient.{quotient_wires_of, gate_of, division_of};
 ghost use Rattle.tv_muldiv.specs.Quotient.{remainder_below_of, quotient_of, gate_in, words_values};
 ghost use Rattle.tv_muldiv.specs.Quotient.{above_values, quotient_values, QuotientIsSound};
@@ -13,8 +13,8 @@ ghost use Rattle.tv_word.specs.Widths.{IsWidth};
 
 use crate::records::Quot;
 use tv_bits::{
-    Bits, bit_by, fill_bits, fill_prefix_difference, first_difference, new_bits_by,
-    prefix_difference_by,
+    Bits, fill_bits, fill_prefix_difference, first_difference, new_bits_by, prefix_difference_by,
+    times_by,
 };
 use tv_core::{F, Put, Scratch, Sink, Values, Wire, give_values};
 use tv_word::arithmetic;
@@ -43,7 +43,7 @@ pub fn quotient<const W: u32, S: Sink>(s: &mut S, x: &Bits, y: &Bits) -> Put<Quo
     Ok(made)
 }
 
-// Bits for the quotient and the remainder, and the wire that is 1 where the divisor is 0.
+// Bits for the quotient and the remainder, and one more that is 0 where the divisor isn't.
 fn quotient_wires<const W: u32, S: Sink>(s: &mut S, scratch: &mut Scratch, y: &Bits) -> Put<Quot>
     requires width { IsWidth W }
     requires room { Room S.meaning s.old (2 * W + 1) (2 * W + 2) }
@@ -52,28 +52,17 @@ fn quotient_wires<const W: u32, S: Sink>(s: &mut S, scratch: &mut Scratch, y: &B
     ensures grows { IfOk result (λ _. Grows S.meaning s.old s.new (2 * W + 1) (2 * W + 2)) }
     ensures below { IfOk result (IsQuotientBelow (S.meaning.wires s.new) W) }
 {
-    let quot = new_bits_by(s, &mut scratch.a, W)?;
-    let rem = new_bits_by(s, &mut scratch.a, W)?;
-    let by_zero = zero_divisor::<W, S>(s, scratch, y)?;
-    Ok(Quot { quot, rem, by_zero })
-}
-
-// A bit that is 0 where `y` isn't.
-fn zero_divisor<const W: u32, S: Sink>(s: &mut S, scratch: &mut Scratch, y: &Bits) -> Put<Wire>
-    requires width { IsWidth W }
-    requires room { Room S.meaning s.old 1 2 }
-    requires y_word { AreBitsBelow (S.meaning.wires s.old) W y.now }
-    ensures puts { PutsIn S.meaning s.old s.new (zero_divisor_of W y.now) result }
-    ensures grows { IfOk result (λ _. Grows S.meaning s.old s.new 1 2) }
-    ensures below { IfOk result (λ by_zero. by_zero < S.meaning.wires s.new) }
-{
-    let by_zero = s.fresh();
-    bit_by(s, &mut scratch.a, by_zero)?;
+    let first = new_bits_by(s, &mut scratch.a, 2 * W + 1)?.first;
+    let (rem, by_zero) = (first.offset(W), first.offset(2 * W));
     scratch.a.set_wire(by_zero);
     y.set_number(&mut scratch.b);
     scratch.c.clear();
     s.put(&scratch.a, &scratch.b, &scratch.c)?;
-    Ok(by_zero)
+    Ok(Quot {
+        quot: Bits { first, n: W },
+        rem: Bits { first: rem, n: W },
+        by_zero,
+    })
 }
 
 // Holds the quotient times `y` to `x` less the remainder, or both to 0 where the divisor is.
@@ -111,13 +100,10 @@ fn gate<const W: u32, S: Sink>(s: &mut S, scratch: &mut Scratch, x: &Bits, made:
     ensures grows { IfOk result (λ _. Grows S.meaning s.old s.new 1 1) }
     ensures below { IfOk result (λ gate. gate < S.meaning.wires s.new) }
 {
-    let gate = s.fresh();
     scratch.a.set_wire(made.by_zero);
     x.set_number(&mut scratch.b);
     made.quot.plus_to(&mut scratch.b, F::ONE);
-    scratch.c.set_wire(gate);
-    s.put(&scratch.a, &scratch.b, &scratch.c)?;
-    Ok(gate)
+    times_by(s, &mut scratch.c, &scratch.a, &scratch.b)
 }
 
 // Holds the remainder below `y`, unless the divisor is 0.
@@ -193,22 +179,15 @@ fn fill_above<const W: u32, V: Values>(v: &mut V, x: u32, y: u32) -> Put<()>
     fill_prefix_difference(v, y, rem, F::of(above), W / CHUNKS, CHUNKS)
 }
 
-/// Where bits represent words of `W` bits and an assignment satisfies the constraints of
-/// `quotient`, its wires represent their quotient and their remainder.
-pub fn quotient_is_sound()
-    ensures { QuotientIsSound }
-{}
-
-/// Where bits represent words and an assignment has the values that `fill_quotient` assigns, it
-/// satisfies the constraints of `quotient`.
-#[tactic(auto, using(crate::proofs::QuotientLaws::quotient_complete))]
-pub fn quotient_is_complete()
-    ensures { QuotientIsComplete }
-{}
-
-/// Says which wires `quotient` returns and how many it makes, whatever the next wire is, and that
-/// `fill_quotient` assigns one value below P to each of them.
-#[tactic(auto, using(crate::proofs::QuotientLaws::quotient_sizes))]
-pub fn quotient_fills()
-    ensures { QuotientSizes }
+/// The laws of `quotient`:
+/// - `sound`: where bits represent words of `W` bits and an assignment satisfies the constraints of
+///   `quotient`, its wires represent their quotient and their remainder.
+/// - `complete`: where bits represent words and an assignment has the values that `fill_quotient`
+///   assigns, it satisfies the constraints of `quotient`.
+/// - `sizes`: which wires `quotient` returns and how many it makes, whatever the next wire is, and
+///   that `fill_quotient` assigns one value below P to each of them.
+pub fn quotient_laws()
+    ensures sound { QuotientIsSound }
+    ensures complete { QuotientIsComplete }
+    ensures sizes { QuotientSizes }
 {}

@@ -134,30 +134,21 @@ pub fn below_divisor<const W: u32>(x: u32, y: u32) -> u32
     }
 }
 
-/// Where the gate is 1, the wires represent words and an assignment satisfies the constraints of
-/// `row_division`, the row is their division; where the gate is 0, the bits represent `x`.
-#[tactic(auto, using(crate::proofs::RowDivisionLaws::row_division_sound))]
-pub fn row_division_is_sound()
-    ensures { RowDivisionIsSound }
-{}
-
-/// Where the row is the division of the words and the bits represent what is below the divisor, or
-/// the gate is 0 and they represent `x`, an assignment that has the values that `fill_row_division`
-/// assigns satisfies the constraints of `row_division`; and the division of two words is a row.
-#[tactic(auto, using(crate::proofs::RowDivisionLaws::row_division_complete))]
-pub fn row_division_is_complete()
-    ensures { RowDivisionIsComplete }
-{}
-
-/// Says which wire `row_division` returns, and that `fill_row_division` assigns one value below P
-/// to each wire that it makes.
-#[tactic(auto, using(crate::proofs::RowDivisionLaws::row_division_sizes))]
-pub fn row_division_fills()
-    ensures { RowDivisionSizes }
-{}
-
-/// Says how many constraints and terms `row_division` emits.
-#[tactic(auto, using(crate::proofs::RowDivisionLaws::row_division_cost_laws))]
-pub fn row_division_costs()
-    ensures { RowDivisionCosts }
+/// The laws of `row_division`:
+/// - `sound`: where the gate is 1, the wires represent words and an assignment satisfies the
+///   constraints of `row_division`, the row is their division; where the gate is 0, the bits
+///   represent `x`.
+/// - `complete`: where the row is the division of the words and the bits represent what is below
+///   the divisor, or the gate is 0 and they represent `x`, an assignment that has the values that
+///   `fill_row_division` assigns satisfies the constraints of `row_division`; and the division of
+///   two words is a row.
+/// - `sizes`: which wire `row_division` returns, and that `fill_row_division` assigns one value
+///   below P to each wire that it makes.
+/// - `costs`: how many constraints and terms `row_division` emits.
+#[tactic(auto, using(crate::proofs::RowDivisionLaws::row_division_laws))]
+pub fn row_division_laws()
+    ensures sound { RowDivisionIsSound }
+    ensures complete { RowDivisionIsComplete }
+    ensures sizes { RowDivisionSizes }
+    ensures costs { RowDivisionCosts }
 {}

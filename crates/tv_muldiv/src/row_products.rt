@@ -65,29 +65,18 @@ pub fn fill_row_product<V: Values>(v: &mut V, x: u32, y: u32) -> Put<()>
     v.give(F::from(x) * F::from(y))
 }
 
-/// Where the gate is 1, the wires represent words and an assignment satisfies the constraints of
-/// `row_product`, the row is their product.
-#[tactic(auto, using(crate::proofs::RowProductLaws::row_product_sound))]
-pub fn row_product_is_sound()
-    ensures { RowProductIsSound }
-{}
-
-/// Where the row is the product of the words, or the gate is 0, an assignment that has the value
-/// that `fill_row_product` assigns satisfies the constraints of `row_product`; and the product of
-/// two words is a row.
-#[tactic(auto, using(crate::proofs::RowProductLaws::row_product_complete))]
-pub fn row_product_is_complete()
-    ensures { RowProductIsComplete }
-{}
-
-/// Says that `row_product` makes one wire, to which `fill_row_product` assigns one value below P.
-#[tactic(auto, using(crate::proofs::RowProductLaws::row_product_sizes))]
-pub fn row_product_fills()
-    ensures { RowProductSizes }
-{}
-
-/// Says how many constraints and terms `row_product` emits.
-#[tactic(auto, using(crate::proofs::RowProductLaws::row_product_cost_laws))]
-pub fn row_product_costs()
-    ensures { RowProductCosts }
+/// The laws of `row_product`:
+/// - `sound`: where the gate is 1, the wires represent words and an assignment satisfies the
+///   constraints of `row_product`, the row is their product.
+/// - `complete`: where the row is the product of the words, or the gate is 0, an assignment that
+///   has the value that `fill_row_product` assigns satisfies the constraints of `row_product`; and
+///   the product of two words is a row.
+/// - `sizes`: `row_product` makes one wire, to which `fill_row_product` assigns one value below P.
+/// - `costs`: how many constraints and terms `row_product` emits.
+#[tactic(auto, using(crate::proofs::RowProductLaws::row_product_laws))]
+pub fn row_product_laws()
+    ensures sound { RowProductIsSound }
+    ensures complete { RowProductIsComplete }
+    ensures sizes { RowProductSizes }
+    ensures costs { RowProductCosts }
 {}

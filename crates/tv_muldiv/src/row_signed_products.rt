@@ -133,31 +133,21 @@ pub fn signed_product_halves<const W: u32>(x: u32, y: u32) -> (u32, u32)
     ((product % (1 << W)) as u32, (product >> W) as u32)
 }
 
-/// Where the gate is 1, the wires represent words and an assignment satisfies the constraints of
-/// `row_signed_product`, the row is their signed product. Its high half is 2^`W` - 1 times the
-/// highest bit of its low half exactly where the product is a signed word.
-pub fn row_signed_product_is_sound()
+/// The laws of `row_signed_product`:
+/// - `sound`: where the gate is 1, the wires represent words and an assignment satisfies the
+///   constraints of `row_signed_product`, the row is their signed product.
+/// - `fits`: its high half is 2^`W` - 1 times the highest bit of its low half exactly where the
+///   product is a signed word.
+/// - `complete`: where the row is the signed product of the words, or the gate is 0, an assignment
+///   that has the value that `fill_row_signed_product` assigns satisfies the constraints of
+///   `row_signed_product`.
+/// - `sizes`: `row_signed_product` makes one wire, to which `fill_row_signed_product` assigns one
+///   value below P.
+/// - `costs`: how many constraints and terms `row_signed_product` emits.
+pub fn row_signed_product_laws()
     ensures sound { RowSignedProductIsSound }
     ensures fits { RowSignedProductFits }
-{}
-
-/// Where the row is the signed product of the words, or the gate is 0, an assignment that has
-/// the value that `fill_row_signed_product` assigns satisfies the constraints of
-/// `row_signed_product`.
-#[tactic(auto, using(crate::proofs::RowSignedProductLaws::row_signed_product_complete))]
-pub fn row_signed_product_is_complete()
-    ensures { RowSignedProductIsComplete }
-{}
-
-/// Says that `row_signed_product` makes one wire, to which `fill_row_signed_product` assigns one
-/// value below P.
-#[tactic(auto, using(crate::proofs::RowSignedProductLaws::row_signed_product_sizes))]
-pub fn row_signed_product_fills()
-    ensures { RowSignedProductSizes }
-{}
-
-/// Says how many constraints and terms `row_signed_product` emits.
-#[tactic(auto, using(crate::proofs::RowSignedProductLaws::row_signed_product_cost_laws))]
-pub fn row_signed_product_costs()
-    ensures { RowSignedProductCosts }
+    ensures complete { RowSignedProductIsComplete }
+    ensures sizes { RowSignedProductSizes }
+    ensures costs { RowSignedProductCosts }
 {}

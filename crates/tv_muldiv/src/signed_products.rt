@@ -126,22 +126,15 @@ fn excess_in<const W: u32>(number: u64) -> F
     F::of(number >> W) + -F::of((1 << W) - 1) * sign
 }
 
-/// Where bits represent words and an assignment satisfies the constraints of `signed_high`, its
-/// wires represent the high word of their signed product.
-pub fn signed_high_is_sound()
-    ensures { SignedHighIsSound }
-{}
-
-/// Where bits represent words and an assignment has the values that `fill_signed_high` assigns, it
-/// satisfies the constraints of `signed_high`.
-#[tactic(auto, using(crate::proofs::SignedHighLaws::signed_high_complete))]
-pub fn signed_high_is_complete()
-    ensures { SignedHighIsComplete }
-{}
-
-/// Says which wires `signed_high` returns and how many it makes, whatever the next wire is, and
-/// that `fill_signed_high` assigns one value below P to each of them.
-#[tactic(auto, using(crate::proofs::SignedHighLaws::signed_high_sizes))]
-pub fn signed_high_fills()
-    ensures { SignedHighSizes }
+/// The laws of `signed_high`:
+/// - `sound`: where bits represent words and an assignment satisfies the constraints of
+///   `signed_high`, its wires represent the high word of their signed product.
+/// - `complete`: where bits represent words and an assignment has the values that
+///   `fill_signed_high` assigns, it satisfies the constraints of `signed_high`.
+/// - `sizes`: which wires `signed_high` returns and how many it makes, whatever the next wire is,
+///   and that `fill_signed_high` assigns one value below P to each of them.
+pub fn signed_high_laws()
+    ensures sound { SignedHighIsSound }
+    ensures complete { SignedHighIsComplete }
+    ensures sizes { SignedHighSizes }
 {}

@@ -112,7 +112,17 @@ cubic_normal roots i h some k l = elim (eq-zero-or-pos i) [
             omega arith,
             omega (arith, n, square),
             omega (arith, n, square_positive i positive),
-            (omega arith, positive, omega arith, (omega arith, omega arith, omega arith, tt)),
+            (
+              omega arith,
+              positive,
+              omega arith,
+              (
+                omega arith,
+                omega arith,
+                omega arith,
+                tt,
+              ),
+            ),
           ),
         )
 
@@ -134,7 +144,21 @@ departure_normal reg curve i h below = elim (eq-zero-or-pos i) [
             omega arith,
             omega arith,
             omega arith,
-            (omega arith, omega (arith, m), omega (arith, m), (omega arith, omega (arith, n, square), omega (arith, n, square_positive i positive), tt)),
+            (
+              omega arith,
+              omega (arith, m),
+              omega (arith, m),
+              (
+                omega arith,
+                omega (arith, n, square),
+                omega (
+                  arith,
+                  n,
+                  square_positive i positive,
+                ),
+                tt,
+              ),
+            ),
           ),
         )
 

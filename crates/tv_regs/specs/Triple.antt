@@ -208,9 +208,11 @@ TripleIsComplete = (z : List ℕ) (next : ℕ) (stores target source named : Com
 
 -- which wires are returned, and that the values are one number of the field for each wire that is made
 pub record TripleSizes : Type 0 where
-  pub answer : (stores target source named : Combination) (regs : List ℕ) (next : ℕ) → (triple_of stores target source named regs next).answer ≡ triple_wires next
+  pub answer : (stores target source named : Combination) (regs : List ℕ) (next : ℕ)
+      → (triple_of stores target source named regs next).answer ≡ triple_wires next
   pub end : (stores target source named : Combination) (regs : List ℕ) (next : ℕ) → (triple_of stores target source named regs next).next ≡ next + 31
-  pub fills : (stores target source named : Combination) (regs : List ℕ) (o b d : ℕ) (words : List ℕ) → Fills (triple_of stores target source named regs) (triple_values o b d words)
+  pub fills : (stores target source named : Combination) (regs : List ℕ) (o b d : ℕ) (words : List ℕ)
+      → Fills (triple_of stores target source named regs) (triple_values o b d words)
   pub in_field : (o b d : ℕ) (words : List ℕ) → o < 16 → b < 16 → d < 16 → InField words → InField (triple_values o b d words)
 
 -- how many constraints and terms are put; the wires of the source's number are below the destination's new one

@@ -50,22 +50,15 @@ pub fn fill_read_reg<V: Values>(v: &mut V, sel: u32, regs: &[u32; 16]) -> Put<()
     v.give(F::from(regs[sel as usize]))
 }
 
-/// Where an assignment has a one-hot row and satisfies the constraints of `read_reg`, the returned
-/// wire has the value of the register that the row selects.
-pub fn read_reg_is_sound()
-    ensures { ReadRegIsSound }
-{}
-
-/// Where an assignment has a one-hot row and the value that `fill_read_reg` assigns for it, it
-/// satisfies the constraints of `read_reg`.
-#[tactic(auto, using(crate::proofs::ReadLaws::read_reg_complete))]
-pub fn read_reg_is_complete()
-    ensures { ReadRegIsComplete }
-{}
-
-/// Says which wire `read_reg` returns, whatever the next wire is, and that `fill_read_reg` assigns
-/// it one value, below P.
-#[tactic(auto, using(crate::proofs::ReadLaws::read_reg_sizes))]
-pub fn read_reg_fills()
-    ensures { ReadRegSizes }
+/// The laws of `read_reg`:
+/// - `sound`: where an assignment has a one-hot row and satisfies the constraints of `read_reg`,
+///   the returned wire has the value of the register that the row selects.
+/// - `complete`: where an assignment has a one-hot row and the value that `fill_read_reg` assigns
+///   for it, it satisfies the constraints of `read_reg`.
+/// - `sizes`: which wire `read_reg` returns, whatever the next wire is, and that `fill_read_reg`
+///   assigns it one value, below P.
+pub fn read_reg_laws()
+    ensures sound { ReadRegIsSound }
+    ensures complete { ReadRegIsComplete }
+    ensures sizes { ReadRegSizes }
 {}

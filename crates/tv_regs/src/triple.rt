@@ -465,29 +465,18 @@ fn passing(curve: &Curve, o: u32, b: u32, d: u32, regs: &[u32; 16], i: u32) -> F
     (F::from(regs[i as usize]) - at) * inverse_of_three(i, o, b, d)
 }
 
-/// Where an assignment has a bit and three numbers of registers and satisfies the constraints of
-/// `read_triple`, the returned wires have the numbers and the words of these registers.
-#[tactic(auto, using(crate::proofs::TripleLaws::triple_sound))]
-pub fn triple_is_sound()
-    ensures { TripleIsSound }
-{}
-
-/// Where an assignment has such inputs, and the values that `fill_triple` assigns, it satisfies the
-/// constraints of `read_triple`.
-#[tactic(auto, using(crate::proofs::TripleLaws::triple_complete))]
-pub fn triple_is_complete()
-    ensures { TripleIsComplete }
-{}
-
-/// Says which wires `read_triple` returns and how many it makes, whatever the next wire is, and
-/// that `fill_triple` assigns one value to each of them, below P.
-#[tactic(auto, using(crate::proofs::TripleLaws::triple_sizes))]
-pub fn triple_fills()
-    ensures { TripleSizes }
-{}
-
-/// Says how many constraints and terms `read_triple` emits.
-#[tactic(auto, using(crate::proofs::TripleLaws::triple_costs))]
-pub fn triple_costs()
-    ensures { TripleCosts }
+/// The laws of `triple`:
+/// - `sound`: where an assignment has a bit and three numbers of registers and satisfies the
+///   constraints of `read_triple`, the returned wires have the numbers and the words of these
+///   registers.
+/// - `complete`: where an assignment has such inputs, and the values that `fill_triple` assigns, it
+///   satisfies the constraints of `read_triple`.
+/// - `sizes`: which wires `read_triple` returns and how many it makes, whatever the next wire is,
+///   and that `fill_triple` assigns one value to each of them, below P.
+/// - `costs`: how many constraints and terms `read_triple` emits.
+pub fn triple_laws()
+    ensures sound { TripleIsSound }
+    ensures complete { TripleIsComplete }
+    ensures sizes { TripleSizes }
+    ensures costs { TripleCosts }
 {}

@@ -119,30 +119,18 @@ pub fn fill_update<V: Values>(v: &mut V, dest: u32, on: bool, x: u32, regs: &[u3
     give_words(v, &written_regs(on, x, dest, regs))
 }
 
-/// Where an assignment has a bit at `on`, the number of a register at `dest` and its word at
-/// `word`, and satisfies the constraints of `update_register`, the returned wires are the
-/// registers after the write.
-#[tactic(auto, using(crate::proofs::UpdateLaws::update_sound))]
-pub fn update_is_sound()
-    ensures { UpdateIsSound }
-{}
-
-/// Where an assignment has such inputs, and the values that `fill_update` assigns, it satisfies the
-/// constraints of `update_register`.
-#[tactic(auto, using(crate::proofs::UpdateLaws::update_complete))]
-pub fn update_is_complete()
-    ensures { UpdateIsComplete }
-{}
-
-/// Says which wires `update_register` returns and how many it makes, whatever the next wire is, and
-/// that `fill_update` assigns one value to each of them.
-#[tactic(auto, using(crate::proofs::UpdateLaws::update_sizes))]
-pub fn update_fills()
-    ensures { UpdateSizes }
-{}
-
-/// Says how many constraints and terms `update_register` emits.
-#[tactic(auto, using(crate::proofs::UpdateLaws::update_costs))]
-pub fn update_costs()
-    ensures { UpdateCosts }
+/// The laws of `update`:
+/// - `sound`: where an assignment has a bit at `on`, the number of a register at `dest` and its
+///   word at `word`, and satisfies the constraints of `update_register`, the returned wires are the
+///   registers after the write.
+/// - `complete`: where an assignment has such inputs, and the values that `fill_update` assigns, it
+///   satisfies the constraints of `update_register`.
+/// - `sizes`: which wires `update_register` returns and how many it makes, whatever the next wire
+///   is, and that `fill_update` assigns one value to each of them.
+/// - `costs`: how many constraints and terms `update_register` emits.
+pub fn update_laws()
+    ensures sound { UpdateIsSound }
+    ensures complete { UpdateIsComplete }
+    ensures sizes { UpdateSizes }
+    ensures costs { UpdateCosts }
 {}

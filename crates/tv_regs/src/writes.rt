@@ -124,22 +124,15 @@ pub(crate) fn written_regs(on: bool, x: u32, sel: u32, regs: &[u32; 16]) -> [u32
     written
 }
 
-/// Where an assignment has a one-hot row and a bit and satisfies the constraints of `write_reg`,
-/// the returned wires are the registers after the write.
-pub fn write_reg_is_sound()
-    ensures { WriteRegIsSound }
-{}
-
-/// Where an assignment has a one-hot row and a bit, and the values that `fill_write_reg` assigns
-/// for them, it satisfies the constraints of `write_reg`.
-#[tactic(auto, using(crate::proofs::WriteLaws::write_reg_complete))]
-pub fn write_reg_is_complete()
-    ensures { WriteRegIsComplete }
-{}
-
-/// Says which wires `write_reg` returns and how many it makes, whatever the next wire is, and that
-/// `fill_write_reg` assigns one value to each of them, below P.
-#[tactic(auto, using(crate::proofs::WriteLaws::write_reg_sizes))]
-pub fn write_reg_fills()
-    ensures { WriteRegSizes }
+/// The laws of `write_reg`:
+/// - `sound`: where an assignment has a one-hot row and a bit and satisfies the constraints of
+///   `write_reg`, the returned wires are the registers after the write.
+/// - `complete`: where an assignment has a one-hot row and a bit, and the values that
+///   `fill_write_reg` assigns for them, it satisfies the constraints of `write_reg`.
+/// - `sizes`: which wires `write_reg` returns and how many it makes, whatever the next wire is, and
+///   that `fill_write_reg` assigns one value to each of them, below P.
+pub fn write_reg_laws()
+    ensures sound { WriteRegIsSound }
+    ensures complete { WriteRegIsComplete }
+    ensures sizes { WriteRegSizes }
 {}

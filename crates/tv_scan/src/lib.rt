@@ -5,4 +5,4 @@
 
 mod scans;
 
-pub use scans::{fill_scan, scan, scan_fills, scan_is_complete, scan_is_sound};
+pub use scans::{fill_scan, scan, scan_laws};

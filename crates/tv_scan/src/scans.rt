@@ -84,19 +84,14 @@ fn fill_look<V: Values>(v: &mut V, apart: F, word: F) -> Put<()>
     v.give(word)
 }
 
-/// In an assignment that satisfies the constraints of `scan`, the old word is the new one of the
-/// latest earlier line of the cell, or 0 where there is none.
-pub fn scan_is_sound()
-    ensures { ScanIsSound }
-{}
-
-/// Where the line's old word is that one, an assignment that has the values that `fill_scan`
-/// assigns satisfies the constraints of `scan`.
-pub fn scan_is_complete()
-    ensures { ScanIsComplete }
-{}
-
-/// `fill_scan` assigns as many values as `scan` makes wires, each below P.
-pub fn scan_fills()
-    ensures { ScanSizes }
+/// The laws of `scan`:
+/// - `sound`: in an assignment that satisfies the constraints of `scan`, the old word is the new
+///   one of the latest earlier line of the cell, or 0 where there is none.
+/// - `complete`: where the line's old word is that one, an assignment that has the values that
+///   `fill_scan` assigns satisfies the constraints of `scan`.
+/// - `sizes`: `fill_scan` assigns as many values as `scan` makes wires, each below P.
+pub fn scan_laws()
+    ensures sound { ScanIsSound }
+    ensures complete { ScanIsComplete }
+    ensures sizes { ScanSizes }
 {}

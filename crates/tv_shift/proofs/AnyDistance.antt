@@ -1,5 +1,5 @@
 -- Shifts by any distance, by a word that is 0 where the distance reaches the width.
-use Rattle.std.proofs.Common.{◌≡◌, ℕ, ◌*◌, ◌/◌, ◌%◌, ◌^◌, ◌<◌, ◌≤◌, if◌then◌else◌, inl, inr, sym, ◌∙◌, ap, ap₂, arith}
+use Rattle.std.proofs.Common.{◌≡◌, ℕ, ◌*◌, ◌/◌, ◌%◌, ◌^◌, ◌<◌, ◌≤◌, if◌then◌else◌, ◌∙◌, ap, arith}
 use Rattle.std.proofs.Common.{mod-eq_of_lt, zero-mul, one-mul}
 use Rattle.std.proofs.Math.Nat.{zero-mod, zero-div}
 use Rattle.std.proofs.lemmas.Bool.{cases_lt, lt-ltb, le-ltb}
@@ -18,18 +18,10 @@ module _ (w s a : ℕ) where
   past more = ap (λ b. if b then s else 0) (le-ltb a w more)
 
   left_any : mull_result w (shifted_word w s a) (2 ^ (a % w)) ≡ shl_result w s a
-  left_any = elim (cases_lt a w) [
-    | inl less ↦ ap₂ (λ m n. m * 2 ^ n % 2 ^ w) (within less) (mod-eq_of_lt less) ∙ sym (ap (λ b. if b then s * 2 ^ a % 2 ^ w else 0) (lt-ltb a w less))
-    | inr more ↦
-        ap (λ m. m * 2 ^ (a % w) % 2 ^ w) (past more) ∙ ap (λ n. n % 2 ^ w) (zero-mul (2 ^ (a % w))) ∙ zero-mod (2 ^ w)
-        ∙ sym (ap (λ b. if b then s * 2 ^ a % 2 ^ w else 0) (le-ltb a w more))
-  ]
+  left_any = search (arith, cases_lt, within, mod-eq_of_lt, lt-ltb, past, zero-mul, zero-mod, le-ltb)
 
   right_any : right_high (shifted_word w s a) (a % w) ≡ shr_result w s a
-  right_any = elim (cases_lt a w) [
-    | inl less ↦ ap₂ (λ m n. m / 2 ^ n) (within less) (mod-eq_of_lt less) ∙ sym (ap (λ b. if b then s / 2 ^ a else 0) (lt-ltb a w less))
-    | inr more ↦ ap (λ m. m / 2 ^ (a % w)) (past more) ∙ zero-div (2 ^ (a % w)) ∙ sym (ap (λ b. if b then s / 2 ^ a else 0) (le-ltb a w more))
-  ]
+  right_any = search (arith, cases_lt, within, mod-eq_of_lt, lt-ltb, past, zero-div, le-ltb)
 
   module _ (width : IsWidth w) (word : s < 2 ^ w) where
     small : s < P
@@ -42,10 +34,7 @@ module _ (w s a : ℕ) where
     sign_past more = let some : 1 ≤ a / w = grind arith in grind (arith, nat_tests)
 
     word_any : sign_at_zero (a / w) 1 * s % P ≡ shifted_word w s a
-    word_any = elim (cases_lt a w) [
-      | inl less ↦ ap (λ n. n * s % P) (sign_within less) ∙ ap (λ n. n % P) (one-mul s) ∙ mod-eq_of_lt small ∙ sym (within less)
-      | inr more ↦ ap (λ n. n * s % P) (sign_past more) ∙ ap (λ n. n % P) (zero-mul s) ∙ zero-mod P ∙ sym (past more)
-    ]
+    word_any = search (arith, cases_lt, sign_within, one-mul, mod-eq_of_lt, small, within, sign_past, zero-mul, zero-mod, past)
 
 pub any_distance : ShiftsByAnyDistance
 any_distance = record { left = left_any; right = right_any; word = λ w width s a word. word_any w s a width word }

@@ -1,5 +1,5 @@
 -- The laws of the chosen half of a word.
-use Rattle.std.proofs.Common.{◌≡◌, ℕ, ◌+◌, ◌^◌, ◌<◌, List, [], inl, inr, refl, sym, ◌∙◌, ap, ap₂, arith, mul-one}
+use Rattle.std.proofs.Common.{◌≡◌, ℕ, ◌+◌, ◌^◌, ◌<◌, List, [], inl, inr, refl, ◌∙◌, ap, ap₂, arith, mul-one}
 use Rattle.std.specs.Int.{bit_at}
 use Rattle.std.specs.Prelude.{slice_index}
 use Rattle.tv_bits.proofs.BitLaws.{bit_cases}
@@ -40,9 +40,7 @@ module _ (z : List ℕ) (n b x : ℕ) (assigns : Assigns z) (bit : IsBit (slice_
   half_bit_complete : (i at : ℕ) → slice_index z at ≡ selected (slice_index z b) (slice_index z (x + (n + i))) (slice_index z (x + i))
       → Meets z (half_bit_of n b x i at).list
   unfolding half_bit_of pick_of fresh put pure ◌>>=◌
-  half_bit_complete i at is =
-      select_complete z at b (wire (x + (n + i))) (wire (x + i)) assigns bit
-      (is ∙ ap₂ (λ p q. selected (slice_index z b) p q) (sym (value-wire assigns (x + (n + i)))) (sym (value-wire assigns (x + i))), tt)
+  half_bit_complete i at is = search (arith, select_complete, value-wire)
 
   each_sound : (next : ℕ) → Meets z (sequence n (half_bit_of n b x) next).list → (i : ℕ) → i < n
       → slice_index z (next + i) ≡ selected (slice_index z b) (slice_index z (x + (n + i))) (slice_index z (x + i))
@@ -75,6 +73,4 @@ module _ (z : List ℕ) (n b x : ℕ) (assigns : Assigns z) (bit : IsBit (slice_
 
     pub halves_complete : (next : ℕ) → HasFrom z next (bits_values (chosen_half n (slice_index z b) v) n) → Meets z (halves_of n b x next).list
     unfolding halves_of here pure ◌>>=◌
-    halves_complete next has =
-        Meets-join z (sequence n (half_bit_of n b x) next).list []
-        (each_complete next (λ i h. has_each z next n (bit_at (chosen_half n (slice_index z b) v)) has i h ∙ sym (chosen_bit i h))) tt
+    halves_complete next has = search (arith, Meets-join, each_complete, has_each, chosen_bit)

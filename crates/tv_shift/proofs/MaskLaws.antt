@@ -87,11 +87,7 @@ module _ (w : ℕ) (width : IsWidth w) (z : List ℕ) (assigns : Assigns z) (mas
     (digit_is : (i : ℕ) → i < w / 2 → value (digit i) z ≡ d i) (digit_bit : (i : ℕ) → IsBit (d i)) where
   ands : (i : ℕ) → i < w / 4 → two_ands (value (mask i) z) (value (digit i) z) (value (mask (w / 4 + i)) z) (value (digit (w / 4 + i)) z) (2 ^ (w / 4 / 2))
       ≡ m i * d i + 2 ^ (w / 4) * (m (w / 4 + i) * d (w / 4 + i))
-  ands i h =
-      ap₂ (λ a b. two_ands a b (value (mask (w / 4 + i)) z) (value (digit (w / 4 + i)) z) (2 ^ (w / 4 / 2))) (mask_is i (omega arith))
-      (digit_is i (omega arith))
-      ∙ ap₂ (λ a b. two_ands (m i) (d i) a b (2 ^ (w / 4 / 2))) (mask_is (w / 4 + i) (omega arith)) (digit_is (w / 4 + i) (omega arith))
-      ∙ two_small w width (m i) (d i) (m (w / 4 + i)) (d (w / 4 + i)) (mask_bit i) (digit_bit i) (mask_bit (w / 4 + i)) (digit_bit (w / 4 + i))
+  ands i h = search (arith, two_small)
 
   pair_sound : (i at : ℕ) → i < w / 4 → Meets z (masked_pair_of mask digit (w / 4) i at).list
       → slice_index z at ≡ m i * d i + 2 ^ (w / 4) * (m (w / 4 + i) * d (w / 4 + i))
@@ -184,10 +180,7 @@ module _ (w : ℕ) (width : IsWidth w) (z : List ℕ) (assigns : Assigns z) (p :
   mask-bit High i = below-bit (w / 2 - 1 - i) s
 
   difference : (l h u : ℕ) → IsBit l → IsBit h → u ≡ selected b h l → ((l + h) % P + (P - u)) % P ≡ selected b l h
-  difference l h u p q is = elim (bit_cases b bit) [
-    | inl none ↦ rw none (let same : u ≡ l = is ∙ rw none refl in omega arith)
-    | inr one ↦ rw one (let same : u ≡ h = is ∙ rw one refl in omega arith)
-  ]
+  difference l h u p q is = search (arith, bit_cases)
 
   chosen_digit : (i : ℕ) → bit_at (chosen_half (w / 2) b v) i ≡ selected b (bit_at (v / 2 ^ (w / 2)) i) (bit_at (v % 2 ^ (w / 2)) i)
   chosen_digit i = elim (bit_cases b bit) [ inl none ↦ rw none refl | inr one ↦ rw one refl ]

@@ -6,12 +6,11 @@ use Rattle.tv_bits.specs.Times.{times_of}
 use Rattle.tv_bits.specs.declared.bit_wires.Bits.{Bits}
 use Rattle.tv_bits.specs.declared.double_rows.DoubleRow.{DoubleRow}
 use Rattle.tv_core.specs.Circuits.{fresh, put, pure, ◌>>=◌}
-use Rattle.tv_core.specs.Combinations.{wire, less}
 use Rattle.tv_core.specs.Constraints.{Combination}
 use Rattle.tv_core.specs.Normal.{IsNormal, AreNormal}
 use Rattle.tv_core.specs.declared.field.TheConstants.{P}
 use Rattle.tv_shift.specs.Power.{factor_by, pair_power, low_power_of, wide_power_of, shift_power_of}
-use Rattle.tv_shift.specs.RowShift.{raised, right_shift_of}
+use Rattle.tv_shift.specs.RowShift.{right_shift_of}
 use Rattle.tv_word.proofs.WidthLaws.{for_widths}
 use Rattle.tv_word.specs.Widths.{IsWidth}
 
@@ -20,45 +19,16 @@ factor_normal : (k b : ℕ) → 1 < k → k ≤ P → 0 < b → IsNormal (factor
 factor_normal k b more small above = (omega arith, omega arith, omega arith, (omega arith, omega arith, omega arith, tt))
 
 pair_normal : (a product : ℕ) → 0 < a → a + 1 < product → IsNormal (pair_power a (a + 1) product)
-pair_normal a product above before = (
-  omega arith,
-  omega arith,
-  omega arith,
-  (omega arith, omega arith, omega arith, (omega arith, omega arith, omega arith, (omega arith, omega arith, omega arith, tt))),
-)
+pair_normal a product above before = search (arith)
 
 -- ---- the power
 low_normal : (y next : ℕ) → 0 < y → y + 4 ≤ next → AreNormal (low_power_of y next).list
 unfolding low_power_of times_of fresh put pure ◌>>=◌
-low_normal y next above within = (
-  record { a = wire_normal 0 y (omega arith); b = wire_normal 0 (y + 1) (omega arith); c = wire_normal 0 next (omega arith) },
-  (
-    record {
-      a = factor_normal 16 (y + 2) (omega arith) (omega arith) (omega arith);
-      b = factor_normal 256 (y + 3) (omega arith) (omega arith) (omega arith);
-      c = wire_normal 0 (next + 1) (omega arith);
-    },
-    (record { a = pair_normal y next above (omega arith); b = wire_normal 0 (next + 1) (omega arith); c = wire_normal 0 (next + 1 + 1) (omega arith) }, tt),
-  ),
-)
+low_normal y next above within = search (arith, wire_normal, factor_normal, pair_normal)
 
 wide_normal : (y next : ℕ) → 0 < y → y + 5 ≤ next → AreNormal (wide_power_of y next).list
 unfolding wide_power_of low_power_of times_of fresh put pure ◌>>=◌
-wide_normal y next above within =
-    let low = low_normal y next above (omega arith) in
-    let last = factor_normal 65536 (y + 4) (omega arith) (omega arith) (omega arith) in (
-      low.0,
-      (
-        low.1.0,
-        (
-          low.1.1.0,
-          (
-            record { a = wire_normal 0 (next + 1 + 1) (omega arith); b = last; c = wire_normal 0 (next + 1 + 1 + 1) (omega arith) },
-            tt,
-          ),
-        ),
-      ),
-    )
+wide_normal y next above within = search (arith, low_normal, factor_normal, wire_normal)
 
 abbrev power_at : ℕ → Type 0
 power_at w = (y : Bits) (next : ℕ) → 0 < y.first → y.first + w ≤ next → AreNormal (shift_power_of w y next).list
@@ -78,13 +48,4 @@ shift_power_normal = for_widths power_at power_16 power_32
 pub right_shift_normal : (w : ℕ) → IsWidth w → (gate : Combination) (v power : ℕ) (row : DoubleRow) (next : ℕ) → IsNormal gate
     → row.low < row.high → v < next → AreNormal (right_shift_of w gate v power row next).list
 unfolding right_shift_of gated_of times_of fresh put pure ◌>>=◌
-right_shift_normal w width gate v power row next g rises before =
-    let difference : IsNormal (less (raised w v) (wire next)) = (
-      omega arith,
-      power_some w width,
-      omega arith,
-      (omega arith, omega arith, omega arith, tt),
-    ) in (
-      record { a = row_number_normal 0 w width row (omega arith) rises; b = wire_normal 0 power (omega arith); c = wire_normal 0 next (omega arith) },
-      (record { a = g; b = difference; c = tt }, tt),
-    )
+right_shift_normal w width gate v power row next g rises before = search (arith, power_some, row_number_normal, wire_normal)

@@ -76,30 +76,15 @@ module _ (z : List ℕ) (assigns : Assigns z) where
     -- ---- the laws
     low_sound : (next : ℕ) → 4 ≤ n → Meets z (low_power_of y next).list → IsShiftPower 16 z (low_power_of y next).answer d
     unfolding low_power_of times_of fresh put pure ◌>>=◌
-    low_sound next short meets =
-        let both = sym (value-wire assigns next) ∙ sym meets.0 ∙ both_value (omega arith) in
-        let middle = sym (value-wire assigns (next + 1)) ∙ sym meets.1.0 ∙ middle_value short in
-        record {
-          both = both;
-          power = sym (value-wire assigns (next + 1 + 1)) ∙ sym meets.1.1.0 ∙ low_value next (next + 1) (omega arith) both middle;
-        }
+    low_sound next short meets = search (arith, value-wire, both_value, middle_value, low_value)
 
     low_complete : (next : ℕ) → 4 ≤ n → HasFrom z next (low_power_values d) → Meets z (low_power_of y next).list
     unfolding low_power_of times_of fresh put pure ◌>>=◌
-    low_complete next short has =
-        let both = both_value (omega arith) ∙ sym (value-wire assigns next ∙ has.0) in
-        let middle = middle_value short ∙ sym (value-wire assigns (next + 1) ∙ has.1.0) in
-        let power = low_value next (next + 1) (omega arith) has.0 has.1.0 ∙ sym (value-wire assigns (next + 1 + 1) ∙ has.1.1.0) in
-        (both, (middle, (power, tt)))
+    low_complete next short has = search (arith, both_value, value-wire, middle_value, low_value)
 
     wide_sound : (next : ℕ) → 5 ≤ n → Meets z (wide_power_of y next).list → IsShiftPower 32 z (wide_power_of y next).answer d
     unfolding wide_power_of low_power_of times_of fresh put pure ◌>>=◌
-    wide_sound next short meets =
-        let low = low_sound next (omega arith) (meets.0, (meets.1.0, (meets.1.1.0, tt))) in
-        record {
-          both = low.both;
-          power = sym (value-wire assigns (next + 1 + 1 + 1)) ∙ sym meets.1.1.1.0 ∙ wide_value (next + 1 + 1) short low.power;
-        }
+    wide_sound next short meets = search (arith, low_sound, value-wire, wide_value)
 
     wide_complete : (next : ℕ) → 5 ≤ n → HasFrom z next (wide_power_values d) → Meets z (wide_power_of y next).list
     unfolding wide_power_of low_power_of times_of fresh put pure ◌>>=◌
@@ -169,10 +154,7 @@ both_below : (d : ℕ) → bit_at d 0 * bit_at d 1 < P
 both_below d = let bit = product_bit (bit_at d 0) (bit_at d 1) (bit_at-lt d 0) (bit_at-lt d 1) in omega arith
 
 low_in_field : (d : ℕ) (rest : List ℕ) → InField rest → InField (bit_at d 0 * bit_at d 1 ∷ 2 ^ (4 * (d / 4 % 4)) ∷ 2 ^ (d % 16) ∷ rest)
-low_in_field d rest others =
-    InField-cons (bit_at d 0 * bit_at d 1) (2 ^ (4 * (d / 4 % 4)) ∷ 2 ^ (d % 16) ∷ rest) (both_below d)
-    (InField-cons (2 ^ (4 * (d / 4 % 4))) (2 ^ (d % 16) ∷ rest) (power_small (4 * (d / 4 % 4)) (omega arith))
-    (InField-cons (2 ^ (d % 16)) rest (power_small (d % 16) (omega arith)) others))
+low_in_field d rest others = search (arith, InField-cons, both_below, power_small)
 
 in_field_at : (d : ℕ) (w : ℕ) → IsWidth w → InField (shift_power_values w d)
 in_field_at d =

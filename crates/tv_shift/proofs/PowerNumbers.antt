@@ -30,9 +30,7 @@ power_small m h = let power : 2 ^ m ≤ 2 ^ 63 = pow-le-pow_right (omega arith) 
 
 module _ (d : ℕ) where
   pub both_is : bit_at d 0 * bit_at d 1 % P ≡ bit_at d 0 * bit_at d 1
-  both_is =
-      let small = product_bit (bit_at d 0) (bit_at d 1) (bit_at-lt d 0) (bit_at-lt d 1) in
-      mod-eq_of_lt (let below : bit_at d 0 * bit_at d 1 < P = omega arith in below)
+  both_is = search (arith, product_bit, bit_at-lt, mod-eq_of_lt)
 
   pub middle_is : (1 + 15 * bit_at d 2) * (1 + 255 * bit_at d 3) % P ≡ 2 ^ (4 * (d / 4 % 4))
   middle_is =

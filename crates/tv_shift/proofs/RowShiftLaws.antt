@@ -6,7 +6,6 @@ use Rattle.tv_bits.proofs.DoubleRowLaws.{value-row_number}
 use Rattle.tv_bits.proofs.GateLaws.{gated_sound, gated_complete, gated_next, gated_constraints, gated_terms, terms-append}
 use Rattle.tv_bits.proofs.TimesLaws.{times_sound, times_complete, times_sizes}
 use Rattle.tv_bits.specs.DoubleRow.{whole, row_number}
-use Rattle.tv_bits.specs.Gate.{gated_of}
 use Rattle.tv_bits.specs.Times.{times_of}
 use Rattle.tv_bits.specs.declared.double_rows.DoubleRow.{DoubleRow}
 use Rattle.tv_core.proofs.CombinationLaws.{value-wire, value-cons, value-empty}
@@ -30,9 +29,7 @@ value-raised z assigns w v = value-cons (2 ^ w % P) v [] z ∙ ap (λ n. (2 ^ w 
 -- the product, where the power is 2 ^ m
 right_product : (w : ℕ) (z : List ℕ) → Assigns z → (power m : ℕ) (row : DoubleRow) → slice_index z power ≡ 2 ^ m
     → value (row_number w row) z * value (wire power) z % P ≡ whole w (slice_index z row.low) (slice_index z row.high) * 2 ^ m % P
-right_product w z assigns power m row e =
-    ap₂ (λ n k. n * k % P) (value-row_number w z row assigns) (value-wire assigns power ∙ e)
-    ∙ mul-mod_first (whole w (slice_index z row.low) (slice_index z row.high)) (2 ^ m) P
+right_product w z assigns power m row e = search (arith, value-row_number, value-wire, mul-mod_first)
 
 pub right_shift_sound : RightShiftIsSound
 unfolding right_shift_of times_of fresh put pure ◌>>=◌
@@ -88,9 +85,7 @@ right_shift_count w gate v power row next = omega (arith, gated_constraints gate
 right_shift_terms : (w : ℕ) (gate : Combination) (v power : ℕ) (row : DoubleRow) (next : ℕ)
     → terms_in (right_shift_of w gate v power row next).list ≡ length gate + 6
 unfolding right_shift_of times_of fresh put pure ◌>>=◌
-right_shift_terms w gate v power row next =
-    let gated = (gated_of gate (raised w v) (wire next) (next + 1)).list in
-    omega (arith, terms-append (times_of (row_number w row) (wire power) next).list gated, gated_terms gate (raised w v) (wire next) (next + 1))
+right_shift_terms w gate v power row next = search (arith, terms-append, gated_terms)
 
 pub right_shift_cost_laws : RightShiftCosts
 right_shift_cost_laws = record { constraints = right_shift_count; terms = right_shift_terms }

@@ -27,10 +27,7 @@ module _ (w : ℕ) (width : IsWidth w) (v m : ℕ) (word : v < 2 ^ w) (less : m 
       ∙ ap (λ n. n / 2 ^ m) (mul-div_cancel v (let some = pow_pos (w - m) in omega arith))
 
   right_most : v * 2 ^ (w - m) ≤ 2 ^ w * (2 ^ w - 1)
-  right_most =
-      let power : 2 ^ (w - m) ≤ 2 ^ w = pow-le-pow_right (omega arith) (omega arith) in
-      let most = mul-le v (2 ^ (w - m)) (2 ^ w - 1) (2 ^ w) (omega arith) power in
-      omega (arith, mul_comm (2 ^ w) (2 ^ w - 1))
+  right_most = search (arith, pow-le-pow_right, mul-le, mul_comm)
 
   pub right_row : IsRow w (right_low w v m) (right_high v m)
   right_row = subst (λ high. IsRow w (right_low w v m) high) moved_back (row_of w width (v * 2 ^ (w - m)) right_most)

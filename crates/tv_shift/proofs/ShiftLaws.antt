@@ -190,14 +190,7 @@ module _ (w : ℕ) (width : IsWidth w) (z : List ℕ) (assigns : Assigns z) (x y
   half_complete : (at : ℕ) → slice_index z at ≡ half_left (w / 2) (bit_at d (half_log w)) v
       → slice_index z (at + 1) ≡ half_right (w / 2) (bit_at d (half_log w)) v → Meets z (by_half_of w (y + half_log w) x at).list
   unfolding by_half_of pick_of fresh put ◌>>=◌ pure
-  half_complete at l r =
-      let left = select_of (y + half_log w) (scaled (2 ^ (w / 2) % P) (bits_combination x (w / 2))) (bits_combination x w) at in
-      let right = select_of (y + half_log w) (bits_combination (x + w / 2) (w / 2)) (bits_combination x w) left.next in
-      Meets-join z left.list (right.list ++ [])
-      (select_complete z at (y + half_log w) (scaled (2 ^ (w / 2) % P) (bits_combination x (w / 2))) (bits_combination x w) assigns b-wire
-      (l ∙ sym left_chosen, tt))
-      (Meets-join z right.list [] (select_complete z (at + 1) (y + half_log w) (bits_combination (x + w / 2) (w / 2)) (bits_combination x w) assigns b-wire
-      (r ∙ sym right_chosen, tt)) tt)
+  half_complete at l r = search (arith, Meets-join, select_complete, b-wire, left_chosen, right_chosen)
 
   -- ---- by the rest of the distance
   module _ (p : Parts) (half : Shift) (known : AreParts w z p (d % 2 ^ half_log w) (bit_at d (half_log w)) v)
@@ -237,10 +230,7 @@ module _ (w : ℕ) (width : IsWidth w) (z : List ℕ) (assigns : Assigns z) (x y
 
     left_product : value power z * value (less (wire half.left) (scaled (2 ^ (w / 2) % P) (bits_combination p.high (w / 4)))) z % P
         ≡ shifted_left w (half_left (w / 2) (bit_at d (half_log w)) v) (d % 2 ^ half_log w)
-    left_product =
-        ap₂ (λ a b. a * b % P) power_value left_value
-        ∙ rest-left w width (d % 2 ^ half_log w) s-small (half_left (w / 2) (bit_at d (half_log w)) v)
-        (value (bits_combination p.high (w / 4)) z) left-below high_is
+    left_product = search (arith, power_value, left_value, rest-left, s-small, left-below, high_is)
 
     rest_sound : (at : ℕ) → Meets z (by_rest_of w p half at).list
         → (slice_index z (by_rest_of w p half at).answer.left ≡ shifted_left w (half_left (w / 2) (bit_at d (half_log w)) v) (d % 2 ^ half_log w))
@@ -336,11 +326,7 @@ module _ (w : ℕ) (width : IsWidth w) (z : List ℕ) (assigns : Assigns z) (x y
 
     ends_complete : (at : ℕ) → slice_index z at ≡ shifted_left w v d → slice_index z (at + 1) ≡ shifted_right v d → Meets z (ends_of in_range near at).list
     unfolding ends_of times_of fresh put ◌>>=◌ pure
-    ends_complete at l r =
-        let left = times_of (wire in_range) (wire near.left) at in
-        let right = times_of (wire in_range) (wire near.right) left.next in
-        Meets-join z left.list (right.list ++ []) (times_complete z at (wire in_range) (wire near.left) assigns (l ∙ sym gate_left, tt))
-        (Meets-join z right.list [] (times_complete z (at + 1) (wire in_range) (wire near.right) assigns (r ∙ sym gate_right, tt)) tt)
+    ends_complete at l r = search (arith, Meets-join, times_complete, gate_left, gate_right)
 
 -- ---- the whole
 pub shift_sound : ShiftIsSound

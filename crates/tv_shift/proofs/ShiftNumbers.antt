@@ -76,11 +76,7 @@ module _ (w : ℕ) (width : IsWidth w) (b v : ℕ) (bit : IsBit b) (word : v < 2
   ]
 
   pub right_whole : (s : ℕ) → half_right (w / 2) b v / 2 ^ s ≡ v / 2 ^ (w / 2 * b + s)
-  right_whole s = elim (bit_cases b bit) [
-    | inl none ↦ rw none (let same : w / 2 * 0 + s ≡ s = omega arith in rw same refl)
-    | inr one ↦ rw one (div-div-eq-div-mul v (2 ^ (w / 2)) (2 ^ s)
-        ∙ ap (λ k. v / k) (sym (let once : w / 2 * 1 + s ≡ w / 2 + s = omega arith in ap (λ k. 2 ^ k) once ∙ pow-add 2 (w / 2) s)))
-  ]
+  right_whole s = search (arith, bit_cases, div-div-eq-div-mul, pow-add)
 
 -- ---- what the constraints say of the shift by s
 module _ (w : ℕ) (width : IsWidth w) (s : ℕ) (small : s < w / 2) where
@@ -93,11 +89,7 @@ module _ (w : ℕ) (width : IsWidth w) (s : ℕ) (small : s < w / 2) where
   -- to the right
   module _ (x a : ℕ) (word : x < 2 ^ 32) (part : a ≡ x % 2 ^ s) where
     rest-right : (x + (P - a)) % P ≡ 2 ^ s * (x / 2 ^ s) % P
-    rest-right =
-        let whole = div-add-mod x (2 ^ s) in
-        let less : a ≤ x = omega (arith, part, mod-le x (2 ^ s)) in
-        let same : x + (P - a) ≡ 2 ^ s * (x / 2 ^ s) + P = omega arith in
-        ap (λ k. k % P) same ∙ omega arith
+    rest-right = search (arith, div-add-mod, mod-le)
 
     pub right_of : (r : ℕ) → r < P → 2 ^ s * r % P ≡ (x + (P - a)) % P → r ≡ x / 2 ^ s
     right_of r below e = let quotient = div-le_self x (2 ^ s) in

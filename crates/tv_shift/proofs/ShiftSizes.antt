@@ -1,5 +1,5 @@
 -- Where a shift ends and what it answers; its values are as many as its wires, and in the field.
-use Rattle.std.proofs.Common.{◌≡◌, ℕ, zero, suc, ◌+◌, ◌-◌, ◌*◌, ◌/◌, ◌%◌, ◌^◌, ◌<◌, [], ◌∷◌, ◌++◌, length, length-append, inl, inr, ◌∙◌, ap, ap₂, arith, mod-lt}
+use Rattle.std.proofs.Common.{◌≡◌, ℕ, zero, suc, ◌+◌, ◌-◌, ◌*◌, ◌/◌, ◌%◌, ◌^◌, ◌<◌, [], ◌∷◌, ◌++◌, length, length-append, inl, inr, ◌∙◌, ap, arith, mod-lt}
 use Rattle.std.proofs.Math.Nat.{div-le_self}
 use Rattle.std.proofs.lemmas.Nat.{pow_pos}
 use Rattle.std.proofs.lemmas.Nat.Bits.{bit_at-lt}
@@ -9,7 +9,7 @@ use Rattle.tv_bits.proofs.SelectLaws.{select_next}
 use Rattle.tv_bits.proofs.SizeLaws.{bits_in_field, zero_in_field}
 use Rattle.tv_bits.proofs.ZeroLaws.{zero_next}
 use Rattle.tv_bits.specs.Bit.{IsBit}
-use Rattle.tv_bits.specs.Bits.{bits_combination, bits_values}
+use Rattle.tv_bits.specs.Bits.{bits_combination}
 use Rattle.tv_bits.specs.Zero.{zero_of, zero_values}
 use Rattle.tv_bits.specs.declared.bit_wires.Bits.{Bits}
 use Rattle.tv_core.proofs.BelowLaws.{length-each_below}
@@ -23,10 +23,9 @@ use Rattle.tv_shift.proofs.MaskLaws.{masked_next}
 use Rattle.tv_bits.proofs.TimesLaws.{times_next, ratio_next, times_answer}
 use Rattle.tv_shift.proofs.ShiftNumbers.{products_half, half_left-below, half_right-below}
 use Rattle.tv_shift.proofs.ThermometerLaws.{below-bit, thermometer_next}
-use Rattle.tv_shift.specs.Halves.{chosen_half, other_half, halves_of}
-use Rattle.tv_shift.specs.Masks.{masked_value, masked_values, half_log, mask_at, mask_value, digit_at}
+use Rattle.tv_shift.specs.Masks.{masked_value, half_log, mask_value}
 use Rattle.tv_shift.specs.Shift.{places_of, parts_of, by_half_of, by_rest_of, ends_of, shift_of, places_made, parts_made, shift_made, shift_wires}
-use Rattle.tv_shift.specs.Shift.{places_values, parts_values, half_left, half_right, ends_values, shifted_left, shifted_right, shift_values, ShiftSizes}
+use Rattle.tv_shift.specs.Shift.{places_values, parts_values, ends_values, shifted_left, shifted_right, shift_values, ShiftSizes}
 use Rattle.tv_shift.specs.Thermometer.{below, level_value, level_values, thermometer_values}
 use Rattle.tv_shift.specs.declared.ends.Shift.{Shift}
 use Rattle.tv_shift.specs.declared.masks.Part.{Part}
@@ -37,16 +36,11 @@ use Rattle.tv_word.specs.Widths.{IsWidth}
 -- ---- where the circuits end
 pub places_next : (w : ℕ) → IsWidth w → (x y next : ℕ) → (places_of w x y next).next ≡ next + places_made w
 unfolding places_of pure ◌>>=◌
-places_next w width x y next =
-    thermometer_next (half_log w) y (halves_of (w / 2) (y + half_log w) x next).next
-    ∙ omega (arith, halves_next (w / 2) (y + half_log w) x next, products_half w width)
+places_next w width x y next = search (arith, thermometer_next, halves_next, products_half)
 
 pub parts_next : (w : ℕ) → IsWidth w → (x y next : ℕ) → (parts_of w x y next).next ≡ next + parts_made w
 unfolding parts_of pure ◌>>=◌
-parts_next w width x y next =
-    let p = (places_of w x y next).answer in
-    let low = masked_next (mask_at w p Low) (digit_at w p Low) (w / 4) (places_of w x y next).next in
-    masked_next (mask_at w p High) (digit_at w p High) (w / 4) _ ∙ omega (arith, low, places_next w width x y next)
+parts_next w width x y next = search (arith, masked_next, places_next)
 
 pub half_next : (w b x next : ℕ) → (by_half_of w b x next).next ≡ next + 1 + 1
 unfolding by_half_of pure ◌>>=◌
@@ -72,14 +66,7 @@ module _ (w : ℕ) (width : IsWidth w) (x y : Bits) (next : ℕ) where
   near = by_rest_of w parts.answer half.answer half.next
 
   last_from : (zero_of (bits_combination (y.first + (half_log w + 1)) (w - (half_log w + 1))) near.next).next ≡ next + (parts_made w + 6)
-  last_from =
-      zero_next (bits_combination (y.first + (half_log w + 1)) (w - (half_log w + 1))) near.next
-      ∙ omega (
-        arith,
-        rest_next w parts.answer half.answer half.next,
-        half_next w (y.first + half_log w) x.first parts.next,
-        parts_next w width x.first y.first next,
-      )
+  last_from = search (arith, zero_next, rest_next, half_next, parts_next)
 
 shift_next : (w : ℕ) → IsWidth w → (x y : Bits) (next : ℕ) → (shift_of w x y next).next ≡ next + shift_made w
 unfolding shift_of ◌>>=◌
@@ -87,42 +74,17 @@ shift_next w width x y next = ends_next _ _ _ ∙ ap (λ n. n + 1 + 1) (last_fro
 
 shift_answer : (w : ℕ) → IsWidth w → (x y : Bits) (next : ℕ) → (shift_of w x y next).answer ≡ shift_wires w next
 unfolding shift_of ends_of pure ◌>>=◌
-shift_answer w width x y next =
-    ap₂ (λ l r. record { left = l; right = r })
-    (times_answer _ _ _ ∙ last_from w width x y next ∙ omega arith)
-    (times_answer _ _ _ ∙ times_next _ _ _ ∙ ap (λ n. n + 1) (last_from w width x y next) ∙ omega arith)
+shift_answer w width x y next = search (arith, times_answer, last_from, times_next)
 
 -- ---- how many values
 pub length-places : (w : ℕ) → IsWidth w → (v d : ℕ) → length (places_values w v d) ≡ places_made w
-length-places w width v d =
-    let bits = bits_values (chosen_half (w / 2) (bit_at d (half_log w)) v) (w / 2) in
-    omega (
-      arith,
-      length-append bits (thermometer_values (half_log w) d),
-      length-each_below (w / 2) (bit_at (chosen_half (w / 2) (bit_at d (half_log w)) v)),
-      length-values (half_log w) d,
-      products_half w width,
-    )
+length-places w width v d = search (arith, length-append, length-each_below, length-values, products_half)
 
 pub length-parts : (w : ℕ) → IsWidth w → (v d : ℕ) → length (parts_values w v d) ≡ parts_made w
-length-parts w width v d =
-    let s = d % 2 ^ half_log w in
-    let b = bit_at d (half_log w) in
-    let low = masked_values (mask_value w s Low) (chosen_half (w / 2) b v) (w / 4) in
-    let high = masked_values (mask_value w s High) (other_half (w / 2) b v) (w / 4) in
-    omega (
-      arith,
-      length-append (places_values w v d) (low ++ high),
-      length-append low high,
-      length-places w width v d,
-      length-each_below (w / 4) (masked_value (mask_value w s Low) (chosen_half (w / 2) b v) (w / 4)),
-      length-each_below (w / 4) (masked_value (mask_value w s High) (other_half (w / 2) b v) (w / 4)),
-    )
+length-parts w width v d = search (arith, length-append, length-places, length-each_below)
 
 shift_fills : (w : ℕ) → IsWidth w → (x y : Bits) (v d : ℕ) → Fills (shift_of w x y) (shift_values w v d)
-shift_fills w width x y v d next =
-    let last = ends_values w v d ++ (zero_values (d / 2 ^ (half_log w + 1)) ++ shifted_left w v d ∷ shifted_right v d ∷ []) in
-    omega (arith, shift_next w width x y next, length-append (parts_values w v d) last, length-parts w width v d)
+shift_fills w width x y v d next = search (arith, shift_next, length-append, length-parts)
 
 -- ---- the values are below the prime
 bit_in_field : (a b : ℕ) → IsBit a → IsBit b → a * b < P
@@ -154,19 +116,7 @@ levels-below (suc k) y =
     (InField-each_below (level_value y k) (λ j. bit_in_field (bit_at y k) (below j (y % 2 ^ k)) (bit_at-lt y k) (below-bit j (y % 2 ^ k))) (2 ^ k - 1)))
 
 parts-below : (w : ℕ) → IsWidth w → (v d : ℕ) → InField (parts_values w v d)
-parts-below w width v d =
-    let s = d % 2 ^ half_log w in
-    let b = bit_at d (half_log w) in
-    let bits = bits_values (chosen_half (w / 2) b v) (w / 2) in
-    let low = masked_values (mask_value w s Low) (chosen_half (w / 2) b v) (w / 4) in
-    let high = masked_values (mask_value w s High) (other_half (w / 2) b v) (w / 4) in
-    InField-append (places_values w v d) (low ++ high)
-    (InField-append bits (thermometer_values (half_log w) d) (bits_in_field (chosen_half (w / 2) b v) (w / 2)) (levels-below (half_log w) d))
-    (InField-append low high
-    (InField-each_below (masked_value (mask_value w s Low) (chosen_half (w / 2) b v) (w / 4)) (λ i. masked-below w width Low s (chosen_half (w / 2) b v) i)
-    (w / 4))
-    (InField-each_below (masked_value (mask_value w s High) (other_half (w / 2) b v) (w / 4)) (λ i. masked-below w width High s (other_half (w / 2) b v) i)
-    (w / 4)))
+parts-below w width v d = search (arith, InField-append, bits_in_field, levels-below, InField-each_below, masked-below)
 
 -- a word, and what is left of one
 left-in_field : (w : ℕ) → IsWidth w → (x y : ℕ) → shifted_left w x y < P
@@ -177,16 +127,7 @@ right-in_field w width x y h = let less = div-le_self x (2 ^ y) in word-below w 
 
 ends-below : (w : ℕ) → IsWidth w → (v d : ℕ) → v < 2 ^ w → InField (ends_values w v d)
 ends-below w width v d h =
-    let s = d % 2 ^ half_log w in
-    let b = bit_at d (half_log w) in
-    let left = half_left (w / 2) b v in
-    let right = half_right (w / 2) b v in
-    let left-small = half_left-below w width b v (bit_at-lt d (half_log w)) h in
-    let right-small = half_right-below w width b v (bit_at-lt d (half_log w)) h in
-    InField-cons left (right ∷ shifted_left w left s ∷ shifted_right right s ∷ []) (word-below w width left left-small)
-    (InField-cons right (shifted_left w left s ∷ shifted_right right s ∷ []) (word-below w width right right-small)
-    (InField-cons (shifted_left w left s) (shifted_right right s ∷ []) (left-in_field w width left s)
-    (InField-cons (shifted_right right s) [] (right-in_field w width right s right-small) InField-none)))
+    search (arith, half_left-below, bit_at-lt, half_right-below, InField-cons, word-below, left-in_field, right-in_field, InField-none)
 
 shift_in_field : (w : ℕ) → IsWidth w → (v d : ℕ) → v < 2 ^ w → d < 2 ^ w → InField (shift_values w v d)
 shift_in_field w width v d h k =

@@ -37,18 +37,7 @@ below-bit j s = elim (cases_lt j s) [ inl h ↦ omega (arith, below-in j s h) | 
 
 -- one bit more: for the marks of the lower half, and of the higher
 lower-mark : (b j n s : ℕ) → IsBit b → j < n → s < n → below j (b * n + s) ≡ (1 * b + ((P - 1) * (b * below j s) % P + below j s) % P) % P
-lower-mark b j n s bit low small = elim (bit_cases b bit) [
-  | inl none ↦ rw none (elim (cases_lt j s) [
-    | inl h ↦ rw (below-in j s h) (below-in j (0 * n + s) (omega arith))
-    | inr h ↦ rw (below-out j s h)
-        (below-out j (0 * n + s) (omega arith))
-  ])
-  | inr one ↦ rw one (elim (cases_lt j s) [
-    | inl h ↦ rw (below-in j s h) (below-in j (1 * n + s) (omega arith))
-    | inr h ↦ rw (below-out j s h)
-        (below-in j (1 * n + s) (omega arith))
-  ])
-]
+lower-mark b j n s bit low small = search (arith, bit_cases, cases_lt, below-in, below-out)
 
 higher-mark : (b j n s : ℕ) → IsBit b → n ≤ j → s < n → below j (b * n + s) ≡ 1 * (b * below (j - n) s) % P
 higher-mark b j n s bit out small = elim (bit_cases b bit) [
@@ -124,31 +113,10 @@ module _ (z : List ℕ) (assigns : Assigns z) (bits : ℕ) where
     product-bit j = elim (bit_cases (below j s) (below-bit j s)) [ inl a ↦ rw a (omega arith) | inr a ↦ rw a (omega (arith, bit)) ]
 
     value-both : (c j : ℕ) → j < 2 ^ k → value (both products c k j) z ≡ c * (slice_index z (bits + k) * below j s) % P
-    value-both c j h = elim (cases_lt (j + 1) (2 ^ k)) [
-      | inl within ↦
-          let wire_is = made j (omega arith) ∙ ap (λ n. slice_index z (bits + k) * n % P) (marks j h) ∙ product-bit j in
-          ap (λ l. value l z) (both-in products c k j within) ∙ value-cons c (products + (products_below k + j)) [] z ∙ ap (λ n. (c * n + 0) % P) wire_is
-          ∙ omega arith
-      | inr last ↦
-          ap (λ l. value l z) (both-last products c k j last)
-          ∙ sym (ap (λ n. c * (slice_index z (bits + k) * n) % P) (below-out j s (omega arith)) ∙ omega arith)
-    ]
+    value-both c j h = search (arith, cases_lt, product-bit, both-in, value-cons, both-last, below-out)
 
     more_marks : Marks z bits products (suc k) (slice_index z (bits + k) * 2 ^ k + s)
-    more_marks j h = elim (cases_lt j (2 ^ k)) [
-      | inl low ↦
-          let b = slice_index z (bits + k) in
-          ap (λ l. value l z) (mark-low bits products k j low)
-          ∙ value-cons 1 (bits + k) (both products (P - 1) k j ++ mark bits products k j) z
-          ∙ ap (λ n. (1 * b + n) % P) (value-append (both products (P - 1) k j) (mark bits products k j) z
-          ∙ ap₂ (λ m n. (m + n) % P) (value-both (P - 1) j low) (marks j low))
-          ∙ sym (lower-mark b j (2 ^ k) s bit low small)
-      | inr high ↦
-          let within : j - 2 ^ k < 2 ^ k = omega (arith, pow-suc 2 k) in
-          ap (λ l. value l z) (mark-high bits products k j high)
-          ∙ value-both 1 (j - 2 ^ k) within
-          ∙ sym (higher-mark (slice_index z (bits + k)) j (2 ^ k) s bit high small)
-    ]
+    more_marks j h = search (arith, cases_lt, mark-low, value-cons, value-append, value-both, lower-mark, pow-suc, mark-high, higher-mark)
 
   -- all levels
   module _ (n v : ℕ) (s : HasBits z bits n v) (next : ℕ) where

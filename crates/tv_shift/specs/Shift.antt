@@ -58,8 +58,10 @@ by_half_of w b x = do
 -- and then by s: without the part that falls away, times 2^s to the left, divided by 2^s to the right
 unfoldable pub by_rest_of : ℕ → Parts → Shift → Circuit Shift
 by_rest_of w parts half = do
-  left ← times_of (power_of (mark parts.places.distance parts.places.products (half_log w)) (w / 2 - 1)) (less (wire half.left) (scaled (2 ^ (w / 2) % P) (bits_combination parts.high (w / 4))))
-  right ← ratio_of (power_of (mark parts.places.distance parts.places.products (half_log w)) (w / 2 - 1)) (less (wire half.right) (bits_combination parts.low (w / 4)))
+  left ← times_of (power_of (mark parts.places.distance parts.places.products (half_log w)) (w / 2 - 1))
+      (less (wire half.left) (scaled (2 ^ (w / 2) % P) (bits_combination parts.high (w / 4))))
+  right ← ratio_of (power_of (mark parts.places.distance parts.places.products (half_log w)) (w / 2 - 1))
+      (less (wire half.right) (bits_combination parts.low (w / 4)))
   pure (record { left = left; right = right })
 
 -- and 0 where c is not 0

@@ -16,13 +16,7 @@ mod values;
 
 pub use ends::Shift;
 pub use masks::{Part, Parts, Places};
-pub use powers::{
-    ShiftPower, fill_shift_power, shift_power, shift_power_costs, shift_power_fills,
-    shift_power_is_complete, shift_power_is_sound,
-};
-pub use row_shifts::{
-    fill_right_shift, right_shift, right_shift_costs, right_shift_fills, right_shift_is_complete,
-    right_shift_is_sound, shifts_by_any_distance,
-};
-pub use shifts::{shift, shift_fills, shift_is_complete, shift_is_sound};
+pub use powers::{ShiftPower, fill_shift_power, shift_power, shift_power_laws};
+pub use row_shifts::{fill_right_shift, right_shift, right_shift_laws, shifts_by_any_distance};
+pub use shifts::{shift, shift_laws};
 pub use values::fill_shift;

@@ -1,8 +1,7 @@
 //! Two to the power of a distance, by which a word is multiplied or divided in a shift.
 ghost use Rattle.std.specs.Prelude.{◌≡◌, ◌+◌, ◌*◌, ◌/◌, ◌%◌, ◌^◌, ◌≤◌, ◌<◌, false, IfOk, OnOk};
 ghost use Rattle.std.specs.Prelude.{max};
-ghost use Rattle.tv_bits.specs.Times.{times_of};
-ghost use Rattle.tv_core.specs.Combinations.{top, wire};
+ghost use Rattle.tv_core.specs.Combinations.{top};
 ghost use Rattle.tv_core.specs.Values.{GivesIn};
 ghost use Rattle.tv_core.specs.Sinks.{PutsIn, Grows, Room};
 ghost use Rattle.tv_shift.specs.Power.{factor_by, pair_power, low_power_of, wide_power_of};
@@ -56,8 +55,12 @@ fn low_power<S: Sink>(s: &mut S, scratch: &mut Scratch, y: Wire) -> Put<ShiftPow
     ensures both_below { IfOk result (λ made. made.both < S.meaning.wires s.new) }
     ensures power_below { IfOk result (λ made. made.power < S.meaning.wires s.new) }
 {
-    let both = lowest_product(s, scratch, y)?;
-    let middle = middle_power(s, scratch, y)?;
+    scratch.a.set_wire(y);
+    scratch.b.set_wire(y.offset(1));
+    let both = times_by(s, &mut scratch.c, &scratch.a, &scratch.b)?;
+    set_factor(&mut scratch.a, 16, y.offset(2));
+    set_factor(&mut scratch.b, 256, y.offset(3));
+    let middle = times_by(s, &mut scratch.c, &scratch.a, &scratch.b)?;
     set_pair_power(&mut scratch.a, y, both);
     scratch.b.set_wire(middle);
     let power = times_by(s, &mut scratch.c, &scratch.a, &scratch.b)?;
@@ -81,33 +84,6 @@ fn wide_power<S: Sink>(s: &mut S, scratch: &mut Scratch, y: Wire) -> Put<ShiftPo
         both: low.both,
         power,
     })
-}
-
-// The product of the bit `y` and the next one.
-fn lowest_product<S: Sink>(s: &mut S, scratch: &mut Scratch, y: Wire) -> Put<Wire>
-    requires room { Room S.meaning s.old 1 1 }
-    requires y_made { y + 2 ≤ S.meaning.wires s.old }
-    ensures puts { PutsIn S.meaning s.old s.new (times_of (wire y) (wire (y + 1))) result }
-    ensures grows { IfOk result (λ _. Grows S.meaning s.old s.new 1 1) }
-    ensures below { IfOk result (λ product. product < S.meaning.wires s.new) }
-{
-    scratch.a.set_wire(y);
-    scratch.b.set_wire(y.offset(1));
-    times_by(s, &mut scratch.c, &scratch.a, &scratch.b)
-}
-
-// Two to the power of what the third and the fourth bit from `y` on count in a number.
-fn middle_power<S: Sink>(s: &mut S, scratch: &mut Scratch, y: Wire) -> Put<Wire>
-    requires room { Room S.meaning s.old 1 1 }
-    requires y_made { y + 4 ≤ S.meaning.wires s.old }
-    ensures puts { PutsIn S.meaning s.old s.new
-        (times_of (factor_by 16 (y + 2)) (factor_by 256 (y + 3))) result }
-    ensures grows { IfOk result (λ _. Grows S.meaning s.old s.new 1 1) }
-    ensures below { IfOk result (λ product. product < S.meaning.wires s.new) }
-{
-    set_factor(&mut scratch.a, 16, y.offset(2));
-    set_factor(&mut scratch.b, 256, y.offset(3));
-    times_by(s, &mut scratch.c, &scratch.a, &scratch.b)
 }
 
 // Makes `lc` a combination that is `k` where the bit `b` is 1, and else 1.
@@ -163,28 +139,17 @@ fn wide_values(y: u32) -> [F; 4]
     [both, middle, low, F::from(power(y % 32))]
 }
 
-/// In an assignment that satisfies the constraints of `shift_power` for bits that represent a word,
-/// the wire holds the word's power.
-pub fn shift_power_is_sound()
-    ensures { ShiftPowerIsSound }
-{}
-
-/// Where bits represent a word and an assignment has the values that `fill_shift_power` assigns for
-/// it, it satisfies the constraints of `shift_power`.
-#[tactic(auto, using(crate::proofs::PowerLaws::shift_power_complete))]
-pub fn shift_power_is_complete()
-    ensures { ShiftPowerIsComplete }
-{}
-
-/// Says which wires `shift_power` returns and how many it makes, whatever the next wire is, and
-/// that `fill_shift_power` assigns one value to each of them, below P.
-#[tactic(auto, using(crate::proofs::PowerLaws::shift_power_sizes))]
-pub fn shift_power_fills()
-    ensures { ShiftPowerSizes }
-{}
-
-/// Says how many constraints and terms `shift_power` puts.
-#[tactic(auto, using(crate::proofs::PowerLaws::shift_power_cost_laws))]
-pub fn shift_power_costs()
-    ensures { ShiftPowerCosts }
+/// The laws of `shift_power`:
+/// - `sound`: in an assignment that satisfies the constraints of `shift_power` for bits that
+///   represent a word, the wire holds the word's power.
+/// - `complete`: where bits represent a word and an assignment has the values that
+///   `fill_shift_power` assigns for it, it satisfies the constraints of `shift_power`.
+/// - `sizes`: which wires `shift_power` returns and how many it makes, whatever the next wire is,
+///   and that `fill_shift_power` assigns one value to each of them, below P.
+/// - `costs`: how many constraints and terms `shift_power` puts.
+pub fn shift_power_laws()
+    ensures sound { ShiftPowerIsSound }
+    ensures complete { ShiftPowerIsComplete }
+    ensures sizes { ShiftPowerSizes }
+    ensures costs { ShiftPowerCosts }
 {}

@@ -64,30 +64,20 @@ pub fn fill_right_shift<const W: u32, V: Values>(
     v.give(number * F::from(power))
 }
 
-/// Where the gate is 1 and an assignment satisfies the constraints of `right_shift`, a row holds
-/// the word shifted to the right.
-pub fn right_shift_is_sound()
-    ensures { RightShiftIsSound }
-{}
-
-/// Where the row holds the word shifted to the right, or the gate is 0, an assignment that has the
-/// value that `fill_right_shift` assigns satisfies the constraints of `right_shift`; and such
-/// halves are a row.
-pub fn right_shift_is_complete()
-    ensures { RightShiftIsComplete }
-{}
-
-/// Says that `fill_right_shift` assigns one number of the field for each wire that `right_shift`
-/// makes.
-#[tactic(auto, using(crate::proofs::RowShiftLaws::right_shift_sizes))]
-pub fn right_shift_fills()
-    ensures { RightShiftSizes }
-{}
-
-/// Says how many constraints and terms `right_shift` puts.
-#[tactic(auto, using(crate::proofs::RowShiftLaws::right_shift_cost_laws))]
-pub fn right_shift_costs()
-    ensures { RightShiftCosts }
+/// The laws of `right_shift`:
+/// - `sound`: where the gate is 1 and an assignment satisfies the constraints of `right_shift`, a
+///   row holds the word shifted to the right.
+/// - `complete`: where the row holds the word shifted to the right, or the gate is 0, an assignment
+///   that has the value that `fill_right_shift` assigns satisfies the constraints of `right_shift`;
+///   and such halves are a row.
+/// - `sizes`: `fill_right_shift` assigns one number of the field for each wire that `right_shift`
+///   makes.
+/// - `costs`: how many constraints and terms `right_shift` puts.
+pub fn right_shift_laws()
+    ensures sound { RightShiftIsSound }
+    ensures complete { RightShiftIsComplete }
+    ensures sizes { RightShiftSizes }
+    ensures costs { RightShiftCosts }
 {}
 
 /// A word that is 0 where the distance reaches `W`, shifted by the distance modulo `W`, is the word

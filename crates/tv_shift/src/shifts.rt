@@ -3,7 +3,7 @@ ghost use Rattle.std.specs.Prelude.{◌+◌, ◌/◌, ◌≤◌, ◌<◌, max, I
 ghost use Rattle.tv_bits.specs.Bits.{AreBitsBelow};
 ghost use Rattle.tv_core.specs.Sinks.{PutsIn, Grows, Room};
 ghost use Rattle.tv_shift.specs.Masks.{ArePlacesMade};
-ghost use Rattle.tv_shift.specs.Shift.{places_of, parts_of, shift_of, places_made, parts_made};
+ghost use Rattle.tv_shift.specs.Shift.{parts_of, shift_of, parts_made};
 ghost use Rattle.tv_shift.specs.Shift.{shift_made, ShiftIsSound, ShiftIsComplete, ShiftSizes};
 ghost use Rattle.tv_word.specs.Widths.{IsWidth};
 
@@ -36,33 +36,7 @@ pub fn shift<const W: u32, S: Sink>(s: &mut S, x: &Bits, y: &Bits) -> Put<Shift>
     ends(s, &mut scratch, in_range, near)
 }
 
-// The chosen half and the marks of the distance.
-fn places<const W: u32, S: Sink>(
-    s: &mut S,
-    scratch: &mut Scratch,
-    word: Wire,
-    distance: Wire,
-) -> Put<Places>
-    requires width { IsWidth W }
-    requires room { Room S.meaning s.old (places_made W) (places_made W) }
-    requires word_made { word + W ≤ S.meaning.wires s.old }
-    requires distance_made { distance + W ≤ S.meaning.wires s.old }
-    ensures puts { PutsIn S.meaning s.old s.new (places_of W word distance) result }
-    ensures grows { IfOk result (λ _. Grows S.meaning s.old s.new (places_made W) (places_made W)) }
-    ensures made { IfOk result (λ places. ArePlacesMade W places (S.meaning.wires s.new)) }
-{
-    let k = half_log::<W>();
-    let chosen = halves(s, scratch, W / 2, distance.offset(k), word)?;
-    let products = thermometer(s, scratch, k, distance)?;
-    Ok(Places {
-        word,
-        distance,
-        chosen,
-        products,
-    })
-}
-
-// These, and the two parts that fall away.
+// The chosen half, the marks of the distance, and the two parts that fall away.
 fn parts<const W: u32, S: Sink>(
     s: &mut S,
     scratch: &mut Scratch,
@@ -79,27 +53,29 @@ fn parts<const W: u32, S: Sink>(
     ensures below { IfOk result (λ parts. max parts.low parts.high + W / 4
         ≤ S.meaning.wires s.new) }
 {
-    let places = places::<W, S>(s, scratch, word, distance)?;
+    let k = half_log::<W>();
+    let chosen = halves(s, scratch, W / 2, distance.offset(k), word)?;
+    let products = thermometer(s, scratch, k, distance)?;
+    let places = Places {
+        word,
+        distance,
+        chosen,
+        products,
+    };
     let low = masked::<W, S>(s, scratch, &places, Part::Low)?;
     let high = masked::<W, S>(s, scratch, &places, Part::High)?;
     Ok(Parts { places, low, high })
 }
 
-/// In an assignment that satisfies the constraints of `shift` for bits that represent words, the
-/// wires hold the word shifted by the other.
-pub fn shift_is_sound()
-    ensures { ShiftIsSound }
-{}
-
-/// Where bits represent words and an assignment has the values that `fill_shift` assigns for them,
-/// it satisfies the constraints of `shift`.
-pub fn shift_is_complete()
-    ensures { ShiftIsComplete }
-{}
-
-/// Says which wires `shift` returns and how many it makes, whatever the next wire is, and that
-/// `fill_shift` assigns one value to each of them, below the prime for words.
-#[tactic(auto, using(crate::proofs::ShiftSizes::shift_sizes))]
-pub fn shift_fills()
-    ensures { ShiftSizes }
+/// The laws of `shift`:
+/// - `sound`: in an assignment that satisfies the constraints of `shift` for bits that represent
+///   words, the wires hold the word shifted by the other.
+/// - `complete`: where bits represent words and an assignment has the values that `fill_shift`
+///   assigns for them, it satisfies the constraints of `shift`.
+/// - `sizes`: which wires `shift` returns and how many it makes, whatever the next wire is, and
+///   that `fill_shift` assigns one value to each of them, below the prime for words.
+pub fn shift_laws()
+    ensures sound { ShiftIsSound }
+    ensures complete { ShiftIsComplete }
+    ensures sizes { ShiftSizes }
 {}

@@ -39,7 +39,7 @@ fn fill_parts<const W: u32, V: Values>(v: &mut V, x: u32, y: u32) -> Put<()>
     ensures gives { GivesIn V.giving v.old v.new (parts_values W x y) result }
     ensures whole { OnOk result (V.giving.broken v.new ≡ false) }
 {
-    let (chosen, other) = (chosen_half::<W>(x, y), other_half::<W>(x, y));
+    let (chosen, other) = chosen_and_other::<W>(x, y);
     fill_bits(v, F::from(chosen), W / 2)?;
     fill_thermometer(v, half_log::<W>(), y)?;
     fill_masked::<W, V>(v, Part::Low, chosen, rest_of::<W>(y))?;
@@ -62,25 +62,17 @@ fn rest_of<const W: u32>(y: u32) -> u32
     y % (W / 2)
 }
 
-fn chosen_half<const W: u32>(x: u32, y: u32) -> u32
+// The half of the word that the distance chooses, and the other one.
+fn chosen_and_other<const W: u32>(x: u32, y: u32) -> (u32, u32)
     requires width { IsWidth W }
-    ensures { result ≡ chosen_half (W / 2) (bit_at y (half_log W)) x }
+    ensures chosen { result.0 ≡ chosen_half (W / 2) (bit_at y (half_log W)) x }
+    ensures other { result.1 ≡ other_half (W / 2) (bit_at y (half_log W)) x }
 {
+    let (low, high) = (x % (1 << (W / 2)), x >> (W / 2));
     if has_half::<W>(y) {
-        x >> (W / 2)
+        (high, low)
     } else {
-        x % (1 << (W / 2))
-    }
-}
-
-fn other_half<const W: u32>(x: u32, y: u32) -> u32
-    requires width { IsWidth W }
-    ensures { result ≡ other_half (W / 2) (bit_at y (half_log W)) x }
-{
-    if has_half::<W>(y) {
-        x % (1 << (W / 2))
-    } else {
-        x >> (W / 2)
+        (low, high)
     }
 }
 

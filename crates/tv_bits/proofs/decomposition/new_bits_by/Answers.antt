@@ -1,3 +1,4 @@
+use Rattle.std.proofs.lemmas.Grind.{common_steps}
 use Rattle.std.proofs.Common.{◌≡◌, arith}
 use Rattle.tv_core.proofs.Chain.{puts_no_turn, puts_turn, turn_refused, refused, all_then, all_pure, some_then, some_first}
 use Rattle.tv_core.proofs.LoopLaws.{puts_here_as}
@@ -5,10 +6,7 @@ use Rattle.tv_bits.specs.Bits.{new_bit, new_bits_of}
 use Rattle.tv_bits.proofs.decomposition.new_bits_by.Goals as goal
 
 pub loop-turn-init : goal.loop-turn-init
-loop-turn-init g c = record {
-  puts = puts_no_turn g.S.Sink.meaning _ (λ _ _. new_bit) tt;
-  grows = record { wires = omega arith; constraints = omega arith; whole = c.requires.room.whole };
-}
+loop-turn-init g c = grind (arith, common_steps, puts_no_turn)
 
 pub loop-turn-preserved : goal.loop-turn-preserved
 unfolding new_bit

@@ -1,3 +1,4 @@
+use Rattle.std.proofs.lemmas.Grind.{common_steps}
 use Rattle.std.proofs.Common.{◌+◌, [], ◌∷◌, ◌++◌, length, sym, ◌∙◌, ap, arith, add-one, append_assoc, length-append}
 use Rattle.std.proofs.lemmas.List.{append-nil}
 use Rattle.tv_bits.specs.OneHot.{row_sum}
@@ -10,12 +11,7 @@ pub loop-i-init : goal.loop-i-init
 loop-i-init c = sym (ap (λ l. c.args.lc.now ++ l) (weighted-zero c.args.first (λ _. 1)) ∙ append-nil c.args.lc.now)
 
 pub plus-requires : goal.plus-requires
-plus-requires c = omega (
-  arith,
-  ap length c.loop-i.invariant,
-  length-append c.args.lc.now (row_sum c.args.first c.loop-i.i),
-  length-weighted c.args.first c.loop-i.i (λ _. 1),
-)
+plus-requires c = grind (arith, common_steps, length, length-append, length-weighted)
 
 pub loop-i-preserved : goal.loop-i-preserved
 loop-i-preserved c =
@@ -24,17 +20,7 @@ loop-i-preserved c =
     ∙ append_assoc c.args.lc.now (row_sum c.args.first c.loop-i.i) _)
 
 pub returns-clause-top : goal.returns-clause-top
-returns-clause-top c = omega (
-  arith,
-  ap top c.loop-i.invariant,
-  top-append c.args.lc.now (row_sum c.args.first c.loop-i.i),
-  top-weighted c.args.first c.loop-i.i (λ _. 1),
-)
+returns-clause-top c = grind (arith, common_steps, top-append, top-weighted)
 
 pub returns-clause-len : goal.returns-clause-len
-returns-clause-len c = omega (
-  arith,
-  ap length c.loop-i.invariant,
-  length-append c.args.lc.now (row_sum c.args.first c.loop-i.i),
-  length-weighted c.args.first c.loop-i.i (λ _. 1),
-)
+returns-clause-len c = grind (arith, common_steps, length, length-append, length-weighted)

@@ -13,8 +13,7 @@ returns-in_err-put-clause-puts g c =
 pub returns-clause-puts : goal.returns-clause-puts
 unfolding zero_sign_of
 returns-clause-puts g c =
-    let m = g.S.Sink.meaning in
     let terms = rw (c.plus_terms.ensures.terms, c.clear.ensures, c.neg.ensures) at c.plus.ensures.terms in
     let first = rw (c.set_wire.ensures.terms, c.set_wire-2.ensures.terms, terms) at c.in_ok-put.ensures.puts in
     let second = rw (c.set_wire.ensures.terms, c.set_wire-3.ensures.terms, c.clear-2.ensures) at c.put-2.ensures.puts in
-    puts_in_then m _ _ _ _ _ _ _ c.fresh-hint.ensures.puts (puts_in_then m _ _ _ _ _ _ _ first second)
+    puts_in_then _ _ _ _ _ _ _ _ c.fresh-hint.ensures.puts (puts_in_then _ _ _ _ _ _ _ _ first second)

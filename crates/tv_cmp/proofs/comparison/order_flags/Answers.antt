@@ -25,7 +25,6 @@ returns-in_err-put-clause-puts g c =
 pub returns-clause-puts : goal.returns-clause-puts
 unfolding order_flags_of
 returns-clause-puts g c =
-    let m = g.S.Sink.meaning in
     let same = rw (
       c.plus_to.ensures.terms,
       c.neg.ensures,
@@ -36,4 +35,4 @@ returns-clause-puts g c =
       c.requires.y_word.size,
     ) at c.in_ok-put.ensures.puts in
     let one = rw (c.set_wire-2.ensures.terms, c.set_wire.ensures.terms, c.clear.ensures) at c.put-2.ensures.puts in
-    puts_in_then m _ _ _ _ _ _ _ c.in_ok-bit_by.ensures.puts (puts_in_then m _ _ _ _ _ _ _ same one)
+    puts_in_then _ _ _ _ _ _ _ _ c.in_ok-bit_by.ensures.puts (puts_in_then _ _ _ _ _ _ _ _ same one)

@@ -1,9 +1,9 @@
+use Rattle.std.proofs.lemmas.Grind.{common_steps}
 use Rattle.std.proofs.Common.{◌≡◌, ℕ, ◌+◌, [], ◌∷◌, ◌++◌, length, sym, ◌∙◌, ap, arith, add-one, append_assoc, length-append}
 use Rattle.std.proofs.lemmas.List.{append-nil}
 use Rattle.tv_core.proofs.BelowLaws.{weighted-zero, weighted-suc, length-weighted, top-weighted}
 use Rattle.tv_core.proofs.CombinationLaws.{top-append}
 use Rattle.tv_core.specs.Below.{weighted}
-use Rattle.tv_core.specs.Combinations.{top}
 use Rattle.tv_decode.specs.Instructions.{opcode_weight}
 use Rattle.tv_decode.proofs.instructions.plus_opcodes.Goals as goal
 
@@ -11,14 +11,7 @@ pub loop-i-init : goal.loop-i-init
 loop-i-init g c = sym (ap (λ l. c.args.lc.now ++ l) (weighted-zero c.offset-second.result (λ j. opcode_weight g.row.W (j + 1))) ∙ append-nil c.args.lc.now)
 
 pub plus-requires : goal.plus-requires
-plus-requires g c =
-    let weights : ℕ → ℕ = λ j. opcode_weight g.row.W (j + 1) in
-    omega (
-      arith,
-      ap length c.loop-i.invariant,
-      length-append c.args.lc.now (weighted c.offset-second.result c.loop-i.i weights),
-      length-weighted c.offset-second.result c.loop-i.i weights,
-    )
+plus-requires g c = grind (arith, common_steps, ℕ, length, length-append, length-weighted)
 
 pub loop-i-preserved : goal.loop-i-preserved
 loop-i-preserved g c =
@@ -28,17 +21,7 @@ loop-i-preserved g c =
     ∙ append_assoc c.args.lc.now (weighted c.offset-second.result c.loop-i.i weights) _)
 
 pub returns-clause-terms : goal.returns-clause-terms
-returns-clause-terms g c =
-    let all : c.loop-i.i ≡ 28 = omega arith in
-    c.loop-i.invariant ∙ ap (λ n. c.args.lc.now ++ weighted c.offset-second.result n (λ j. opcode_weight g.row.W (j + 1))) all
-    ∙ ap (λ f. c.args.lc.now ++ weighted f 28 (λ j. opcode_weight g.row.W (j + 1))) c.offset-second.ensures
+returns-clause-terms g c = grind (arith, common_steps)
 
 pub returns-clause-top : goal.returns-clause-top
-returns-clause-top g c =
-    let weights : ℕ → ℕ = λ j. opcode_weight g.row.W (j + 1) in
-    omega (
-      arith,
-      ap top c.loop-i.invariant,
-      top-append c.args.lc.now (weighted c.offset-second.result c.loop-i.i weights),
-      top-weighted c.offset-second.result c.loop-i.i weights,
-    )
+returns-clause-top g c = grind (arith, common_steps, ℕ, top-append, top-weighted)

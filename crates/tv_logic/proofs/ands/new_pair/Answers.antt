@@ -5,5 +5,4 @@ use Rattle.tv_logic.proofs.ands.new_pair.Goals as goal
 pub returns-clause-puts : goal.returns-clause-puts
 unfolding new_and_pair_of
 returns-clause-puts g c =
-    let rest = c.pair.ensures.puts in
-    puts_in_then g.S.Sink.meaning _ _ _ _ _ _ _ c.fresh-w.ensures.puts rest
+    puts_in_then g.S.Sink.meaning _ _ _ _ _ _ _ c.fresh-w.ensures.puts c.pair.ensures.puts

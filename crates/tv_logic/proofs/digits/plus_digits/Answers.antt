@@ -1,3 +1,4 @@
+use Rattle.std.proofs.lemmas.Grind.{common_steps}
 use Rattle.std.proofs.Common.{◌≡◌, ◌+◌, ◌*◌, ◌%◌, ◌^◌, [], ◌∷◌, ◌++◌, sym, ◌∙◌, ap, ap₂, arith, add-one, append_assoc}
 use Rattle.std.proofs.Math.Nat.{pow-suc, mul_assoc}
 use Rattle.std.proofs.lemmas.List.{append-nil}
@@ -9,12 +10,7 @@ use Rattle.tv_logic.specs.declared.digits.TheConstants.{BASE}
 use Rattle.tv_logic.proofs.digits.plus_digits.Goals as goal
 
 pub loop-j-init : goal.loop-j-init
-loop-j-init c = record {
-  terms = sym (ap (λ l. c.args.lc.now ++ l) (weighted-zero c.args.first (λ j. c.args.factor * BASE ^ j % P)) ∙ append-nil c.args.lc.now);
-  coefficient = omega arith;
-  len = omega arith;
-  made = omega arith;
-}
+loop-j-init c = grind (arith, common_steps, weighted-zero, append-nil)
 
 pub loop-j-preserved : goal.loop-j-preserved
 loop-j-preserved c =

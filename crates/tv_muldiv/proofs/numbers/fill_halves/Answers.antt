@@ -1,7 +1,6 @@
 use Rattle.std.proofs.Common.{◌≡◌, ◌*◌, ◌/◌, ◌%◌, ◌^◌, arith}
 use Rattle.tv_core.specs.declared.field.TheConstants.{P}
-use Rattle.tv_core.proofs.ValuesChain.{gives_refused_then, gives_refused}
-use Rattle.tv_core.proofs.ValuesTails.{gives_in_then}
+use Rattle.tv_core.proofs.ValuesChain.{first_given, in_given, gives_refused}
 use Rattle.tv_muldiv.proofs.numbers.fill_halves.Goals as goal
 
 pub returns-in_err-fill_bits-clause-gives : goal.returns-in_err-fill_bits-clause-gives
@@ -9,7 +8,7 @@ returns-in_err-fill_bits-clause-gives g c =
     let power : 1 * 2 ^ g.row.W % 2 ^ 64 ≡ 2 ^ g.row.W = grind arith in
     let low_small : c.args.number % 2 ^ g.row.W % P ≡ c.args.number % 2 ^ g.row.W = grind arith in
     let low = rw (c.of.ensures, power, low_small) at c.in_err-fill_bits.ensures.gives in
-    gives_refused _ _ _ _ _ c.from_residual.ensures.1 (gives_refused_then _ _ _ _ _ _ low)
+    gives_refused _ _ _ _ _ c.from_residual.ensures.1 (first_given _ low)
 
 pub returns-clause-gives : goal.returns-clause-gives
 returns-clause-gives g c =
@@ -18,4 +17,4 @@ returns-clause-gives g c =
     let high_small : c.args.number / 2 ^ g.row.W % P ≡ c.args.number / 2 ^ g.row.W = grind arith in
     let low = rw (c.of.ensures, power, low_small) at c.in_ok-fill_bits.ensures.gives in
     let high = rw (c.of-2.ensures, high_small) at c.fill_bits-2.ensures.gives in
-    gives_in_then g.V.Values.giving _ _ _ _ _ _ low high
+    in_given _ _ _ low high

@@ -1,14 +1,13 @@
 use Rattle.std.proofs.Common.{◌≡◌, ◌*◌, ◌/◌, ◌%◌, ◌^◌, arith}
-use Rattle.tv_core.proofs.ValuesChain.{gives_refused, gives_refused_then}
+use Rattle.tv_core.proofs.ValuesChain.{first_given, in_given, gives_refused}
 use Rattle.tv_muldiv.proofs.ProductLaws.{product_small}
 use Rattle.tv_core.specs.declared.field.TheConstants.{P}
-use Rattle.tv_core.proofs.ValuesTails.{gives_in_then}
 use Rattle.tv_muldiv.proofs.products.fill_product.Goals as goal
 
 pub returns-in_err-fill_halves-clause-gives : goal.returns-in_err-fill_halves-clause-gives
 returns-in_err-fill_halves-clause-gives g c =
     let halves = rw (c.from.ensures, c.from-2.ensures) at c.in_err-fill_halves.ensures.gives in
-    gives_refused _ _ _ _ _ c.from_residual.ensures.1 (gives_refused_then _ _ _ _ _ _ halves)
+    gives_refused _ _ _ _ _ c.from_residual.ensures.1 (first_given _ halves)
 
 pub returns-clause-gives : goal.returns-clause-gives
 returns-clause-gives g c =
@@ -17,4 +16,4 @@ returns-clause-gives g c =
     let small : product / 2 ^ g.row.W % P ≡ product / 2 ^ g.row.W = grind arith in
     let halves = rw (c.from.ensures, c.from-2.ensures) at c.in_ok-fill_halves.ensures.gives in
     let over = rw (c.of.ensures, c.from.ensures, c.from-2.ensures, small) at c.fill_nonzero.ensures.gives in
-    gives_in_then g.V.Values.giving _ _ _ _ _ _ halves over
+    in_given _ _ _ halves over

@@ -2,22 +2,21 @@ use Rattle.tv_core.proofs.Chain.{refused, all_then, all_pure, some_then, some_fi
 use Rattle.tv_muldiv.specs.Quotient.{quotient_wires_of}
 use Rattle.tv_muldiv.proofs.quotients.quotient_wires.Goals as goal
 
-pub returns-in_err-quot-clause-puts : goal.returns-in_err-quot-clause-puts
+pub returns-in_err-first-clause-puts : goal.returns-in_err-first-clause-puts
 unfolding quotient_wires_of
-returns-in_err-quot-clause-puts g c =
-    refused _ _ _ _ _ c.from_residual.ensures.1 (some_first _ c.in_err-quot.ensures.puts)
+returns-in_err-first-clause-puts g c =
+    refused _ _ _ _ _ c.from_residual.ensures.1 (some_first _ c.in_err-first.ensures.puts)
 
-pub returns-in_err-rem-clause-puts : goal.returns-in_err-rem-clause-puts
+pub returns-in_err-put-clause-puts : goal.returns-in_err-put-clause-puts
 unfolding quotient_wires_of
-returns-in_err-rem-clause-puts g c =
-    refused _ _ _ _ _ c.from_residual-in_err-rem.ensures.1 (some_then _ c.in_ok-quot.ensures.puts (some_first _ c.in_err-rem.ensures.puts))
-
-pub returns-in_err-by_zero-clause-puts : goal.returns-in_err-by_zero-clause-puts
-unfolding quotient_wires_of
-returns-in_err-by_zero-clause-puts g c =
-    refused _ _ _ _ _ c.from_residual-in_err-by_zero.ensures.1 (some_then _ c.in_ok-quot.ensures.puts (some_then _ c.in_ok-rem.ensures.puts
-    (some_first _ c.in_err-by_zero.ensures.puts)))
+returns-in_err-put-clause-puts g c =
+    let none = rw (c.set_wire.ensures.terms, c.offset-by_zero.ensures, c.set_number.ensures.terms, c.clear.ensures, c.requires.y_word.size)
+    at c.in_err-put.ensures.puts in
+    refused _ _ _ _ _ c.from_residual-in_err-put.ensures.1 (some_then _ c.in_ok-first.ensures.puts (some_first _ none))
 
 pub returns-clause-puts : goal.returns-clause-puts
 unfolding quotient_wires_of
-returns-clause-puts g c = all_then _ c.in_ok-quot.ensures.puts (all_then _ c.in_ok-rem.ensures.puts (all_then _ c.in_ok-by_zero.ensures.puts all_pure))
+returns-clause-puts g c =
+    let none = rw (c.set_wire.ensures.terms, c.offset-by_zero.ensures, c.set_number.ensures.terms, c.clear.ensures, c.requires.y_word.size)
+    at c.in_ok-put.ensures.puts in
+    rw (c.offset-rem.ensures, c.offset-by_zero.ensures) (all_then _ c.in_ok-first.ensures.puts (all_then _ none all_pure))

@@ -1,14 +1,13 @@
-use Rattle.tv_core.proofs.ValuesChain.{gives_refused, gives_refused_then}
-use Rattle.tv_core.proofs.ValuesTails.{gives_in_then}
+use Rattle.tv_core.proofs.ValuesChain.{first_given, in_given, gives_refused}
 use Rattle.tv_muldiv.proofs.signed_products.fill_signed_high.Goals as goal
 
 pub returns-in_err-fill_halves-clause-gives : goal.returns-in_err-fill_halves-clause-gives
 returns-in_err-fill_halves-clause-gives g c =
     let halves = rw (c.product_twos-product.ensures) at c.in_err-fill_halves.ensures.gives in
-    gives_refused _ _ _ _ _ c.from_residual.ensures.1 (gives_refused_then _ _ _ _ _ _ halves)
+    gives_refused _ _ _ _ _ c.from_residual.ensures.1 (first_given _ halves)
 
 pub returns-clause-gives : goal.returns-clause-gives
 returns-clause-gives g c =
     let halves = rw (c.product_twos-product.ensures) at c.in_ok-fill_halves.ensures.gives in
     let over = rw (c.excess_in.ensures, c.product_twos-product.ensures) at c.fill_nonzero.ensures.gives in
-    gives_in_then g.V.Values.giving _ _ _ _ _ _ halves over
+    in_given _ _ _ halves over

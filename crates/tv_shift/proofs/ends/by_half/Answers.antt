@@ -5,14 +5,12 @@ use Rattle.tv_shift.proofs.ends.by_half.Goals as goal
 pub returns-in_err-left-clause-puts : goal.returns-in_err-left-clause-puts
 unfolding by_half_of
 returns-in_err-left-clause-puts g c =
-    let m = g.S.Sink.meaning in
     let left = rw (c.terms.ensures.terms, c.set_times_half.ensures.terms, c.terms-2.ensures.terms, c.lc-x.ensures.terms) at c.in_err-left.ensures.puts in
     refused _ _ _ _ _ c.from_residual.ensures.1 (some_first _ left)
 
 pub returns-in_err-right-clause-puts : goal.returns-in_err-right-clause-puts
 unfolding by_half_of
 returns-in_err-right-clause-puts g c =
-    let m = g.S.Sink.meaning in
     let left = rw (c.terms.ensures.terms, c.set_times_half.ensures.terms, c.terms-2.ensures.terms, c.lc-x.ensures.terms) at c.in_ok-left.ensures.puts in
     let right = rw (
       c.terms-3.ensures.terms,
@@ -26,7 +24,6 @@ returns-in_err-right-clause-puts g c =
 pub returns-clause-puts : goal.returns-clause-puts
 unfolding by_half_of
 returns-clause-puts g c =
-    let m = g.S.Sink.meaning in
     let left = rw (c.terms.ensures.terms, c.set_times_half.ensures.terms, c.terms-2.ensures.terms, c.lc-x.ensures.terms) at c.in_ok-left.ensures.puts in
     let right = rw (
       c.terms-3.ensures.terms,

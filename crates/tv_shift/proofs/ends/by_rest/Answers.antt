@@ -46,7 +46,6 @@ returns-in_err-right-clause-puts g c =
 pub returns-clause-puts : goal.returns-clause-puts
 unfolding by_rest_of
 returns-clause-puts g c =
-    let m = g.S.Sink.meaning in
     let left = rw (
       c.set_mark_power.ensures.terms,
       c.half_log.ensures,

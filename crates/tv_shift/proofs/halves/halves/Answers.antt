@@ -1,3 +1,4 @@
+use Rattle.std.proofs.lemmas.Grind.{common_steps}
 use Rattle.std.proofs.Common.{◌≡◌, ℕ, arith}
 use Rattle.tv_core.proofs.Chain.{puts_no_turn, puts_turn, turn_refused, refused, all_then, all_pure, some_then, some_first}
 use Rattle.tv_core.proofs.LoopLaws.{puts_here_as}
@@ -6,10 +7,7 @@ use Rattle.tv_shift.specs.Halves.{half_bit_of, halves_of}
 use Rattle.tv_shift.proofs.halves.halves.Goals as goal
 
 pub loop-i-init : goal.loop-i-init
-loop-i-init g c = record {
-  puts = puts_no_turn g.S.Sink.meaning _ (λ i _. half_bit_of c.args.n c.args.b c.args.word i) tt;
-  grows = record { wires = omega arith; constraints = omega arith; whole = c.requires.room.whole };
-}
+loop-i-init g c = grind (arith, common_steps, puts_no_turn)
 
 pub loop-i-preserved : goal.loop-i-preserved
 unfolding half_bit_of

@@ -1,3 +1,4 @@
+use Rattle.std.proofs.lemmas.Grind.{common_steps}
 use Rattle.std.proofs.Common.{◌≡◌, ℕ, ◌/◌, arith}
 use Rattle.tv_core.proofs.Chain.{puts_no_turn, puts_turn, turn_refused, refused, all_then, all_pure, some_then, some_first}
 use Rattle.tv_core.proofs.LoopLaws.{puts_here_as}
@@ -6,11 +7,7 @@ use Rattle.tv_shift.specs.Masks.{mask_at, digit_at, masked_pair_of, masked_of}
 use Rattle.tv_shift.proofs.masks.masked.Goals as goal
 
 pub loop-i-init : goal.loop-i-init
-loop-i-init g c = record {
-  puts = puts_no_turn g.S.Sink.meaning _ (λ i _. masked_pair_of (mask_at g.row.W c.args.places.now c.args.part) (digit_at g.row.W c.args.places.now c.args.part)
-      (g.row.W / 4) i) tt;
-  grows = record { wires = omega arith; constraints = omega arith; whole = c.requires.room.whole };
-}
+loop-i-init g c = grind (arith, common_steps, puts_no_turn)
 
 pub loop-i-preserved : goal.loop-i-preserved
 loop-i-preserved g c =

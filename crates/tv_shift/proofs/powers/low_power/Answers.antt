@@ -5,28 +5,31 @@ use Rattle.tv_shift.proofs.powers.low_power.Goals as goal
 pub returns-in_err-both-clause-puts : goal.returns-in_err-both-clause-puts
 unfolding low_power_of
 returns-in_err-both-clause-puts g c =
-    let p0 = c.in_err-both.ensures.puts in
-    refused _ _ _ _ _ c.from_residual.ensures.1 (some_first _ p0)
+    let both = rw (c.set_wire.ensures.terms, c.set_wire-2.ensures.terms, c.offset.ensures) at c.in_err-both.ensures.puts in
+    refused _ _ _ _ _ c.from_residual.ensures.1 (some_first _ both)
 
 pub returns-in_err-middle-clause-puts : goal.returns-in_err-middle-clause-puts
 unfolding low_power_of
 returns-in_err-middle-clause-puts g c =
-    let p0 = c.in_ok-both.ensures.puts in
-    let p1 = c.in_err-middle.ensures.puts in
-    refused _ _ _ _ _ c.from_residual-in_err-middle.ensures.1 (some_then _ p0 (some_first _ p1))
+    let both = rw (c.set_wire.ensures.terms, c.set_wire-2.ensures.terms, c.offset.ensures) at c.in_ok-both.ensures.puts in
+    let middle = rw (c.set_factor.ensures.terms, c.set_factor-2.ensures.terms, c.offset-2.ensures, c.offset-3.ensures)
+    at c.in_err-middle.ensures.puts in
+    refused _ _ _ _ _ c.from_residual-in_err-middle.ensures.1 (some_then _ both (some_first _ middle))
 
 pub returns-in_err-power-clause-puts : goal.returns-in_err-power-clause-puts
 unfolding low_power_of
 returns-in_err-power-clause-puts g c =
-    let p0 = c.in_ok-both.ensures.puts in
-    let p1 = c.in_ok-middle.ensures.puts in
-    let p2 = rw (c.set_pair_power.ensures.terms, c.set_wire.ensures.terms) at c.in_err-power.ensures.puts in
-    refused _ _ _ _ _ c.from_residual-in_err-power.ensures.1 (some_then _ p0 (some_then _ p1 (some_first _ p2)))
+    let both = rw (c.set_wire.ensures.terms, c.set_wire-2.ensures.terms, c.offset.ensures) at c.in_ok-both.ensures.puts in
+    let middle = rw (c.set_factor.ensures.terms, c.set_factor-2.ensures.terms, c.offset-2.ensures, c.offset-3.ensures)
+    at c.in_ok-middle.ensures.puts in
+    let power = rw (c.set_pair_power.ensures.terms, c.set_wire-3.ensures.terms) at c.in_err-power.ensures.puts in
+    refused _ _ _ _ _ c.from_residual-in_err-power.ensures.1 (some_then _ both (some_then _ middle (some_first _ power)))
 
 pub returns-clause-puts : goal.returns-clause-puts
 unfolding low_power_of
 returns-clause-puts g c =
-    let p0 = c.in_ok-both.ensures.puts in
-    let p1 = c.in_ok-middle.ensures.puts in
-    let p2 = rw (c.set_pair_power.ensures.terms, c.set_wire.ensures.terms) at c.in_ok-power.ensures.puts in
-    all_then _ p0 (all_then _ p1 (all_then _ p2 all_pure))
+    let both = rw (c.set_wire.ensures.terms, c.set_wire-2.ensures.terms, c.offset.ensures) at c.in_ok-both.ensures.puts in
+    let middle = rw (c.set_factor.ensures.terms, c.set_factor-2.ensures.terms, c.offset-2.ensures, c.offset-3.ensures)
+    at c.in_ok-middle.ensures.puts in
+    let power = rw (c.set_pair_power.ensures.terms, c.set_wire-3.ensures.terms) at c.in_ok-power.ensures.puts in
+    all_then _ both (all_then _ middle (all_then _ power all_pure))

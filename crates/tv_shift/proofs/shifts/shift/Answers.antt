@@ -38,7 +38,6 @@ returns-in_err-in_range-clause-puts g c =
 pub returns-clause-puts : goal.returns-clause-puts
 unfolding shift_of
 returns-clause-puts g c =
-    let m = g.S.Sink.meaning in
     let half = rw (c.offset.ensures, c.half_log-k.ensures) at c.in_ok-half.ensures.puts in
     let in_range = rw (
       c.set_number.ensures.terms,
@@ -47,5 +46,5 @@ returns-clause-puts g c =
       c.requires.y_word.size,
       c.half_log-k.ensures,
     ) at c.in_ok-in_range.ensures.puts in
-    puts_in_then m _ _ _ _ _ _ _ c.in_ok-parts.ensures.puts
-    (puts_in_then m _ _ _ _ _ _ _ half (puts_in_then m _ _ _ _ _ _ _ c.in_ok-near.ensures.puts (puts_in_then m _ _ _ _ _ _ _ in_range c.ends.ensures.puts)))
+    puts_in_then _ _ _ _ _ _ _ _ c.in_ok-parts.ensures.puts
+    (puts_in_then _ _ _ _ _ _ _ _ half (puts_in_then _ _ _ _ _ _ _ _ c.in_ok-near.ensures.puts (puts_in_then _ _ _ _ _ _ _ _ in_range c.ends.ensures.puts)))

@@ -1,3 +1,4 @@
+use Rattle.std.proofs.lemmas.Grind.{common_steps}
 use Rattle.std.proofs.Common.{◌≡◌, ℕ, ◌-◌, ◌^◌, ◌<◌, arith}
 use Rattle.tv_core.proofs.Chain.{puts_no_turn, puts_turn, turn_refused, refused, all_then, all_pure, some_first}
 use Rattle.tv_core.specs.Circuits.{Circuit}
@@ -5,10 +6,7 @@ use Rattle.tv_shift.specs.Thermometer.{level_product_of, bit_level_of}
 use Rattle.tv_shift.proofs.thermometer.level.Goals as goal
 
 pub loop-j-init : goal.loop-j-init
-loop-j-init g c = record {
-  puts = puts_no_turn g.S.Sink.meaning _ (λ j _. level_product_of c.args.marks.now.bits c.args.marks.now.products c.args.k j) tt;
-  grows = record { wires = omega arith; constraints = omega arith; whole = c.requires.room.whole };
-}
+loop-j-init g c = grind (arith, common_steps, puts_no_turn)
 
 pub loop-j-preserved : goal.loop-j-preserved
 unfolding level_product_of

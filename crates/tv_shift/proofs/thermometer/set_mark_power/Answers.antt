@@ -1,4 +1,5 @@
-use Rattle.std.proofs.Common.{◌≡◌, ◌+◌, ◌%◌, ◌^◌, ◌≤◌, ◌++◌, length, refl, sym, ◌∙◌, ap, ap₂, arith, add-one}
+use Rattle.std.proofs.lemmas.Grind.{common_steps}
+use Rattle.std.proofs.Common.{◌≡◌, ◌+◌, ◌%◌, ◌^◌, ◌≤◌, ◌++◌, length, sym, ◌∙◌, ap, ap₂, arith, add-one}
 use Rattle.std.proofs.Math.Nat.{pow-suc, add-mod, pow-le-pow_right}
 use Rattle.tv_core.specs.Combinations.{scaled, top}
 use Rattle.tv_core.specs.declared.field.TheConstants.{P}
@@ -7,17 +8,10 @@ use Rattle.tv_shift.proofs.thermometer.set_mark_power.Goals as goal
 
 pub loop-i-init : goal.loop-i-init
 unfolding power_of
-loop-i-init c = record {
-  terms = c.set_wire.ensures.terms;
-  coefficient = refl;
-  short = omega (arith, ap length c.set_wire.ensures.terms);
-  made = omega (arith, ap top c.set_wire.ensures.terms);
-}
+loop-i-init c = grind (arith, common_steps, length)
 
 pub plus_scaled-requires : goal.plus_scaled-requires
-plus_scaled-requires c =
-    let most : 2 ^ c.args.k ≤ 2 ^ 4 = pow-le-pow_right (omega arith) c.requires.few in
-    omega (arith, ap length c.terms.ensures.terms, c.set_mark.ensures.len)
+plus_scaled-requires c = grind (arith, common_steps, pow-le-pow_right, length)
 
 pub loop-i-preserved : goal.loop-i-preserved
 unfolding power_of

@@ -1,3 +1,4 @@
+use Rattle.std.proofs.lemmas.Grind.{common_steps}
 use Rattle.std.proofs.Common.{◌≡◌, ℕ, ◌+◌, arith}
 use Rattle.tv_core.proofs.Chain.{puts_no_turn, puts_turn, turn_refused, refused, all_then, all_pure, some_then, some_first}
 use Rattle.tv_core.proofs.LoopLaws.{puts_here_as}
@@ -7,10 +8,7 @@ use Rattle.tv_shift.specs.Thermometer.{bit_level_of, thermometer_of}
 use Rattle.tv_shift.proofs.thermometer.thermometer.Goals as goal
 
 pub loop-i-init : goal.loop-i-init
-loop-i-init g c = record {
-  puts = puts_no_turn g.S.Sink.meaning _ (λ i _. bit_level_of c.args.bits c.wires.result i) tt;
-  grows = record { wires = omega arith; constraints = omega arith; whole = c.requires.room.whole };
-}
+loop-i-init g c = grind (arith, common_steps, puts_no_turn)
 
 pub loop-i-preserved : goal.loop-i-preserved
 loop-i-preserved g c =
@@ -44,10 +42,7 @@ returns-clause-puts g c =
     all_then _ first (all_then _ turns all_pure)
 
 pub level-requires-clause-room : goal.level-requires-clause-room
-level-requires-clause-room g c =
-    let up = products-up (c.loop-i.i + 1) c.args.k (omega arith) in
-    let more = products-more c.loop-i.i in
-    record { whole = c.loop-i.invariant.grows.whole; constant = omega arith; wires = omega arith; constraints = omega arith }
+level-requires-clause-room g c = grind (arith, common_steps, products-up, products-more)
 
 pub level-requires-clause-bits_made : goal.level-requires-clause-bits_made
 level-requires-clause-bits_made g c = omega arith

@@ -1,3 +1,4 @@
+use Rattle.std.proofs.lemmas.Grind.{common_steps}
 use Rattle.std.proofs.Common.{◌≡◌, ◌+◌, ◌*◌, ◌%◌, ◌^◌, [], ◌∷◌, ◌++◌, sym, ◌∙◌, ap, ap₂, arith, add-one, append_assoc}
 use Rattle.std.proofs.Math.Nat.{pow-suc, add-mod}
 use Rattle.std.proofs.lemmas.List.{append-nil}
@@ -8,12 +9,7 @@ use Rattle.tv_bits.specs.Bits.{bits_combination}
 use Rattle.tv_bits.proofs.bit_wires.Bits.plus_to.Goals as goal
 
 pub loop-i-init : goal.loop-i-init
-loop-i-init c = record {
-  terms = sym (ap (λ l. c.args.lc.now ++ l) (scaled-bits-zero c.args.factor c.args.self.now.first) ∙ append-nil c.args.lc.now);
-  coefficient = omega arith;
-  len = omega arith;
-  made = omega arith;
-}
+loop-i-init c = grind (arith, common_steps, scaled-bits-zero, append-nil)
 
 pub loop-i-preserved : goal.loop-i-preserved
 loop-i-preserved c =

@@ -1,3 +1,4 @@
+use Rattle.std.proofs.lemmas.Grind.{common_steps}
 use Rattle.std.proofs.Common.{◌≡◌, ℕ, ◌*◌, ◌%◌, ◌++◌, ◌∙◌, length-take, take, ap, arith}
 use Rattle.std.proofs.lemmas.List.{length-map, take_all}
 use Rattle.tv_core.specs.declared.field.TheConstants.{P}
@@ -29,18 +30,4 @@ loop-coefficient-preserved c =
     c.loop-coefficient.self c.add.new.self c.args.factor c.mul.result c.mul.ensures c.loop-coefficient.invariant c.add.ensures.terms
 
 pub returns : goal.returns
-returns c =
-    let x = c.args.self.now in
-    let is : c.loop-coefficient.self ≡ normal (x ++ (scaled c.args.factor c.args.terms.now)) =
-    c.loop-coefficient.invariant ∙ ap (λ y. normal (c.args.self.now ++ scaled c.args.factor y))
-    (take_all c.loop-coefficient.coefficient-index c.args.terms.now c.loop-coefficient-test.false) in
-    record {
-      terms = is;
-      normal = normal_of (x ++ (scaled c.args.factor c.args.terms.now)) c.loop-coefficient.self is;
-      len = omega (
-        arith,
-        length_of x (scaled c.args.factor c.args.terms.now) c.loop-coefficient.self is,
-        length-map {B = ℕ × ℕ} c.args.terms.now (λ (u : ℕ × ℕ). (c.args.factor * u.0 % P, u.1)),
-      );
-      top = omega (arith, top_of x (scaled c.args.factor c.args.terms.now) c.loop-coefficient.self is, top-scaled c.args.factor c.args.terms.now);
-    }
+returns c = grind (arith, common_steps, take_all, normal_of, length_of, length-map, ℕ, top_of, top-scaled)

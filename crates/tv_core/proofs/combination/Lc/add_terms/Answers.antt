@@ -1,3 +1,4 @@
+use Rattle.std.proofs.lemmas.Grind.{common_steps}
 use Rattle.std.proofs.Common.{◌≡◌, ◌++◌, ◌∙◌, length-take, take, ap, arith}
 use Rattle.std.proofs.lemmas.List.{take_all}
 use Rattle.tv_core.specs.Normal.{normal}
@@ -24,14 +25,4 @@ loop-coefficient-preserved c =
     c.add.new.self c.loop-coefficient.invariant c.add.ensures.terms
 
 pub returns : goal.returns
-returns c =
-    let x = c.args.self.now in
-    let is : c.loop-coefficient.self ≡ normal (x ++ c.args.terms.now) =
-    c.loop-coefficient.invariant ∙ ap (λ y. normal (c.args.self.now ++ y))
-    (take_all c.loop-coefficient.coefficient-index c.args.terms.now c.loop-coefficient-test.false) in
-    record {
-      terms = is;
-      normal = normal_of (x ++ c.args.terms.now) c.loop-coefficient.self is;
-      len = length_of x c.args.terms.now c.loop-coefficient.self is;
-      top = top_of x c.args.terms.now c.loop-coefficient.self is;
-    }
+returns c = grind (arith, common_steps, take_all, normal_of, length_of, top_of)

@@ -5,8 +5,4 @@ use Rattle.tv_core.specs.Combinations.{scaled, top}
 use Rattle.tv_core.proofs.combination.Lc.plus_scaled.Goals as goal
 
 pub returns-clause-top : goal.returns-clause-top
-returns-clause-top c =
-    let old = c.args.self.now in
-    let added = scaled c.args.factor c.args.terms.now in
-    let whole : c.loop-coefficient.self ≡ old ++ added = grind (arith, common_steps) in
-    ap top whole ∙ top-append old added ∙ ap (λ n. max (top old) n) (top-scaled c.args.factor c.args.terms.now)
+returns-clause-top c = grind (arith, common_steps, top-append, max, top-scaled)

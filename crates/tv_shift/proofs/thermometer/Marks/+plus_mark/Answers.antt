@@ -1,3 +1,4 @@
+use Rattle.std.proofs.lemmas.Grind.{common_steps}
 use Rattle.std.proofs.Common.{◌≡◌, suc, ◌+◌, ◌-◌, ◌^◌, [], ◌∷◌, ◌++◌, sym, ◌∙◌, ap, ap₂, arith, append_assoc}
 use Rattle.std.proofs.Math.Nat.{pow-suc}
 use Rattle.std.proofs.lemmas.List.{append-nil}
@@ -7,10 +8,7 @@ use Rattle.tv_shift.proofs.MarkTerms.{mark-none, mark-low, mark-high}
 use Rattle.tv_shift.proofs.thermometer.Marks.+plus_mark.Goals as goal
 
 pub returns-then-k-eq0-clause-terms : goal.returns-then-k-eq0-clause-terms
-returns-then-k-eq0-clause-terms t c =
-    let none : c.args.k ≡ 0 = omega arith in
-    sym (append-nil c.args.lc.now) ∙ ap (λ l. c.args.lc.now ++ l)
-    (sym (ap (λ k. mark c.args.self.now.bits c.args.self.now.products k c.args.j) none ∙ mark-none _ _ _))
+returns-then-k-eq0-clause-terms t c = grind (arith, common_steps, append-nil, mark-none)
 
 pub plus_both-requires-else-j-half-clause-there : goal.plus_both-requires-else-j-half-clause-there
 plus_both-requires-else-j-half-clause-there t c =

@@ -1,5 +1,0 @@
-use Rattle.tv_lines.proofs.StartsLaws.{boot_line_sound}
-use Rattle.tv_lines.proofs.starts.boot_line_is_sound.Goals as goal
-
-pub returns : goal.returns
-returns c = boot_line_sound

@@ -1,5 +1,0 @@
-use Rattle.tv_shift.proofs.RowShiftLaws.{right_shift_complete}
-use Rattle.tv_shift.proofs.row_shifts.right_shift_is_complete.Goals as goal
-
-pub returns : goal.returns
-returns c = right_shift_complete
