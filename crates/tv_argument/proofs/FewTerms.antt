@@ -26,14 +26,7 @@ use Rattle.tv_argument.specs.declared.kinds.Kind.TheVariants.{ZeroOld, Least, Bo
 -- ---- the network
 number_few : (x y : Combination) → length x ≤ 64 → length y ≤ 64 → number_terms x y ≤ 325
 number_few x y h k =
-    omega (
-      arith,
-      length-normal (less y x),
-      length-append y (scaled (P - 1) x),
-      length-scaled (P - 1) x,
-      length-normal (x ++ y),
-      length-append x y,
-    )
+    omega (arith, length-normal (less y x), length-append y (scaled (P - 1) x), length-scaled (P - 1) x, length-normal (x ++ y), length-append x y)
 
 first_few : (n next : ℕ) (lines : List LineLc) → length lines ≡ 2 * n → All (IsMade next) lines → column_terms n (items_of lines) ≤ n * 655
 first_few n next lines many all =

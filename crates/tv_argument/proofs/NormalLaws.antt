@@ -8,7 +8,7 @@ use Rattle.tv_benes.specs.Places.{output, output_wire, IsNormalPair}
 use Rattle.tv_benes.specs.declared.shape.Net.{Net}
 use Rattle.tv_core.proofs.NormalCircuits.{normal_then, normal_turns}
 use Rattle.tv_core.proofs.NormalLaws.{IsNormalFrom-normal}
-use Rattle.tv_core.specs.Circuits.{Circuit, pure, turns, ◌>>=◌}
+use Rattle.tv_core.specs.Circuits.{Circuit, pure, turns}
 use Rattle.tv_core.specs.Combinations.{scaled, top}
 use Rattle.tv_core.specs.Normal.{AreNormal}
 use Rattle.tv_core.specs.declared.field.TheConstants.{P}

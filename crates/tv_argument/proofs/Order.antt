@@ -1,10 +1,11 @@
 -- The address order of lines whose times are their places.
-use Rattle.std.proofs.Common.{◌≡◌, ℕ, zero, suc, ◌+◌, ◌%◌, ◌<◌, ◌≤◌, ◌^◌, List, [], ◌∷◌, ◌++◌, length, map, get_or, All, IsPermutation, refl, sym, ap, ap₂}
-use Rattle.std.proofs.Common.{◌∙◌, subst, arith, add-zero, zero-add, append_assoc}
-use Rattle.std.specs.List.{range_with_len}
-use Rattle.std.proofs.lemmas.List.{get_or-append-add, length-append, length-map, get_or-map}
+use Rattle.std.proofs.Common.{◌≡◌, ℕ, ◌%◌, ◌<◌, ◌≤◌, ◌^◌, List, [], ◌∷◌, length, map, get_or, All, IsPermutation, refl, sym, ap}
+use Rattle.std.proofs.Common.{◌∙◌, subst, arith, zero-add}
+use Rattle.std.proofs.lemmas.List.{length-map, get_or-map, map-id}
+use Rattle.std.proofs.lemmas.List.FromFn.{fill_by_all}
 use Rattle.std.proofs.lemmas.List.Elements.{All-from_get_or, All-get_or}
 use Rattle.std.proofs.lemmas.List.Sorted.{All-permutation, IsPermutation-map, length_permutation}
+use Rattle.tv_benes.proofs.Permutations.{places-same}
 use Rattle.tv_benes.specs.Through.{places}
 use Rattle.tv_core.specs.Below.{each_below}
 use Rattle.tv_core.specs.Lines.{Line, Honest}
@@ -15,36 +16,18 @@ use Rattle.tv_argument.proofs.Parts.{placed}
 use Rattle.tv_argument.proofs.Increase.{rising_moves, rising_rises}
 use Rattle.tv_argument.specs.Order.{place_at, rising, address_order, AddressOrderIsRight}
 
-module _ {X Y : Type 0} (f : X → Y) (d : X) where
-  by_places : (pre ls : List X) (a : ℕ) → length pre ≡ a → map (λ i. f (get_or (pre ++ ls) i d)) (range_with_len a (length ls)) ≡ map f ls
-  by_places pre [] a e = refl
-  by_places pre (l ∷ ls) a e =
-      let here : get_or (pre ++ l ∷ ls) a d ≡ l = ap (λ n. get_or (pre ++ l ∷ ls) n d) (sym e ∙ sym (add-zero (length pre)))
-      ∙ get_or-append-add pre (l ∷ ls) 0 d in
-      let more : length (pre ++ l ∷ []) ≡ a + 1 = length-append pre (l ∷ []) ∙ omega arith in
-      let rest = by_places (pre ++ l ∷ []) ls (a + 1) more in
-      ap₂ (λ (u : Y) (us : List Y). u ∷ us) (ap f here) (ap (λ w. map (λ i. f (get_or w i d)) (range_with_len (a + 1) (length ls)))
-      (sym (append_assoc pre (l ∷ []) ls)) ∙ rest)
-
-  -- a list is what stands at its places
-  pub each_place : (ls : List X) → each_below (length ls) (λ i. f (get_or ls i d)) ≡ map f ls
-  unfolding each_below
-  each_place ls = by_places [] ls 0 refl
+-- a list is what stands at its places
+each_place : {X Y : Type 0} (f : X → Y) (d : X) (ls : List X) → each_below (length ls) (λ i. f (get_or ls i d)) ≡ map f ls
+unfolding each_below
+each_place f d ls = sym (fill_by_all (λ i. f (get_or ls i d)) (map f ls) (length ls) (f d) (length-map ls f) (λ i h. get_or-map f ls i d (f d) h))
 
 pub map_map : {X Y Z : Type 0} (f : X → Y) (g : Y → Z) (ls : List X) → map g (map f ls) ≡ map (λ x. g (f x)) ls
 map_map f g [] = refl
 map_map f g (l ∷ ls) = ap (λ rest. g (f l) ∷ rest) (map_map f g ls)
 
--- two functions that are the same at the places a, a + 1, ..
-same_range : {Y : Type 0} (f g : ℕ → Y) (a n : ℕ) → ((i : ℕ) → i < n → f (a + i) ≡ g (a + i)) → map f (range_with_len a n) ≡ map g (range_with_len a n)
-same_range f g a zero same = refl
-same_range {Y} f g a (suc n) same =
-    ap₂ (λ (u : Y) (us : List Y). u ∷ us) (ap f (sym (add-zero a)) ∙ same 0 (omega arith) ∙ ap g (add-zero a))
-    (same_range f g (a + 1) n (λ i h. let e : a + 1 + i ≡ a + suc i = omega arith in ap f e ∙ same (suc i) (omega arith) ∙ ap g (sym e)))
-
 same_places : {Y : Type 0} (n : ℕ) (f g : ℕ → Y) → ((i : ℕ) → i < n → f i ≡ g i) → each_below n f ≡ each_below n g
-unfolding each_below
-same_places n f g same = same_range f g 0 n (λ i h. ap f (zero-add i) ∙ same i h ∙ ap g (sym (zero-add i)))
+unfolding each_below places
+same_places n f g same = places-same n f g same
 
 time_of_key : (l : Line) → l.time < 2 ^ 20 → key l % 2 ^ 20 ≡ l.time
 time_of_key l small = omega arith
@@ -75,11 +58,7 @@ module _ (lines : List Line) (few : length lines ≤ 2 ^ 20) (from : LinesFrom 0
   lines_of_keys =
       map_map key (λ k. number_in lines (k % 2 ^ 20)) lines ∙ sym (each_place (λ l. number_in lines (key l % 2 ^ 20)) zero_line lines)
       ∙ same_places (length lines) (λ i. number_in lines (key (number_in lines i) % 2 ^ 20)) (number_in lines) (λ i h. ap (number_in lines) (place_of_key i h))
-      ∙ each_place (λ l. l) zero_line lines ∙ map_same lines
-    where
-      map_same : (ls : List Line) → map (λ l. l) ls ≡ ls
-      map_same [] = refl
-      map_same (l ∷ ls) = ap (λ rest. l ∷ rest) (map_same ls)
+      ∙ each_place (λ l. l) zero_line lines ∙ map-id lines
 
   moved : IsPermutation lines sorted
   moved = subst (λ ls. IsPermutation ls sorted) lines_of_keys

@@ -2,6 +2,7 @@
 use Rattle.std.proofs.Common.{◌≡◌, ◌≢◌, ◌⊎◌, ℕ, zero, suc, ◌+◌, ◌-◌, ◌^◌, ◌<◌, ◌≤◌, ◌==◌, if◌then◌else◌, List, [], ◌∷◌, length, get_or, inl, inr, refl, sym}
 use Rattle.std.proofs.Common.{◌∙◌, ap, subst, arith, eq-eqb, map, ◌%◌}
 use Rattle.std.proofs.lemmas.Bool.{cases_lt, cases_eq, ne_eqb}
+use Rattle.std.proofs.lemmas.Bool.Decides.{nat_tests}
 use Rattle.tv_benes.proofs.Permutations.{places-length, places-at}
 use Rattle.tv_core.proofs.BelowLaws.{length-each_below}
 use Rattle.tv_core.specs.Below.{each_below}
@@ -39,41 +40,24 @@ index_found i (suc j) (x ∷ xs) h e = by (cases_eq x i) (index_found i j xs (om
         let low : index_in i xs ≤ j = rest.0 in
         (omega (arith, at), ap (λ k. get_or (x ∷ xs) k 0) at ∙ rest.1)
 
-before_first : (n : ℕ) → index_before n 0 ≡ n - 1
-before_first n = refl
-
-before_later : (n j : ℕ) → index_before n (suc j) ≡ j
-before_later n j = ap (λ b. if b then n - 1 else suc j - 1) (ne_eqb (suc j) 0 (λ e. omega arith)) ∙ omega arith
-
 -- and back
 abbrev advanced : ℕ → ℕ → ℕ
 advanced n j = if j + 1 == n then 0 else j + 1
 
-advanced_last : (n j : ℕ) → j + 1 ≡ n → advanced n j ≡ 0
-advanced_last n j e = ap (λ b. if b then 0 else j + 1) (eq-eqb (j + 1) n e)
-
-advanced_other : (n j : ℕ) → j + 1 ≢ n → advanced n j ≡ j + 1
-advanced_other n j e = ap (λ b. if b then 0 else j + 1) (ne_eqb (j + 1) n e)
+before_later : (n j : ℕ) → index_before n (suc j) ≡ j
+before_later n j = grind (arith, nat_tests)
 
 before_below : (n j : ℕ) → j < n → index_before n j < n
-before_below n zero h = omega arith
-before_below n (suc j) h = omega (arith, before_later n j)
+before_below n j h = grind (arith, nat_tests)
 
 advanced_below : (n j : ℕ) → j < n → advanced n j < n
-advanced_below n j h = elim (cases_eq (j + 1) n) [
-  | inl e ↦ omega (arith, advanced_last n j e)
-  | inr e ↦ omega (arith, advanced_other n j e)
-]
+advanced_below n j h = grind (arith, nat_tests)
 
 before_advanced : (n j : ℕ) → j < n → index_before n (advanced n j) ≡ j
-before_advanced n j h = elim (cases_eq (j + 1) n) [
-  | inl e ↦ (ap (index_before n) (advanced_last n j e) ∙ omega arith)
-  | inr e ↦ (let s : j + 1 ≡ suc j = omega arith in ap (index_before n) (advanced_other n j e ∙ s) ∙ before_later n j)
-]
+before_advanced n j h = grind (arith, nat_tests)
 
 advanced_before : (n j : ℕ) → j < n → advanced n (index_before n j) ≡ j
-advanced_before n zero h = let e : n - 1 + 1 ≡ n = omega arith in advanced_last n (n - 1) e
-advanced_before n (suc j) h = ap (advanced n) (before_later n j) ∙ advanced_other n j (λ e. omega arith) ∙ omega arith
+advanced_before n j h = grind (arith, nat_tests)
 
 module _ (n : ℕ) (order : List ℕ) (right : Permutes n order) where
   -- place j of the order is found there
@@ -137,6 +121,11 @@ module _ (lines : List Line) (few : length lines ≤ 2 ^ 20) (from : LinesFrom 0
   pub permutes : Permutes (length lines) (predecessors lines)
   permutes = previous_permutes (length lines) order order_permutes
 
+  before_is : (i j : ℕ) → i < length lines → index_in i order ≡ suc j → p i ≡ place_at order j
+  before_is i j h e =
+      previous_at (length lines) order order_permutes i h ∙ ap (λ x. place_at order (index_before (length lines) x)) e
+      ∙ ap (place_at order) (before_later (length lines) j)
+
   small : (i : ℕ) → i < length lines → (line i).time < 2 ^ 20
   small i h = omega (arith, (placed 0 lines from i zero_line h).0)
 
@@ -159,8 +148,7 @@ module _ (lines : List Line) (few : length lines ≤ 2 ^ 20) (from : LinesFrom 0
     follows_place i zero h k e some = absurd (some refl)
     follows_place i (suc j) h k e some =
         let n = length lines in
-        let before : p i ≡ place_at order j = previous_at (length lines) order order_permutes i h
-        ∙ ap (λ x. place_at order (index_before (length lines) x)) e ∙ ap (place_at order) (before_later (length lines) j) in
+        let before = before_is i j h e in
         let here : place_at order (suc j) ≡ i = ap (place_at order) (sym e) ∙ (index_is (length lines) order order_permutes i h).1 in
         subst (λ x. Follows (line x) (line i)) (sym before) (subst (λ x. Follows (line (place_at order j)) (line x)) here (follows_at j k))
 
@@ -211,8 +199,7 @@ module _ (lines : List Line) (few : length lines ≤ 2 ^ 20) (from : LinesFrom 0
           → key (line q) < key (line i) → key (line q) ≤ key (line (p i))
       nearest_at i q zero t h k m e f g some less = absurd (some refl)
       nearest_at i q (suc j) t h k m e f g some less =
-          let before : p i ≡ place_at order j = previous_at (length lines) order order_permutes i h
-          ∙ ap (λ x. place_at order (index_before (length lines) x)) e ∙ ap (place_at order) (before_later (length lines) j) in
+          let before = before_is i j h e in
           elim (cases_lt j t) [
             | inl far ↦ (let r = rises_far (suc j) t (omega arith) m in
                 let a : key (line (place_at order (suc j))) ≡ key (line i) = ap (λ x. key (line x)) f in

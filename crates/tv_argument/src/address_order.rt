@@ -78,6 +78,7 @@ fn times(alloc: Global, keys: &[u64]) -> Result<Vec<u32>, AllocError>
 
 /// The address order of lines at the times 0, 1, 2, .. is a permutation of their places; and honest
 /// lines are in address order there.
+#[tactic(auto, using(crate::proofs::Order::address_order_right))]
 pub fn address_order_is_right()
     ensures { AddressOrderIsRight }
 {}
@@ -86,6 +87,7 @@ pub fn address_order_is_right()
 /// honest line but the least follows its predecessor. The settings for them bring to each line the
 /// item of its predecessor, so that the values of `fill_argument` are those for which
 /// `argument_is_complete` stands.
+#[tactic(auto, using(crate::proofs::Reached::predecessors_right))]
 pub fn predecessors_are_right()
     ensures { PredecessorsAreRight }
 {}

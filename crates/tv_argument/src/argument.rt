@@ -95,6 +95,7 @@ fn check<S: Sink>(
 /// Lines at the times 0, 1, 2, .. that are of their kinds are honest in every assignment that
 /// satisfies the constraints of `memory`, whatever it has at the wires of the network and of the
 /// checks.
+#[tactic(auto, using(crate::proofs::Sound::memory_sound))]
 pub fn argument_is_sound()
     ensures { (net : Net) → ArgumentIsSound (argument_of net) }
 {}
@@ -102,6 +103,7 @@ pub fn argument_is_sound()
 /// For honest lines at the times 0, 1, 2, .. that are of their kinds and near their predecessors
 /// there are values, one for each wire and each below P, with which an assignment satisfies the
 /// constraints of `memory`.
+#[tactic(auto, using(crate::proofs::Complete::memory_complete))]
 pub fn argument_is_complete()
     ensures { (net : Net) → ArgumentIsComplete (argument_of net) (argument_values net)
         (argument_made net) }
@@ -109,12 +111,14 @@ pub fn argument_is_complete()
 
 /// The constraints of `memory`, by the kinds of the lines, and their terms, by the lines, at most
 /// 2^10 a line.
+#[tactic(auto, using(crate::proofs::Costs::memory_cost))]
 pub fn argument_costs()
     ensures { ArgumentCosts }
 {}
 
 /// The constraints of `memory` over lines of wires before its own are normal, whatever the lines'
 /// combinations are.
+#[tactic(auto, using(crate::proofs::NormalLaws::memory_normal))]
 pub fn argument_is_normal()
     ensures { MemoryIsNormal }
 {}

@@ -42,6 +42,7 @@ pub fn network_made(net: Net, k: u32) -> u64
 }
 
 /// Checks with short reaches are cheap, in wires and in constraints.
+#[tactic(auto, using(crate::proofs::CheckCosts::checks_cheap))]
 pub fn checks_are_cheap()
     ensures { ChecksAreCheap }
 {}

@@ -12,7 +12,7 @@ use Rattle.std.specs.Prelude.{nat_lt}
 use Rattle.tv_benes.proofs.ColumnChain.{one_switch, switch_refused, values_as}
 use Rattle.tv_benes.proofs.Permutations.{alternating-even, alternating-odd}
 use Rattle.tv_benes.proofs.Permutations.{places-length, places-at, places-same}
-use Rattle.tv_benes.proofs.Sources.{from_from, last_even, last_odd}
+use Rattle.tv_benes.proofs.Sources.{last_even, last_odd}
 use Rattle.tv_benes.proofs.ThroughLaws.{twice, missing_small, kept_bit}
 use Rattle.tv_benes.proofs.ThroughLaws.{passed-same, alternating-same, joined-same, through-same}
 use Rattle.tv_benes.specs.Items.{pair_at}
@@ -184,84 +184,54 @@ through-two net h bit item lowest = ap (λ l. places (2 ^ suc l) (through net l 
 
 -- ---- a level above it
 -- what a network of level k does with a list, and with the items f that the list has below n
-pub record DoesSame (net : Net) (form : Form) (k n : ℕ) (bit bit' : ℕ → Bool) (f : ℕ → PairNum) (xs : List PairNum) : Type 0 where
-  pub values : level_values net form k bit (pair_at xs) ≡ level_values net form k bit' f
-  pub moved : (ys : List PairNum) → ys ≡ places (2 ^ suc k) (through net k bit (pair_at xs)) → ys ≡ places n (through net k bit' f)
+pub record DoesSame (net : Net) (form : Form) (k n : ℕ) (bit : ℕ → Bool) (f : ℕ → PairNum) (xs : List PairNum) : Type 0 where
+  pub values : level_values net form k bit (pair_at xs) ≡ level_values net form k bit f
+  pub moved : (ys : List PairNum) → ys ≡ places (2 ^ suc k) (through net k bit (pair_at xs)) → ys ≡ places n (through net k bit f)
 
-does_same : (net : Net) (form : Form) (k n : ℕ) → n ≡ 2 ^ suc k → (bit bit' : ℕ → Bool) → ◌≡◌ {A = ℕ → Bool} bit bit' → (f : ℕ → PairNum) (xs : List PairNum)
-    → xs ≡ places n f → DoesSame net form k n bit bit' f xs
-does_same net form k n size bit bit' same f xs is =
+pub does_same : (net : Net) (form : Form) (k n : ℕ) → n ≡ 2 ^ suc k → (bit : ℕ → Bool) (f : ℕ → PairNum) (xs : List PairNum) → xs ≡ places n f
+    → DoesSame net form k n bit f xs
+does_same net form k n size bit f xs is =
     let each : SameBelow (2 ^ suc k) (pair_at xs) f = λ j h. pair_at-places n f xs is j (omega arith) in
     record {
-      values = level_values-same net form k bit (pair_at xs) f each ∙ ap (λ (b : ℕ → Bool). level_values net form k b f) same;
+      values = level_values-same net form k bit (pair_at xs) f each;
       moved = λ ys moved.
           moved ∙ places-same (2 ^ suc k) (through net k bit (pair_at xs)) (through net k bit f)
-          (through-same net k bit bit (pair_at xs) f (λ j h. refl) each)
-          ∙ ap (λ (b : ℕ → Bool). places (2 ^ suc k) (through net k b f)) same ∙ ap (λ m. places m (through net k bit' f)) (sym size);
+          (through-same net k bit bit (pair_at xs) f (λ j h. refl) each) ∙ ap (λ m. places m (through net k bit f)) (sym size);
     }
 
--- a network of level h = k + 1 on these items, whose bits begin at `at` among b: n switches, twice s, and n less
--- those that are missing
-module _ (net : Net) (form : Form) (h k : ℕ) (level : h ≡ suc k) (at n s : ℕ) (size : n ≡ 2 ^ h) (inner : s ≡ switches net k) (b : ℕ → Bool)
-    (item : ℕ → PairNum) where
-  bit : ℕ → Bool
-  bit = from at b
+-- a network of level h = k + 1: its last column, on the outputs of the two networks before it
+module _ (net : Net) (form : Form) (h k : ℕ) (level : h ≡ suc k) (bit : ℕ → Bool) (item : ℕ → PairNum) where
+  -- what the halves give, were the level k + 1 in place of h
+  abbrev pub upper_out : ℕ → ℕ → PairNum
+  upper_out l = through net k (from (2 ^ l) bit) (to_upper bit item)
 
-  bits_at : (place within : ℕ) → place ≡ at + within → ◌≡◌ {A = ℕ → Bool} (from place b) (from within bit)
-  unfolding bit
-  bits_at place within e = ap (λ (m : ℕ). from m b) e ∙ sym (from_from within at b)
+  abbrev pub lower_out : ℕ → ℕ → PairNum
+  lower_out l = through net k (from (2 ^ l + switches net k) bit) (to_lower bit item)
 
-  -- the items of the halves
-  abbrev pub upper_out : ℕ → PairNum
-  upper_out = through net k (from (2 ^ h) (from at b)) (to_upper (from at b) item)
-
-  abbrev pub lower_out : ℕ → PairNum
-  lower_out = through net k (from (2 ^ h + switches net k) (from at b)) (to_lower (from at b) item)
-
-  pub upper_does : (xs : List PairNum) → xs ≡ places (2 ^ h) (to_upper (from at b) item)
-      → DoesSame net (other form) k (2 ^ h) (from (at + n) b) (from (2 ^ h) (from at b)) (to_upper (from at b) item) xs
-  unfolding bit
-  upper_does xs is = does_same net (other form) k (2 ^ h) (ap (λ j. 2 ^ j) level) _ _ (bits_at (at + n) (2 ^ h) (omega arith)) (to_upper bit item) xs is
-
-  pub lower_does : (xs : List PairNum) → xs ≡ places (2 ^ h) (to_lower (from at b) item)
-      → DoesSame net (other form) k (2 ^ h) (from (at + n + s) b) (from (2 ^ h + switches net k) (from at b)) (to_lower (from at b) item) xs
-  unfolding bit
-  lower_does xs is =
-      does_same net (other form) k (2 ^ h) (ap (λ j. 2 ^ j) level) _ _ (bits_at (at + n + s) (2 ^ h + switches net k) (omega arith)) (to_lower bit item) xs is
-
-  -- the last column
-  module _ (us ls : List PairNum) (up : us ≡ places (2 ^ h) upper_out) (low : ls ≡ places (2 ^ h) lower_out) where
+  module _ (us ls : List PairNum) (up : us ≡ places (2 ^ h) (upper_out h)) (low : ls ≡ places (2 ^ h) (lower_out h)) where
     long : length us ≡ 2 ^ h
-    long = ap length up ∙ places-length (2 ^ h) upper_out
+    long = ap length up ∙ places-length (2 ^ h) (upper_out h)
 
-    last_bits : ◌≡◌ {A = ℕ → Bool} (from (at + n + 2 * s) b) (from (2 ^ h + 2 * switches net k) bit)
-    last_bits = bits_at (at + n + 2 * s) (2 ^ h + 2 * switches net k) (omega arith)
+    last : ℕ → Bool
+    last = from (2 ^ h + 2 * switches net k) bit
 
-    -- what the halves give, were the level k + 1 in place of h
-    upper_of : ℕ → ℕ → PairNum
-    upper_of l = through net k (from (2 ^ l) bit) (to_upper bit item)
-
-    lower_of : ℕ → ℕ → PairNum
-    lower_of l = through net k (from (2 ^ l + switches net k) bit) (to_lower bit item)
-
-    pub moved_values : column_values form (length us - missing net) (from (at + n + 2 * s) b) (taken net (pair_at us) (pair_at ls))
-        ≡ last_column_values net form k (from at b) item
-    unfolding bit upper_of lower_of
+    pub moved_values : column_values form (length us - missing net) (from (2 ^ h + 2 * switches net k) bit) (taken net (pair_at us) (pair_at ls))
+        ≡ last_column_values net form k bit item
+    unfolding last
     moved_values =
-        ap₂ (λ (m : ℕ) (f : ℕ → Bool). column_values form (m - missing net) f (taken net (pair_at us) (pair_at ls))) long last_bits
-        ∙ taken_values-same net form (2 ^ h) (from (2 ^ h + 2 * switches net k) bit) (pair_at us) upper_out (pair_at ls) lower_out (pow_pos h)
-        (pair_at-places (2 ^ h) upper_out us up) (pair_at-places (2 ^ h) lower_out ls low)
-        ∙ ap (λ l. column_values form (2 ^ l - missing net) (from (2 ^ l + 2 * switches net k) bit) (taken net (upper_of l) (lower_of l))) level
+        ap (λ (m : ℕ). column_values form (m - missing net) last (taken net (pair_at us) (pair_at ls))) long
+        ∙ taken_values-same net form (2 ^ h) last (pair_at us) (upper_out h) (pair_at ls) (lower_out h) (pow_pos h)
+        (pair_at-places (2 ^ h) (upper_out h) us up) (pair_at-places (2 ^ h) (lower_out h) ls low)
+        ∙ ap (λ l. column_values form (2 ^ l - missing net) (from (2 ^ l + 2 * switches net k) bit) (taken net (upper_out l) (lower_out l))) level
 
-    pub moved_items : places (2 * length us) (joined (last_bit net (from (at + n + 2 * s) b)) (pair_at us) (pair_at ls))
-        ≡ places (2 ^ suc h) (through net h (from at b) item)
-    unfolding bit upper_of lower_of through
+    pub moved_items : places (2 * length us) (joined (last_bit net (from (2 ^ h + 2 * switches net k) bit)) (pair_at us) (pair_at ls))
+        ≡ places (2 ^ suc h) (through net h bit item)
+    unfolding last through
     moved_items =
         let two = twice h in
-        let last = last_bit net (from (2 ^ h + 2 * switches net k) bit) in
-        ap₂ (λ (m : ℕ) (f : ℕ → Bool). places (2 * m) (joined (last_bit net f) (pair_at us) (pair_at ls))) long last_bits
-        ∙ places-same (2 * 2 ^ h) (joined last (pair_at us) (pair_at ls)) (joined last upper_out lower_out) (λ i within.
-        joined-same last last (pair_at us) upper_out (pair_at ls) lower_out i refl
-        (pair_at-places (2 ^ h) upper_out us up (i / 2) (omega arith)) (pair_at-places (2 ^ h) lower_out ls low (i / 2) (omega arith)))
-        ∙ ap (λ l. places (2 * 2 ^ h) (joined (last_bit net (from (2 ^ l + 2 * switches net k) bit)) (upper_of l) (lower_of l))) level
+        ap (λ (m : ℕ). places (2 * m) (joined (last_bit net last) (pair_at us) (pair_at ls))) long
+        ∙ places-same (2 * 2 ^ h) (joined (last_bit net last) (pair_at us) (pair_at ls)) (joined (last_bit net last) (upper_out h) (lower_out h)) (λ i within.
+        joined-same (last_bit net last) (last_bit net last) (pair_at us) (upper_out h) (pair_at ls) (lower_out h) i refl
+        (pair_at-places (2 ^ h) (upper_out h) us up (i / 2) (omega arith)) (pair_at-places (2 ^ h) (lower_out h) ls low (i / 2) (omega arith)))
+        ∙ ap (λ l. places (2 * 2 ^ h) (joined (last_bit net (from (2 ^ l + 2 * switches net k) bit)) (upper_out l) (lower_out l))) level
         ∙ ap₂ (λ m l. places m (through net l bit item)) (sym two) (sym level)

@@ -1,11 +1,13 @@
 -- Which item comes out at a place, found from the last column back to the first.
-use Rattle.std.proofs.Common.{◌≡◌, ℕ, suc, ◌+◌, ◌*◌, ◌/◌, ◌%◌, ◌^◌, ◌≤◌, ◌==◌, inl, inr, Bool, true, false, not, if◌then◌else◌, refl, sym, ◌∙◌, ap, arith}
+use Rattle.std.proofs.Common.{◌≡◌, ℕ, suc, ◌+◌, ◌*◌, ◌/◌, ◌%◌, ◌^◌, ◌≤◌, ◌==◌, min, inl, inr, Bool, true, false, not, if◌then◌else◌, refl, sym, ◌∙◌, ap}
+use Rattle.std.proofs.Common.{arith, List, length, take, drop, get_or, get_or-drop, length-drop, ◌-◌}
 use Rattle.std.proofs.Math.Bool.{beq}
-use Rattle.std.proofs.lemmas.Bool.{cases_eq}
+use Rattle.std.proofs.lemmas.Bool.{cases_eq, cases_lt}
+use Rattle.std.proofs.lemmas.List.{get_or_past, take_all}
 use Rattle.tv_benes.proofs.Permutations.{alternating-even, alternating-odd}
 use Rattle.tv_benes.proofs.ThroughLaws.{through_places}
 use Rattle.tv_benes.specs.Through.{switches, from, passed, to_upper, to_lower, alternating, joined, last_bit, through}
-use Rattle.tv_benes.specs.Items.{half_item}
+use Rattle.tv_benes.specs.Items.{bit_at, half_item}
 use Rattle.tv_benes.specs.declared.shape.Net.{Net}
 
 -- ---- parity
@@ -45,11 +47,18 @@ half_place true false bit t e = ap (λ c. passed c (2 * t + 1) (2 * t)) e
 half_place false true bit t e = ap (λ c. passed c (2 * t) (2 * t + 1)) e
 half_place false false bit t e = ap (λ c. passed c (2 * t) (2 * t + 1)) e ∙ omega arith
 
-pub from_from : (a b : ℕ) (bit : ℕ → Bool) → ◌≡◌ {A = ℕ → Bool} (from a (from b bit)) (from (b + a) bit)
-from_from a b bit = λ t j. ap bit (assoc j) t
-  where
-    assoc : (j : ℕ) → b + (a + j) ≡ b + a + j
-    assoc j = omega arith
+-- the bits that are left, where there are none past the end
+left_bit : (bits : List Bool) (n m j : ℕ) → m ≡ min n (length bits) → get_or (take (length bits - m) (drop m bits)) j false ≡ get_or bits (n + j) false
+left_bit bits n m j is =
+    ap (λ l. get_or l j false) (take_all (length bits - m) (drop m bits) (omega (arith, length-drop m bits))) ∙ get_or-drop m bits j false
+    ∙ elim (cases_lt n (length bits)) [
+      | inl h ↦ let same : m ≡ n = omega arith in ap (λ k. get_or bits (k + j) false) same
+      | inr h ↦ get_or_past bits (m + j) false (omega arith) ∙ sym (get_or_past bits (n + j) false (omega arith))
+    ]
+
+pub bits_after : (bits : List Bool) (n : ℕ) → let m = min n (length bits) in
+    ◌≡◌ {A = ℕ → Bool} (bit_at (take (length bits - m) (drop m bits))) (from n (bit_at bits))
+bits_after bits n = λ t j. left_bit bits n _ j refl t
 
 -- the source at the lowest level
 pub source_zero : (net : Net) (bit : ℕ → Bool) (i : ℕ) → through net 0 bit (λ j. j) i ≡ 2 * (i / 2) + (if not (beq (bit (i / 2)) (i % 2 == 1)) then 1 else 0)
@@ -89,21 +98,11 @@ pub if_le : (b : Bool) (n : ℕ) → (if b then n else 0) ≤ n
 if_le true n = omega arith
 if_le false n = omega arith
 
--- the item that comes out of a network within a network, read at its place
-module _ {X : Type 0} (net : Net) (h at n : ℕ) (b : ℕ → Bool) (item : ℕ → X) (j s : ℕ) where
-  moved : (k : ℕ) → n ≡ at + k → s ≡ through net h (from n b) (λ j. j) j → s ≡ through net h (from k (from at b)) (λ j. j) j
-  moved k e is = is ∙ ap (λ (f : ℕ → Bool). through net h f (λ j. j) j) (ap (λ (n : ℕ). from n b) e ∙ sym (from_from k at b))
-
-  pub upper_item : n ≡ at + 2 ^ suc h → s ≡ through net h (from n b) (λ j. j) j
-      → to_upper (from at b) item s ≡ through net h (from (2 ^ suc h) (from at b)) (to_upper (from at b) item) j
-  upper_item e is = ap (to_upper (from at b) item) (moved (2 ^ suc h) e is)
-      ∙ sym (through_places net h (from (2 ^ suc h) (from at b)) (to_upper (from at b) item) j)
-
-  pub lower_item : n ≡ at + (2 ^ suc h + switches net h) → s ≡ through net h (from n b) (λ j. j) j
-      → to_lower (from at b) item s ≡ through net h (from (2 ^ suc h + switches net h) (from at b)) (to_lower (from at b) item) j
-  lower_item e is =
-      ap (to_lower (from at b) item) (moved (2 ^ suc h + switches net h) e is)
-      ∙ sym (through_places net h (from (2 ^ suc h + switches net h) (from at b)) (to_lower (from at b) item) j)
+-- the item that comes out of a network within a network, read at its place s
+pub inner_item : {X : Type 0} (net : Net) (h j s : ℕ) (bit bit' : ℕ → Bool) (item : ℕ → X) → ◌≡◌ {A = ℕ → Bool} bit bit'
+    → s ≡ through net h bit (λ j. j) j → item s ≡ through net h bit' item j
+inner_item net h j s bit bit' item e is =
+    ap item (is ∙ ap (λ (f : ℕ → Bool). through net h f (λ j. j) j) e) ∙ sym (through_places net h bit' item j)
 
 -- the items of a last column, by the networks before it
 pub last_even : {X : Type 0} (u l : ℕ → X) (j m : ℕ) → alternating u l (2 * j + 2 * m) ≡ u (j + m)

@@ -75,7 +75,10 @@ number_of_sums c v t v' t' some small s =
     let xy : Apart (sum_of c v t) (sum_of c v' t') = ((s.vv, (s.vt, tt)), ((s.tv, (s.tt', tt)), tt)) in
     let yx : Apart (sum_of c v' t') (sum_of c v t) = (
       ((λ e. s.vv (sym e)), ((λ e. s.tv (sym e)), tt)),
-      (((λ e. s.vt (sym e)), ((λ e. s.tt' (sym e)), tt)), tt),
+      (
+        ((λ e. s.vt (sym e)), ((λ e. s.tt' (sym e)), tt)),
+        tt,
+      ),
     ) in
     omega (arith, length-normal_less (sum_of c v' t') (sum_of c v t) y x yx, length-normal_apart (sum_of c v t) (sum_of c v' t') x y xy)
 

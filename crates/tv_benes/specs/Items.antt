@@ -1,6 +1,6 @@
 -- What a network's generator reads: the bits and the pairs that are passed, and the items of networks within it.
-use Rattle.std.specs.Prelude.{ℕ, suc, ◌^◌, ◌<◌, Bool, true, false, List, get_or}
-use Rattle.tv_benes.specs.Through.{from, to_upper, to_lower}
+use Rattle.std.specs.Prelude.{ℕ, suc, Bool, true, false, List, get_or}
+use Rattle.tv_benes.specs.Through.{to_upper, to_lower}
 use Rattle.tv_benes.specs.declared.items.Items.{Items, Given, Half'}
 use Rattle.tv_core.specs.declared.lines.PairNum.{PairNum}
 
@@ -18,16 +18,11 @@ half_item true bit item = to_lower bit item
 half_item false bit item = to_upper bit item
 
 -- item j of the inputs, or of a network within others
-abbrev pub item_of : List Bool → Items → ℕ → PairNum
-item_of bits (Given pairs) j = pair_at pairs.now j
-item_of bits (Half' p outer place lower) j = half_item lower (from place (bit_at bits)) (item_of bits outer) j
+abbrev pub item_of : Items → ℕ → PairNum
+item_of (Given pairs) j = pair_at pairs.now j
+item_of (Half' p outer bits lower) j = half_item lower (bit_at bits.now) (item_of outer) j
 
 -- how many networks a network lies within
 abbrev pub depth_of : Items → ℕ
 depth_of (Given pairs) = 0
-depth_of (Half' p outer place lower) = suc (depth_of outer)
-
--- the places where the networks' bits begin are no great numbers
-abbrev pub ArePlaces : Items → Type 0
-ArePlaces (Given pairs) = Unit {0}
-ArePlaces (Half' p outer place lower) = (place < 2 ^ 62) × ArePlaces outer
+depth_of (Half' p outer bits lower) = suc (depth_of outer)

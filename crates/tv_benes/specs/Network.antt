@@ -78,15 +78,6 @@ level_of net form (suc h) item = do
 abbrev pub network_of : Net → ℕ → (ℕ → Pair) → Circuit Outputs
 network_of net h item = level_of net Bound h item
 
--- what a network has after its first column: the two networks within, on these items, and its last column, or nothing
--- where the first column is its one switch
-unfoldable pub inner_of : (net : Net) (form : Form) → ℕ → ItemsOf (other form) → ItemsOf (other form) → EndsOf form → Circuit (EndsOf form)
-inner_of net form zero up low two = pure two
-inner_of net form (suc h) up low two = do
-  upper ← level_of net (other form) h up
-  lower ← level_of net (other form) h low
-  last_column_of net form (suc h) upper lower
-
 -- ---- the values
 -- the product of a bit and a difference
 abbrev pub product : Bool → ℕ → ℕ → ℕ
@@ -157,7 +148,8 @@ NetworkIsComplete = (z : List ℕ) (net : Net) (next h : ℕ) (item : ℕ → Pa
 
 -- over normal items of wires before the first, every combination that is emitted is normal
 abbrev pub NetworkIsNormal : Type 0
-NetworkIsNormal = (net : Net) (h next : ℕ) (item : ℕ → Pair) → ((i : ℕ) → i < 2 ^ suc h → IsNormalPair (item i) next) → AreNormal (network_of net h item next).list
+NetworkIsNormal = (net : Net) (h next : ℕ) (item : ℕ → Pair) → ((i : ℕ) → i < 2 ^ suc h → IsNormalPair (item i) next)
+    → AreNormal (network_of net h item next).list
 
 -- the sizes of a network: it makes three wires a switch and two more a bound one, with one value each; its outputs are
 -- among them; and over items in the field all values are in the field
@@ -165,4 +157,5 @@ pub record NetworkFills : Type 0 where
   pub fills : (net : Net) (h : ℕ) (item : ℕ → Pair) (bit : ℕ → Bool) (v : ℕ → PairNum) → Fills (network_of net h item) (network_values net h bit v)
   pub ends : (net : Net) (h next : ℕ) (item : ℕ → Pair) → (network_of net h item next).next ≡ next + network_wires net h
   pub below : (net : Net) (h next : ℕ) (item : ℕ → Pair) → AreBelow (network_of net h item next).answer (2 ^ suc h) (next + network_wires net h)
-  pub small : (net : Net) (h : ℕ) (bit : ℕ → Bool) (v : ℕ → PairNum) → ((j : ℕ) → j < 2 ^ suc h → ((v j).first < P) × ((v j).second < P)) → InField (network_values net h bit v)
+  pub small : (net : Net) (h : ℕ) (bit : ℕ → Bool) (v : ℕ → PairNum) → ((j : ℕ) → j < 2 ^ suc h → ((v j).first < P) × ((v j).second < P))
+      → InField (network_values net h bit v)

@@ -2,6 +2,8 @@
 use Rattle.std.specs.Prelude.{ℕ, zero, suc, ◌+◌, ◌-◌, ◌*◌, ◌^◌, ◌<◌, ◌≤◌, ◌==◌, nat_lt, Bool, true, false, if◌then◌else◌, ◌++◌, length}
 use Rattle.tv_benes.specs.Levels.{width, other, level_wires}
 use Rattle.tv_benes.specs.Through.{switches, alternating, missing}
+use Rattle.tv_benes.specs.declared.places.BoundItems.{BoundItems}
+use Rattle.tv_benes.specs.declared.places.BoundItems.TheVariants.{Whole, Within}
 use Rattle.tv_benes.specs.declared.places.Outputs.{Outputs}
 use Rattle.tv_benes.specs.declared.places.Sums.{Sums}
 use Rattle.tv_benes.specs.declared.shape.Form.{Form}
@@ -75,6 +77,15 @@ to_lower_of Open w from = λ j. second_of Open (switch_wire Open w j) (row from 
 abbrev pub passed_to : Bool → ℕ → ℕ → ℕ → Pair
 passed_to true w from = to_lower_of Open w from
 passed_to false w from = to_upper_of Open w from
+
+-- the items of a bound network: those of the inputs, whose items and their number are given, or what a column passes
+abbrev pub bound_pair : {I : Type 0} → (I → ℕ → Pair) → BoundItems I → ℕ → Pair
+bound_pair pair (Whole inputs) = pair inputs.now
+bound_pair pair (Within from first lower) = passed_to lower first from
+
+abbrev pub bound_count : {I : Type 0} → (I → ℕ) → BoundItems I → ℕ
+bound_count count (Whole inputs) = count inputs.now
+bound_count count (Within from first lower) = 2 ^ 30
 
 -- ---- the outputs of a bound level, which are wires
 -- the first wire of output i

@@ -72,7 +72,8 @@ abbrev pub NumbersArePermuted : Type 0
 NumbersArePermuted = (net : Net) (h : ℕ) (bit : ℕ → Bool) (item : ℕ → ℕ) → IsPermutation (places (2 ^ suc h) item) (places (2 ^ suc h) (through net h bit item))
 
 abbrev pub PairsArePermuted : Type 0
-PairsArePermuted = (net : Net) (h : ℕ) (bit : ℕ → Bool) (item : ℕ → PairNum) → IsPermutation (places (2 ^ suc h) item) (places (2 ^ suc h) (through net h bit item))
+PairsArePermuted = (net : Net) (h : ℕ) (bit : ℕ → Bool) (item : ℕ → PairNum)
+    → IsPermutation (places (2 ^ suc h) item) (places (2 ^ suc h) (through net h bit item))
 
 -- which item comes out where does not depend on the items: output i is the item at the place that comes out there
 abbrev pub PlacesDetermineOutputs : Type 0

@@ -9,17 +9,11 @@ ghost use Rattle.tv_benes.specs.declared.shape.Form.TheVariants.{Bound, Open};
 use crate::open_switches::open_switch;
 use crate::places::{Pairs, Places};
 use tv_bits::{bit_by, select_terms};
-use tv_core::{F, Pair, Put, Scratch, Sink, Wire};
+use tv_core::{F, Lc, Pair, Put, Scratch, Sink, Wire};
 
 // A wire that is with the wire `p` the sum of `x` and `y`. It makes 1 wire and 1 constraint, of 3
 // terms and those of the sum.
-fn remainder<S: Sink>(
-    s: &mut S,
-    scratch: &mut Scratch,
-    x: &[(F, Wire)],
-    y: &[(F, Wire)],
-    p: Wire,
-) -> Put<Wire>
+fn remainder<S: Sink>(s: &mut S, scratch: &mut Scratch, x: &Lc, y: &Lc, p: Wire) -> Put<Wire>
     requires room { Room S.meaning s.old 1 1 }
     requires p_made { p < S.meaning.wires s.old }
     requires x_made { top x.now ≤ S.meaning.wires s.old }
@@ -31,8 +25,8 @@ fn remainder<S: Sink>(
 {
     let q = s.fresh();
     scratch.a.clear();
-    scratch.a.add_terms(x);
-    scratch.a.add_terms(y);
+    scratch.a.add_terms(x.terms());
+    scratch.a.add_terms(y.terms());
     scratch.b.set_wire(Wire(0));
     scratch.c.set_wire(p);
     scratch.c.plus(F::ONE, q);
@@ -40,36 +34,8 @@ fn remainder<S: Sink>(
     Ok(q)
 }
 
-// A bound switch between two items, each by the terms of its two combinations. It makes 5 wires and
-// 5 constraints: its bit's, and for both numbers of an item a choice and a sum.
-fn switch<S: Sink>(
-    s: &mut S,
-    scratch: &mut Scratch,
-    x: &[(F, Wire)],
-    x_second: &[(F, Wire)],
-    y: &[(F, Wire)],
-    y_second: &[(F, Wire)],
-) -> Put<()>
-    requires room { Room S.meaning s.old 5 5 }
-    requires x_made { IsPairMade (record { first = x.now; second = x_second.now })
-        (S.meaning.wires s.old) }
-    requires y_made { IsPairMade (record { first = y.now; second = y_second.now })
-        (S.meaning.wires s.old) }
-    ensures puts { PutsIn S.meaning s.old s.new
-        (switch_of Bound (record { first = x.now; second = x_second.now })
-        (record { first = y.now; second = y_second.now })) result }
-    ensures grows { IfOk result (λ _. Grows S.meaning s.old s.new 5 5) }
-{
-    let b = s.fresh();
-    bit_by(s, &mut scratch.a, b)?;
-    let first = select_terms(s, scratch, b, y, x)?;
-    let second = select_terms(s, scratch, b, y_second, x_second)?;
-    remainder(s, scratch, x, y, first)?;
-    remainder(s, scratch, x_second, y_second, second)?;
-    Ok(())
-}
-
-// A bound switch between two pairs of combinations.
+// A bound switch between two items. It makes 5 wires and 5 constraints: its bit's, and for both
+// numbers of an item a choice and a sum.
 pub(crate) fn bound_switch<S: Sink>(s: &mut S, scratch: &mut Scratch, x: &Pair, y: &Pair) -> Put<()>
     requires room { Room S.meaning s.old 5 5 }
     requires x_made { IsPairMade x.now (S.meaning.wires s.old) }
@@ -77,14 +43,13 @@ pub(crate) fn bound_switch<S: Sink>(s: &mut S, scratch: &mut Scratch, x: &Pair, 
     ensures puts { PutsIn S.meaning s.old s.new (switch_of Bound x.now y.now) result }
     ensures grows { IfOk result (λ _. Grows S.meaning s.old s.new 5 5) }
 {
-    switch(
-        s,
-        scratch,
-        x.first.terms(),
-        x.second.terms(),
-        y.first.terms(),
-        y.second.terms(),
-    )
+    let b = s.fresh();
+    bit_by(s, &mut scratch.a, b)?;
+    let first = select_terms(s, scratch, b, y.first.terms(), x.first.terms())?;
+    let second = select_terms(s, scratch, b, y.second.terms(), x.second.terms())?;
+    remainder(s, scratch, &x.first, &y.first, first)?;
+    remainder(s, scratch, &x.second, &y.second, second)?;
+    Ok(())
 }
 
 // `n` open switches between items that are two wires each.

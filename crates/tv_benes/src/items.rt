@@ -1,17 +1,17 @@
 //! The items at the switches of a network, found among its inputs.
-ghost use Rattle.std.specs.Prelude.{◌≡◌, suc, if◌then◌else◌, ◌+◌, ◌*◌, ◌<◌, ◌≤◌, ◌^◌};
-ghost use Rattle.tv_benes.specs.Items.{bit_at, pair_at, item_of, depth_of, ArePlaces};
-ghost use Rattle.tv_benes.specs.Through.{switches, from, last_bit, through};
+ghost use Rattle.std.specs.Prelude.{◌≡◌, ℕ, suc, if◌then◌else◌, ◌+◌, ◌*◌, ◌<◌, ◌≤◌, ◌^◌, Bool};
+ghost use Rattle.tv_benes.specs.Items.{bit_at, pair_at, item_of, depth_of};
+ghost use Rattle.tv_benes.specs.Through.{from, last_bit, through};
 
 use crate::shape::{Net, level_switches, long_power};
 use tv_core::{F, PairNum};
 
 // The items of a network: its inputs; or, for the upper or lower network within another, that one's
-// items, the place where its bits begin, and whether it is the lower one.
+// items and bits, and whether it is the lower one.
 #[derive(Clone, Copy)]
 pub(crate) enum Items<'a> {
     Given(&'a [PairNum]),
-    Half(&'a Items<'a>, u64, bool),
+    Half(&'a Items<'a>, &'a [bool], bool),
 }
 
 // The bit at a place, 0 past the end.
@@ -19,6 +19,13 @@ pub(crate) fn bit(bits: &[bool], at: u64) -> bool
     ensures { result ≡ bit_at bits.now at }
 {
     bits.get(at as usize).copied().unwrap_or(false)
+}
+
+// The bits from place `n` on.
+pub(crate) fn bits_from(bits: &[bool], n: u64) -> &[bool]
+    ensures { ◌≡◌ {A = ℕ → Bool} (bit_at result.now) (from n (bit_at bits.now)) }
+{
+    &bits[(n as usize).min(bits.len())..]
 }
 
 // The pair at a place, zeros past the end.
@@ -32,57 +39,47 @@ fn given(pairs: &[PairNum], at: u64) -> PairNum
 }
 
 // Item `j`, found among the inputs: one step for each network that it lies within.
-pub(crate) fn read(items: &Items<'_>, bits: &[bool], j: u64) -> PairNum
-    requires near { (j + 1) * 2 ^ depth_of items.now ≤ 2 ^ 62 }
-    requires places { ArePlaces items.now }
-    ensures { result ≡ item_of bits.now items.now j }
+pub(crate) fn read(items: &Items<'_>, j: u64) -> PairNum
+    requires { (j + 1) * 2 ^ depth_of items.now ≤ 2 ^ 62 }
+    ensures { result ≡ item_of items.now j }
 {
     match items {
         Items::Given(pairs) => given(pairs, j),
-        Items::Half(outer, at, lower) => {
-            let crossed = bit(bits, *at + j) != *lower;
-            read(outer, bits, 2 * j + flag(crossed))
+        Items::Half(outer, bits, lower) => {
+            let crossed = bit(bits, j) != *lower;
+            read(outer, 2 * j + flag(crossed))
         }
     }
 }
 
-// Which item of a network of level `h`, whose bits begin at `at`, comes out at place `i`.
-pub(crate) fn source(net: Net, bits: &[bool], at: u64, h: u32, i: u64) -> u64
+// Which item of a network of level `h` comes out at place `i`.
+pub(crate) fn source(net: Net, bits: &[bool], h: u32, i: u64) -> u64
     requires level { h < 31 }
-    requires place { at + switches net h < 2 ^ 62 }
     requires within { i < 2 ^ suc h }
-    ensures is { result ≡ through net h (from at (bit_at bits.now)) (λ j. j) i }
+    ensures is { result ≡ through net h (bit_at bits.now) (λ j. j) i }
     ensures below { result < 2 ^ suc h }
 {
     let j = i / 2;
     let odd = i % 2 == 1;
     if h == 0 {
-        let lower = bit(bits, at + j) != odd;
+        let lower = bit(bits, j) != odd;
         return 2 * j + flag(lower);
     }
     let n = long_power(h);
     let s = level_switches(net, h - 1);
-    let lower = last_bit(net, bits, at + n + 2 * s, j) != odd;
-    let skipped = only_if(lower, s);
-    let inner = source(net, bits, at + n + skipped, h - 1, j);
-    let crossed = bit(bits, at + inner) != lower;
+    let lower = last_bit(net, bits_from(bits, n + 2 * s), j) != odd;
+    let inner = source(net, bits_from(bits, n + only_if(lower, s)), h - 1, j);
+    let crossed = bit(bits, inner) != lower;
     2 * inner + flag(crossed)
 }
 
-// The bit of switch `j` of a last column whose bits begin at `at`.
-pub(crate) fn last_bit(net: Net, bits: &[bool], at: u64, j: u64) -> bool
-    requires { at + j < 2 ^ 63 }
-    ensures { result ≡ last_bit net (from at (bit_at bits.now)) j }
+// The bit of switch `j` of a last column with these bits.
+pub(crate) fn last_bit(net: Net, bits: &[bool], j: u64) -> bool
+    ensures { result ≡ last_bit net (bit_at bits.now) j }
 {
     match net {
-        Net::Benes => bit(bits, at + j),
-        Net::Waksman => {
-            if j == 0 {
-                false
-            } else {
-                bit(bits, at + (j - 1))
-            }
-        }
+        Net::Benes => bit(bits, j),
+        Net::Waksman => { if j == 0 { false } else { bit(bits, j - 1) } }
     }
 }
 

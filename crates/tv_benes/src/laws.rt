@@ -49,6 +49,7 @@ pub fn network_fills()
 /// A network costs a constraint for each wire that it makes. The terms of its first column are
 /// those of its switches by their items; the others have 22 a switch, and in Waksman's network a
 /// few more.
+#[tactic(auto, using(crate::proofs::CostLaws::network_counted))]
 pub fn network_is_counted()
     ensures { NetworkIsCounted }
 {}

@@ -1,8 +1,8 @@
 //! Either network, emitted into a sink.
-ghost use Rattle.std.specs.Prelude.{◌≡◌, true, false, ◌+◌, ◌-◌, ◌*◌, ◌^◌, ◌<◌, ◌≤◌, IfOk};
+ghost use Rattle.std.specs.Prelude.{◌≡◌, ◌+◌, ◌-◌, ◌*◌, ◌^◌, ◌<◌, ◌≤◌, IfOk};
 ghost use Rattle.tv_benes.specs.Levels.{level_wires, network_wires};
-ghost use Rattle.tv_benes.specs.Network.{last_column_of, inner_of, level_of, network_of};
-ghost use Rattle.tv_benes.specs.Places.{column_outputs, passed_to, two_ends, sum_at, ArePairsMade};
+ghost use Rattle.tv_benes.specs.Network.{last_column_of, level_of, network_of};
+ghost use Rattle.tv_benes.specs.Places.{bound_pair, bound_count, sum_at, ArePairsMade};
 ghost use Rattle.tv_benes.specs.Places.{AreBelow};
 ghost use Rattle.tv_benes.specs.Through.{missing};
 ghost use Rattle.tv_benes.specs.declared.shape.Form.TheVariants.{Bound, Open};
@@ -11,7 +11,7 @@ ghost use Rattle.tv_core.specs.Sinks.{PutsIn, Grows, Room};
 
 use crate::columns::{Buffers, bound_column, open_column};
 use crate::places::{
-    Given, Inputs, LastItems, LastSums, Outputs, Passed, Sums, SwitchRow, column_outputs,
+    BoundItems, Inputs, LastItems, LastSums, Outputs, Sums, SwitchRow, column_outputs,
     last_outputs, lone,
 };
 use crate::shape::Net;
@@ -50,66 +50,48 @@ pub fn routing_network<S: Sink, I: Inputs>(s: &mut S, net: Net, k: u32, inputs: 
         (network_wires net (k - 1))) }
     ensures below { IfOk result (λ outputs. AreBelow outputs (2 ^ k) (S.meaning.wires s.new)) }
 {
-    let h = k - 1;
-    let first = Wire(s.wires());
-    let mut buffers = Buffers::new();
-    bound_column(s, &mut buffers, power(h), &Given { inputs })?;
-    bound_inner(s, &mut buffers, net, h, first)
+    bound_network(
+        s,
+        &mut Buffers::new(),
+        net,
+        k - 1,
+        &BoundItems::Whole(inputs),
+    )
 }
 
-// A bound network of level `h` on what an open column passes.
+// A bound network of level `h` on these items.
 #[cycle(network)]
-fn bound_network<S: Sink>(
+fn bound_network<S: Sink, I: Inputs>(
     s: &mut S,
     buffers: &mut Buffers,
     net: Net,
     h: u32,
-    items: &Passed,
+    items: &BoundItems<'_, I>,
 ) -> Put<Outputs>
-    requires level { h < 29 }
+    requires level { h < 31 }
     requires room { Room S.meaning s.old (level_wires net Bound h) (level_wires net Bound h) }
-    requires from { items.now.from + 20 * 2 ^ h ≤ S.meaning.wires s.old + 3 }
-    requires first { items.now.first + 6 * 2 ^ h ≤ S.meaning.wires s.old }
-    ensures puts { PutsIn S.meaning s.old s.new
-        (level_of net Bound h (passed_to items.now.lower items.now.first items.now.from)) result }
+    requires count { 2 * 2 ^ h ≤ bound_count I.count items.now }
+    requires made { ArePairsMade (bound_pair I.pair items.now) (2 * 2 ^ h)
+        (S.meaning.wires s.old) }
+    ensures puts { PutsIn S.meaning s.old s.new (level_of net Bound h (bound_pair I.pair items.now))
+        result }
     ensures grows { IfOk result (λ _. Grows S.meaning s.old s.new (level_wires net Bound h)
         (level_wires net Bound h)) }
 {
     let first = Wire(s.wires());
     bound_column(s, buffers, power(h), items)?;
-    bound_inner(s, buffers, net, h, first)
-}
-
-// What a bound network of level `h` has after its first column, whose wires begin at `first`.
-#[cycle(network)]
-fn bound_inner<S: Sink>(
-    s: &mut S,
-    buffers: &mut Buffers,
-    net: Net,
-    h: u32,
-    first: Wire,
-) -> Put<Outputs>
-    requires level { h < 31 }
-    requires room { Room S.meaning s.old (level_wires net Bound h - 5 * 2 ^ h)
-        (level_wires net Bound h - 5 * 2 ^ h) }
-    requires made { S.meaning.wires s.old ≡ first + 5 * 2 ^ h }
-    ensures puts { PutsIn S.meaning s.old s.new
-        (inner_of net Bound h (first + 1) (first + 3) (column_outputs first)) result }
-    ensures grows { IfOk result (λ _. Grows S.meaning s.old s.new
-        (level_wires net Bound h - 5 * 2 ^ h) (level_wires net Bound h - 5 * 2 ^ h)) }
-{
     if h == 0 {
         return Ok(column_outputs(first));
     }
-    let upper = open_network(s, buffers, net, h - 1, first.offset(1))?;
-    let lower = open_network(s, buffers, net, h - 1, first.offset(3))?;
+    let upper = open_network::<S, I>(s, buffers, net, h - 1, first.offset(1))?;
+    let lower = open_network::<S, I>(s, buffers, net, h - 1, first.offset(3))?;
     bound_last(s, buffers, net, h, &upper, &lower)
 }
 
 // An open network of level `h` on the pairs of wires that stand at every fifth place from `from`
 // on.
 #[cycle(network)]
-fn open_network<S: Sink>(
+fn open_network<S: Sink, I: Inputs>(
     s: &mut S,
     buffers: &mut Buffers,
     net: Net,
@@ -128,43 +110,10 @@ fn open_network<S: Sink>(
     }
     let first = Wire(s.wires());
     open_column(s, &mut buffers.scratch, power(h), &SwitchRow(from))?;
-    open_inner(s, buffers, net, h, first, from)
-}
-
-// What an open network of level `h` has after its first column.
-#[cycle(network)]
-fn open_inner<S: Sink>(
-    s: &mut S,
-    buffers: &mut Buffers,
-    net: Net,
-    h: u32,
-    first: Wire,
-    from: Wire,
-) -> Put<Sums>
-    requires level { h < 30 }
-    requires some { 1 ≤ h }
-    requires room { Room S.meaning s.old (level_wires net Open h - 3 * 2 ^ h)
-        (level_wires net Open h - 3 * 2 ^ h) }
-    requires made { S.meaning.wires s.old ≡ first + 3 * 2 ^ h }
-    requires from { from + 10 * 2 ^ h ≤ first + 3 }
-    ensures puts { PutsIn S.meaning s.old s.new (inner_of net Open h
-        (passed_to false first from) (passed_to true first from) (two_ends net Open first from))
-        result }
-    ensures grows { IfOk result (λ _. Grows S.meaning s.old s.new
-        (level_wires net Open h - 3 * 2 ^ h) (level_wires net Open h - 3 * 2 ^ h)) }
-{
-    let passed = Passed {
-        from,
-        first,
-        lower: false,
-    };
-    let upper = bound_network(s, buffers, net, h - 1, &passed)?;
-    let passed = Passed {
-        from,
-        first,
-        lower: true,
-    };
-    let lower = bound_network(s, buffers, net, h - 1, &passed)?;
+    let items = BoundItems::<I>::Within(from, first, false);
+    let upper = bound_network(s, buffers, net, h - 1, &items)?;
+    let items = BoundItems::<I>::Within(from, first, true);
+    let lower = bound_network(s, buffers, net, h - 1, &items)?;
     open_last(s, buffers, net, h, &upper, &lower)
 }
 

@@ -28,34 +28,8 @@ fn product<S: Sink>(s: &mut S, scratch: &mut Scratch, b: Wire, x: Wire, y: Wire)
     Ok(m)
 }
 
-// An open switch between two items that are two wires each. It makes 3 wires and 3 constraints, of
-// 11 terms.
-fn switch<S: Sink>(
-    s: &mut S,
-    scratch: &mut Scratch,
-    x: Wire,
-    x_second: Wire,
-    y: Wire,
-    y_second: Wire,
-) -> Put<()>
-    requires room { Room S.meaning s.old 3 3 }
-    requires x_made { x < S.meaning.wires s.old }
-    requires x2_made { x_second < S.meaning.wires s.old }
-    requires y_made { y < S.meaning.wires s.old }
-    requires y2_made { y_second < S.meaning.wires s.old }
-    ensures puts { PutsIn S.meaning s.old s.new
-        (switch_of Open (record { first = wire x; second = wire x_second })
-        (record { first = wire y; second = wire y_second })) result }
-    ensures grows { IfOk result (λ _. Grows S.meaning s.old s.new 3 3) }
-{
-    let b = s.fresh();
-    bit_by(s, &mut scratch.a, b)?;
-    product(s, scratch, b, x, y)?;
-    product(s, scratch, b, x_second, y_second)?;
-    Ok(())
-}
-
-// Like `switch`, for items whose second wire is the one after the first.
+// An open switch between two items, each by its first wire, whose second wire is the one after. It
+// makes 3 wires and 3 constraints, of 11 terms.
 pub(crate) fn open_switch<S: Sink>(s: &mut S, scratch: &mut Scratch, x: Wire, y: Wire) -> Put<()>
     requires room { Room S.meaning s.old 3 3 }
     requires x_made { x + 1 < S.meaning.wires s.old }
@@ -63,5 +37,9 @@ pub(crate) fn open_switch<S: Sink>(s: &mut S, scratch: &mut Scratch, x: Wire, y:
     ensures puts { PutsIn S.meaning s.old s.new (switch_of Open (wires_at x) (wires_at y)) result }
     ensures grows { IfOk result (λ _. Grows S.meaning s.old s.new 3 3) }
 {
-    switch(s, scratch, x, x.offset(1), y, y.offset(1))
+    let b = s.fresh();
+    bit_by(s, &mut scratch.a, b)?;
+    product(s, scratch, b, x, y)?;
+    product(s, scratch, b, x.offset(1), y.offset(1))?;
+    Ok(())
 }

@@ -3,6 +3,7 @@ ghost use Rattle.std.specs.Prelude.{◌≡◌, ℕ, ◌+◌, ◌*◌, ◌^◌, �
 ghost use Rattle.tv_core.specs.Combinations.{top};
 ghost use Rattle.tv_core.specs.declared.lines.Pair.{Pair};
 ghost use Rattle.tv_benes.specs.Places.{wires_at, fifth, row, first_of, second_of, passed_to};
+ghost use Rattle.tv_benes.specs.Places.{bound_pair, bound_count};
 ghost use Rattle.tv_benes.specs.Places.{output, output_wire, column_outputs, lone, sum_at};
 ghost use Rattle.tv_benes.specs.Places.{last_wire, last_ends, last_pair};
 ghost use Rattle.tv_benes.specs.Through.{alternating, missing};
@@ -47,42 +48,29 @@ pub(crate) trait Pairs {
         ensures { item.new ≡ pair self.now i };
 }
 
-// The items that go into a network.
+// The items of a bound network: those that go into the whole; or what an open column passes to the
+// upper network within, or to the lower one, by the first wire of the row of its items, the first
+// of its own wires, and whether it is the lower one.
 #[derive(Drop)]
-pub(crate) struct Given<'a, I> {
-    pub(crate) inputs: &'a I,
+pub(crate) enum BoundItems<'a, I> {
+    Whole(&'a I),
+    Within(Wire, Wire, bool),
 }
 
-impl<'a, I: Inputs> Pairs for Given<'a, I> {
-    ghost pair = { λ given. I.pair given.inputs.now };
+impl<'a, I: Inputs> Pairs for BoundItems<'a, I> {
+    ghost pair = { bound_pair I.pair };
 
-    ghost count = { λ given. I.count given.inputs.now };
+    ghost count = { bound_count I.count };
 
     fn set_item(&self, i: u32, item: &mut Pair) {
-        self.inputs.set_item(i, item);
-    }
-}
-
-// What an open column passes to one of the two networks within: the column's items are a row of
-// wires from `from` on, and its own wires begin at `first`.
-#[derive(Drop)]
-pub(crate) struct Passed {
-    pub(crate) from: Wire,
-    pub(crate) first: Wire,
-    pub(crate) lower: bool,
-}
-
-impl Pairs for Passed {
-    ghost pair = { λ p. passed_to p.lower p.first p.from };
-
-    ghost count = { λ _. 2 ^ 30 };
-
-    fn set_item(&self, i: u32, item: &mut Pair) {
-        let switch = self.first.offset(3 * i);
-        if self.lower {
-            set_second(item, switch, self.from.offset(5 * (2 * i + 1)));
-        } else {
-            set_first(item, switch, self.from.offset(5 * (2 * i)));
+        match self {
+            BoundItems::Whole(inputs) => inputs.set_item(i, item),
+            BoundItems::Within(from, first, false) => {
+                set_first(item, first.offset(3 * i), from.offset(5 * (2 * i)));
+            }
+            BoundItems::Within(from, first, true) => {
+                set_second(item, first.offset(3 * i), from.offset(5 * (2 * i + 1)));
+            }
         }
     }
 }

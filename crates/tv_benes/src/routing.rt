@@ -4,11 +4,11 @@ ghost use Rattle.std.specs.Prelude.{OnOk, if◌then◌else◌};
 ghost use Rattle.tv_benes.specs.Items.{bit_at, pair_at};
 ghost use Rattle.tv_benes.specs.Network.{switch_values, column_values, level_values};
 ghost use Rattle.tv_benes.specs.Network.{network_values};
-ghost use Rattle.tv_benes.specs.Through.{switches, missing, from, passed, to_upper, to_lower};
+ghost use Rattle.tv_benes.specs.Through.{missing, passed, to_upper, to_lower};
 ghost use Rattle.tv_benes.specs.Through.{alternating, joined, last_bit, through, places};
 ghost use Rattle.tv_core.specs.Values.{GivesIn};
 
-use crate::items::{bit, last_bit};
+use crate::items::{bit, bits_from, last_bit};
 use crate::shape::{Form, Net, level_switches, long_power};
 use crate::values::fill_switch;
 use tv_core::{PairNum, Put, Values};
@@ -36,11 +36,11 @@ pub fn route_items<V: Values>(
     ensures moved { OnOk result (items.new
         ≡ places (2 ^ k) (through net (k - 1) (bit_at bits.now) (pair_at items.old))) }
 {
-    route_level(v, net, Form::Bound, k - 1, items, spare, bits, 0)
+    route_level(v, net, Form::Bound, k - 1, items, spare, bits)
 }
 
-// Like `route_items`, for a network of level `h`, whose bits begin at `at`. The items pass to the
-// halves of the room and back, so that each network below has its items side by side.
+// Like `route_items`, for a network of level `h`. The items pass to the halves of the room and
+// back, so that each network below has its items side by side.
 fn route_level<V: Values>(
     v: &mut V,
     net: Net,
@@ -49,31 +49,45 @@ fn route_level<V: Values>(
     items: &mut [PairNum],
     spare: &mut [PairNum],
     bits: &[bool],
-    at: u64,
 ) -> Put<()>
     requires whole { V.giving.broken v.old ≡ false }
     requires level { h < 31 }
     requires items { length items.old ≡ 2 ^ suc h }
     requires spare { length spare.old ≡ 2 ^ suc h }
-    requires place { at + switches net h < 2 ^ 62 }
     ensures gives { GivesIn V.giving v.old v.new
-        (level_values net form h (from at (bit_at bits.now)) (pair_at items.old)) result }
+        (level_values net form h (bit_at bits.now) (pair_at items.old)) result }
     ensures whole { OnOk result (V.giving.broken v.new ≡ false) }
     ensures moved { OnOk result (items.new
-        ≡ places (2 ^ suc h) (through net h (from at (bit_at bits.now)) (pair_at items.old))) }
+        ≡ places (2 ^ suc h) (through net h (bit_at bits.now) (pair_at items.old))) }
 {
     if h == 0 {
-        return route_two(v, form.innermost(net), items, bit(bits, at));
+        return route_two(v, form.innermost(net), items, bit(bits, 0));
     }
     let n = long_power(h);
     let s = level_switches(net, h - 1);
     let inner = form.other();
     let (upper, lower) = spare.split_at_mut(n as usize);
-    first_column(v, form, items, upper, lower, bits, at)?;
+    first_column(v, form, items, upper, lower, bits)?;
     let (upper_spare, lower_spare) = items.split_at_mut(n as usize);
-    route_level(v, net, inner, h - 1, upper, upper_spare, bits, at + n)?;
-    route_level(v, net, inner, h - 1, lower, lower_spare, bits, at + n + s)?;
-    last_column(v, net, form, upper, lower, items, bits, at + n + 2 * s)
+    route_level(v, net, inner, h - 1, upper, upper_spare, bits_from(bits, n))?;
+    route_level(
+        v,
+        net,
+        inner,
+        h - 1,
+        lower,
+        lower_spare,
+        bits_from(bits, n + s),
+    )?;
+    last_column(
+        v,
+        net,
+        form,
+        upper,
+        lower,
+        items,
+        bits_from(bits, n + 2 * s),
+    )
 }
 
 // The one switch of a network on two items, whose bit is `b`.
@@ -100,7 +114,7 @@ fn passed(b: bool, x: &PairNum, y: &PairNum) -> PairNum
     if b { *y } else { *x }
 }
 
-// A first column, whose bits begin at `at`: what its switches pass first and what they pass second.
+// A first column: what its switches pass first and what they pass second.
 fn first_column<V: Values>(
     v: &mut V,
     form: Form,
@@ -108,25 +122,23 @@ fn first_column<V: Values>(
     upper: &mut [PairNum],
     lower: &mut [PairNum],
     bits: &[bool],
-    at: u64,
 ) -> Put<()>
     requires whole { V.giving.broken v.old ≡ false }
     requires items { length items.now ≡ 2 * length upper.old }
     requires lower { length lower.old ≡ length upper.old }
-    requires place { at + length upper.old < 2 ^ 62 }
     ensures gives { GivesIn V.giving v.old v.new
-        (column_values form (length upper.old) (from at (bit_at bits.now)) (pair_at items.now))
+        (column_values form (length upper.old) (bit_at bits.now) (pair_at items.now))
         result }
     ensures whole { OnOk result (V.giving.broken v.new ≡ false) }
     ensures upper { OnOk result (upper.new
-        ≡ places (length upper.old) (to_upper (from at (bit_at bits.now)) (pair_at items.now))) }
+        ≡ places (length upper.old) (to_upper (bit_at bits.now) (pair_at items.now))) }
     ensures lower { OnOk result (lower.new
-        ≡ places (length upper.old) (to_lower (from at (bit_at bits.now)) (pair_at items.now))) }
+        ≡ places (length upper.old) (to_lower (bit_at bits.now) (pair_at items.now))) }
 {
     for j in 0..upper.len() {
         let x = items[2 * j];
         let y = items[2 * j + 1];
-        let b = bit(bits, at + j as u64);
+        let b = bit(bits, j as u64);
         upper[j] = passed(b, &x, &y);
         lower[j] = passed(b, &y, &x);
         fill_switch(v, form, b, x, y)?;
@@ -134,7 +146,7 @@ fn first_column<V: Values>(
     Ok(())
 }
 
-// A last column, whose bits begin at `at`, on the outputs of the two networks before it.
+// A last column, with its bits, on the outputs of the two networks before it.
 fn last_column<V: Values>(
     v: &mut V,
     net: Net,
@@ -143,25 +155,23 @@ fn last_column<V: Values>(
     lower: &[PairNum],
     items: &mut [PairNum],
     bits: &[bool],
-    at: u64,
 ) -> Put<()>
     requires whole { V.giving.broken v.old ≡ false }
     requires items { length items.old ≡ 2 * length upper.now }
     requires lower { length lower.now ≡ length upper.now }
-    requires place { at + length upper.now ≤ 2 ^ 62 }
     ensures gives { GivesIn V.giving v.old v.new
-        (column_values form (length upper.now - missing net) (from at (bit_at bits.now))
+        (column_values form (length upper.now - missing net) (bit_at bits.now)
         (λ i. alternating (pair_at upper.now) (pair_at lower.now) (i + 2 * missing net))) result }
     ensures whole { OnOk result (V.giving.broken v.new ≡ false) }
     ensures joined { OnOk result (items.new ≡ places (2 * length upper.now)
-        (joined (last_bit net (from at (bit_at bits.now))) (pair_at upper.now)
+        (joined (last_bit net (bit_at bits.now)) (pair_at upper.now)
         (pair_at lower.now))) }
 {
     let skipped = net.missing() as usize;
     for j in 0..upper.len() {
         let x = upper[j];
         let y = lower[j];
-        let b = last_bit(net, bits, at, j as u64);
+        let b = last_bit(net, bits, j as u64);
         items[2 * j] = passed(b, &x, &y);
         items[2 * j + 1] = passed(b, &y, &x);
         fill_unless(v, form, j < skipped, b, x, y)?;

@@ -114,7 +114,8 @@ fn bound_of(form: Form, n: u64) -> u64
 // How many switches a network of level `h` has.
 pub(crate) fn level_switches(net: Net, h: u32) -> u64
     requires { h < 31 }
-    ensures { result ≡ switches net h }
+    ensures is { result ≡ switches net h }
+    ensures few { result < 2 ^ 36 }
 {
     let half = long_power(h);
     match net {
@@ -126,7 +127,8 @@ pub(crate) fn level_switches(net: Net, h: u32) -> u64
 // 2^`h`: how many switches the first column of a network of level `h` has.
 pub(crate) fn long_power(h: u32) -> u64
     requires { h < 32 }
-    ensures { result ≡ 2 ^ h }
+    ensures is { result ≡ 2 ^ h }
+    ensures few { result < 2 ^ 32 }
 {
     u64::from(power(h))
 }

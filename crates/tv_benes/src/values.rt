@@ -1,6 +1,6 @@
 //! The values of a network's wires, for its inputs and the bits of its switches.
 ghost use Rattle.std.specs.Prelude.{◌≡◌, suc, false, ◌+◌, ◌-◌, ◌*◌, ◌^◌, ◌<◌, ◌≤◌, OnOk};
-ghost use Rattle.tv_benes.specs.Items.{bit_at, pair_at, item_of, depth_of, ArePlaces};
+ghost use Rattle.tv_benes.specs.Items.{bit_at, pair_at, item_of, depth_of};
 ghost use Rattle.tv_benes.specs.Network.{switch_values, column_values};
 ghost use Rattle.tv_benes.specs.Network.{last_column_values, level_values, network_values};
 ghost use Rattle.tv_benes.specs.Through.{switches, missing, from, last_item};
@@ -8,7 +8,7 @@ ghost use Rattle.tv_benes.specs.declared.shape.Form.TheVariants.{Bound, Open};
 ghost use Rattle.tv_benes.specs.declared.shape.Net.TheVariants.{Benes};
 ghost use Rattle.tv_core.specs.Values.{GivesIn};
 
-use crate::items::{Items, bit, read, source};
+use crate::items::{Items, bit, bits_from, read, source};
 use crate::shape::{Form, Net, level_switches, long_missing, long_power};
 use tv_core::{F, PairNum, Put, Values, give_values};
 
@@ -42,7 +42,7 @@ pub fn fill_routing_network<V: Values>(
         (network_values net (k - 1) (bit_at bits.now) (pair_at inputs.now)) result }
     ensures whole { OnOk result (V.giving.broken v.new ≡ false) }
 {
-    fill_level(v, net, Form::Bound, k - 1, &Items::Given(inputs), bits, 0)
+    fill_level(v, net, Form::Bound, k - 1, &Items::Given(inputs), bits)
 }
 
 fn bound_values(b: bool, x: PairNum, y: PairNum) -> [F; 5]
@@ -83,33 +83,29 @@ pub(crate) fn fill_switch<V: Values>(
     }
 }
 
-// The values of `n` switches, whose bits begin at `at`.
+// The values of `n` switches.
 fn fill_column<V: Values>(
     v: &mut V,
     form: Form,
     n: u64,
     items: &Items<'_>,
     bits: &[bool],
-    at: u64,
 ) -> Put<()>
     requires whole { V.giving.broken v.old ≡ false }
     requires near { 2 * n * 2 ^ depth_of items.now ≤ 2 ^ 62 }
-    requires places { ArePlaces items.now }
-    requires place { at < 2 ^ 62 }
     ensures gives { GivesIn V.giving v.old v.new
-        (column_values form n (from at (bit_at bits.now)) (item_of bits.now items.now)) result }
+        (column_values form n (bit_at bits.now) (item_of items.now)) result }
     ensures whole { OnOk result (V.giving.broken v.new ≡ false) }
 {
     for j in 0..n {
-        let x = read(items, bits, 2 * j);
-        let y = read(items, bits, 2 * j + 1);
-        fill_switch(v, form, bit(bits, at + j), x, y)?;
+        let x = read(items, 2 * j);
+        let y = read(items, 2 * j + 1);
+        fill_switch(v, form, bit(bits, j), x, y)?;
     }
     Ok(())
 }
 
-// The values of switch `j` of the last column of a network of level `h` + 1 on these items, whose
-// bits begin at `at`.
+// The values of switch `j` of the last column of a network of level `h` + 1 on these items.
 fn fill_last_switch<V: Values>(
     v: &mut V,
     net: Net,
@@ -117,17 +113,14 @@ fn fill_last_switch<V: Values>(
     h: u32,
     items: &Items<'_>,
     bits: &[bool],
-    at: u64,
     j: u64,
 ) -> Put<()>
     requires whole { V.giving.broken v.old ≡ false }
     requires level { h < 30 }
     requires near { 2 ^ suc (suc h) * 2 ^ depth_of items.now ≤ 2 ^ 62 }
-    requires places { ArePlaces items.now }
-    requires place { at + switches net (suc h) < 2 ^ 62 }
     requires within { j + missing net < 2 ^ suc h }
-    ensures gives { let bit = from at (bit_at bits.now)
-        in let item = last_item net h bit (item_of bits.now items.now)
+    ensures gives { let bit = bit_at bits.now
+        in let item = last_item net h bit (item_of items.now)
         in GivesIn V.giving v.old v.new (switch_values form
         (from (2 ^ suc h + 2 * switches net h) bit j) (item (2 * j)) (item (2 * j + 1))) result }
     ensures whole { OnOk result (V.giving.broken v.new ≡ false) }
@@ -135,11 +128,11 @@ fn fill_last_switch<V: Values>(
     let n = long_power(h + 1);
     let s = level_switches(net, h);
     let i = j + long_missing(net);
-    let from_upper = source(net, bits, at + n, h, i);
-    let from_lower = source(net, bits, at + n + s, h, i);
-    let x = read(&Items::Half(&*items, at, false), bits, from_upper);
-    let y = read(&Items::Half(&*items, at, true), bits, from_lower);
-    fill_switch(v, form, bit(bits, at + n + 2 * s + j), x, y)
+    let from_upper = source(net, bits_from(bits, n), h, i);
+    let from_lower = source(net, bits_from(bits, n + s), h, i);
+    let x = read(&Items::Half(&*items, bits, false), from_upper);
+    let y = read(&Items::Half(&*items, bits, true), from_lower);
+    fill_switch(v, form, bit(bits, n + 2 * s + j), x, y)
 }
 
 // The values of that whole column.
@@ -150,26 +143,23 @@ fn fill_last<V: Values>(
     h: u32,
     items: &Items<'_>,
     bits: &[bool],
-    at: u64,
 ) -> Put<()>
     requires whole { V.giving.broken v.old ≡ false }
     requires level { h < 30 }
     requires near { 2 ^ suc (suc h) * 2 ^ depth_of items.now ≤ 2 ^ 62 }
-    requires places { ArePlaces items.now }
-    requires place { at + switches net (suc h) < 2 ^ 62 }
     ensures gives { GivesIn V.giving v.old v.new
-        (last_column_values net form h (from at (bit_at bits.now)) (item_of bits.now items.now))
+        (last_column_values net form h (bit_at bits.now) (item_of items.now))
         result }
     ensures whole { OnOk result (V.giving.broken v.new ≡ false) }
 {
     let n = long_power(h + 1) - long_missing(net);
     for j in 0..n {
-        fill_last_switch(v, net, form, h, items, bits, at, j)?;
+        fill_last_switch(v, net, form, h, items, bits, j)?;
     }
     Ok(())
 }
 
-// The values of a network of level `h` on these items, whose bits begin at `at`.
+// The values of a network of level `h` on these items.
 fn fill_level<V: Values>(
     v: &mut V,
     net: Net,
@@ -177,41 +167,24 @@ fn fill_level<V: Values>(
     h: u32,
     items: &Items<'_>,
     bits: &[bool],
-    at: u64,
 ) -> Put<()>
     requires whole { V.giving.broken v.old ≡ false }
     requires level { h < 31 }
     requires near { 2 ^ suc h * 2 ^ depth_of items.now ≤ 2 ^ 62 }
-    requires places { ArePlaces items.now }
-    requires place { at + switches net h < 2 ^ 62 }
     ensures gives { GivesIn V.giving v.old v.new
-        (level_values net form h (from at (bit_at bits.now)) (item_of bits.now items.now)) result }
+        (level_values net form h (bit_at bits.now) (item_of items.now)) result }
     ensures whole { OnOk result (V.giving.broken v.new ≡ false) }
 {
     if h == 0 {
-        return fill_column(v, form.innermost(net), 1, items, bits, at);
+        return fill_column(v, form.innermost(net), 1, items, bits);
     }
     let n = long_power(h);
-    fill_column(v, form, n, items, bits, at)?;
+    fill_column(v, form, n, items, bits)?;
     let s = level_switches(net, h - 1);
     let inner = form.other();
-    fill_level(
-        v,
-        net,
-        inner,
-        h - 1,
-        &Items::Half(&*items, at, false),
-        bits,
-        at + n,
-    )?;
-    fill_level(
-        v,
-        net,
-        inner,
-        h - 1,
-        &Items::Half(&*items, at, true),
-        bits,
-        at + n + s,
-    )?;
-    fill_last(v, net, form, h - 1, items, bits, at)
+    let upper = Items::Half(&*items, bits, false);
+    fill_level(v, net, inner, h - 1, &upper, bits_from(bits, n))?;
+    let lower = Items::Half(&*items, bits, true);
+    fill_level(v, net, inner, h - 1, &lower, bits_from(bits, n + s))?;
+    fill_last(v, net, form, h - 1, items, bits)
 }

@@ -40,9 +40,6 @@ permutes_of n p moved = record {
   ];
 }
   where
-    ids : List ℕ
-    ids = places n (λ (i : ℕ). i)
-
     long : length p ≡ n
     long = length_permutation (places n (λ i. i)) p moved ∙ places-length n (λ i. i)
 

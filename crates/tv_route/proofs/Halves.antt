@@ -13,6 +13,9 @@ use Rattle.tv_route.specs.Route.{Mark, other, partners, walk, walks, halves, dow
 abbrev pub IsSettled : List Mark → ℕ → Type 0
 IsSettled marks z = get_or marks z None ≢ None
 
+some_none : (c : Bool) → ◌≡◌ {A = Mark} (Some c) None → ⊥
+some_none c e = cc
+
 set_keeps : (marks : List Mark) (i : ℕ) (b : Bool) (z : ℕ) → IsSettled marks z → IsSettled (set marks i (Some b)) z
 set_keeps marks i b z s e = elim (cases_eq z i) [
   | inl same ↦ elim (cases_lt i (length marks)) [
@@ -21,9 +24,6 @@ set_keeps marks i b z s e = elim (cases_eq z i) [
   ]
   | inr apart ↦ s (sym (get_or-set_other marks i z (Some b) None apart) ∙ e)
 ]
-  where
-    some_none : (c : Bool) → ◌≡◌ {A = Mark} (Some c) None → ⊥
-    some_none c e = cc
 
 either_settled : (c : Bool) (x y : List Mark) (z : ℕ) → IsSettled x z → IsSettled y z → IsSettled (if c then x else y) z
 either_settled true x y z a b = a
@@ -44,12 +44,9 @@ walk_settles partner zero start x marks within some = absurd (omega arith)
 walk_settles partner (suc steps) start x marks within some =
     let y = slice_index partner x in
     let more = set (set marks x (Some false)) y (Some true) in
-    let first : IsSettled (set marks x (Some false)) x = λ e. some_none (sym (get_or-set_same marks x (Some false) None within) ∙ e) in
+    let first : IsSettled (set marks x (Some false)) x = λ e. some_none false (sym (get_or-set_same marks x (Some false) None within) ∙ e) in
     let kept = set_keeps (set marks x (Some false)) y true x first in
     either_settled (other y == start) more (walk partner steps start (other y) more) x kept (walk_keeps partner steps start (other y) more x kept)
-  where
-    some_none : ◌≡◌ {A = Mark} (Some false) None → ⊥
-    some_none e = cc
 
 module _ (n : ℕ) (p : List ℕ) (perm : Permutes (2 * n) p) where
   abbrev σ : ℕ → ℕ
@@ -71,7 +68,6 @@ module _ (n : ℕ) (p : List ℕ) (perm : Permutes (2 * n) p) where
 
   underway : (x : ℕ) (marks : List Mark) → x < 2 * n → IsClosed (2 * n) σ other marks → get_or marks x None ≡ None → IsUnderway (2 * n) σ other x x marks
   underway x marks h closed free =
-      let pair = other_pairs n in
       record {
         long = closed.long;
         start_in = h;
@@ -82,9 +78,6 @@ module _ (n : ℕ) (p : List ℕ) (perm : Permutes (2 * n) p) where
         begun = inl (refl, fellow (get_or marks (other x) None) refl);
       }
     where
-      some_none : (c : Bool) → ◌≡◌ {A = Mark} (Some c) None → ⊥
-      some_none c e = cc
-
       fellow : (k : Mark) → get_or marks (other x) None ≡ k → get_or marks (other x) None ≡ None
       fellow None e = e
       fellow (Some b) e =
@@ -95,12 +88,9 @@ module _ (n : ℕ) (p : List ℕ) (perm : Permutes (2 * n) p) where
   nothing_closed : IsClosed (2 * n) σ other (replicate (2 * n) None)
   nothing_closed = record {
     long = length-replicate (2 * n) None;
-    pairs = λ z h b e. absurd (none_some b (sym (get_or-replicate (2 * n) z None None h) ∙ e));
-    sides = λ z h b e. absurd (none_some b (sym (get_or-replicate (2 * n) z None None h) ∙ e));
+    pairs = λ z h b e. absurd (some_none b (sym e ∙ get_or-replicate (2 * n) z None None h));
+    sides = λ z h b e. absurd (some_none b (sym e ∙ get_or-replicate (2 * n) z None None h));
   }
-    where
-      none_some : (c : Bool) → ◌≡◌ {A = Mark} None (Some c) → ⊥
-      none_some c e = cc
 
   begin : 0 < n → IsWalked 0 (walk (partners p n) n (slice_index p 0) (slice_index p 0) (replicate (2 * n) None))
   begin some =
@@ -139,9 +129,6 @@ module _ (n : ℕ) (p : List ℕ) (perm : Permutes (2 * n) p) where
     ];
     up = w.up;
   }
-
-  begun : List Mark
-  begun = walk (partners p n) n (slice_index p 0) (slice_index p 0) (replicate (2 * n) None)
 
   walked : (j : ℕ) → j ≤ n → 0 < n → IsWalked j (walks (partners p n) n j (walk (partners p n) n (slice_index p 0) (slice_index p 0) (replicate (2 * n) None)))
   unfolding walks

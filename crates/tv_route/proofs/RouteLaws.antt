@@ -4,7 +4,7 @@ use Rattle.std.proofs.Common.{◌∷◌, ◌++◌, length, get_or, refl, sym, �
 use Rattle.std.specs.Prelude.{slice_index, nat_lt}
 use Rattle.std.proofs.lemmas.Bool.{cases_eq, cases_lt, lt-ltb}
 use Rattle.std.proofs.lemmas.Bool.Decides.{nat_tests}
-use Rattle.std.proofs.lemmas.List.{get_or_append_left, get_or-append_right}
+use Rattle.std.proofs.lemmas.List.{get_or_append_left, get_or-append-add}
 use Rattle.std.proofs.Math.Pow.{pow_mono, pow-lt}
 use Rattle.std.proofs.lemmas.Nat.{pow_pos}
 use Rattle.tv_benes.proofs.Permutations.{places-length, places-at, alternating-even, alternating-odd}
@@ -27,9 +27,27 @@ record IsHalf (n : ℕ) (p : List ℕ) (down : ℕ → Bool) (b : Bool) (inp : �
   goes : (j : ℕ) → j < n → down (inp j) ≡ b
   meets : (i : ℕ) → i < 2 * n → down (slice_index p i) ≡ b → inp (i / 2) ≡ slice_index p i
 
-not_not : (a b : Bool) → a ≡ not b → not a ≡ b
-not_not a true e = ap not e
-not_not a false e = ap not e
+-- of two, the one that goes through the half b, where c is whether the first goes down
+abbrev of_half : {X : Type 0} → Bool → Bool → X → X → X
+of_half b c x y = if c then (if b then x else y) else (if b then y else x)
+
+of_half-first : {X : Type 0} (b c : Bool) (x y : X) → c ≡ b → of_half b c x y ≡ x
+of_half-first true true x y e = refl
+of_half-first true false x y e = cc
+of_half-first false true x y e = cc
+of_half-first false false x y e = refl
+
+of_half-second : {X : Type 0} (b c : Bool) (x y : X) → not c ≡ b → of_half b c x y ≡ y
+of_half-second true true x y e = cc
+of_half-second true false x y e = refl
+of_half-second false true x y e = refl
+of_half-second false false x y e = cc
+
+of_half-map : {X Y : Type 0} (f : X → Y) (b c : Bool) (x y : X) → of_half b c (f x) (f y) ≡ f (of_half b c x y)
+of_half-map f true true x y = refl
+of_half-map f true false x y = refl
+of_half-map f false true x y = refl
+of_half-map f false false x y = refl
 
 apart_not : (b : Bool) → b ≡ not b → ⊥
 apart_not true e = cc
@@ -39,15 +57,14 @@ module _ (n : ℕ) (p : List ℕ) (d : ℕ → Bool) (b : Bool) (perm : Permutes
     (sides : (j : ℕ) → j < n → d (2 * j + 1) ≡ not (d (2 * j))) where
   -- the input of a pair that goes through this half
   of_pair : ℕ → ℕ
-  of_pair x = passed (d (2 * x)) (if b then 2 * x + 1 else 2 * x) (if b then 2 * x else 2 * x + 1)
+  of_pair x = of_half b (d (2 * x)) (2 * x) (2 * x + 1)
 
   record IsOfPair (x y : ℕ) : Type 0 where
     pair : y / 2 ≡ x
     in_pair : y < 2 * x + 2
     goes : d y ≡ b
 
-  of_pair_by : (x : ℕ) (c e : Bool) → d (2 * x) ≡ c → d (2 * x + 1) ≡ not c → b ≡ e
-      → IsOfPair x (passed c (if e then 2 * x + 1 else 2 * x) (if e then 2 * x else 2 * x + 1))
+  of_pair_by : (x : ℕ) (c e : Bool) → d (2 * x) ≡ c → d (2 * x + 1) ≡ not c → b ≡ e → IsOfPair x (of_half e c (2 * x) (2 * x + 1))
   of_pair_by x true true p q r = record { pair = omega arith; in_pair = omega arith; goes = p ∙ sym r }
   of_pair_by x true false p q r = record { pair = omega arith; in_pair = omega arith; goes = q ∙ sym r }
   of_pair_by x false true p q r = record { pair = omega arith; in_pair = omega arith; goes = q ∙ sym r }
@@ -101,82 +118,37 @@ module _ (n : ℕ) (p : List ℕ) (d : ℕ → Bool) (b : Bool) (perm : Permutes
   }
 
 -- ---- the two halves
-chosen : (c e : Bool) (x y : ℕ) → c ≡ e → (if c then x else y) ≡ (if e then x else y)
-chosen c e x y p = ap (λ k. if k then x else y) p
-
 module _ (n : ℕ) (p : List ℕ) (marks : List Mark)
     (pairs : (j : ℕ) → j < n → down marks (slice_index p (2 * j + 1)) ≡ not (down marks (slice_index p (2 * j)))) where
-  upper_half : IsHalf n p (down marks) false (up_input marks p)
-  upper_half = record {
-    place = λ j. if down marks (slice_index p (2 * j)) then 2 * j + 1 else 2 * j;
-    at = λ j h. by_at (down marks (slice_index p (2 * j))) (2 * j + 1) (2 * j);
-    pair = λ j h. by_pair (down marks (slice_index p (2 * j))) j;
-    goes = λ j h. by_goes j h (down marks (slice_index p (2 * j))) refl;
-    meets = λ i h e. by_meets i h e;
+  abbrev mark : ℕ → Bool
+  mark j = down marks (slice_index p (2 * j))
+
+  by_pair : (b c : Bool) (j : ℕ) → of_half b c (2 * j) (2 * j + 1) / 2 ≡ j
+  by_pair true true j = omega arith
+  by_pair true false j = omega arith
+  by_pair false true j = omega arith
+  by_pair false false j = omega arith
+
+  by_goes : (j : ℕ) → j < n → (b c : Bool) → mark j ≡ c → down marks (of_half b c (slice_index p (2 * j)) (slice_index p (2 * j + 1))) ≡ b
+  by_goes j h true true e = e
+  by_goes j h true false e = pairs j h ∙ ap not e
+  by_goes j h false true e = pairs j h ∙ ap not e
+  by_goes j h false false e = e
+
+  half_of : (b : Bool) → IsHalf n p (down marks) b (λ j. of_half b (mark j) (slice_index p (2 * j)) (slice_index p (2 * j + 1)))
+  half_of b = record {
+    place = λ j. of_half b (mark j) (2 * j) (2 * j + 1);
+    at = λ j h. of_half-map (slice_index p) b (mark j) (2 * j) (2 * j + 1);
+    pair = λ j h. by_pair b (mark j) j;
+    goes = λ j h. by_goes j h b (mark j) refl;
+    meets = λ i h e. elim (cases_eq (i % 2) 0) [
+      | inl even ↦ let place : 2 * (i / 2) ≡ i = omega arith in
+          of_half-first b (mark (i / 2)) _ _ (ap (λ k. down marks (slice_index p k)) place ∙ e) ∙ ap (λ k. slice_index p k) place
+      | inr odd ↦ let place : 2 * (i / 2) + 1 ≡ i = omega arith in
+          of_half-second b (mark (i / 2)) _ _ (sym (pairs (i / 2) (omega arith)) ∙ ap (λ k. down marks (slice_index p k)) place ∙ e)
+          ∙ ap (λ k. slice_index p k) place
+    ];
   }
-    where
-      by_at : (c : Bool) (x y : ℕ) → (if c then slice_index p x else slice_index p y) ≡ slice_index p (if c then x else y)
-      by_at true x y = refl
-      by_at false x y = refl
-
-      by_pair : (c : Bool) (j : ℕ) → (if c then 2 * j + 1 else 2 * j) / 2 ≡ j
-      by_pair true j = omega arith
-      by_pair false j = omega arith
-
-      by_goes : (j : ℕ) → j < n → (c : Bool) → down marks (slice_index p (2 * j)) ≡ c
-          → down marks (if c then slice_index p (2 * j + 1) else slice_index p (2 * j)) ≡ false
-      by_goes j h true e = pairs j h ∙ ap not e
-      by_goes j h false e = e
-
-      by_meets : (i : ℕ) → i < 2 * n → down marks (slice_index p i) ≡ false → up_input marks p (i / 2) ≡ slice_index p i
-      by_meets i h e = elim (cases_eq (i % 2) 0) [
-        | inl even ↦
-            let place : 2 * (i / 2) ≡ i = omega arith in
-            chosen (down marks (slice_index p (2 * (i / 2)))) false (slice_index p (2 * (i / 2) + 1)) (slice_index p (2 * (i / 2)))
-            (ap (λ k. down marks (slice_index p k)) place ∙ e) ∙ ap (λ k. slice_index p k) place
-        | inr odd ↦
-            let place : 2 * (i / 2) + 1 ≡ i = omega arith in
-            let first : not (down marks (slice_index p (2 * (i / 2)))) ≡ false = sym (pairs (i / 2) (omega arith))
-            ∙ ap (λ k. down marks (slice_index p k)) place ∙ e in
-            chosen (down marks (slice_index p (2 * (i / 2)))) true (slice_index p (2 * (i / 2) + 1)) (slice_index p (2 * (i / 2)))
-            (sym (not_not false (down marks (slice_index p (2 * (i / 2)))) (sym first))) ∙ ap (λ k. slice_index p k) place
-      ]
-
-  lower_half : IsHalf n p (down marks) true (down_input marks p)
-  lower_half = record {
-    place = λ j. if down marks (slice_index p (2 * j)) then 2 * j else 2 * j + 1;
-    at = λ j h. by_at (down marks (slice_index p (2 * j))) (2 * j) (2 * j + 1);
-    pair = λ j h. by_pair (down marks (slice_index p (2 * j))) j;
-    goes = λ j h. by_goes j h (down marks (slice_index p (2 * j))) refl;
-    meets = λ i h e. by_meets i h e;
-  }
-    where
-      by_at : (c : Bool) (x y : ℕ) → (if c then slice_index p x else slice_index p y) ≡ slice_index p (if c then x else y)
-      by_at true x y = refl
-      by_at false x y = refl
-
-      by_pair : (c : Bool) (j : ℕ) → (if c then 2 * j else 2 * j + 1) / 2 ≡ j
-      by_pair true j = omega arith
-      by_pair false j = omega arith
-
-      by_goes : (j : ℕ) → j < n → (c : Bool) → down marks (slice_index p (2 * j)) ≡ c
-          → down marks (if c then slice_index p (2 * j) else slice_index p (2 * j + 1)) ≡ true
-      by_goes j h true e = e
-      by_goes j h false e = pairs j h ∙ ap not e
-
-      by_meets : (i : ℕ) → i < 2 * n → down marks (slice_index p i) ≡ true → down_input marks p (i / 2) ≡ slice_index p i
-      by_meets i h e = elim (cases_eq (i % 2) 0) [
-        | inl even ↦
-            let place : 2 * (i / 2) ≡ i = omega arith in
-            chosen (down marks (slice_index p (2 * (i / 2)))) true (slice_index p (2 * (i / 2))) (slice_index p (2 * (i / 2) + 1))
-            (ap (λ k. down marks (slice_index p k)) place ∙ e) ∙ ap (λ k. slice_index p k) place
-        | inr odd ↦
-            let place : 2 * (i / 2) + 1 ≡ i = omega arith in
-            let first : not (down marks (slice_index p (2 * (i / 2)))) ≡ true = sym (pairs (i / 2) (omega arith)) ∙ ap (λ k. down marks (slice_index p k)) place
-            ∙ e in
-            chosen (down marks (slice_index p (2 * (i / 2)))) false (slice_index p (2 * (i / 2))) (slice_index p (2 * (i / 2) + 1))
-            (sym (not_not true (down marks (slice_index p (2 * (i / 2)))) (sym first))) ∙ ap (λ k. slice_index p k) place
-      ]
 
 -- ---- what is read at a place of the bits
 pub route-length : (net : Net) (h : ℕ) (p : List ℕ) → length (route net h p) ≡ switches net h
@@ -203,63 +175,30 @@ route-length net (suc h) p =
     )
 
 module _ (n s : ℕ) (a u l b : List Bool) (la : length a ≡ n) (lu : length u ≡ s) (ll : length l ≡ s) where
-  bits : List Bool
-  bits = a ++ (u ++ (l ++ b))
-
   in_first : (j : ℕ) → j < n → get_or (a ++ (u ++ (l ++ b))) j false ≡ get_or a j false
   in_first j h = get_or_append_left a (u ++ (l ++ b)) false j (omega (arith, la))
 
+  past : (xs ys : List Bool) (m i j : ℕ) → length xs ≡ m → i ≡ m + j → get_or (xs ++ ys) i false ≡ get_or ys j false
+  past xs ys m i j long at = ap (λ k. get_or (xs ++ ys) k false) (at ∙ ap (λ k. k + j) (sym long)) ∙ get_or-append-add xs ys j false
+
   in_upper : (j : ℕ) → j < s → get_or (a ++ (u ++ (l ++ b))) (n + j) false ≡ get_or u j false
-  in_upper j h =
-      let place : n + j - n ≡ j = omega arith in
-      get_or-append_right a (u ++ (l ++ b)) n (n + j) false la (omega arith) ∙ ap (λ k. get_or (u ++ (l ++ b)) k false) place
-      ∙ get_or_append_left u (l ++ b) false j (omega (arith, lu))
+  in_upper j h = past a _ n (n + j) j la refl ∙ get_or_append_left u (l ++ b) false j (omega (arith, lu))
 
   in_lower : (j : ℕ) → j < s → get_or (a ++ (u ++ (l ++ b))) (n + s + j) false ≡ get_or l j false
-  in_lower j h =
-      let place : n + s + j - n ≡ s + j = omega arith in
-      let place' : s + j - s ≡ j = omega arith in
-      get_or-append_right a (u ++ (l ++ b)) n (n + s + j) false la (omega arith) ∙ ap (λ k. get_or (u ++ (l ++ b)) k false) place
-      ∙ get_or-append_right u (l ++ b) s (s + j) false lu (omega arith) ∙ ap (λ k. get_or (l ++ b) k false) place'
-      ∙ get_or_append_left l b false j (omega (arith, ll))
+  in_lower j h = past a _ n (n + s + j) (s + j) la (omega arith) ∙ past u _ s (s + j) j lu refl ∙ get_or_append_left l b false j (omega (arith, ll))
 
   in_last : (j : ℕ) → get_or (a ++ (u ++ (l ++ b))) (n + 2 * s + j) false ≡ get_or b j false
-  in_last j =
-      let place : n + 2 * s + j - n ≡ 2 * s + j = omega arith in
-      let place' : 2 * s + j - s ≡ s + j = omega arith in
-      let place'' : s + j - s ≡ j = omega arith in
-      get_or-append_right a (u ++ (l ++ b)) n (n + 2 * s + j) false la (omega arith) ∙ ap (λ k. get_or (u ++ (l ++ b)) k false) place
-      ∙ get_or-append_right u (l ++ b) s (2 * s + j) false lu (omega arith) ∙ ap (λ k. get_or (l ++ b) k false) place'
-      ∙ get_or-append_right l b s (s + j) false ll (omega arith) ∙ ap (λ k. get_or b k false) place''
+  in_last j = past a _ n (n + 2 * s + j) (2 * s + j) la (omega arith) ∙ past u _ s (2 * s + j) (s + j) lu (omega arith) ∙ past l _ s (s + j) j ll refl
 
 -- ---- one level
-passed_is : {X : Type 0} (c e : Bool) (x y : X) → c ≡ e → passed c x y ≡ passed e x y
-passed_is c e x y p = ap (λ k. passed k x y) p
-
 module _ {X : Type 0} (n : ℕ) (d bit : ℕ → Bool) (item : ℕ → X) (sides : (j : ℕ) → j < n → d (2 * j + 1) ≡ not (d (2 * j)))
     (column : (j : ℕ) → j < n → bit j ≡ d (2 * j)) where
-  goes_up : (x : ℕ) → x < 2 * n → d x ≡ false → to_upper bit item (x / 2) ≡ item x
-  goes_up x h e = elim (cases_eq (x % 2) 0) [
-    | inl even ↦
-        let place : 2 * (x / 2) ≡ x = omega arith in
-        passed_is (bit (x / 2)) false (item (2 * (x / 2))) (item (2 * (x / 2) + 1)) (column (x / 2) (omega arith) ∙ ap d place ∙ e) ∙ ap item place
-    | inr odd ↦
-        let place : 2 * (x / 2) + 1 ≡ x = omega arith in
-        let first : not (d (2 * (x / 2))) ≡ false = sym (sides (x / 2) (omega arith)) ∙ ap d place ∙ e in
-        passed_is (bit (x / 2)) true (item (2 * (x / 2))) (item (2 * (x / 2) + 1))
-        (column (x / 2) (omega arith) ∙ sym (not_not false (d (2 * (x / 2))) (sym first))) ∙ ap item place
-  ]
-
-  goes_down : (x : ℕ) → x < 2 * n → d x ≡ true → to_lower bit item (x / 2) ≡ item x
-  goes_down x h e = elim (cases_eq (x % 2) 0) [
-    | inl even ↦
-        let place : 2 * (x / 2) ≡ x = omega arith in
-        passed_is (bit (x / 2)) true (item (2 * (x / 2) + 1)) (item (2 * (x / 2))) (column (x / 2) (omega arith) ∙ ap d place ∙ e) ∙ ap item place
-    | inr odd ↦
-        let place : 2 * (x / 2) + 1 ≡ x = omega arith in
-        let first : not (d (2 * (x / 2))) ≡ true = sym (sides (x / 2) (omega arith)) ∙ ap d place ∙ e in
-        passed_is (bit (x / 2)) false (item (2 * (x / 2) + 1)) (item (2 * (x / 2)))
-        (column (x / 2) (omega arith) ∙ sym (not_not true (d (2 * (x / 2))) (sym first))) ∙ ap item place
+  goes_by : (b : Bool) (x : ℕ) → x < 2 * n → d x ≡ b → of_half b (bit (x / 2)) (item (2 * (x / 2))) (item (2 * (x / 2) + 1)) ≡ item x
+  goes_by b x h e = elim (cases_eq (x % 2) 0) [
+    | inl even ↦ let place : 2 * (x / 2) ≡ x = omega arith in
+        of_half-first b (bit (x / 2)) _ _ (column (x / 2) (omega arith) ∙ ap d place ∙ e) ∙ ap item place
+    | inr odd ↦ let place : 2 * (x / 2) + 1 ≡ x = omega arith in
+        of_half-second b (bit (x / 2)) _ _ (ap not (column (x / 2) (omega arith)) ∙ sym (sides (x / 2) (omega arith)) ∙ ap d place ∙ e) ∙ ap item place
   ]
 
 -- the bits of a last column: where switch 0 has none, the input of output 0 goes up
@@ -281,10 +220,6 @@ last_is Benes n nth bit d p j h up there is =
 last_column : {X : Type 0} (c : Bool) (u l : X) (x y : X) → u ≡ (if c then y else x) → l ≡ (if c then x else y) → (passed c u l ≡ x) × (passed c l u ≡ y)
 last_column true u l x y p q = (q, p)
 last_column false u l x y p q = (p, q)
-
-item_if : {X : Type 0} (item : ℕ → X) (c : Bool) (x y : ℕ) → item (if c then x else y) ≡ (if c then item x else item y)
-item_if item true x y = refl
-item_if item false x y = refl
 
 -- one switch
 first_of_two : {X : Type 0} (item : ℕ → X) (q : ℕ) → q < 2 → passed (q == 1) (item 0) (item 1) ≡ item q
@@ -325,8 +260,8 @@ route_is net (suc h) p item perm i within =
     let d = down marks in
     let sides = sides_apart n p whole in
     let pairs = pairs_apart n p whole in
-    let up = upper_half n p marks pairs in
-    let low = lower_half n p marks pairs in
+    let up = half_of n p marks pairs false in
+    let low = half_of n p marks pairs true in
     let up_places = places n (λ j. up_input marks p j / 2) in
     let low_places = places n (λ j. down_input marks p j / 2) in
     let a = places n (λ j. d (2 * j)) in
@@ -343,13 +278,13 @@ route_is net (suc h) p item perm i within =
     (λ i lt. refl) j k
     ∙ route_is net h up_places (to_upper bit item) (half_permutes n p d false whole (up_input marks p) up sides) j k
     ∙ ap (to_upper bit item) (places-at n j (λ j. up_input marks p j / 2) 0 k)
-    ∙ goes_up n d bit item sides column (up_input marks p j) (inp_in n p d false whole (up_input marks p) up sides j k) (up.goes j k) in
+    ∙ goes_by n d bit item sides column false (up_input marks p j) (inp_in n p d false whole (up_input marks p) up sides j k) (up.goes j k) in
     let lower : (j : ℕ) → j < n → through net h (from (n + s) bit) (to_lower bit item) j ≡ item (down_input marks p j) =
     λ j k. through-same net h (from (n + s) bit) (λ i. get_or l i false) (to_lower bit item) (to_lower bit item) (λ i lt. in_lower n s a u l b la lu ll i lt)
     (λ i lt. refl) j k
     ∙ route_is net h low_places (to_lower bit item) (half_permutes n p d true whole (down_input marks p) low sides) j k
     ∙ ap (to_lower bit item) (places-at n j (λ j. down_input marks p j / 2) 0 k)
-    ∙ goes_down n d bit item sides column (down_input marks p j) (inp_in n p d true whole (down_input marks p) low sides j k) (low.goes j k) in
+    ∙ goes_by n d bit item sides column true (down_input marks p j) (inp_in n p d true whole (down_input marks p) low sides j k) (low.goes j k) in
     let j = i / 2 in
     let within_half : i / 2 < n = omega arith in
     let last : last_bit net (from (n + 2 * s) bit) (i / 2) ≡ d (slice_index p (2 * (i / 2))) =
@@ -358,8 +293,8 @@ route_is net (suc h) p item perm i within =
     let c = d (slice_index p (2 * (i / 2))) in
     let ends = last_column c (item (up_input marks p (i / 2))) (item (down_input marks p (i / 2))) (item (slice_index p (2 * (i / 2))))
     (item (slice_index p (2 * (i / 2) + 1)))
-    (item_if item c (slice_index p (2 * (i / 2) + 1)) (slice_index p (2 * (i / 2))))
-    (item_if item c (slice_index p (2 * (i / 2))) (slice_index p (2 * (i / 2) + 1))) in
+    (sym (of_half-map item false c (slice_index p (2 * (i / 2))) (slice_index p (2 * (i / 2) + 1))))
+    (sym (of_half-map item true c (slice_index p (2 * (i / 2))) (slice_index p (2 * (i / 2) + 1)))) in
     let one = λ (j : ℕ). passed (d (slice_index p (2 * j))) (item (up_input marks p j)) (item (down_input marks p j)) in
     let other = λ (j : ℕ). passed (d (slice_index p (2 * j))) (item (down_input marks p j)) (item (up_input marks p j)) in
     joined-same (last_bit net (from (n + 2 * s) bit)) (λ j. d (slice_index p (2 * j))) (through net h (from n bit) (to_upper bit item))
@@ -412,11 +347,11 @@ route_right = record {
 
 -- what a half is to do is a permutation of its places
 pub upper_permutes : (n : ℕ) (p : List ℕ) → Permutes (2 * n) p → Permutes n (places n (λ j. up_input (halves p n) p j / 2))
-upper_permutes n p perm = half_permutes n p (down (halves p n)) false perm (up_input (halves p n) p) (upper_half n p (halves p n) (pairs_apart n p perm))
+upper_permutes n p perm = half_permutes n p (down (halves p n)) false perm (up_input (halves p n) p) (half_of n p (halves p n) (pairs_apart n p perm) false)
     (sides_apart n p perm)
 
 pub lower_permutes : (n : ℕ) (p : List ℕ) → Permutes (2 * n) p → Permutes n (places n (λ j. down_input (halves p n) p j / 2))
-lower_permutes n p perm = half_permutes n p (down (halves p n)) true perm (down_input (halves p n) p) (lower_half n p (halves p n) (pairs_apart n p perm))
+lower_permutes n p perm = half_permutes n p (down (halves p n)) true perm (down_input (halves p n) p) (half_of n p (halves p n) (pairs_apart n p perm) true)
     (sides_apart n p perm)
 
 -- the power of 2 at most as large as a list that can be routed is as large

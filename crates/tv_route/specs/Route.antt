@@ -1,7 +1,8 @@
 -- Settings of a network for a permutation, by the looping method: output i is to be the input at place p i. Inputs
 -- 2 j and 2 j + 1 go through different halves, and so do the inputs of outputs 2 j and 2 j + 1. A walk from an input
 -- alternates these two pairings until it is back where it began.
-use Rattle.std.specs.Prelude.{◌≡◌, ℕ, zero, suc, ◌+◌, ◌-◌, ◌*◌, ◌/◌, ◌%◌, ◌^◌, ◌<◌, ◌≤◌, ◌==◌, nat_lt, Bool, true, false, if◌then◌else◌, List, [], ◌∷◌, ◌++◌, length, get_or, slice_index, set, replicate, Option, Some, None, is_none, unwrap_or}
+use Rattle.std.specs.Prelude.{◌≡◌, ℕ, zero, suc, ◌+◌, ◌-◌, ◌*◌, ◌/◌, ◌%◌, ◌^◌, ◌<◌, ◌≤◌, ◌==◌, nat_lt, Bool, true, false, if◌then◌else◌, List, [], ◌∷◌, ◌++◌}
+use Rattle.std.specs.Prelude.{length, get_or, slice_index, set, replicate, Option, Some, None, is_none, unwrap_or}
 use Rattle.tv_benes.specs.Items.{bit_at}
 use Rattle.tv_benes.specs.Through.{switches, missing, places, through}
 use Rattle.tv_benes.specs.declared.shape.Net.{Net}

@@ -42,7 +42,8 @@ fn partners(alloc: Global, p: &[u32], n: usize) -> Result<Vec<u32>, AllocError>
     Ok(found)
 }
 
-// Settles all inputs, those of the walk from `first` on before the others.
+// Settles all inputs: those of the walk from `first` on, and then those of a walk from each even
+// input that is not settled.
 fn settle(partner: &[u32], n: usize, first: usize, marks: &mut [Option<bool>])
     requires small { n < 2 ^ 32 }
     requires long { length partner.now ≡ 2 * n }
@@ -52,7 +53,11 @@ fn settle(partner: &[u32], n: usize, first: usize, marks: &mut [Option<bool>])
     ensures { marks.new ≡ walks partner.now n n (walk partner.now n first first marks.old) }
 {
     walk(partner, n, first, marks);
-    walk_all(partner, n, marks);
+    for j in 0..n {
+        if marks[2 * j].is_none() {
+            walk(partner, n, 2 * j, marks);
+        }
+    }
 }
 
 // Settles the inputs from `start` on, until they get round.
@@ -72,21 +77,6 @@ fn walk(partner: &[u32], n: usize, start: usize, marks: &mut [Option<bool>])
         x = other(y);
         if x == start {
             return;
-        }
-    }
-}
-
-// Settles the inputs from each even one on that is not settled.
-fn walk_all(partner: &[u32], n: usize, marks: &mut [Option<bool>])
-    requires small { n < 2 ^ 32 }
-    requires long { length partner.now ≡ 2 * n }
-    requires marks_long { length marks.old ≡ 2 * n }
-    requires within { (x : ℕ) → x < 2 * n → slice_index partner.now x < 2 * n }
-    ensures { marks.new ≡ walks partner.now n n marks.old }
-{
-    for j in 0..n {
-        if marks[2 * j].is_none() {
-            walk(partner, n, 2 * j, marks);
         }
     }
 }

@@ -9,7 +9,8 @@ use Rattle.tv_core.specs.declared.lines.PairNum.{PairNum}
 
 -- the outputs are the items in another order, whatever the bits
 abbrev pub ThroughWIsPermutation : Type 0
-ThroughWIsPermutation = (h : ℕ) (bit : ℕ → Bool) (item : ℕ → PairNum) → IsPermutation (places (2 ^ suc h) item) (places (2 ^ suc h) (through Waksman h bit item))
+ThroughWIsPermutation = (h : ℕ) (bit : ℕ → Bool) (item : ℕ → PairNum)
+    → IsPermutation (places (2 ^ suc h) item) (places (2 ^ suc h) (through Waksman h bit item))
 
 -- an assignment that satisfies the constraints has 0 or 1 at each switch, and at the outputs what goes through
 abbrev pub NetworkWIsSound : Type 0

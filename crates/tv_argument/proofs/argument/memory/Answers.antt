@@ -1,5 +1,5 @@
 use Rattle.std.proofs.Common.{◌^◌}
-use Rattle.tv_core.proofs.Chain.{refused_then, refused}
+use Rattle.tv_core.proofs.Chain.{some_first, refused}
 use Rattle.tv_core.proofs.TailCalls.{puts_in_then}
 use Rattle.tv_argument.proofs.Made.{are_made}
 use Rattle.tv_argument.specs.Memory.{checked_network_of}
@@ -11,9 +11,7 @@ routing_network-requires-clause-made g c = are_made (g.S.Sink.meaning.wires c.ar
 
 pub returns-in_err-last-clause-puts : goal.returns-in_err-last-clause-puts
 unfolding checked_network_of
-returns-in_err-last-clause-puts g c =
-    let m = g.S.Sink.meaning in
-    refused m _ _ _ c.from_residual.result c.from_residual.ensures.1 (refused_then m _ _ _ _ _ c.in_err-last.ensures.puts)
+returns-in_err-last-clause-puts g c = refused g.S.Sink.meaning _ _ _ c.from_residual.result c.from_residual.ensures.1 (some_first _ c.in_err-last.ensures.puts)
 
 pub returns-clause-puts : goal.returns-clause-puts
 unfolding checked_network_of

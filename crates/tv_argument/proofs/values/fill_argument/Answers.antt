@@ -1,20 +1,15 @@
 use Rattle.std.proofs.Common.{◌-◌, ◌^◌}
 use Rattle.tv_benes.specs.Items.{bit_at, pair_at}
 use Rattle.tv_benes.specs.Through.{through}
-use Rattle.tv_core.proofs.ValuesChain.{gives_refused_then, gives_refused}
-use Rattle.tv_core.proofs.ValuesTails.{gives_in_then}
+use Rattle.tv_core.proofs.ValuesChain.{first_given, in_given, gives_refused}
 use Rattle.tv_argument.proofs.FillingLaws.{checks_moved, given_in}
 use Rattle.tv_argument.proofs.values.fill_argument.Goals as goal
 
 pub returns-in_err-route_items-clause-gives : goal.returns-in_err-route_items-clause-gives
-returns-in_err-route_items-clause-gives g c =
-    let m = g.V.Values.giving in
-    gives_refused m _ _ _ c.from_residual.result c.from_residual.ensures.1 (gives_refused_then m _ _ _ _ _ c.in_err-route_items.ensures.gives)
+returns-in_err-route_items-clause-gives g c = gives_refused _ _ _ _ _ c.from_residual.ensures.1 (first_given _ c.in_err-route_items.ensures.gives)
 
 pub returns-clause-gives : goal.returns-clause-gives
 returns-clause-gives g c =
-    let m = g.V.Values.giving in
-    let moved = checks_moved (g.L.LineNumbers.checks c.args.lines.now) (2 ^ c.args.k)
-    (through c.args.net (c.args.k - 1) (bit_at c.args.bits.now) (pair_at c.args.items.now)) _
-    (g.L.LineNumbers.lines c.args.lines.now) c.requires.checks.count c.in_ok-route_items.ensures.moved in
-    gives_in_then m _ _ _ _ _ _ c.in_ok-route_items.ensures.gives (given_in m _ _ _ _ moved _ c.fill_checks.ensures.gives)
+    let moved = checks_moved (g.L.LineNumbers.checks c.args.lines.now) (2 ^ c.args.k) (through c.args.net (c.args.k - 1) (bit_at c.args.bits.now)
+    (pair_at c.args.items.now)) _ (g.L.LineNumbers.lines c.args.lines.now) c.requires.checks.count c.in_ok-route_items.ensures.moved in
+    in_given _ _ _ c.in_ok-route_items.ensures.gives (given_in g.V.Values.giving _ _ _ _ moved _ c.fill_checks.ensures.gives)

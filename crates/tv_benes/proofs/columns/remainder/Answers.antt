@@ -9,6 +9,8 @@ returns-in_err-put-clause-puts g c =
     let filled = rw (
       c.add_terms-2.ensures.terms,
       c.add_terms.ensures.terms,
+      c.terms.ensures.terms,
+      c.terms-2.ensures.terms,
       c.clear.ensures,
       c.set_wire.ensures.terms,
       c.plus.ensures.terms,
@@ -23,6 +25,8 @@ returns-clause-puts g c =
     let filled = rw (
       c.add_terms-2.ensures.terms,
       c.add_terms.ensures.terms,
+      c.terms.ensures.terms,
+      c.terms-2.ensures.terms,
       c.clear.ensures,
       c.set_wire.ensures.terms,
       c.plus.ensures.terms,

@@ -3,14 +3,14 @@ use Rattle.tv_benes.proofs.ColumnChain.{no_switch, one_switch, switch_refused, v
 use Rattle.tv_benes.proofs.Moved.{is_places, place_more, read_item}
 use Rattle.tv_benes.proofs.ThroughLaws.{passed-same}
 use Rattle.tv_benes.specs.Items.{bit_at, pair_at}
-use Rattle.tv_benes.specs.Through.{from, to_upper, to_lower}
+use Rattle.tv_benes.specs.Through.{to_upper, to_lower}
 use Rattle.tv_core.proofs.ValuesChain.{gives_refused}
 use Rattle.tv_core.specs.Values.{GivesAll, GivesSome}
 use Rattle.tv_benes.proofs.routing.first_column.Goals as goal
 
 pub loop-j-init : goal.loop-j-init
 loop-j-init g c = record {
-  gives = no_switch g.V.Values.giving c.args.form (from c.args.at (bit_at c.args.bits.now)) (pair_at c.args.items.now) _;
+  gives = no_switch g.V.Values.giving c.args.form (bit_at c.args.bits.now) (pair_at c.args.items.now) _;
   whole = c.requires.whole;
   upper = λ k h. absurd (omega arith);
   lower = λ k h. absurd (omega arith);
@@ -20,7 +20,7 @@ pub loop-j-preserved : goal.loop-j-preserved
 loop-j-preserved g c =
     let m = g.V.Values.giving in
     let j = c.loop-j.j in
-    let bit = from c.args.at (bit_at c.args.bits.now) in
+    let bit = bit_at c.args.bits.now in
     let item = pair_at c.args.items.now in
     let x = read_item c.args.items.now (2 * j) c.index-items-j.result (omega arith) c.index-items-j.is in
     let y = read_item c.args.items.now (2 * j + 1) c.index-items-j-in-loop-j.result (omega arith) c.index-items-j-in-loop-j.is in
@@ -39,7 +39,7 @@ pub returns-in_err-fill_switch-clause-gives : goal.returns-in_err-fill_switch-cl
 returns-in_err-fill_switch-clause-gives g c =
     let m = g.V.Values.giving in
     let j = c.loop-j.j in
-    let bit = from c.args.at (bit_at c.args.bits.now) in
+    let bit = bit_at c.args.bits.now in
     let item = pair_at c.args.items.now in
     let x = read_item c.args.items.now (2 * j) c.index-items-j.result (omega arith) c.index-items-j.is in
     let y = read_item c.args.items.now (2 * j + 1) c.index-items-j-in-loop-j.result (omega arith) c.index-items-j-in-loop-j.is in
@@ -55,12 +55,12 @@ returns-clause-gives g c =
 
 pub returns-clause-upper : goal.returns-clause-upper
 returns-clause-upper g c =
-    let bit = from c.args.at (bit_at c.args.bits.now) in
+    let bit = bit_at c.args.bits.now in
     is_places (length c.args.upper.now) (to_upper bit (pair_at c.args.items.now)) c.loop-j.upper c.loop-j.auto.upper
     (λ k h. c.loop-j.invariant.upper k (omega arith))
 
 pub returns-clause-lower : goal.returns-clause-lower
 returns-clause-lower g c =
-    let bit = from c.args.at (bit_at c.args.bits.now) in
+    let bit = bit_at c.args.bits.now in
     is_places (length c.args.upper.now) (to_lower bit (pair_at c.args.items.now)) c.loop-j.lower (c.loop-j.auto.lower ∙ c.requires.lower)
     (λ k h. c.loop-j.invariant.lower k (omega arith))

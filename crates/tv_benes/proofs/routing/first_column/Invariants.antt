@@ -1,13 +1,13 @@
 use Rattle.std.proofs.Common.{◌≡◌, ℕ, ◌<◌, false}
 use Rattle.tv_benes.specs.Items.{bit_at, pair_at}
 use Rattle.tv_benes.specs.Network.{column_values}
-use Rattle.tv_benes.specs.Through.{from, to_upper, to_lower}
+use Rattle.tv_benes.specs.Through.{to_upper, to_lower}
 use Rattle.tv_core.specs.Values.{GivesAll}
 use Rattle.tv_benes.proofs.routing.first_column.Given as goal
 
 abbrev pub invariant-loop-j : goal.invariant-loop-j
 invariant-loop-j g l =
-    let bit = from l.at (bit_at l.bits) in
+    let bit = bit_at l.bits in
     let item = pair_at l.items in
     record {
       gives : GivesAll g.V.Values.giving l.initial.v l.v (column_values l.form l.j bit item);

@@ -5,7 +5,7 @@ use Rattle.tv_benes.proofs.Moved.{is_places, join_more, read_item, last_given, l
 use Rattle.tv_benes.proofs.ThroughLaws.{passed-same}
 use Rattle.tv_benes.specs.Items.{bit_at, pair_at}
 use Rattle.tv_benes.specs.Network.{column_values}
-use Rattle.tv_benes.specs.Through.{missing, from, alternating, joined, last_bit}
+use Rattle.tv_benes.specs.Through.{missing, alternating, joined, last_bit}
 use Rattle.tv_core.proofs.ValuesChain.{gives_refused}
 use Rattle.tv_core.specs.Values.{GivesAll, GivesSome}
 use Rattle.tv_benes.proofs.routing.last_column.Goals as goal
@@ -14,7 +14,7 @@ pub loop-j-init : goal.loop-j-init
 loop-j-init g c =
     let m = g.V.Values.giving in
     let net = c.args.net in
-    let bit = from c.args.at (bit_at c.args.bits.now) in
+    let bit = bit_at c.args.bits.now in
     let item : ℕ → _ = λ i. alternating (pair_at c.args.upper.now) (pair_at c.args.lower.now) (i + 2 * missing net) in
     let none : 0 ≡ 0 - missing net = omega arith in
     record {
@@ -28,7 +28,7 @@ loop-j-preserved g c =
     let m = g.V.Values.giving in
     let net = c.args.net in
     let j = c.loop-j.j in
-    let bit = from c.args.at (bit_at c.args.bits.now) in
+    let bit = bit_at c.args.bits.now in
     let u = pair_at c.args.upper.now in
     let w = pair_at c.args.lower.now in
     let x = read_item c.args.upper.now j c.index-upper-j.result (omega arith) c.index-upper-j.is in
@@ -48,7 +48,7 @@ returns-in_err-fill_unless-clause-gives g c =
     let m = g.V.Values.giving in
     let net = c.args.net in
     let j = c.loop-j.j in
-    let bit = from c.args.at (bit_at c.args.bits.now) in
+    let bit = bit_at c.args.bits.now in
     let x = read_item c.args.upper.now j c.index-upper-j.result (omega arith) c.index-upper-j.is in
     let y = read_item c.args.lower.now j c.index-lower-j.result (omega arith) c.index-lower-j.is in
     let values = ap₂ (λ n l. if nat_lt j n then [] else l) c.missing-skipped.ensures (values_as c.args.form _ _ _ _ _ _ c.last_bit-b.ensures x y) in
@@ -64,7 +64,7 @@ returns-clause-gives g c =
 
 pub returns-clause-joined : goal.returns-clause-joined
 returns-clause-joined g c =
-    let bit = from c.args.at (bit_at c.args.bits.now) in
+    let bit = bit_at c.args.bits.now in
     is_places (2 * length c.args.upper.now) (joined (last_bit c.args.net bit) (pair_at c.args.upper.now) (pair_at c.args.lower.now)) c.loop-j.items
     (c.loop-j.auto.items ∙ c.requires.items)
     (λ k h. c.loop-j.invariant.joined k (omega arith))

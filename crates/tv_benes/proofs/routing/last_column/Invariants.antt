@@ -1,13 +1,13 @@
 use Rattle.std.proofs.Common.{◌≡◌, ℕ, ◌+◌, ◌-◌, ◌*◌, ◌<◌, false}
 use Rattle.tv_benes.specs.Items.{bit_at, pair_at}
 use Rattle.tv_benes.specs.Network.{column_values}
-use Rattle.tv_benes.specs.Through.{missing, from, alternating, joined, last_bit}
+use Rattle.tv_benes.specs.Through.{missing, alternating, joined, last_bit}
 use Rattle.tv_core.specs.Values.{GivesAll}
 use Rattle.tv_benes.proofs.routing.last_column.Given as goal
 
 abbrev pub invariant-loop-j : goal.invariant-loop-j
 invariant-loop-j g l =
-    let bit = from l.at (bit_at l.bits) in
+    let bit = bit_at l.bits in
     let u = pair_at l.upper in
     let w = pair_at l.lower in
     record {

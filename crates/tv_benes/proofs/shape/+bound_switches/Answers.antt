@@ -25,7 +25,7 @@ overflow_add-result t c =
       switches_few c.args.net (c.args.h - 1) (omega arith),
       c.bound_of-2.ensures,
       column,
-      c.long_power.ensures,
+      c.long_power.ensures.is,
       column_fits c.args.net c.args.h,
       switches_few c.args.net c.args.h (omega arith),
     )
@@ -33,7 +33,7 @@ overflow_add-result t c =
 pub returns-clause-is : goal.returns-clause-is
 returns-clause-is t c =
     let column : c.bound_of-2.result ≡ bound_of c.args.form (2 * 2 ^ c.args.h - missing c.args.net) = c.bound_of-2.ensures
-    ∙ ap (bound_of c.args.form) (ap₂ (λ a b. 2 * a - b) c.long_power.ensures c.long_missing.ensures) in
+    ∙ ap (bound_of c.args.form) (ap₂ (λ a b. 2 * a - b) c.long_power.ensures.is c.long_missing.ensures) in
     let inner : c.bound_switches-inner.result ≡ bound c.args.net (other c.args.form) (c.args.h - 1) = c.bound_switches-inner.ensures.is
     ∙ ap (λ form. bound c.args.net form (c.args.h - 1)) c.other.ensures in
     ap₂ (λ a b. a + 2 * b) column inner ∙ sym (bound_above c.args.net c.args.form c.args.h c.if-h-eq0.false)

@@ -1,5 +1,4 @@
 use Rattle.std.proofs.Common.{◌≡◌, subst, arith}
-use Rattle.tv_benes.specs.Through.{from}
 use Rattle.tv_benes.proofs.ColumnChain.{no_switch, one_switch, switch_refused, values_as}
 use Rattle.tv_benes.specs.Items.{bit_at, item_of}
 use Rattle.tv_core.proofs.ValuesChain.{gives_refused}
@@ -8,8 +7,8 @@ use Rattle.tv_benes.proofs.values.fill_column.Goals as goal
 
 pub loop-j-init : goal.loop-j-init
 loop-j-init g c = record {
-  gives = no_switch g.V.Values.giving c.args.form (from c.args.at (bit_at c.args.bits.now))
-      (item_of c.args.bits.now c.args.items.now) _;
+  gives = no_switch g.V.Values.giving c.args.form (bit_at c.args.bits.now)
+      (item_of c.args.items.now) _;
   whole = c.requires.whole;
 }
 
@@ -19,8 +18,8 @@ loop-j-preserved g c =
     let switch = subst (λ l. GivesAll m c.loop-j.v c.fill_switch.new.v l)
     (values_as c.args.form _ _ _ _ _ _ c.bit.ensures c.read-x.ensures c.read-y.ensures) c.in_ok-fill_switch.ensures.gives in
     record {
-      gives = one_switch m c.args.form (from c.args.at (bit_at c.args.bits.now))
-          (item_of c.args.bits.now c.args.items.now) c.loop-j.j _ _ _ c.loop-j.invariant.gives switch;
+      gives = one_switch m c.args.form (bit_at c.args.bits.now)
+          (item_of c.args.items.now) c.loop-j.j _ _ _ c.loop-j.invariant.gives switch;
       whole = c.in_ok-fill_switch.ensures.whole;
     }
 
@@ -30,8 +29,8 @@ returns-in_err-fill_switch-clause-gives g c =
     let switch = subst (λ l. GivesSome m c.loop-j.v c.fill_switch.new.v l c.in_err-fill_switch.field-0.0)
     (values_as c.args.form _ _ _ _ _ _ c.bit.ensures c.read-x.ensures c.read-y.ensures) c.in_err-fill_switch.ensures.gives in
     gives_refused _ _ _ _ _ c.from_residual.ensures.1
-    (switch_refused m c.args.form (from c.args.at (bit_at c.args.bits.now))
-    (item_of c.args.bits.now c.args.items.now) c.args.n c.loop-j.j _ _ _ _ c.loop-j-test.true c.loop-j.invariant.gives switch)
+    (switch_refused m c.args.form (bit_at c.args.bits.now)
+    (item_of c.args.items.now) c.args.n c.loop-j.j _ _ _ _ c.loop-j-test.true c.loop-j.invariant.gives switch)
 
 pub returns-clause-gives : goal.returns-clause-gives
 returns-clause-gives g c =

@@ -1,5 +1,4 @@
 use Rattle.std.proofs.Common.{◌≡◌, false}
-use Rattle.tv_benes.specs.Through.{from}
 use Rattle.tv_benes.specs.Items.{bit_at, item_of}
 use Rattle.tv_benes.specs.Network.{column_values}
 use Rattle.tv_core.specs.Values.{GivesAll}
@@ -7,6 +6,6 @@ use Rattle.tv_benes.proofs.values.fill_column.Given as goal
 
 abbrev pub invariant-loop-j : goal.invariant-loop-j
 invariant-loop-j g l = record {
-  gives : GivesAll g.V.Values.giving l.initial.v l.v (column_values l.form l.j (from l.at (bit_at l.bits)) (item_of l.bits l.items));
+  gives : GivesAll g.V.Values.giving l.initial.v l.v (column_values l.form l.j (bit_at l.bits) (item_of l.items));
   whole : g.V.Values.giving.broken l.v ≡ false;
 }

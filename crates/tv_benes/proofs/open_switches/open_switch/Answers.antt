@@ -1,6 +1,6 @@
 use Rattle.tv_core.proofs.Chain.{refused, all_then, all_pure, some_then, some_first}
 use Rattle.tv_benes.specs.Network.{switch_of}
-use Rattle.tv_benes.proofs.open_switches.switch.Goals as goal
+use Rattle.tv_benes.proofs.open_switches.open_switch.Goals as goal
 
 pub returns-in_err-bit_by-clause-puts : goal.returns-in_err-bit_by-clause-puts
 unfolding switch_of
@@ -17,10 +17,10 @@ pub returns-in_err-product-2-clause-puts : goal.returns-in_err-product-2-clause-
 unfolding switch_of
 returns-in_err-product-2-clause-puts g c =
     refused _ _ _ _ _ c.from_residual-in_err-product-2.ensures.1 (some_then _ c.fresh-b.ensures.puts (some_then _ c.in_ok-bit_by.ensures.puts
-    (some_then _ c.in_ok-product.ensures.puts (some_first _ c.in_err-product-2.ensures.puts))))
+    (some_then _ c.in_ok-product.ensures.puts (some_first _ (rw (c.offset.ensures, c.offset-2.ensures) at c.in_err-product-2.ensures.puts)))))
 
 pub returns-clause-puts : goal.returns-clause-puts
 unfolding switch_of
 returns-clause-puts g c =
     all_then _ c.fresh-b.ensures.puts (all_then _ c.in_ok-bit_by.ensures.puts (all_then _ c.in_ok-product.ensures.puts
-    (all_then _ c.in_ok-product-2.ensures.puts all_pure)))
+    (all_then _ (rw (c.offset.ensures, c.offset-2.ensures) at c.in_ok-product-2.ensures.puts) all_pure)))
