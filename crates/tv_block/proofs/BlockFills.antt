@@ -2,7 +2,7 @@
 use Rattle.std.proofs.Common.{◌≡◌, ℕ, ◌+◌, ◌-◌, ◌/◌, ◌%◌, ◌^◌, ◌<◌, ◌==◌, nat_lt, Bool, true, false, if◌then◌else◌, List, [], ◌∷◌, ◌++◌, length, refl}
 use Rattle.std.proofs.Common.{sym, ◌∙◌, ap, ap₂, subst, arith}
 use Rattle.std.specs.Prelude.{slice_index}
-use Rattle.tv_bits.proofs.BitNumbers.{HasBits-below, HasBits-bit_at, HasBits-from_values}
+use Rattle.tv_bits.proofs.BitNumbers.{HasBits-below, HasBits-from_values}
 use Rattle.tv_bits.proofs.ZeroSignLaws.{zero_sign_complete, zero_sign_sizes}
 use Rattle.tv_bits.specs.Bit.{IsBit}
 use Rattle.tv_bits.specs.Bits.{HasBits, bits_values}
@@ -52,7 +52,8 @@ use Rattle.tv_parts.specs.Written.{written_values}
 use Rattle.tv_parts.specs.declared.records.ResultWires.{ResultWires}
 use Rattle.tv_parts.specs.declared.records.StateWires.{StateWires}
 use Rattle.tv_block.proofs.BlockChain.{instruction, op, triple, operand, test, made, tapes, memory, results, zero, written, flag, pc}
-use Rattle.tv_block.proofs.BlockLaws.{state_sixteen, register_word, other_below, Before, operand_in, tapes_in, memory_in, results_in, zero_word, step_in}
+use Rattle.tv_block.proofs.BlockLaws.{state_sixteen, other_below, Before, has_operand, operand_in, has_tapes, tapes_in, has_pc, memory_in}
+use Rattle.tv_block.proofs.BlockLaws.{has_sources, results_in, has_flag, step_in}
 use Rattle.tv_block.proofs.PartLaws.{used_again, opcode_of_row, op_below, dest_below, source_below, among_each, AreRegisters, registers_sound}
 use Rattle.tv_block.proofs.PartLaws.{sign_value}
 use Rattle.tv_parts.proofs.ShiftTests.{below_width}
@@ -186,14 +187,8 @@ front w width z n state at head tail o takes assigns in_range has =
     let are = registers_sound w width z ins.next state ins.answer head tail size assigns decoded m2 in
     let imm = imm_wire w ins.answer in
     let h3 = some_had z regs.next taken.next (operand_values w a) r3 (operand_sizes.fills w imm ins.answer.tail regs.answer.named_word a regs.next) h2.1 in
-    let m3 = operand_complete w width z regs.next imm ins.answer.tail regs.answer.named_word i.imm tail (slice_index v.regs (tail % 16)) (record {
-      assigns = assigns;
-      bit = decoded.imm;
-      whole = decoded.tail;
-      held = are.named;
-      second_word = in_range.tail_word;
-      named_word = register_word w n v (tail % 16) range (omega arith);
-    }) h3.0 in
+    let m3 = operand_complete w width z regs.next imm ins.answer.tail regs.answer.named_word i.imm tail (slice_index v.regs (tail % 16))
+    (has_operand known head tail ins.answer regs.answer.named_word decoded are.named) h3.0 in
     let is = operand_in known head tail regs.next ins.answer regs.answer.named_word decoded are.named m3 in
     let f_is : slice_index z taken.next ≡ f = h3.1.0 in
     let h4 = some_had z (taken.next + 1) does_made.next (arithmetic_values w (operation_of i.op x a) f low high) r4
@@ -285,20 +280,11 @@ back w width z n state at head tail o takes assigns in_range fore =
     let low = slice_index z arith_made.answer.row.low in
     let high = slice_index z arith_made.answer.row.high in
     let decomposed = decomposed_word w i.op x a in
-    let x_word = other_below w n v head tail range in
     let t = tapes w n state at in
     let h5 = some_had z arith_made.next t.next (tapes_values w n v i low takes) (effects_values w (input_of n v i low) high takes f)
     (tapes_sizes.fills w n state row_op taken.answer v i low takes arith_made.next) fore.rest in
-    let m5 = tapes_filled w width z arith_made.next n state row_op taken.answer v i low takes (record {
-      assigns = assigns;
-      short = in_range.short;
-      within = range.taken;
-      bit = range.ended;
-      before = refl;
-      ended = refl;
-      opcode = fore.row;
-      operand = fore.is;
-    }) in_range.asked h5.0 in
+    let m5 = tapes_filled w width z arith_made.next n state row_op taken.answer v i low takes
+    (has_tapes known head tail fore.row fore.is) in_range.asked h5.0 in
     let b = took z t.answer in
     let are_tapes = tapes_in known head tail fore.row fore.is arith_made.next m5.0 in
     let rest : HasFrom z t.next (effects_values w (input_of n v i low) high b f) =
@@ -336,21 +322,8 @@ back w width z n state at head tail o takes assigns in_range fore =
     let res = results w n state at in
     let h7 = some_had z mem.next res.next (results_values w i.op a low high finds) r3
     (results_sizes.fills w state row_op taken.answer from t.answer i.op a low high finds mem.next) h6.1 in
-    let m7 = results_complete w width z mem.next n state row_op taken.answer from t.answer v i low high (record {
-      assigns = assigns;
-      within = range.taken;
-      short = in_range.short;
-      before = refl;
-      opcode = fore.row;
-      operand = fore.is;
-      low_wire = refl;
-      high_wire = refl;
-      top = HasBits-bit_at fore.does.row.low (w - 1) (omega (arith, width));
-      byte = stored.byte;
-      other = x_word;
-      halves = fore.does.halves;
-      tapes = are_tapes;
-    }) h7.0 in
+    let m7 = results_complete w width z mem.next n state row_op taken.answer from t.answer v i low high
+    (has_sources known head tail fore.row fore.is fore.does are_tapes mem.answer.byte stored.byte) h7.0 in
     let are_results = results_in known head tail fore.row fore.is fore.does are_tapes mem.next mem.answer.byte stored.byte m7 in
     let places = results_sizes.answer w state row_op taken.answer from t.answer mem.next in
     let tested_at : slice_index z res.answer.tested ≡ y =
@@ -384,45 +357,14 @@ back w width z n state at head tail o takes assigns in_range fore =
     (flag_sizes.fills w state row_op arith_made.answer.x taken.next t.answer n v i low b f wrote.next) h9.1 in
     let word_at = slice_index z res.answer.word in
     let zero_at = slice_index z res.answer.tested in
-    let m10 = flag_complete w width z wrote.next n state row_op arith_made.answer.x taken.next t.answer v i low high word_at zero_at low (record {
-      assigns = assigns;
-      short = in_range.short;
-      within = range.taken;
-      bit = range.flag;
-      before = refl;
-      flag = refl;
-      opcode = fore.row;
-      other = x_word;
-      operand = HasBits-below fore.is.bits;
-      lowest = λ e. ap (slice_index z) (plus_none arith_made.answer.x.first) ∙ HasBits-bit_at (fore.does.same (no_division e)) 0 (omega (arith, width));
-      top = λ e. HasBits-bit_at (fore.does.same (no_division e)) (w - 1) (omega (arith, width));
-      test = tests ∙ ap (λ k. sign_at_zero k (sign_at i.op)) (sym tested_at);
-      tested = are_results.tested;
-      result_word = zero_word known head tail fore.row fore.is fore.does are_tapes res.answer are_results;
-      divides = fore.does.by_zero;
-      halves = fore.does.halves;
-      tapes = are_tapes;
-    }) h10.0 in
-    let m11 = pc_complete w width z flags.next state row_op taken.answer v i (record {
-      assigns = assigns;
-      small = range.pc_fits;
-      aligned = range.pc_aligned;
-      bit = range.flag;
-      pc = refl;
-      flag = refl;
-      opcode = fore.row;
-      operand = fore.is;
-    }) h10.1 in
+    let tested_is = tests ∙ ap (λ k. sign_at_zero k (sign_at i.op)) (sym tested_at) in
+    let m10 = flag_complete w width z wrote.next n state row_op arith_made.answer.x taken.next t.answer v i low high word_at zero_at low
+    (has_flag known head tail fore.row fore.is fore.does are_tapes res.answer are_results tested_is) h10.0 in
+    let m11 = pc_complete w width z flags.next state row_op taken.answer v i (has_pc known head tail fore.row fore.is) h10.1 in
     record { met5 = m5.0; met6 = m6; met7 = m7; met8 = m8; met9 = m9; met10 = m10; met11 = m11; takes_is = m5.1 }
   where
     fourth : (k : ℕ) → k + 4 ≡ k + 1 + 1 + 1 + 1
     fourth k = omega arith
-
-    plus_none : (k : ℕ) → k ≡ k + 0
-    plus_none k = omega arith
-
-    no_division : among shift_ops (decode w head tail).op ≡ true → among division_ops (decode w head tail).op ≡ false
-    no_division = among_each (λ k. among division_ops k ≡ false) shift_ops (refl, (refl, tt)) (decode w head tail).op
 
 -- what it works out, and what it does
 computed_met : (w n : ℕ) (z : List ℕ) (state : StateWires) (at head tail o : ℕ) (takes : Bool) → Front w z n state at head tail o takes

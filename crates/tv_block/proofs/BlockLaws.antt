@@ -21,7 +21,7 @@ use Rattle.tv_decode.proofs.InstructionLaws.{instruction_sound}
 use Rattle.tv_decode.specs.Instructions.{imm_wire, instruction_of, IsDecoded}
 use Rattle.tv_decode.specs.declared.records.InstructionWires.{InstructionWires}
 use Rattle.tv_isa.specs.Instruction.{decode}
-use Rattle.tv_isa.specs.Opcodes.{among, chosen, store_ops, writer_ops}
+use Rattle.tv_isa.specs.Opcodes.{among, store_ops, writer_ops}
 use Rattle.tv_isa.specs.declared.instr.Instr.{Instr}
 use Rattle.tv_isa.specs.declared.opcode.TheConstants.{CMPE, CMOV, ANSWER}
 use Rattle.tv_mem.specs.Bytes.{byte_of}
@@ -29,8 +29,7 @@ use Rattle.tv_numbers.proofs.LineRows.{same_line}
 use Rattle.tv_numbers.proofs.RangeLaws.{numbers_stay_in_range}
 use Rattle.tv_numbers.proofs.StepLaws.{numbers_do, same_view}
 use Rattle.tv_numbers.specs.Laws.{DoesStep}
-use Rattle.tv_numbers.specs.Numbers.{Transition, operand_word, other_word, result_in, stepped}
-use Rattle.tv_numbers.specs.Tables.{pcs}
+use Rattle.tv_numbers.specs.Numbers.{Transition, operand_word, other_word, result_in}
 use Rattle.tv_numbers.specs.Views.{View, ViewInRange}
 use Rattle.tv_step.specs.Rows.{word_size}
 use Rattle.tv_word.proofs.WidthLaws.{for_widths}
@@ -46,15 +45,15 @@ use Rattle.tv_parts.proofs.ShiftTests.{shift_test_sound}
 use Rattle.tv_parts.proofs.TapeFills.{flag_test}
 use Rattle.tv_parts.proofs.TapeLaws.{tapes_sound}
 use Rattle.tv_parts.specs.Arithmetic.{shift_ops, division_ops, arithmetic_of, IsArithmetic}
-use Rattle.tv_parts.specs.Flag.{sign_at, next_flag_of}
+use Rattle.tv_parts.specs.Flag.{sign_at, next_flag_of, HasFlag}
 use Rattle.tv_parts.specs.Inputs.{StepInput, input_of, operation_of}
 use Rattle.tv_parts.specs.Memory.{memory_of, AreStored}
 use Rattle.tv_parts.specs.OpcodeSums.{IsOpcode}
-use Rattle.tv_parts.specs.Operand.{operand_of, IsOperand}
-use Rattle.tv_parts.specs.Pc.{pc_of}
-use Rattle.tv_parts.specs.Results.{sign_of, results_of, zero_ops, AreResults}
+use Rattle.tv_parts.specs.Operand.{operand_of, IsOperand, HasOperand}
+use Rattle.tv_parts.specs.Pc.{pc_of, HasPc}
+use Rattle.tv_parts.specs.Results.{sign_of, results_of, zero_ops, HasSources, AreResults}
 use Rattle.tv_parts.specs.States.{state_in}
-use Rattle.tv_parts.specs.Tapes.{tapes_of, took, AreTapes}
+use Rattle.tv_parts.specs.Tapes.{tapes_of, took, HasTapes, AreTapes}
 use Rattle.tv_parts.specs.Written.{written_of}
 use Rattle.tv_parts.specs.declared.records.ArithmeticWires.{ArithmeticWires}
 use Rattle.tv_parts.specs.declared.records.OperandWires.{OperandWires}
@@ -114,18 +113,22 @@ module _ {w : ℕ} {z : List ℕ} {n : ℕ} {state : StateWires} (known : Before
   abbrev a : ℕ
   a = operand_word v i
 
+  pub has_operand : (made : InstructionWires) (named : ℕ) → IsDecoded z w made head tail → slice_index z named ≡ slice_index v.regs (i.a % 16)
+      → HasOperand w z (record { imm = imm_wire w made; tail = made.tail; register = named }) i.imm tail (slice_index v.regs (tail % 16))
+  has_operand made named is held = record {
+    assigns = known.assigns;
+    bit = is.imm;
+    whole = is.tail;
+    held = held;
+    second_word = is.tail_word;
+    named_word = register_word w n v (tail % 16) known.range (omega arith);
+  }
+
   pub operand_in : (next : ℕ) (made : InstructionWires) (named : ℕ) → IsDecoded z w made head tail → slice_index z named ≡ slice_index v.regs (i.a % 16)
       → Meets z (operand_of w (imm_wire w made) made.tail named next).list
       → IsOperand w z (operand_of w (imm_wire w made) made.tail named next).answer a
   operand_in next made named is held meets =
-      operand_sound w known.width z next (imm_wire w made) made.tail named i.imm tail (slice_index v.regs (tail % 16)) (record {
-        assigns = known.assigns;
-        bit = is.imm;
-        whole = is.tail;
-        held = held;
-        second_word = is.tail_word;
-        named_word = register_word w n v (tail % 16) known.range (omega arith);
-      }) meets
+      operand_sound w known.width z next (imm_wire w made) made.tail named i.imm tail (slice_index v.regs (tail % 16)) (has_operand made named is held) meets
 
   test_in : (next op y f : ℕ) → IsOpcode z op i.op → Meets z (zero_sign_of y f (sign_of op) next).list → Tests z i.op y f
   test_in next op y f row meets =
@@ -149,32 +152,32 @@ module _ {w : ℕ} {z : List ℕ} {n : ℕ} {state : StateWires} (known : Before
               (either_word (slice_index z y == 0) 1 0 2 (omega arith) (omega arith));
         }) meets
 
-    pub tapes_in : (next : ℕ) → Meets z (tapes_of w n state op taken next).list → AreTapes z (tapes_of w n state op taken next).answer n v i
-    tapes_in next meets =
-        tapes_sound w known.width z next n state op taken v i (record {
-          assigns = known.assigns;
-          short = known.short;
-          within = known.range.taken;
-          bit = known.range.ended;
-          before = refl;
-          ended = refl;
-          opcode = row;
-          operand = is;
-        }) meets
+    pub has_tapes : HasTapes w z (record { state = state; op = op; operand = taken }) n v i
+    has_tapes = record {
+      assigns = known.assigns;
+      short = known.short;
+      within = known.range.taken;
+      bit = known.range.ended;
+      before = refl;
+      ended = refl;
+      opcode = row;
+      operand = is;
+    }
 
-    pc_in : (next : ℕ) → Meets z (pc_of w state op taken next).list
-        → slice_index z (pc_of w state op taken next).answer ≡ chosen (pcs w v.pc a v.flag) i.op
-    pc_in next meets =
-        pc_sound w known.width z next state op taken v i (record {
-          assigns = known.assigns;
-          small = known.range.pc_fits;
-          aligned = known.range.pc_aligned;
-          bit = known.range.flag;
-          pc = refl;
-          flag = refl;
-          opcode = row;
-          operand = is;
-        }) meets
+    pub tapes_in : (next : ℕ) → Meets z (tapes_of w n state op taken next).list → AreTapes z (tapes_of w n state op taken next).answer n v i
+    tapes_in next meets = tapes_sound w known.width z next n state op taken v i has_tapes meets
+
+    pub has_pc : HasPc w z (record { state = state; op = op; operand = taken }) v i
+    has_pc = record {
+      assigns = known.assigns;
+      small = known.range.pc_fits;
+      aligned = known.range.pc_aligned;
+      bit = known.range.flag;
+      pc = refl;
+      flag = refl;
+      opcode = row;
+      operand = is;
+    }
 
     module _ {f : ℕ} {made : ArithmeticWires} {t : TapeWires} (does : IsArithmetic w z made f taken (operation_of i.op x a))
         (tapes : AreTapes z t n v i) where
@@ -206,12 +209,11 @@ module _ {w : ℕ} {z : List ℕ} {n : ℕ} {state : StateWires} (known : Before
             tapes = tapes;
           }) meets
 
-      pub results_in : (next byte : ℕ) → slice_index z byte ≡ byte_of low (a % word_size w)
-          → Meets z (results_of w state op taken (sources_of w made byte) t next).list
-          → AreResults w z (results_of w state op taken (sources_of w made byte) t next).answer input high (took z t)
-      results_in next byte is_byte meets =
+      pub has_sources : (byte : ℕ) → slice_index z byte ≡ byte_of low (a % word_size w)
+          → HasSources w z (record { state = state; op = op; operand = taken; tapes = t }) (sources_of w made byte) input high
+      has_sources byte is_byte =
           let width = known.width in
-          results_sound w width z next n state op taken (sources_of w made byte) t v i low high (record {
+          record {
             assigns = known.assigns;
             within = known.range.taken;
             short = known.short;
@@ -225,22 +227,28 @@ module _ {w : ℕ} {z : List ℕ} {n : ℕ} {state : StateWires} (known : Before
             other = other_below w n v head tail known.range;
             halves = does.halves;
             tapes = tapes;
-          }) meets
+          }
+
+      pub results_in : (next byte : ℕ) → slice_index z byte ≡ byte_of low (a % word_size w)
+          → Meets z (results_of w state op taken (sources_of w made byte) t next).list
+          → AreResults w z (results_of w state op taken (sources_of w made byte) t next).answer input high (took z t)
+      results_in next byte is_byte meets =
+          results_sound w known.width z next n state op taken (sources_of w made byte) t v i low high (has_sources byte is_byte) meets
 
       -- a result that is tested for 0 is the table's, and at cmpe the low half
-      pub zero_word : (r : ResultWires) → AreResults w z r input high (took z t) → among zero_ops i.op ≡ true
+      zero_word : (r : ResultWires) → AreResults w z r input high (took z t) → among zero_ops i.op ≡ true
           → slice_index z r.word ≡ (if i.op == CMPE then low else result_in w n v i low (took z t))
       zero_word r results e = elim (cases_eq i.op CMPE) [
         | inl same ↦ results.compared same ∙ sym (ap (λ b. if b then low else result_in w n v i low (took z t)) (eq-eqb i.op CMPE same))
         | inr apart ↦ results.word (zero_writes i.op e apart) ∙ sym (ap (λ b. if b then low else result_in w n v i low (took z t)) (ne_eqb i.op CMPE apart))
       ]
 
-      flag_in : (next : ℕ) (r : ResultWires) → AreResults w z r input high (took z t) → Tests z i.op r.tested f
-          → Meets z (next_flag_of w state op made.x f t next).list
-          → slice_index z (next_flag_of w state op made.x f t next).answer ≡ (stepped w n v i low (took z t)).flag
-      flag_in next r results test meets =
+      pub has_flag : (r : ResultWires) → AreResults w z r input high (took z t) → Tests z i.op r.tested f
+          → HasFlag w z (record { state = state; op = op; x = made.x; f = f; tapes = t }) input high
+          (record { word = slice_index z r.word; tested = slice_index z r.tested })
+      has_flag r results test =
           let width = known.width in
-          flag_sound w width z next n state op made.x f t v i low high (slice_index z r.word) (slice_index z r.tested) low (record {
+          record {
             assigns = known.assigns;
             short = known.short;
             within = known.range.taken;
@@ -258,7 +266,7 @@ module _ {w : ℕ} {z : List ℕ} {n : ℕ} {state : StateWires} (known : Before
             divides = does.by_zero;
             halves = does.halves;
             tapes = tapes;
-          }) meets
+          }
         where
           plus_none : (k : ℕ) → k ≡ k + 0
           plus_none k = omega arith
@@ -338,18 +346,27 @@ step_in w width z n state time at short early assigns range meets =
     let pc = pc_of w state op operand.answer flag.next in
     let computed = computed_of w state at in
     let effects = effects_of w n state computed.answer computed.next in
-    let first = Meets-split z computed.list _ meets in
+    let l4 = made.list ++ [] in
+    let l3 = operand.list ++ l4 in
+    let l2 = regs.list ++ l3 in
+    let k7 = pc.list ++ [] in
+    let k6 = flag.list ++ k7 in
+    let k5 = written.list ++ k6 in
+    let k4 = zeros.list ++ k5 in
+    let k3 = results.list ++ k4 in
+    let k2 = memory.list ++ k3 in
+    let first = Meets-split z computed.list (effects.list ++ []) meets in
     let second = Meets-split z effects.list [] first.1 in
-    let m1 = Meets-split z decoded.list _ first.0 in
-    let m2 = Meets-split z regs.list _ m1.1 in
-    let m3 = Meets-split z operand.list _ m2.1 in
+    let m1 = Meets-split z decoded.list l2 first.0 in
+    let m2 = Meets-split z regs.list l3 m1.1 in
+    let m3 = Meets-split z operand.list l4 m2.1 in
     let m4 = Meets-split z made.list [] m3.1 in
-    let m5 = Meets-split z tapes.list _ second.0 in
-    let m6 = Meets-split z memory.list _ m5.1 in
-    let m7 = Meets-split z results.list _ m6.1 in
-    let m8 = Meets-split z zeros.list _ m7.1 in
-    let m9 = Meets-split z written.list _ m8.1 in
-    let m10 = Meets-split z flag.list _ m9.1 in
+    let m5 = Meets-split z tapes.list k2 second.0 in
+    let m6 = Meets-split z memory.list k3 m5.1 in
+    let m7 = Meets-split z results.list k4 m6.1 in
+    let m8 = Meets-split z zeros.list k5 m7.1 in
+    let m9 = Meets-split z written.list k6 m8.1 in
+    let m10 = Meets-split z flag.list k7 m9.1 in
     let m11 = Meets-split z pc.list [] m10.1 in
     let head = slice_index z decoded.answer.head in
     let tail = slice_index z decoded.answer.tail in
@@ -373,8 +390,10 @@ step_in w width z n state time at short early assigns range meets =
     let regs_are =
     written_sound w z zeros.next n state op regs.answer results.answer.word v i o takes
     size assigns row (dest_below w head tail) range.flag refl refl are are_results.word m9.0 in
-    let flag_is = flag_in known head tail row is does are_tapes written.next results.answer are_results is_test m10.0 in
-    let pc_is = pc_in known head tail row is flag.next m11.0 in
+    let has_flags = has_flag known head tail row is does are_tapes results.answer are_results is_test in
+    let flag_is = flag_sound w width z written.next n state op made.answer.x test tapes.answer v i o (slice_index z made.answer.row.high)
+    (slice_index z results.answer.word) (slice_index z results.answer.tested) o has_flags m10.0 in
+    let pc_is = pc_sound w width z flag.next state op operand.answer v i (has_pc known head tail row is) m11.0 in
     let head_is = value-wire assigns decoded.answer.head in
     let tail_is = value-wire assigns decoded.answer.tail in
     let answers = opcode_wire_is z op i.op ANSWER row (omega arith) refl in

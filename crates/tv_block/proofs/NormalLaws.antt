@@ -25,7 +25,7 @@ use Rattle.tv_parts.proofs.NormalOpcodes.{opcode_sum_normal}
 use Rattle.tv_parts.proofs.NormalOperand.{operand_normal}
 use Rattle.tv_parts.proofs.NormalPc.{pc_normal}
 use Rattle.tv_parts.proofs.NormalResults.{SourcesRise, results_normal, sign_normal, sign_top}
-use Rattle.tv_parts.proofs.NormalStates.{row_at, row_top}
+use Rattle.tv_parts.proofs.NormalStates.{row_at}
 use Rattle.tv_parts.proofs.NormalTapes.{tapes_normal}
 use Rattle.tv_parts.proofs.NormalWritten.{written_normal}
 use Rattle.tv_parts.proofs.OperandLaws.{operand_sizes}
@@ -42,8 +42,8 @@ use Rattle.tv_parts.specs.declared.records.TapeWires.{TapeWires}
 use Rattle.tv_block.proofs.BlockChain.{instruction, op, triple, operand, test, made, tapes, memory, results, zero, written, flag, pc}
 use Rattle.tv_block.proofs.BlockChain.{registers_begin, operand_begins, arithmetic_begins, tapes_begin, memory_begins, results_begin, written_begins}
 use Rattle.tv_block.proofs.BlockChain.{flag_begins, pc_begins}
+use Rattle.tv_block.proofs.StepLaws.{next_under}
 use Rattle.tv_block.specs.Block.{data_of, sources_of, computed_of, effects_of, block_of}
-use Rattle.tv_block.specs.Complete.{block_made}
 use Rattle.tv_block.specs.Normal.{BlockIsNormal}
 use Rattle.tv_block.specs.Places.{registers_at, operand_at, arithmetic_at, tapes_at, results_at, written_at, next_state}
 
@@ -282,18 +282,9 @@ after_apart w width at =
       ended = omega arith;
     }
 
-after_below : (w : ℕ) → IsWidth w → (at : ℕ) → StateUnder (at + block_made w) (next_state w at)
-after_below w width at = record {
-  pc = omega (arith, width);
-  regs = omega (arith, row_top (at + (written_at w + 1)), width);
-  flag = omega (arith, width);
-  taken = omega (arith, width);
-  ended = omega (arith, width);
-}
-
 pub block_normal : BlockIsNormal
 block_normal = record {
   normal = λ w width n state time next short under apart. all_put w n state next width short under apart time;
   after_apart = after_apart;
-  after_below = after_below;
+  after_below = next_under;
 }

@@ -2,8 +2,7 @@
 use Rattle.std.proofs.Common.{◌≡◌, ℕ, Bool, List, length, Result, ap₂, ◌∙◌}
 use Rattle.tv_benes.specs.Items.{bit_at}
 use Rattle.tv_benes.specs.declared.shape.Net.{Net}
-use Rattle.tv_core.proofs.ValuesChain.{gives_then_refused, gives_refused_then}
-use Rattle.tv_core.proofs.ValuesTails.{gives_in_then}
+use Rattle.tv_core.proofs.ValuesChain.{gives_then_refused, gives_refused_then, gives_in_then}
 use Rattle.tv_core.specs.Below.{joined_below}
 use Rattle.tv_core.specs.Values.{ValuesMeaning, GivesAll, GivesSome, GivesIn}
 use Rattle.tv_core.specs.Lines.{Line}

@@ -1,5 +1,6 @@
 -- The values of steps, from a trace's states and lines.
-use Rattle.std.specs.Prelude.{◌≡◌, ℕ, ◌+◌, ◌*◌, ◌^◌, ◌<◌, Bool, true, false, nat_lt, if◌then◌else◌, List, [], length, slice_index, slice_index_or, Option, Some, None, is_some, unwrap_or}
+use Rattle.std.specs.Prelude.{◌≡◌, ℕ, ◌+◌, ◌*◌, ◌^◌, ◌<◌, Bool, true, false, nat_lt, if◌then◌else◌, List, [], length, slice_index, slice_index_or, Option}
+use Rattle.std.specs.Prelude.{Some, None, is_some, unwrap_or}
 use Rattle.tv_parts.specs.Traced.{traced_view}
 use Rattle.tv_block.specs.Values.{block_values}
 use Rattle.tv_core.specs.Lines.{Line}
@@ -34,7 +35,8 @@ data_at states aux lines i = unwrap_or (taken_at states aux i) (old_at lines (3 
 -- the values of step i, with a primary tape of n words
 unfoldable pub traced_values : ℕ → ℕ → List TraceState → List ℕ → List Line → ℕ → List ℕ
 traced_values w n states aux lines i =
-    block_values w n (traced_view (traced_state_at states i)) (step_words (old_at lines (3 * i)) (old_at lines (3 * i + 1)) (data_at states aux lines i) (is_some (taken_at states aux i)))
+    block_values w n (traced_view (traced_state_at states i))
+    (step_words (old_at lines (3 * i)) (old_at lines (3 * i + 1)) (data_at states aux lines i) (is_some (taken_at states aux i)))
 
 -- the trace has it, and what it has of it is in range
 pub record StepInRange (w n : ℕ) (states : List TraceState) (aux : List ℕ) (lines : List Line) (i : ℕ) : Type 0 where

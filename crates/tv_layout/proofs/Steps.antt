@@ -134,7 +134,11 @@ module _ (block : BlockCircuit) (made : ℕ) (sizes : BlockSizes block made) (z 
         let here : LinesFrom (time + 3 * n) (lines_in (transition_at n)) = (
           d.times.0,
           fits (transition_at n).first d.lines.0,
-          (d.times.1, fits (transition_at n).second d.lines.1, (d.times.2 ∙ omega arith, fits (transition_at n).data_line d.lines.2, tt)),
+          (
+            d.times.1,
+            fits (transition_at n).second d.lines.1,
+            (d.times.2 ∙ omega arith, fits (transition_at n).data_line d.lines.2, tt),
+          ),
         ) in
         subst (LinesFrom time) (sym (joined_below-suc n (λ i. lines_in (transition_at i))))
         (LinesFrom-append time (time + 3 * n) (joined_below n (λ i. lines_in (transition_at i))) (lines_in (transition_at n))

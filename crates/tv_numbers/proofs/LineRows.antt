@@ -15,7 +15,7 @@ use Rattle.tv_step.specs.Machine.{fetched, executed, operand, reg, left_in, stat
 use Rattle.tv_step.specs.Ops.{op_of}
 use Rattle.tv_step.specs.State.{State}
 use Rattle.tv_step.specs.Trace.{touched_line, tape_line}
-use Rattle.tv_isa.proofs.Cases.{EachBelow, below}
+use Rattle.tv_numbers.proofs.Cases.{each_map, word_ops, compare_ops, jump_ops, for_opcode}
 use Rattle.tv_numbers.proofs.NextRows.{instr, Fits, looked}
 use Rattle.tv_numbers.proofs.ReadRow.{held}
 use Rattle.tv_numbers.specs.Numbers.{with_byte_in, data_line}
@@ -32,13 +32,19 @@ changed j time o old m new e f = cc
 
 module _ (w : ℕ) (x : List ℕ) (gone ended o : ℕ) (takes : Bool) (st : State) where
   abbrev RowHolds : ℕ → Type 0
-  RowHolds k = (imm : Bool) (dest source a time : ℕ) → among unused_ops k ≡ false → Fits w x gone ended o takes st (instr k imm dest source a)
+  RowHolds k = (imm : Bool) (dest source a time : ℕ) → Fits w x gone ended o takes st (instr k imm dest source a)
       → fetched w st ≡ instr k imm dest source a
       → data_line w (length x) (seen st gone ended) (instr k imm dest source a) o time
       ≡ touched_line w (length x) (op_of k) st (operand st (instr k imm dest source a)) time
 
-  unused : (k : ℕ) → among unused_ops k ≡ true → RowHolds k
-  unused k is imm dest source a time used = absurd (true≢false (sym is ∙ used))
+  -- all rows that look at no cell compute
+  abbrev Plain : ℕ → Type 0
+  Plain k = ◌≡◌ {A = Bool → ℕ → ℕ → ℕ → ℕ → Line}
+      (λ imm dest source a time. data_line w (length x) (seen st gone ended) (instr k imm dest source a) o time)
+      (λ imm dest source a time. touched_line w (length x) (op_of k) st (operand st (instr k imm dest source a)) time)
+
+  plain : (k : ℕ) → Plain k → RowHolds k
+  plain k is imm dest source a time fits at = ap (λ f. f imm dest source a time) is
 
   -- the word of memory with a number after the step
   abbrev word_after : Instr → ℕ → ℕ
@@ -48,7 +54,7 @@ module _ (w : ℕ) (x : List ℕ) (gone ended o : ℕ) (takes : Bool) (st : Stat
   next_word i j is = ap (λ f. word_after f j) (sym is)
 
   row26 : RowHolds 26
-  row26 imm dest source a time used fits is =
+  row26 imm dest source a time fits is =
       let i = instr 26 imm dest source a in
       let at = operand st i in
       let d = reg st dest in
@@ -65,20 +71,20 @@ module _ (w : ℕ) (x : List ℕ) (gone ended o : ℕ) (takes : Bool) (st : Stat
       less_by p q k m n e f = rw e (let sum = f in omega arith)
 
   row27 : RowHolds 27
-  row27 imm dest source a time used fits is =
+  row27 imm dest source a time fits is =
       let i = instr 27 imm dest source a in
       let word = looked w x gone ended o takes st i fits fits.old in
       changed (operand st i / (w / 8)) time o _ o _ word (word ∙ next_word i (operand st i / (w / 8)) is)
 
   row28 : RowHolds 28
-  row28 imm dest source a time used fits is =
+  row28 imm dest source a time fits is =
       let i = instr 28 imm dest source a in
       let j : ℕ = operand st i / (w / 8) in
       let word = looked w x gone ended o takes st i fits fits.old in
       changed j time o _ (reg st dest) _ word (sym (word_after_word w fits.width st.memory j (reg st dest) fits.dest_fits) ∙ next_word i j is)
 
   row29 : RowHolds 29
-  row29 imm dest source a time used fits is =
+  row29 imm dest source a time fits is =
       let i = instr 29 imm dest source a in
       let word = looked w x gone ended o takes st i fits fits.old in
       changed (operand st i / (w / 8)) time o _ o _ word (word ∙ next_word i (operand st i / (w / 8)) is)
@@ -112,7 +118,7 @@ module _ (w : ℕ) (x : List ℕ) (gone ended o : ℕ) (takes : Bool) (st : Stat
   by_read false within time some past = refl
 
   row30 : RowHolds 30
-  row30 imm dest source a time used fits is =
+  row30 imm dest source a time fits is =
       let here = operand st (instr 30 imm dest source a) in
       by_read (here == 0) (nat_lt gone (length x)) time
       (λ e f. some_line time (below_true f) fits.primary (held w x gone ended o takes st imm dest source a fits (ap₂ (λ b c. b && c) e f)))
@@ -124,136 +130,10 @@ module _ (w : ℕ) (x : List ℕ) (gone ended o : ℕ) (takes : Bool) (st : Stat
       below_false : nat_lt gone (length x) ≡ false → length x ≤ gone
       below_false f = elim (cases_lt gone (length x)) [ inl h ↦ absurd (true≢false (sym (lt-ltb gone (length x) h) ∙ f)) | inr h ↦ h ]
 
-  -- all others look at no cell
-  row0 : RowHolds 0
-  row0 imm dest source a time used fits is = refl
-
-  row1 : RowHolds 1
-  row1 imm dest source a time used fits is = refl
-
-  row2 : RowHolds 2
-  row2 imm dest source a time used fits is = refl
-
-  row3 : RowHolds 3
-  row3 imm dest source a time used fits is = refl
-
-  row4 : RowHolds 4
-  row4 imm dest source a time used fits is = refl
-
-  row5 : RowHolds 5
-  row5 imm dest source a time used fits is = refl
-
-  row6 : RowHolds 6
-  row6 imm dest source a time used fits is = refl
-
-  row7 : RowHolds 7
-  row7 imm dest source a time used fits is = refl
-
-  row8 : RowHolds 8
-  row8 imm dest source a time used fits is = refl
-
-  row9 : RowHolds 9
-  row9 imm dest source a time used fits is = refl
-
-  row10 : RowHolds 10
-  row10 imm dest source a time used fits is = refl
-
-  row11 : RowHolds 11
-  row11 imm dest source a time used fits is = refl
-
-  row12 : RowHolds 12
-  row12 imm dest source a time used fits is = refl
-
-  row13 : RowHolds 13
-  row13 imm dest source a time used fits is = refl
-
-  row14 : RowHolds 14
-  row14 imm dest source a time used fits is = refl
-
-  row15 : RowHolds 15
-  row15 imm dest source a time used fits is = refl
-
-  row16 : RowHolds 16
-  row16 imm dest source a time used fits is = refl
-
-  row17 : RowHolds 17
-  row17 imm dest source a time used fits is = refl
-
-  row18 : RowHolds 18
-  row18 imm dest source a time used fits is = refl
-
-  row19 : RowHolds 19
-  row19 imm dest source a time used fits is = refl
-
-  row20 : RowHolds 20
-  row20 imm dest source a time used fits is = refl
-
-  row21 : RowHolds 21
-  row21 imm dest source a time used fits is = refl
-
-  row22 : RowHolds 22
-  row22 imm dest source a time used fits is = refl
-
-  row31 : RowHolds 31
-  row31 imm dest source a time used fits is = refl
-
-  each : EachBelow 32 RowHolds
-  each = (
-    row31,
-    (
-      row30,
-      (
-        row29,
-        (
-          row28,
-          (
-            row27,
-            (
-              row26,
-              (
-                unused 25 refl,
-                (
-                  unused 24 refl,
-                  (
-                    unused 23 refl,
-                    (
-                      row22,
-                      (
-                        row21,
-                        (
-                          row20,
-                          (
-                            row19,
-                            (
-                              row18,
-                              (
-                                row17,
-                                (
-                                  row16,
-                                  (
-                                    row15,
-                                    (
-                                      row14,
-                                      (row13, (row12, (row11, (row10, (row9, (row8, (row7, (row6, (row5, (row4, (row3, (row2, (row1, (row0, tt)))))))))))))),
-                                    ),
-                                  ),
-                                ),
-                              ),
-                            ),
-                          ),
-                        ),
-                      ),
-                    ),
-                  ),
-                ),
-              ),
-            ),
-          ),
-        ),
-      ),
-    ),
-  )
-
   pub line_row : (i : Instr) (time : ℕ) → i.op < 32 → among unused_ops i.op ≡ false → Fits w x gone ended o takes st i → fetched w st ≡ i
       → data_line w (length x) (seen st gone ended) i o time ≡ touched_line w (length x) (op_of i.op) st (operand st i) time
-  line_row i time small = below 32 RowHolds each i.op small i.imm i.dest i.source i.a time
+  line_row i time small used =
+      let all = each_map Plain RowHolds plain in
+      for_opcode RowHolds (all word_ops (refl, (refl, (refl, (refl, (refl, (refl, (refl, (refl, (refl, (refl, (refl, (refl, (refl, tt))))))))))))))
+      (all compare_ops (refl, (refl, (refl, (refl, (refl, tt)))))) (all jump_ops (refl, (refl, (refl, (refl, (refl, tt))))))
+      (row26, (row27, (row28, (row29, (row30, (plain 31 refl, tt)))))) i.op small used i.imm i.dest i.source i.a time

@@ -9,13 +9,13 @@ use Rattle.tv_mem.specs.Words.{AreBytes}
 use Rattle.tv_step.proofs.CellLaws.{cell_of_memory}
 use Rattle.tv_step.proofs.LineLaws.{cell_is_low}
 use Rattle.tv_step.specs.Cells.{cells_of}
-use Rattle.tv_step.specs.Machine.{executed, operand, reg}
+use Rattle.tv_step.specs.Machine.{executed, operand, reg, left_in}
 use Rattle.tv_step.specs.Rows.{moves}
 use Rattle.tv_step.specs.State.{State, Next}
 use Rattle.tv_word.specs.Widths.{IsWidth}
-use Rattle.tv_isa.proofs.Cases.{EachBelow, below}
+use Rattle.tv_numbers.proofs.Cases.{each_map, word_ops, compare_ops, for_opcode}
 use Rattle.tv_numbers.specs.Numbers.{asks, operand_word, stepped, data_line}
-use Rattle.tv_numbers.specs.Views.{seen}
+use Rattle.tv_numbers.specs.Views.{View, seen}
 
 abbrev pub instr : ℕ → Bool → ℕ → ℕ → ℕ → Instr
 instr k imm dest source a = record { op = k; imm = imm; dest = dest; source = source; a = a }
@@ -79,271 +79,59 @@ module _ (w : ℕ) (x : List ℕ) (gone ended o : ℕ) (takes : Bool) where
       pub aux : state.aux ≡ rest
 
     abbrev pub RowHolds : ℕ → State → Type 0
-    RowHolds k st = (imm : Bool) (dest source a : ℕ) → among unused_ops k ≡ false → (k == 31) ≡ false → Fits st (instr k imm dest source a)
-        → AuxTape st (instr k imm dest source a) → Came st (instr k imm dest source a)
+    RowHolds k st = (imm : Bool) (dest source a : ℕ) → (k == 31) ≡ false → Fits st (instr k imm dest source a) → AuxTape st (instr k imm dest source a)
+        → Came st (instr k imm dest source a)
 
     abbrev pub NextRow : ℕ → Type 0
     NextRow k = (st : State) → RowHolds k st
 
-    -- an opcode that isn't used
-    unused : (k : ℕ) → among unused_ops k ≡ true → NextRow k
-    unused k is st imm dest source a used = absurd (true≢false (sym is ∙ used))
-
-    row31 : NextRow 31
-    row31 st imm dest source a used other = absurd (true≢false other)
-
-    row0 : NextRow 0
-    row0 st imm dest source a used other fits aux = record {
-      state = _;
-      is = refl;
-      view = refl;
-      primary = fits.primary;
-      aux = aux.left (none_taken takes fits.asked);
+    -- the machine goes on to a state that takes nothing of the tapes
+    went : (st : State) (i : Instr) (after : State) → executed w st i ≡ Next.Gone after → Fits st i → AuxTape st i → after.primary ≡ st.primary
+        → after.aux ≡ st.aux → asks (seen st gone ended) i ≡ false → (stepped w (length x) (seen st gone ended) i o takes).taken ≡ gone
+        → seen after gone (stepped w (length x) (seen st gone ended) i o takes).ended ≡ stepped w (length x) (seen st gone ended) i o takes → Came st i
+    went st i after is fits aux primary same none gone_is view = record {
+      state = after;
+      is = is;
+      view = subst (λ n. seen after n (stepped w (length x) (seen st gone ended) i o takes).ended ≡ stepped w (length x) (seen st gone ended) i o takes)
+          (sym gone_is) view;
+      primary = primary ∙ fits.primary ∙ ap (λ n. drop n x) (sym gone_is);
+      aux = same ∙ aux.left (none_taken takes (λ e. sym none ∙ fits.asked e));
     }
 
-    row1 : NextRow 1
-    row1 st imm dest source a used other fits aux = record {
-      state = _;
-      is = refl;
-      view = refl;
-      primary = fits.primary;
-      aux = aux.left (none_taken takes fits.asked);
-    }
+    abbrev after_row : ℕ → State → Bool → ℕ → ℕ → ℕ → State
+    after_row k st imm dest source a = left_in (λ after. after) st (executed w st (instr k imm dest source a))
 
-    row2 : NextRow 2
-    row2 st imm dest source a used other fits aux = record {
-      state = _;
-      is = refl;
-      view = refl;
-      primary = fits.primary;
-      aux = aux.left (none_taken takes fits.asked);
-    }
+    abbrev step_row : ℕ → State → Bool → ℕ → ℕ → ℕ → View
+    step_row k st imm dest source a = stepped w (length x) (seen st gone ended) (instr k imm dest source a) o takes
 
-    row3 : NextRow 3
-    row3 st imm dest source a used other fits aux = record {
-      state = _;
-      is = refl;
-      view = refl;
-      primary = fits.primary;
-      aux = aux.left (none_taken takes fits.asked);
-    }
+    -- what such a step makes, and what it is to make
+    abbrev made : ℕ → State → Bool → ℕ → ℕ → ℕ → Next × List ℕ × List ℕ × Bool × ℕ × View
+    made k st imm dest source a =
+        let after = after_row k st imm dest source a in
+        let step = step_row k st imm dest source a in
+        let asked = asks (seen st gone ended) (instr k imm dest source a) in
+        (executed w st (instr k imm dest source a), after.primary, after.aux, asked, step.taken, seen after gone step.ended)
 
-    row4 : NextRow 4
-    row4 st imm dest source a used other fits aux = record {
-      state = _;
-      is = refl;
-      view = refl;
-      primary = fits.primary;
-      aux = aux.left (none_taken takes fits.asked);
-    }
+    abbrev wanted : ℕ → State → Bool → ℕ → ℕ → ℕ → Next × List ℕ × List ℕ × Bool × ℕ × View
+    wanted k st imm dest source a = (Next.Gone (after_row k st imm dest source a), st.primary, st.aux, false, gone, step_row k st imm dest source a)
 
-    row5 : NextRow 5
-    row5 st imm dest source a used other fits aux = record {
-      state = _;
-      is = refl;
-      view = refl;
-      primary = fits.primary;
-      aux = aux.left (none_taken takes fits.asked);
-    }
+    goes : (k : ℕ) (st : State) → made k st ≡ wanted k st → RowHolds k st
+    goes k st is imm dest source a other fits aux =
+        let at = ap (λ f. f imm dest source a) is in
+        went st (instr k imm dest source a) (after_row k st imm dest source a) (ap (λ p. p.0) at) fits aux (ap (λ p. p.1) at) (ap (λ p. p.2) at)
+        (ap (λ p. p.3) at) (ap (λ p. p.4) at) (ap (λ p. p.5) at)
 
-    row6 : NextRow 6
-    row6 st imm dest source a used other fits aux = record {
-      state = _;
-      is = refl;
-      view = refl;
-      primary = fits.primary;
-      aux = aux.left (none_taken takes fits.asked);
-    }
+    -- all rows but the loads and the read compute, some of them once the flag is known
+    plain : (k : ℕ) → made k ≡ wanted k → NextRow k
+    plain k is st = goes k st (ap (λ f. f st) is)
 
-    row7 : NextRow 7
-    row7 st imm dest source a used other fits aux = record {
-      state = _;
-      is = refl;
-      view = refl;
-      primary = fits.primary;
-      aux = aux.left (none_taken takes fits.asked);
-    }
-
-    row8 : NextRow 8
-    row8 st imm dest source a used other fits aux = record {
-      state = _;
-      is = refl;
-      view = refl;
-      primary = fits.primary;
-      aux = aux.left (none_taken takes fits.asked);
-    }
-
-    row9 : NextRow 9
-    row9 st imm dest source a used other fits aux = record {
-      state = _;
-      is = refl;
-      view = refl;
-      primary = fits.primary;
-      aux = aux.left (none_taken takes fits.asked);
-    }
-
-    row10 : NextRow 10
-    row10 st imm dest source a used other fits aux = record {
-      state = _;
-      is = refl;
-      view = refl;
-      primary = fits.primary;
-      aux = aux.left (none_taken takes fits.asked);
-    }
-
-    row11 : NextRow 11
-    row11 st imm dest source a used other fits aux = record {
-      state = _;
-      is = refl;
-      view = refl;
-      primary = fits.primary;
-      aux = aux.left (none_taken takes fits.asked);
-    }
-
-    row12 : NextRow 12
-    row12 st imm dest source a used other fits aux = record {
-      state = _;
-      is = refl;
-      view = refl;
-      primary = fits.primary;
-      aux = aux.left (none_taken takes fits.asked);
-    }
-
-    row13 : NextRow 13
-    row13 st imm dest source a used other fits aux = record {
-      state = _;
-      is = refl;
-      view = refl;
-      primary = fits.primary;
-      aux = aux.left (none_taken takes fits.asked);
-    }
-
-    row14 : NextRow 14
-    row14 st imm dest source a used other fits aux = record {
-      state = _;
-      is = refl;
-      view = refl;
-      primary = fits.primary;
-      aux = aux.left (none_taken takes fits.asked);
-    }
-
-    row15 : NextRow 15
-    row15 st imm dest source a used other fits aux = record {
-      state = _;
-      is = refl;
-      view = refl;
-      primary = fits.primary;
-      aux = aux.left (none_taken takes fits.asked);
-    }
-
-    row16 : NextRow 16
-    row16 st imm dest source a used other fits aux = record {
-      state = _;
-      is = refl;
-      view = refl;
-      primary = fits.primary;
-      aux = aux.left (none_taken takes fits.asked);
-    }
-
-    row17 : NextRow 17
-    row17 st imm dest source a used other fits aux = record {
-      state = _;
-      is = refl;
-      view = refl;
-      primary = fits.primary;
-      aux = aux.left (none_taken takes fits.asked);
-    }
-
-    row18 : NextRow 18
-    row18 st imm dest source a used other fits aux = record {
-      state = _;
-      is = refl;
-      view = refl;
-      primary = fits.primary;
-      aux = aux.left (none_taken takes fits.asked);
-    }
-
-    row20 : NextRow 20
-    row20 st imm dest source a used other fits aux = record {
-      state = _;
-      is = refl;
-      view = refl;
-      primary = fits.primary;
-      aux = aux.left (none_taken takes fits.asked);
-    }
-
-    row26 : NextRow 26
-    row26 st imm dest source a used other fits aux = record {
-      state = _;
-      is = refl;
-      view = refl;
-      primary = fits.primary;
-      aux = aux.left (none_taken takes fits.asked);
-    }
-
-    row28 : NextRow 28
-    row28 st imm dest source a used other fits aux = record {
-      state = _;
-      is = refl;
-      view = refl;
-      primary = fits.primary;
-      aux = aux.left (none_taken takes fits.asked);
-    }
-
-    row19 : NextRow 19
-    row19 = by_flag (RowHolds 19)
-        (λ st imm dest source a used other fits aux. record {
-          state = _;
-          is = refl;
-          view = refl;
-          primary = fits.primary;
-          aux = aux.left (none_taken takes fits.asked);
-        })
-        (λ st imm dest source a used other fits aux. record {
-          state = _;
-          is = refl;
-          view = refl;
-          primary = fits.primary;
-          aux = aux.left (none_taken takes fits.asked);
-        })
-
-    row21 : NextRow 21
-    row21 = by_flag (RowHolds 21)
-        (λ st imm dest source a used other fits aux. record {
-          state = _;
-          is = refl;
-          view = refl;
-          primary = fits.primary;
-          aux = aux.left (none_taken takes fits.asked);
-        })
-        (λ st imm dest source a used other fits aux. record {
-          state = _;
-          is = refl;
-          view = refl;
-          primary = fits.primary;
-          aux = aux.left (none_taken takes fits.asked);
-        })
-
-    row22 : NextRow 22
-    row22 = by_flag (RowHolds 22)
-        (λ st imm dest source a used other fits aux. record {
-          state = _;
-          is = refl;
-          view = refl;
-          primary = fits.primary;
-          aux = aux.left (none_taken takes fits.asked);
-        })
-        (λ st imm dest source a used other fits aux. record {
-          state = _;
-          is = refl;
-          view = refl;
-          primary = fits.primary;
-          aux = aux.left (none_taken takes fits.asked);
-        })
+    flagged : (k : ℕ) → ((st : State) → made k (record st { flag = true }) ≡ wanted k (record st { flag = true }))
+        → ((st : State) → made k (record st { flag = false }) ≡ wanted k (record st { flag = false })) → NextRow k
+    flagged k set clear st = goes k st (by_flag (λ st. made k st ≡ wanted k st) set clear st)
 
     -- loads, whose result is of the data word
     row27 : NextRow 27
-    row27 st imm dest source a used other fits aux =
+    row27 st imm dest source a other fits aux =
         let at = operand st (instr 27 imm dest source a) in
         let word = looked st (instr 27 imm dest source a) fits fits.old in
         record {
@@ -355,7 +143,7 @@ module _ (w : ℕ) (x : List ℕ) (gone ended o : ℕ) (takes : Bool) where
         }
 
     row29 : NextRow 29
-    row29 st imm dest source a used other fits aux =
+    row29 st imm dest source a other fits aux =
         record {
           state = _;
           is = ap (moves w st dest) (sym (looked st (instr 29 imm dest source a) fits fits.old));
@@ -367,67 +155,12 @@ module _ (w : ℕ) (x : List ℕ) (gone ended o : ℕ) (takes : Bool) where
     -- all but the read, whose proof stands in a file of its own
     pub next_row : NextRow 30 → (st : State) (i : Instr) → i.op < 32 → among unused_ops i.op ≡ false → (i.op == 31) ≡ false → Fits st i → AuxTape st i
         → Came st i
-    next_row row30 st i small = below 32 NextRow each i.op small st i.imm i.dest i.source i.a
+    next_row row30 st i small used =
+        let all = each_map (λ k. made k ≡ wanted k) NextRow plain in
+        for_opcode NextRow (all word_ops (refl, (refl, (refl, (refl, (refl, (refl, (refl, (refl, (refl, (refl, (refl, (refl, (refl, tt))))))))))))))
+        (all compare_ops (refl, (refl, (refl, (refl, (refl, tt))))))
+        (plain 18 refl, (flagged 19 (λ _. refl) (λ _. refl), (plain 20 refl, (flagged 21 (λ _. refl) (λ _. refl), (flagged 22 (λ _. refl) (λ _. refl), tt)))))
+        (plain 26 refl, (row27, (plain 28 refl, (row29, (row30, (row31, tt)))))) i.op small used st i.imm i.dest i.source i.a
       where
-        each : EachBelow 32 NextRow
-        each = (
-          row31,
-          (
-            row30,
-            (
-              row29,
-              (
-                row28,
-                (
-                  row27,
-                  (
-                    row26,
-                    (
-                      unused 25 refl,
-                      (
-                        unused 24 refl,
-                        (
-                          unused 23 refl,
-                          (
-                            row22,
-                            (
-                              row21,
-                              (
-                                row20,
-                                (
-                                  row19,
-                                  (
-                                    row18,
-                                    (
-                                      row17,
-                                      (
-                                        row16,
-                                        (
-                                          row15,
-                                          (
-                                            row14,
-                                            (
-                                              row13,
-                                              (
-                                                row12,
-                                                (row11, (row10, (row9, (row8, (row7, (row6, (row5, (row4, (row3, (row2, (row1, (row0, tt)))))))))))),
-                                              ),
-                                            ),
-                                          ),
-                                        ),
-                                      ),
-                                    ),
-                                  ),
-                                ),
-                              ),
-                            ),
-                          ),
-                        ),
-                      ),
-                    ),
-                  ),
-                ),
-              ),
-            ),
-          ),
-        )
+        row31 : NextRow 31
+        row31 st imm dest source a other = absurd (true≢false other)

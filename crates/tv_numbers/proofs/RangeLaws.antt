@@ -1,6 +1,6 @@
 -- The numbers of a step stay in range.
 use Rattle.std.proofs.Common.{◌≡◌, ℕ, zero, suc, ◌+◌, ◌-◌, ◌*◌, ◌/◌, ◌%◌, ◌^◌, ◌<◌, ◌≤◌, ◌==◌, nat_lt, Bool, true, false, not, ◌&&◌, ◌||◌, if◌then◌else◌}
-use Rattle.std.proofs.Common.{List, length, refl, sym, ◌∙◌, arith, inl, inr, true≢false}
+use Rattle.std.proofs.Common.{List, drop, length, refl, sym, ◌∙◌, arith, inl, inr, true≢false}
 use Rattle.std.specs.Prelude.{slice_index, slice_set}
 use Rattle.std.specs.Int.Bits.{and_lt}
 use Rattle.std.proofs.Math.Nat.{div-le_self, mod-lt, mod-le}
@@ -40,76 +40,21 @@ module _ (w : ℕ) (width : IsWidth w) where
 
   -- ---- the tables
   pub results_small : (x a o : ℕ) (finds : Bool) → Word x → Word a → Word o → EachGives Word (results w x a o finds)
-  results_small x a o finds hx ha ho = (
-    and_lt w x a hx ha,
-    (
-      or_lt w x a hx ha,
-      (
-        xor_lt w x a hx ha,
-        (
-          omega (arith, ha),
-          (
-            mod-lt (x + a) some_words,
-            (
-              mod-lt (x + (2 ^ w - a)) some_words,
-              (
-                mod-lt (x * a) some_words,
-                (
-                  high_small w width x a hx ha,
-                  (
-                    signed_small w width x a,
-                    (
-                      cond_both (a == 0) 0 (x / a) Word (λ _. some_words) (λ _. let most = div-le_self x a in omega (arith, most, hx)),
-                      (
-                        cond_both (a == 0) 0 (x % a) Word (λ _. some_words) (λ _. let most = mod-le x a in omega (arith, most, hx)),
-                        (
-                          cond_both (nat_lt a w) (x * 2 ^ a % 2 ^ w) 0 Word (λ _. mod-lt (x * 2 ^ a) some_words) (λ _. some_words),
-                          (
-                            cond_both (nat_lt a w) (x / 2 ^ a) 0 Word (λ _. let most = div-le_self x (2 ^ a) in omega (arith, most, hx)) (λ _. some_words),
-                            (ha, (byte_small o (a % (w / 8)), (ho, (cond_both finds o 0 Word (λ _. ho) (λ _. some_words), tt)))),
-                          ),
-                        ),
-                      ),
-                    ),
-                  ),
-                ),
-              ),
-            ),
-          ),
-        ),
-      ),
-    ),
-  )
+  results_small x a o finds hx ha ho =
+      let table = results w x a o finds in
+      let quotient = cond_both (a == 0) 0 (x / a) Word (λ _. some_words) (λ _. let most = div-le_self x a in omega (arith, most, hx)) in
+      let remainder = cond_both (a == 0) 0 (x % a) Word (λ _. some_words) (λ _. let most = mod-le x a in omega (arith, most, hx)) in
+      let left = cond_both (nat_lt a w) (x * 2 ^ a % 2 ^ w) 0 Word (λ _. mod-lt (x * 2 ^ a) some_words) (λ _. some_words) in
+      let right = cond_both (nat_lt a w) (x / 2 ^ a) 0 Word (λ _. let most = div-le_self x (2 ^ a) in omega (arith, most, hx)) (λ _. some_words) in
+      let read = cond_both finds o 0 Word (λ _. ho) (λ _. some_words) in
+      let shifts : EachGives Word (drop 11 table) = (left, (right, (ha, (byte_small o (a % (w / 8)), (ho, (read, tt)))))) in
+      let products : EachGives Word (drop 6 table) =
+      (mod-lt (x * a) some_words, (high_small w width x a hx ha, (signed_small w width x a, (quotient, (remainder, shifts))))) in
+      let sums : EachGives Word (drop 3 table) = (omega (arith, ha), (mod-lt (x + a) some_words, (mod-lt (x + (2 ^ w - a)) some_words, products))) in
+      (and_lt w x a hx ha, (or_lt w x a hx ha, (xor_lt w x a hx ha, sums)))
 
   pub flags_small : (x a : ℕ) (finds : Bool) (flag : ℕ) → flag < 2 → EachGives (λ f. f < 2) (flags w x a finds flag)
-  flags_small x a finds flag h = (
-    flag_small _,
-    (
-      flag_small _,
-      (
-        flag_small _,
-        (
-          flag_small _,
-          (
-            flag_small _,
-            (
-              flag_small _,
-              (
-                flag_small _,
-                (
-                  flag_small _,
-                  (
-                    flag_small _,
-                    (flag_small _, (flag_small _, (flag_small _, (flag_small _, (flag_small _, (flag_small _, (flag_small _, (flag_small _, (h, tt))))))))),
-                  ),
-                ),
-              ),
-            ),
-          ),
-        ),
-      ),
-    ),
-  )
+  flags_small x a finds flag h = search (flag_small, h)
 
   -- a place of an instruction
   abbrev Place : ℕ → Type 0

@@ -129,5 +129,5 @@ module _ (w : ℕ) (x : List ℕ) (gone ended o : ℕ) (rest : List ℕ) (st : S
   ]
 
 pub row30 : (w : ℕ) (x : List ℕ) (gone ended o : ℕ) (takes : Bool) (rest : List ℕ) → NextRow w x gone ended o takes rest 30
-row30 w x gone ended o true rest st imm dest source a used other fits aux = read_aux w x gone ended o rest st imm dest source a fits aux
-row30 w x gone ended o false rest st imm dest source a used other fits aux = read_nothing w x gone ended o rest st imm dest source a fits aux
+row30 w x gone ended o true rest st imm dest source a other fits aux = read_aux w x gone ended o rest st imm dest source a fits aux
+row30 w x gone ended o false rest st imm dest source a other fits aux = read_nothing w x gone ended o rest st imm dest source a fits aux

@@ -69,8 +69,10 @@ pub record DoesStep (w : ℕ) (x : List ℕ) (time : ℕ) (b : Transition) : Typ
   pub traced : (st : State) → AreBytes st.memory → Matches x b.now st → HoldsOlds w x b st → lines_in b ≡ step_lines w (length x) st time
   pub reads : (st : State) → AreBytes st.memory → Matches x b.now st → HoldsOlds w x b st → b.takes ≡ true → reads_aux w st ≡ true
   pub sets : (st : State) → AreBytes st.memory → Matches x b.now st → HoldsOlds w x b st → reads_aux w st ≡ true → b.takes ≡ false → b.after.ended ≡ 1
-  pub keeps : (st : State) → AreBytes st.memory → Matches x b.now st → HoldsOlds w x b st → (reads_aux w st ≡ true → b.takes ≡ true) → b.after.ended ≡ b.now.ended
-  pub goes : (st : State) (rest : List ℕ) → AreBytes st.memory → Matches x b.now st → HoldsOlds w x b st → AuxFits w st b.takes b.word rest → b.answers ≡ false → Leads w x b st rest
+  pub keeps : (st : State) → AreBytes st.memory → Matches x b.now st → HoldsOlds w x b st → (reads_aux w st ≡ true → b.takes ≡ true)
+      → b.after.ended ≡ b.now.ended
+  pub goes : (st : State) (rest : List ℕ) → AreBytes st.memory → Matches x b.now st → HoldsOlds w x b st → AuxFits w st b.takes b.word rest → b.answers ≡ false
+      → Leads w x b st rest
   pub stands : (st : State) → AreBytes st.memory → Matches x b.now st → HoldsOlds w x b st → b.answers ≡ true → Halts w b st
 
 -- the step in numbers is the machine's

@@ -82,7 +82,8 @@ data_line w n v i o time = record {
   cell = if takes_primary v i n then tape_cell v.taken else if touches v i then operand_word v i / word_size w else NULL_CELL;
   time = time;
   old = old_in n v i o;
-  new = if i.op == STORE_W then other_word v i else if i.op == STORE_B then with_byte_in o (operand_word v i % word_size w) (other_word v i % 256) else old_in n v i o;
+  new = if i.op == STORE_W then other_word v i else if i.op == STORE_B then with_byte_in o (operand_word v i % word_size w) (other_word v i % 256)
+      else old_in n v i o;
 }
 
 -- ---- all that a step does

@@ -4,11 +4,14 @@
 -- auxiliary tape, and `found` says whether a read found a word.
 use Rattle.std.specs.Prelude.{ℕ, ◌+◌, ◌-◌, ◌%◌, ◌^◌, Bool, not, ◌==◌, if◌then◌else◌, List, [], ◌∷◌}
 use Rattle.tv_isa.specs.Opcodes.{Entry, keeper_ops, straight_ops}
-use Rattle.tv_isa.specs.declared.opcode.TheConstants.{AND, OR, XOR, NOT, ADD, SUB, MULL, UMULH, SMULH, UDIV, UMOD, SHL, SHR, CMPE, CMPA, CMPAE, CMPG, CMPGE, MOV, CMOV, JMP, CJMP, CNJMP, LOAD_B, LOAD_W, READ, ANSWER}
+use Rattle.tv_isa.specs.declared.opcode.TheConstants.{AND, OR, XOR, NOT, ADD, SUB, MULL, UMULH, SMULH, UDIV, UMOD, SHL, SHR, CMPE, CMPA, CMPAE, CMPG, CMPGE}
+use Rattle.tv_isa.specs.declared.opcode.TheConstants.{MOV, CMOV, JMP, CJMP, CNJMP, LOAD_B, LOAD_W, READ, ANSWER}
 use Rattle.tv_mem.specs.Bytes.{byte_of}
 use Rattle.tv_step.specs.Rows.{word_size, instruction_size}
-use Rattle.tv_word.specs.Operations.{and_result, or_result, xor_result, not_result, bitwise_flag, add_result, add_flag, sub_result, sub_flag, mull_result, umulh_result, product_flag, smulh_result, smulh_flag}
-use Rattle.tv_word.specs.Operations.{udiv_result, umod_result, division_flag, shl_result, shl_flag, shr_result, shr_flag, cmpe_flag, cmpa_flag, cmpae_flag, cmpg_flag, cmpge_flag}
+use Rattle.tv_word.specs.Operations.{and_result, or_result, xor_result, not_result, bitwise_flag, add_result, add_flag, sub_result, sub_flag, mull_result}
+use Rattle.tv_word.specs.Operations.{umulh_result, product_flag, smulh_result, smulh_flag}
+use Rattle.tv_word.specs.Operations.{udiv_result, umod_result, division_flag, shl_result, shl_flag, shr_result, shr_flag, cmpe_flag, cmpa_flag, cmpae_flag}
+use Rattle.tv_word.specs.Operations.{cmpg_flag, cmpge_flag}
 use Rattle.tv_word.specs.Word.{flag_of}
 
 -- what goes into the destination register, by the instructions that may write it

@@ -265,7 +265,7 @@ arithmetic_sound w width z next op other f operand k x a has meets =
     let summed = sums_sound w width z op other f operand k x a has r.answer r.next rows shifted.same m2.0 in
     let multiplied = products_sound w width z op other f operand k x a has r.answer sums.next rows shifted.same m3.0 in
     record {
-      halves = halves_by w width z r.answer.row f x a has.word (HasBits-below has.taken.bits) k has.opcode.within has.opcode.used
+      halves = halves_by w width z r.answer.row f x a has.word (HasBits-below has.taken.bits) k
           (HasBits-below rows.decomposes.low) (HasBits-below rows.decomposes.high) (record {
             bitwise = summed.bitwise;
             sum = summed.sum;

@@ -1,6 +1,6 @@
 -- What the double row holds by the operation of an opcode, and the halves that this makes.
-use Rattle.std.proofs.Common.{◌≡◌, ℕ, ◌+◌, ◌-◌, ◌/◌, ◌%◌, ◌^◌, ◌<◌, ◌==◌, nat_lt, not, Bool, true, false, if◌then◌else◌, List, [], ◌∷◌, refl, sym}
-use Rattle.std.proofs.Common.{◌∙◌, ap, subst, arith, mod-lt, true≢false}
+use Rattle.std.proofs.Common.{◌≡◌, ℕ, ◌+◌, ◌-◌, ◌/◌, ◌%◌, ◌^◌, ◌<◌, ◌==◌, nat_lt, not, Bool, true, false, if◌then◌else◌, List, [], ◌∷◌, drop, refl, sym}
+use Rattle.std.proofs.Common.{◌∙◌, ap, arith, mod-lt, true≢false}
 use Rattle.std.proofs.Math.Pow.{pow-lt}
 use Rattle.std.specs.Prelude.{◌&&◌, slice_index, bit_and, bit_xor}
 use Rattle.std.proofs.lemmas.Bool.{and_parts, eqb-true, not-true}
@@ -25,15 +25,13 @@ use Rattle.tv_shift.proofs.RowShiftLaws.{right_shift_complete}
 use Rattle.tv_shift.specs.RowShift.{IsRightShift, shifted_word}
 use Rattle.tv_word.proofs.WidthLaws.{width_short}
 use Rattle.tv_word.specs.Widths.{IsWidth}
-use Rattle.tv_parts.proofs.OpcodeCases.{for_opcode, unused}
+use Rattle.tv_numbers.proofs.Cases.{out, EachOf, each_of, word_ops, compare_ops, for_opcode}
+use Rattle.tv_parts.proofs.OpcodeCases.{EachEntry, by_entry}
 use Rattle.tv_parts.specs.Arithmetic.{bitwise_ops, difference_ops, strict_ops, signed_ops, product_ops, division_ops, low_number, high_number}
 use Rattle.tv_parts.specs.Rows.{covers, low_halves, high_halves, AreHalves}
 use Rattle.tv_word.specs.Word.{flag_of}
 
 -- ---- groups of opcodes
-pub out : {A : Type 0} → false ≡ true → A
-out e = absurd (true≢false (sym e))
-
 -- an opcode of one group is in no other that has none of its opcodes
 -- no opcode stands in both lists
 abbrev pub apart : List ℕ → List ℕ → Bool
@@ -48,19 +46,6 @@ apart_is (i ∷ ks) js k is t =
   where
     by_test : (b : Bool) → (i == k) ≡ b → among js i ≡ false → (among ks k ≡ true → among js k ≡ false) → among (i ∷ ks) k ≡ true → among js k ≡ false
     by_test true e here rest t = ap (among js) (sym (eqb-true i k e)) ∙ here
-    by_test false e here rest t = rest (sym (ap (λ b. if b then true else among ks k) e) ∙ t)
-
--- one proof for each opcode of a group
-abbrev pub EachOf : (ℕ → Type 0) → List ℕ → Type 0
-EachOf Q [] = Unit {0}
-EachOf Q (k ∷ ks) = Q k × EachOf Q ks
-
-each_of : (Q : ℕ → Type 0) (ks : List ℕ) → EachOf Q ks → (k : ℕ) → among ks k ≡ true → Q k
-each_of Q [] each k t = out t
-each_of Q (i ∷ ks) each k t = by_test (i == k) refl each.0 (each_of Q ks each.1 k) t
-  where
-    by_test : (b : Bool) → (i == k) ≡ b → Q i → (among ks k ≡ true → Q k) → among (i ∷ ks) k ≡ true → Q k
-    by_test true e here rest t = subst Q (eqb-true i k e) here
     by_test false e here rest t = rest (sym (ap (λ b. if b then true else among ks k) e) ∙ t)
 
 -- ---- what the row holds
@@ -81,209 +66,74 @@ carried : (w : ℕ) → IsWidth w → (x a : ℕ) → x < 2 ^ w → a < 2 ^ w �
 carried w width x a h k = grind (arith, nat_tests)
 
 module _ (w : ℕ) (width : IsWidth w) (z : List ℕ) (row : DoubleRow) (f x a : ℕ) (x_word : x < 2 ^ w) (a_word : a < 2 ^ w) where
-  Low : ℕ → Type 0
-  Low k = Operated w z row f k x a → covers (low_halves w x a) k ≡ true → slice_index z row.low ≡ chosen (low_halves w x a) k
+  abbrev Low : ℕ → ℕ → Type 0
+  Low k n = Operated w z row f k x a → slice_index z row.low ≡ n
 
-  High : ℕ → Type 0
-  High k = Operated w z row f k x a → covers (high_halves w x a) k ≡ true → slice_index z row.high ≡ chosen (high_halves w x a) k
+  abbrev High : ℕ → ℕ → Type 0
+  High k n = Operated w z row f k x a → slice_index z row.high ≡ n
 
   low_difference : (k : ℕ) → among difference_ops k ≡ true → flag_of (among strict_ops k) ≡ 0 → Operated w z row f k x a
       → slice_index z row.low ≡ (x + (2 ^ w - a)) % 2 ^ w
   low_difference k t strict o =
       (o.difference t).low ∙ ap (λ n. (x + (2 ^ w - a) - n) % 2 ^ w) strict ∙ ap (λ n. n % 2 ^ w) (minus_none (x + (2 ^ w - a)))
 
-  low_is : (k : ℕ) → k < 32 → among unused_ops k ≡ false → Low k
-  unfolding Low
-  low_is = for_opcode Low (
-    (λ _ _. out),
-    (
-      (λ _ _. out),
-      (
-        (λ _ _. out),
+  low_is : (k : ℕ) → covers (low_halves w x a) k ≡ true → Low k (chosen (low_halves w x a) k)
+  low_is =
+      let rest : EachEntry Low (drop 3 (low_halves w x a)) = (
+        ((λ o. (o.product refl).low), tt),
         (
-          (λ _ _. out),
+          ((λ o. (o.signed_product refl).low), tt),
+          (((λ o. (o.division refl).rem), tt), (((λ o. (o.left refl).low ∙ any_distance.left w x a), tt), tt)),
+        ),
+      ) in
+      by_entry Low (low_halves w x a) (
+        ((λ o. (o.bitwise refl).0), ((λ o. (o.bitwise refl).0), ((λ o. (o.bitwise refl).0), tt))),
+        (
           (
-            (λ _ _. out),
+            (λ o. (o.sum refl).low),
+            tt,
+          ),
+          ((low_difference 5 refl refl, (low_difference 13 refl refl, tt)), rest),
+        ),
+      )
+
+  high_is : (k : ℕ) → covers (high_halves w x a) k ≡ true → High k (chosen (high_halves w x a) k)
+  high_is =
+      let rest : EachEntry High (drop 6 (high_halves w x a)) = (
+        ((λ o. (o.product refl).high), ((λ o. (o.product refl).high), tt)),
+        (
+          ((λ o. (o.signed_product refl).high), tt),
+          (
+            ((λ o. (o.division refl).quot), tt),
             (
-              (λ _ _. out),
-              (
-                unused,
-                (
-                  unused,
-                  (
-                    unused,
-                    (
-                      (λ _ _. out),
-                      (
-                        (λ _ _. out),
-                        (
-                          (λ _ _. out),
-                          (
-                            (λ _ _. out),
-                            (
-                              (λ _ _. out),
-                              (
-                                (λ _ _. out),
-                                (
-                                  (λ _ _. out),
-                                  (
-                                    (λ _ _. out),
-                                    (
-                                      (λ _ _. out),
-                                      (
-                                        (λ _ o _. low_difference 13 refl refl o),
-                                        (
-                                          (λ _ _. out),
-                                          (
-                                            (λ _ o _. (o.left refl).low ∙ any_distance.left w x a),
-                                            (
-                                              (λ _ o _. (o.division refl).rem),
-                                              (
-                                                (λ _ _. out),
-                                                (
-                                                  (λ _ o _. (o.signed_product refl).low),
-                                                  (
-                                                    (λ _ _. out),
-                                                    (
-                                                      (λ _ o _. (o.product refl).low),
-                                                      (
-                                                        (λ _ o _. low_difference 5 refl refl o),
-                                                        (
-                                                          (λ _ o _. (o.sum refl).low),
-                                                          (
-                                                            (λ _ _. out),
-                                                            (
-                                                              (λ _ o _. (o.bitwise refl).0),
-                                                              ((λ _ o _. (o.bitwise refl).0), ((λ _ o _. (o.bitwise refl).0), tt)),
-                                                            ),
-                                                          ),
-                                                        ),
-                                                      ),
-                                                    ),
-                                                  ),
-                                                ),
-                                              ),
-                                            ),
-                                          ),
-                                        ),
-                                      ),
-                                    ),
-                                  ),
-                                ),
-                              ),
-                            ),
-                          ),
-                        ),
-                      ),
-                    ),
-                  ),
-                ),
-              ),
+              ((λ o. (o.right refl).high ∙ any_distance.right w x a), tt),
+              tt,
             ),
           ),
         ),
-      ),
-    ),
-  )
-
-  high_is : (k : ℕ) → k < 32 → among unused_ops k ≡ false → High k
-  unfolding High
-  high_is = for_opcode High (
-    (λ _ _. out),
-    (
-      (λ _ _. out),
-      (
-        (λ _ _. out),
+      ) in
+      let signed : EachEntry High (drop 3 (high_halves w x a)) =
+      (((λ o. (o.difference refl).high), tt), (((λ o. (o.difference refl).high), tt), (((λ o. (o.difference refl).high), tt), rest))) in
+      by_entry High (high_halves w x a) (
+        ((λ o. (o.bitwise refl).1), ((λ o. (o.bitwise refl).1), ((λ o. (o.bitwise refl).1), tt))),
         (
-          (λ _ _. out),
+          ((λ o. (o.sum refl).high ∙ carried w width x a x_word a_word), tt),
           (
-            (λ _ _. out),
             (
-              (λ _ _. out),
+              (λ o. (o.difference refl).high),
               (
-                unused,
-                (
-                  unused,
-                  (
-                    unused,
-                    (
-                      (λ _ _. out),
-                      (
-                        (λ _ _. out),
-                        (
-                          (λ _ _. out),
-                          (
-                            (λ _ _. out),
-                            (
-                              (λ _ _. out),
-                              (
-                                (λ _ o _. (o.difference refl).high),
-                                (
-                                  (λ _ o _. (o.difference refl).high),
-                                  (
-                                    (λ _ o _. (o.difference refl).high),
-                                    (
-                                      (λ _ o _. (o.difference refl).high),
-                                      (
-                                        (λ _ o _. (o.difference refl).high),
-                                        (
-                                          (λ _ o _. (o.right refl).high ∙ any_distance.right w x a),
-                                          (
-                                            (λ _ _. out),
-                                            (
-                                              (λ _ _. out),
-                                              (
-                                                (λ _ o _. (o.division refl).quot),
-                                                (
-                                                  (λ _ o _. (o.signed_product refl).high),
-                                                  (
-                                                    (λ _ o _. (o.product refl).high),
-                                                    (
-                                                      (λ _ o _. (o.product refl).high),
-                                                      (
-                                                        (λ _ o _. (o.difference refl).high),
-                                                        (
-                                                          (λ _ o _. (o.sum refl).high ∙ carried w width x a x_word a_word),
-                                                          (
-                                                            (λ _ _. out),
-                                                            (
-                                                              (λ _ o _. (o.bitwise refl).1),
-                                                              ((λ _ o _. (o.bitwise refl).1), ((λ _ o _. (o.bitwise refl).1), tt)),
-                                                            ),
-                                                          ),
-                                                        ),
-                                                      ),
-                                                    ),
-                                                  ),
-                                                ),
-                                              ),
-                                            ),
-                                          ),
-                                        ),
-                                      ),
-                                    ),
-                                  ),
-                                ),
-                              ),
-                            ),
-                          ),
-                        ),
-                      ),
-                    ),
-                  ),
-                ),
+                (λ o. (o.difference refl).high),
+                ((λ o. (o.difference refl).high), tt),
               ),
             ),
+            signed,
           ),
         ),
-      ),
-    ),
-  )
+      )
 
-  pub halves_by : (k : ℕ) → k < 32 → among unused_ops k ≡ false → slice_index z row.low < 2 ^ w → slice_index z row.high < 2 ^ w
+  pub halves_by : (k : ℕ) → slice_index z row.low < 2 ^ w → slice_index z row.high < 2 ^ w
       → Operated w z row f k x a → AreHalves w x a k (slice_index z row.low) (slice_index z row.high)
-  unfolding Low High
-  halves_by k within used low high o = record { low_word = low; high_word = high; low_half = low_is k within used o; high_half = high_is k within used o }
+  halves_by k low high o = record { low_word = low; high_word = high; low_half = λ t. low_is k t o; high_half = λ t. high_is k t o }
 
 -- ---- the other way round: a row that holds the numbers
 module _ (w : ℕ) (width : IsWidth w) (z : List ℕ) (row : DoubleRow) (f k x a o : ℕ) where
@@ -322,8 +172,8 @@ pub record FitsRow (w low high : ℕ) (signed : Bool) : Type 0 where
   pub high_word : high < 2 ^ w
   pub row : signed ≡ false → IsRow w low high
 
-of_row : (w low high : ℕ) (signed : Bool) → IsRow w low high → FitsRow w low high signed
-of_row w low high signed r = record { low_word = r.low_word; high_word = r.high_word; row = λ _. r }
+of_row : {w low high : ℕ} {signed : Bool} → IsRow w low high → FitsRow w low high signed
+of_row r = record { low_word = r.low_word; high_word = r.high_word; row = λ _. r }
 
 data_row : (w : ℕ) → IsWidth w → (o : ℕ) → o < 2 ^ w → IsRow w o 0
 data_row w width o h = record { low_word = h; high_word = omega arith; edge = λ full. absurd (no_edge w width full) }
@@ -349,105 +199,28 @@ module _ (w : ℕ) (width : IsWidth w) (x a o : ℕ) (x_word : x < 2 ^ w) (a_wor
   Fitting k = FitsRow w (low_number w k x a o) (high_number w k x a) (among (8 ∷ []) k)
 
   by_data : FitsRow w o 0 false
-  by_data = of_row w o 0 false (data_row w width o o_word)
+  by_data = of_row (data_row w width o o_word)
 
   by_bits : FitsRow w (bit_and x a) (bit_xor x a) false
-  by_bits = of_row w (bit_and x a) (bit_xor x a) false (bitwise_complete.row w width x a x_word a_word)
+  by_bits = of_row (bitwise_complete.row w width x a x_word a_word)
 
   pub numbers_fit : (k : ℕ) → k < 32 → among unused_ops k ≡ false → Fitting k
   numbers_fit =
       let v = shifted_word w x a in
       let v_word = shifted_below w x a x_word in
-      let place = place_below w width a in
-      let signed = row_signed_product_complete.words w width x a in
-      for_opcode Fitting (
-        (λ _. by_data),
-        (
-          (λ _. by_data),
-          (
-            (λ _. by_data),
-            (
-              (λ _. by_data),
-              (
-                (λ _. by_data),
-                (
-                  (λ _. by_data),
-                  (
-                    unused,
-                    (
-                      unused,
-                      (
-                        unused,
-                        (
-                          (λ _. by_data),
-                          (
-                            (λ _. by_data),
-                            (
-                              (λ _. by_data),
-                              (
-                                (λ _. by_data),
-                                (
-                                  (λ _. by_data),
-                                  (
-                                    (λ _. of_row w _ _ false (row_difference_complete.row w width 1 0 x a)),
-                                    (
-                                      (λ _. of_row w _ _ false (row_difference_complete.row w width 1 1 x a)),
-                                      (
-                                        (λ _. of_row w _ _ false (row_difference_complete.row w width 0 0 x a)),
-                                        (
-                                          (λ _. of_row w _ _ false (row_difference_complete.row w width 0 1 x a)),
-                                          (
-                                            (λ _. of_row w _ _ false (row_difference_complete.row w width 0 0 x a)),
-                                            (
-                                              (λ _. of_row w _ _ false (right_shift_complete.row w width v (a % w) v_word place)),
-                                              (
-                                                (λ _. of_row w _ _ false (row_product_complete.row w width v (2 ^ (a % w)) v_word (power_below w width a))),
-                                                (
-                                                  (λ _. of_row w _ _ false (row_division_complete.row w width x a x_word a_word)),
-                                                  (
-                                                    (λ _. of_row w _ _ false (row_division_complete.row w width x a x_word a_word)),
-                                                    (
-                                                      (λ _. record { low_word = signed.0; high_word = signed.1; row = λ e. absurd (true≢false e) }),
-                                                      (
-                                                        (λ _. of_row w _ _ false (row_product_complete.row w width x a x_word a_word)),
-                                                        (
-                                                          (λ _. of_row w _ _ false (row_product_complete.row w width x a x_word a_word)),
-                                                          (
-                                                            (λ _. of_row w _ _ false (row_difference_complete.row w width 0 0 x a)),
-                                                            (
-                                                              (λ _. of_row w _ _ false (row_sum_complete.row w width x a x_word a_word)),
-                                                              (
-                                                                (λ _. by_data),
-                                                                ((λ _. by_bits), ((λ _. by_bits), ((λ _. by_bits), tt))),
-                                                              ),
-                                                            ),
-                                                          ),
-                                                        ),
-                                                      ),
-                                                    ),
-                                                  ),
-                                                ),
-                                              ),
-                                            ),
-                                          ),
-                                        ),
-                                      ),
-                                    ),
-                                  ),
-                                ),
-                              ),
-                            ),
-                          ),
-                        ),
-                      ),
-                    ),
-                  ),
-                ),
-              ),
-            ),
-          ),
-        ),
-      )
+      let words = row_signed_product_complete.words w width x a in
+      let difference = row_difference_complete.row w width in
+      let sum = row_sum_complete.row w width x a x_word a_word in
+      let product = row_product_complete.row w width x a x_word a_word in
+      let division = row_division_complete.row w width x a x_word a_word in
+      let left = row_product_complete.row w width v (2 ^ (a % w)) v_word (power_below w width a) in
+      let right = right_shift_complete.row w width v (a % w) v_word (place_below w width a) in
+      let signed : Fitting 8 = record { low_word = words.0; high_word = words.1; row = λ e. absurd (true≢false e) } in
+      let shifts : EachOf Fitting (drop 9 word_ops) = (of_row division, (of_row division, (of_row left, (of_row right, tt)))) in
+      let products : EachOf Fitting (drop 4 word_ops) = (of_row sum, (of_row (difference 0 0 x a), (of_row product, (of_row product, (signed, shifts))))) in
+      let orders : EachOf Fitting (drop 2 compare_ops) = (of_row (difference 0 0 x a), (of_row (difference 1 1 x a), (of_row (difference 1 0 x a), tt))) in
+      for_opcode Fitting (by_bits, (by_bits, (by_bits, (by_data, products)))) (of_row (difference 0 0 x a), (of_row (difference 0 1 x a), orders))
+      (by_data, (by_data, (by_data, (by_data, (by_data, tt))))) (by_data, (by_data, (by_data, (by_data, (by_data, (by_data, tt))))))
 
   -- at every opcode
   abbrev AreWords : ℕ → Type 0

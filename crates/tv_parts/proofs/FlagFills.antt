@@ -189,65 +189,22 @@ flag_complete w width z next n state op x f t v i low high result y o has values
     ) in
     Meets-join z left.list _ m1 (Meets-join z right.list _ m2 m3)
 
-flag_answer : (w : ℕ) (state : StateWires) (op : ℕ) (x : Bits) (f : ℕ) (t : TapeWires) (next : ℕ) → (next_flag_of w state op x f t next).answer ≡ next + 2
+flag_shape : (w : ℕ) (state : StateWires) (op : ℕ) (x : Bits) (f : ℕ) (t : TapeWires) (next : ℕ) → let made = next_flag_of w state op x f t next in
+    (made.answer ≡ next + 2) × (made.next ≡ next + 3) × (length made.list ≡ 3) × (terms_in made.list ≡ 35)
 unfolding next_flag_of times_of closed_of fresh put pure ◌>>=◌
-flag_answer w state op x f t next = omega arith
-
-flag_next : (w : ℕ) (state : StateWires) (op : ℕ) (x : Bits) (f : ℕ) (t : TapeWires) (next : ℕ) → (next_flag_of w state op x f t next).next ≡ next + 3
-unfolding next_flag_of times_of closed_of fresh put pure ◌>>=◌
-flag_next w state op x f t next = omega arith
-
-flag_count : (w : ℕ) (state : StateWires) (op : ℕ) (x : Bits) (f : ℕ) (t : TapeWires) (next : ℕ) → length (next_flag_of w state op x f t next).list ≡ 3
-unfolding next_flag_of times_of closed_of fresh put pure ◌>>=◌
-flag_count w state op x f t next = refl
-
-flag_terms : (w : ℕ) (state : StateWires) (op : ℕ) (x : Bits) (f : ℕ) (t : TapeWires) (next : ℕ) → terms_in (next_flag_of w state op x f t next).list ≡ 35
-unfolding next_flag_of times_of closed_of fresh put pure ◌>>=◌
-flag_terms w state op x f t next = refl
+flag_shape w state op x f t next = (omega arith, omega arith, refl, refl)
 
 pub flag_costs : FlagCosts
-flag_costs = record { constraints = flag_count; terms = flag_terms }
+flag_costs = record {
+  constraints = λ w state op x f t next. (flag_shape w state op x f t next).2;
+  terms = λ w state op x f t next. (flag_shape w state op x f t next).3;
+}
 
 -- ---- sizes
 flags_below : (w x a : ℕ) (found : Bool) (flag k : ℕ) → flag < 2 → chosen (flags w x a found flag) k < P
 flags_below w x a found flag k h =
-    chosen_in (λ n. n < P) (flags w x a found flag) k (omega arith) (
-      flag_in_field _,
-      (
-        flag_in_field _,
-        (
-          flag_in_field _,
-          (
-            flag_in_field _,
-            (
-              flag_in_field _,
-              (
-                flag_in_field _,
-                (
-                  flag_in_field _,
-                  (
-                    flag_in_field _,
-                    (
-                      flag_in_field _,
-                      (
-                        flag_in_field _,
-                        (
-                          flag_in_field _,
-                          (
-                            flag_in_field _,
-                            (flag_in_field _, (flag_in_field _, (flag_in_field _, (flag_in_field _, (flag_in_field _, (omega arith, tt)))))),
-                          ),
-                        ),
-                      ),
-                    ),
-                  ),
-                ),
-              ),
-            ),
-          ),
-        ),
-      ),
-    )
+    let below : flag < P = omega arith in
+    chosen_in (λ n. n < P) (flags w x a found flag) k (omega arith) (search (flag_in_field, below))
 
 flag_values_below : (w n : ℕ) (v : View) (i : Instr) (o : ℕ) (takes : Bool) (f : ℕ) → v.flag < 2 → InField (flag_values w (input_of n v i o) takes f)
 flag_values_below w n v i o takes f h =
@@ -259,8 +216,8 @@ flag_values_below w n v i o takes f h =
 
 pub flag_sizes : FlagSizes
 flag_sizes = record {
-  answer = flag_answer;
-  end = flag_next;
-  fills = λ w state op x f t n v i o takes g next. flag_next w state op x f t next;
+  answer = λ w state op x f t next. (flag_shape w state op x f t next).0;
+  end = λ w state op x f t next. (flag_shape w state op x f t next).1;
+  fills = λ w state op x f t n v i o takes g next. (flag_shape w state op x f t next).1;
   in_field = flag_values_below;
 }

@@ -12,13 +12,13 @@ use Rattle.tv_core.specs.declared.field.TheConstants.{P}
 use Rattle.tv_isa.specs.Opcodes.{among, chosen, unused_ops, keeper_ops}
 use Rattle.tv_muldiv.proofs.SignedNumbers.{Stands-product, Stands-signed, signed_value, over_flag}
 use Rattle.tv_muldiv.specs.SignedHigh.{excess_in}
+use Rattle.tv_numbers.proofs.Cases.{for_opcode}
 use Rattle.tv_numbers.specs.Tables.{flags, results}
 use Rattle.tv_word.proofs.FlagLaws.{flag_small}
 use Rattle.tv_word.proofs.WidthLaws.{for_widths}
 use Rattle.tv_word.specs.Twos.{twos, fits}
 use Rattle.tv_word.specs.Widths.{IsWidth}
 use Rattle.tv_word.specs.Word.{has_bit, signed, flag_of}
-use Rattle.tv_parts.proofs.OpcodeCases.{for_opcode, unused}
 use Rattle.tv_parts.specs.Flag.{sign_at}
 use Rattle.tv_parts.specs.Results.{zero_ops, tested_numbers}
 use Rattle.tv_parts.specs.Rows.{covers, AreHalves}
@@ -234,99 +234,14 @@ module _ (w : ℕ) (width : IsWidth w) (x a low high result y f flag : ℕ) (p t
       found_by false false apart = omega arith
 
   -- an opcode that keeps the flag
-  kept : (k : ℕ) → FlagCase k → sign_at k ≡ 0 → (k == 30) ≡ false → (0 + f + (P - flag_of p) + (P - flag_of t) + 0 + 0 + 1 * flag) % P ≡ flag
-  kept k c sign other = kept_by f (flag_of p) (flag_of t) flag (c.test ∙ ap (λ n. if y == 0 then n else 0) sign ∙ same_choice (y == 0) 0) bit (no_p k c other)
+  kept : (k : ℕ) → sign_at k ≡ 0 → (k == 30) ≡ false → FlagCase k → (0 + f + (P - flag_of p) + (P - flag_of t) + 0 + 0 + 1 * flag) % P ≡ flag
+  kept k sign other c = kept_by f (flag_of p) (flag_of t) flag (c.test ∙ ap (λ n. if y == 0 then n else 0) sign ∙ same_choice (y == 0) 0) bit (no_p k c other)
       (no_t k c other)
 
   pub flag_number : (k : ℕ) → k < 32 → among unused_ops k ≡ false → FlagNumber k
-  flag_number = for_opcode FlagNumber (
-    (λ _ c. kept 31 c refl refl),
-    (
-      (λ _. at_read),
-      (
-        (λ _ c. kept 29 c refl refl),
-        (
-          (λ _ c. kept 28 c refl refl),
-          (
-            (λ _ c. kept 27 c refl refl),
-            (
-              (λ _ c. kept 26 c refl refl),
-              (
-                unused,
-                (
-                  unused,
-                  (
-                    unused,
-                    (
-                      (λ _ c. kept 22 c refl refl),
-                      (
-                        (λ _ c. kept 21 c refl refl),
-                        (
-                          (λ _ c. kept 20 c refl refl),
-                          (
-                            (λ _ c. kept 19 c refl refl),
-                            (
-                              (λ _ c. kept 18 c refl refl),
-                              (
-                                (λ _. at_cmpge),
-                                (
-                                  (λ _. at_cmpg),
-                                  (
-                                    (λ _. at_cmpae),
-                                    (
-                                      (λ _. at_cmpa),
-                                      (
-                                        (λ _. at_cmpe),
-                                        (
-                                          (λ _. at_shr),
-                                          (
-                                            (λ _. at_shl),
-                                            (
-                                              (λ _. at_umod),
-                                              (
-                                                (λ _. at_udiv),
-                                                (
-                                                  (λ _. at_smulh),
-                                                  (
-                                                    (λ _. at_umulh),
-                                                    (
-                                                      (λ _. at_mull),
-                                                      (
-                                                        (λ _. at_sub),
-                                                        (
-                                                          (λ _. at_add),
-                                                          (
-                                                            (λ _. at_not),
-                                                            (
-                                                              (λ _. at_xor),
-                                                              ((λ _. at_or), ((λ _. at_and), tt)),
-                                                            ),
-                                                          ),
-                                                        ),
-                                                      ),
-                                                    ),
-                                                  ),
-                                                ),
-                                              ),
-                                            ),
-                                          ),
-                                        ),
-                                      ),
-                                    ),
-                                  ),
-                                ),
-                              ),
-                            ),
-                          ),
-                        ),
-                      ),
-                    ),
-                  ),
-                ),
-              ),
-            ),
-          ),
-        ),
-      ),
-    ),
-  )
+  flag_number =
+      for_opcode FlagNumber
+      (at_and, (at_or, (at_xor, (at_not, (at_add, (at_sub, (at_mull, (at_umulh, (at_smulh, (at_udiv, (at_umod, (at_shl, (at_shr, tt)))))))))))))
+      (at_cmpe, (at_cmpa, (at_cmpae, (at_cmpg, (at_cmpge, tt)))))
+      (kept 18 refl refl, (kept 19 refl refl, (kept 20 refl refl, (kept 21 refl refl, (kept 22 refl refl, tt)))))
+      (kept 26 refl refl, (kept 27 refl refl, (kept 28 refl refl, (kept 29 refl refl, (at_read, (kept 31 refl refl, tt))))))

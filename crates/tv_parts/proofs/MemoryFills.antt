@@ -280,32 +280,21 @@ wires_from a b c e = record { line = record { cell = a; old = b }; byte = c; new
 same_wires : (a b c e f g h k : ℕ) → a ≡ f → b ≡ g → c ≡ h → e ≡ k → wires_from a b c e ≡ wires_from f g h k
 same_wires a b c e f g h k p q r s = ap (λ x. wires_from x b c e) p ∙ ap (λ x. wires_from f x c e) q ∙ ap (λ x. wires_from f g x e) r ∙ ap (wires_from f g h) s
 
-abbrev MadeAt : ℕ → Type 0
-MadeAt w = (state : StateWires) (op : ℕ) (a : OperandWires) (d : DataWires) (t : TapeWires) (next : ℕ) → (memory_of w state op a d t next).answer
-    ≡ record { line = record { cell = next + 1; old = next + 2 }; byte = next + (w / 8 + 1); new = next + (w / 8 + 4) }
+abbrev ShapeAt : ℕ → Type 0
+ShapeAt w = (state : StateWires) (op : ℕ) (a : OperandWires) (d : DataWires) (t : TapeWires) (next : ℕ) → let made = memory_of w state op a d t next in
+    (made.answer ≡ record { line = record { cell = next + 1; old = next + 2 }; byte = next + (w / 8 + 1); new = next + (w / 8 + 4) })
+    × (made.next ≡ next + (w / 8 + 5)) × (length made.list ≡ w / 8 + 5) × (terms_in made.list ≡ 2 * w + w / 8 + 37)
 
-made_two : MadeAt 16
-unfolding memory_of located_line byte_at_of byte_of_pair new_of times_of closed_of fresh put pure ◌>>=◌
-made_two state op a d t next = same_wires _ _ _ _ _ _ _ _ (omega arith) (omega arith) (omega arith) (omega arith)
+shape_two : ShapeAt 16
+unfolding memory_of located_line byte_at_of byte_of_pair new_of times_of closed_of fresh put pure ◌>>=◌ weighted
+shape_two state op a d t next = (same_wires _ _ _ _ _ _ _ _ (omega arith) (omega arith) (omega arith) (omega arith), omega arith, refl, refl)
 
-made_four : MadeAt 32
-unfolding memory_of located_line byte_at_of byte_of_four byte_of_pair new_of times_of closed_of fresh put pure ◌>>=◌
-made_four state op a d t next = same_wires _ _ _ _ _ _ _ _ (omega arith) (omega arith) (omega arith) (omega arith)
+shape_four : ShapeAt 32
+unfolding memory_of located_line byte_at_of byte_of_four byte_of_pair new_of times_of closed_of fresh put pure ◌>>=◌ weighted
+shape_four state op a d t next = (same_wires _ _ _ _ _ _ _ _ (omega arith) (omega arith) (omega arith) (omega arith), omega arith, refl, refl)
 
-abbrev EndsAt : ℕ → Type 0
-EndsAt w = (state : StateWires) (op : ℕ) (a : OperandWires) (d : DataWires) (t : TapeWires) (next : ℕ)
-    → (memory_of w state op a d t next).next ≡ next + (w / 8 + 5)
-
-ends_two : EndsAt 16
-unfolding memory_of located_line byte_at_of byte_of_pair new_of times_of closed_of fresh put pure ◌>>=◌
-ends_two state op a d t next = omega arith
-
-ends_four : EndsAt 32
-unfolding memory_of located_line byte_at_of byte_of_four byte_of_pair new_of times_of closed_of fresh put pure ◌>>=◌
-ends_four state op a d t next = omega arith
-
-memory_next : (w : ℕ) → IsWidth w → EndsAt w
-memory_next w width = for_widths EndsAt ends_two ends_four w width
+memory_shape : (w : ℕ) → IsWidth w → ShapeAt w
+memory_shape = for_widths ShapeAt shape_two shape_four
 
 values_length : (w : ℕ) → IsWidth w → (n : ℕ) (v : View) (i : Instr) (x o : ℕ) → length (memory_values w (input_of n v i o) x) ≡ w / 8 + 5
 values_length w width n v i x o = for_widths (λ w. length (memory_values w (input_of n v i o) x) ≡ w / 8 + 5) refl refl w width
@@ -355,36 +344,15 @@ memory_in_field w width n v i x o short within word other o_word =
 
 pub memory_sizes : MemorySizes
 memory_sizes = record {
-  answer = for_widths MadeAt made_two made_four;
-  end = memory_next;
-  fills = λ w width n state op a d t v i x o next. memory_next w width state op a d t next
+  answer = λ w width state op a d t next. (memory_shape w width state op a d t next).0;
+  end = λ w width state op a d t next. (memory_shape w width state op a d t next).1;
+  fills = λ w width n state op a d t v i x o next. (memory_shape w width state op a d t next).1
       ∙ ap (λ k. next + k) (sym (values_length w width n v i x o));
   in_field = memory_in_field;
 }
 
-abbrev CountsAt : ℕ → Type 0
-CountsAt w = (state : StateWires) (op : ℕ) (a : OperandWires) (d : DataWires) (t : TapeWires) (next : ℕ)
-    → length (memory_of w state op a d t next).list ≡ w / 8 + 5
-
-counts_two : CountsAt 16
-unfolding memory_of located_line byte_at_of byte_of_pair new_of times_of closed_of fresh put pure ◌>>=◌
-counts_two state op a d t next = refl
-
-counts_four : CountsAt 32
-unfolding memory_of located_line byte_at_of byte_of_four byte_of_pair new_of times_of closed_of fresh put pure ◌>>=◌
-counts_four state op a d t next = refl
-
-abbrev TermsAt : ℕ → Type 0
-TermsAt w = (state : StateWires) (op : ℕ) (a : OperandWires) (d : DataWires) (t : TapeWires) (next : ℕ)
-    → terms_in (memory_of w state op a d t next).list ≡ 2 * w + w / 8 + 37
-
-terms_two : TermsAt 16
-unfolding memory_of located_line byte_at_of byte_of_pair new_of times_of closed_of fresh put pure ◌>>=◌ weighted
-terms_two state op a d t next = refl
-
-terms_four : TermsAt 32
-unfolding memory_of located_line byte_at_of byte_of_four byte_of_pair new_of times_of closed_of fresh put pure ◌>>=◌ weighted
-terms_four state op a d t next = refl
-
 pub memory_costs : MemoryCosts
-memory_costs = record { constraints = for_widths CountsAt counts_two counts_four; terms = for_widths TermsAt terms_two terms_four }
+memory_costs = record {
+  constraints = λ w width state op a d t next. (memory_shape w width state op a d t next).2;
+  terms = λ w width state op a d t next. (memory_shape w width state op a d t next).3;
+}

@@ -1,5 +1,5 @@
 -- A product added to a sum is put by normal combinations.
-use Rattle.std.proofs.Common.{ℕ, ◌-◌, ◌<◌, ◌≤◌, [], ◌∷◌, arith}
+use Rattle.std.proofs.Common.{ℕ, ◌-◌, ◌≤◌, arith}
 use Rattle.tv_core.proofs.CombinationLaws.{top-scaled}
 use Rattle.tv_core.proofs.NormalCircuits.{normal_append, normal_negated}
 use Rattle.tv_core.specs.Circuits.{fresh, put, pure, ◌>>=◌}
@@ -20,7 +20,3 @@ pub accumulated_normal : (x f g : Combination) (next : ℕ) → IsNormal x → t
 accumulated_normal x f g next n below nf ng =
     let within : top (scaled (P - 1) x) ≤ next = omega (arith, top-scaled (P - 1) x, below) in
     closed_normal (scaled (P - 1) x) f g next (normal_negated 0 x n) within nf ng
-
--- a wire less an older one
-pub rise_normal : (old new : ℕ) → old < new → IsNormal ((P - 1, old) ∷ (1, new) ∷ [])
-rise_normal old new h = (omega arith, omega arith, omega arith, (omega arith, omega arith, omega arith, tt))

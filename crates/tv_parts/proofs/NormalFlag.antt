@@ -1,6 +1,6 @@
 -- The flag after a step is put by normal combinations.
 use Rattle.std.proofs.Common.{ℕ, ◌+◌, ◌-◌, ◌<◌, ◌≤◌, List, [], ◌∷◌, ◌++◌, refl, arith}
-use Rattle.tv_bits.proofs.NormalLaws.{wire_normal, times_normal}
+use Rattle.tv_bits.proofs.NormalLaws.{wire_normal, rise_normal, times_normal}
 use Rattle.tv_bits.specs.Times.{times_of}
 use Rattle.tv_bits.specs.declared.bit_wires.Bits.{Bits}
 use Rattle.tv_core.proofs.CombinationLaws.{top-append}
@@ -32,22 +32,7 @@ tested_normal : (before op f : ℕ) (t : TapeWires) (left right : ℕ) → befor
     → IsNormal (tested_in before op f t left right)
 tested_normal before op f t left right h row k l m n =
     let rest = after_row f t left right in
-    let last : IsNormalFrom (op + 29) rest = (
-      omega arith,
-      omega arith,
-      omega arith,
-      (
-        omega arith,
-        omega arith,
-        omega arith,
-        (
-          omega arith,
-          omega arith,
-          omega arith,
-          (omega arith, omega arith, omega arith, (omega arith, omega arith, omega arith, tt)),
-        ),
-      ),
-    ) in
+    let last : IsNormalFrom (op + 29) rest = search arith in
     let both : IsNormalFrom (op + 0) (opcode_sum op turned_ops ++ rest) =
     opcodes_then 1 op 0 29 turned_ops rest (omega arith) (omega arith) refl refl (omega arith) last in
     (omega arith, omega arith, omega arith, IsNormalFrom-lower (before + 1) (op + 0) (opcode_sum op turned_ops ++ rest) (omega arith) both)
@@ -59,17 +44,14 @@ tested_top before op f t left right h row k l m n =
     let rest_top : top rest ≤ right + 1 = omega arith in
     omega (arith, top-append (opcode_sum op turned_ops) rest, opcodes_top 1 op 29 turned_ops refl, rest_top)
 
-bit_normal : (f bit : ℕ) → f < bit → IsNormal ((P - 1, f) ∷ (1, bit) ∷ [])
-bit_normal f bit h = (omega arith, omega arith, omega arith, (omega arith, omega arith, omega arith, tt))
-
 pub flag_normal : (w : ℕ) (state : StateWires) (op : ℕ) (x : Bits) (f : ℕ) (t : TapeWires) (next : ℕ) → state.taken_of_primary < op → op + 29 ≤ f
     → f < x.first → f < t.taken → t.taken < t.takes → t.takes < next → AreNormal (next_flag_of w state op x f t next).list
 unfolding next_flag_of times_of closed_of fresh put pure ◌>>=◌
 flag_normal w state op x f t next before row decomposed taken takes within =
     let tested = tested_in state.taken_of_primary op f t next (next + 1) in
-    let highest = bit_normal f (x.first + (w - 1)) (omega arith) in
+    let highest = rise_normal f (x.first + (w - 1)) (omega arith) in
     let left = times_normal (opcode_sum op (SHL ∷ [])) ((P - 1, f) ∷ (1, x.first + (w - 1)) ∷ []) next (opcode_sum_normal op (SHL ∷ []) refl) highest in
-    let lowest = bit_normal f x.first decomposed in
+    let lowest = rise_normal f x.first decomposed in
     let right = times_normal (opcode_sum op (SHR ∷ [])) ((P - 1, f) ∷ (1, x.first) ∷ []) (next + 1) (opcode_sum_normal op (SHR ∷ []) refl) lowest in
     let tested_is = tested_normal state.taken_of_primary op f t next (next + 1) before row taken takes within (omega arith) in
     let below : top tested ≤ next + 1 + 1 = tested_top state.taken_of_primary op f t next (next + 1) before row taken takes within (omega arith) in

@@ -1,6 +1,6 @@
 -- What a step does to memory is put by normal combinations.
 use Rattle.std.proofs.Common.{ℕ, ◌+◌, ◌-◌, ◌/◌, ◌<◌, ◌≤◌, [], ◌∷◌, ◌++◌, refl, arith}
-use Rattle.tv_bits.proofs.NormalLaws.{wire_normal, constant_normal, bits_normal, bits_top, scaled_bits_top, times_normal}
+use Rattle.tv_bits.proofs.NormalLaws.{wire_normal, constant_normal, rise_normal, bits_normal, bits_top, scaled_bits_top, times_normal}
 use Rattle.tv_bits.specs.Bits.{bits_combination}
 use Rattle.tv_bits.specs.Times.{times_of}
 use Rattle.tv_core.proofs.NormalCircuits.{normal_append, normal_negated, normal_both}
@@ -14,7 +14,7 @@ use Rattle.tv_isa.specs.Opcodes.{memory_ops}
 use Rattle.tv_isa.specs.declared.opcode.TheConstants.{STORE_B, STORE_W}
 use Rattle.tv_word.proofs.WidthLaws.{for_widths}
 use Rattle.tv_word.specs.Widths.{IsWidth}
-use Rattle.tv_parts.proofs.NormalAccumulation.{accumulated_normal, rise_normal}
+use Rattle.tv_parts.proofs.NormalAccumulation.{accumulated_normal}
 use Rattle.tv_parts.proofs.NormalOpcodes.{opcode_sum_normal, opcodes_then}
 use Rattle.tv_parts.proofs.UpperLaws.{upper_normal}
 use Rattle.tv_parts.specs.Accumulation.{closed_of}
@@ -28,23 +28,11 @@ use Rattle.tv_parts.specs.declared.records.OperandWires.{OperandWires}
 use Rattle.tv_parts.specs.declared.records.StateWires.{StateWires}
 use Rattle.tv_parts.specs.declared.records.TapeWires.{TapeWires}
 
--- a wire less a newer one
-fall_normal : (old new : ℕ) → old < new → IsNormal ((1, old) ∷ (P - 1, new) ∷ [])
-fall_normal old new h = (omega arith, omega arith, omega arith, (omega arith, omega arith, omega arith, tt))
-
 -- ---- the cell
 cells_normal : (w : ℕ) → IsWidth w → (a : OperandWires) → 0 < a.word → a.word < a.bits.first → IsNormal ((P - NULL_CELL, 0) ∷ upper_of 1 a (w / 16))
 cells_normal w width a some rise =
     let rest = upper_normal 1 1 a (w / 16) (omega (arith, width)) (λ e. omega arith) some rise in
     (omega arith, omega arith, omega arith, rest)
-
-tape_normal : (taken located : ℕ) → 0 < taken → taken < located → IsNormal ((TAPE_CELLS, 0) ∷ (1, taken) ∷ (P - 1, located) ∷ [])
-tape_normal taken located some before = (
-  omega arith,
-  omega arith,
-  omega arith,
-  (omega arith, omega arith, omega arith, (omega arith, omega arith, omega arith, tt)),
-)
 
 held_normal : (before op after : ℕ) → before < op → op + 29 ≤ after → IsNormal ((P - 1, before) ∷ (opcode_sum op memory_ops ++ wire after))
 held_normal before op after h k =
@@ -66,8 +54,7 @@ line_normal w width state op a word t next some before row within operand rise =
     let primary : IsNormal (primary_in state t) = rise_normal state.taken_of_primary t.taken (omega arith) in
     let located = accumulated_normal (constant NULL_CELL) (opcode_sum op memory_ops) cells next null (omega arith) touched
     (cells_normal w width a operand rise) in
-    let tape_is = tape_normal state.taken_of_primary next some (omega arith) in
-    let cell = accumulated_normal (wire next) (primary_in state t) tape (next + 1) (wire_normal 0 next (omega arith)) (omega arith) primary tape_is in
+    let cell = accumulated_normal (wire next) (primary_in state t) tape (next + 1) (wire_normal 0 next (omega arith)) (omega arith) primary (search arith) in
     let held_is = held_normal state.taken_of_primary op t.taken before row in
     let old = times_normal held (wire word) (next + 1 + 1) held_is (wire_normal 0 word (omega arith)) in
     (located.0, (cell.0, (old.0, tt)))
@@ -130,19 +117,8 @@ byte_after = for_widths ByteIsAfter after_16 after_32
 abbrev PowerIsNormal : ℕ → Type 0
 PowerIsNormal w = (a both : ℕ) → 0 < a → a + 1 < both → IsNormal (power_in w a both)
 
-power_16 : PowerIsNormal 16
-power_16 a both some before = (omega arith, omega arith, omega arith, (omega arith, omega arith, omega arith, tt))
-
-power_32 : PowerIsNormal 32
-power_32 a both some before = (
-  omega arith,
-  omega arith,
-  omega arith,
-  (omega arith, omega arith, omega arith, (omega arith, omega arith, omega arith, (omega arith, omega arith, omega arith, tt))),
-)
-
 power_normal : (w : ℕ) → IsWidth w → PowerIsNormal w
-power_normal = for_widths PowerIsNormal power_16 power_32
+power_normal = for_widths PowerIsNormal (λ a both h k. search arith) (λ a both h k. search arith)
 
 stored_normal : (first byte : ℕ) → first + 8 ≤ byte → IsNormal (bits_combination first 8 ++ (P - 1, byte) ∷ [])
 stored_normal first byte within =
@@ -161,9 +137,9 @@ new_normal w width op d a line byte next address both bits other old =
     let change = times_normal (power_in w a.bits.first d.both) stored next power (stored_normal d.x.first byte bits) in
     let changed = times_normal (opcode_sum op (STORE_B ∷ [])) (wire next) (next + 1) (opcode_sum_normal op (STORE_B ∷ []) refl)
     (wire_normal 0 next (omega arith)) in
-    let kept : IsNormal (wire line.old ++ wire (next + 1)) = (omega arith, omega arith, omega arith, (omega arith, omega arith, omega arith, tt)) in
+    let kept : IsNormal (wire line.old ++ wire (next + 1)) = search arith in
     let new = accumulated_normal (wire line.old ++ wire (next + 1)) (opcode_sum op (STORE_W ∷ [])) ((1, d.other) ∷ (P - 1, d.word) ∷ []) (next + 1 + 1)
-    kept (omega arith) (opcode_sum_normal op (STORE_W ∷ []) refl) (fall_normal d.other d.word other) in
+    kept (omega arith) (opcode_sum_normal op (STORE_W ∷ []) refl) (search arith) in
     (change.0, (changed.0, (new.0, tt)))
 
 -- ---- all of it

@@ -23,6 +23,6 @@ operand_normal w width imm tail register next before below =
     let word = accumulated_of (wire register) (wire imm) difference next in
     let within : top (wire register) ≤ next = omega arith in
     let put = accumulated_normal (wire register) (wire imm) difference next (wire_normal 0 register (omega arith)) within (wire_normal 0 imm (omega arith))
-    (omega arith, omega arith, omega arith, (omega arith, omega arith, omega arith, tt)) in
+    (search arith) in
     let bits = bits_of_normal (wire word.answer) w word.next (omega arith) (wire_normal 0 word.answer (omega arith)) in
     normal_both word.list _ put (normal_both (bits_of (wire word.answer) w word.next).list [] bits tt)

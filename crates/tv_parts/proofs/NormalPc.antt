@@ -21,46 +21,18 @@ use Rattle.tv_parts.specs.Tapes.{if_zero_of}
 use Rattle.tv_parts.specs.declared.records.OperandWires.{OperandWires}
 use Rattle.tv_parts.specs.declared.records.StateWires.{StateWires}
 
-goes_normal : (op : ℕ) → IsNormal (goes_in op)
-goes_normal op = (omega arith, omega arith, omega arith, (omega arith, omega arith, omega arith, tt))
-
-by_flag_normal : (op : ℕ) → IsNormal ((1, op + place_of CJMP) ∷ (P - 1, op + place_of CNJMP) ∷ [])
-by_flag_normal op = (omega arith, omega arith, omega arith, (omega arith, omega arith, omega arith, tt))
-
-jumps_normal : (op by_flag : ℕ) → op + 29 ≤ by_flag → IsNormal ((1, op + place_of JMP) ∷ (1, op + place_of CNJMP) ∷ (1, by_flag) ∷ [])
-jumps_normal op by_flag h = (
-  omega arith,
-  omega arith,
-  omega arith,
-  (omega arith, omega arith, omega arith, (omega arith, omega arith, omega arith, tt)),
-)
-
 -- ---- what depends on the width
 abbrev LastIsNormal : ℕ → Type 0
 LastIsNormal w = (pc : ℕ) → 0 < pc → IsNormal (from_last w pc)
 
 last_normal : (w : ℕ) → IsWidth w → LastIsNormal w
-last_normal = for_widths LastIsNormal
-    (λ pc h. (omega arith, omega arith, omega arith, (omega arith, omega arith, omega arith, tt)))
-    (λ pc h. (omega arith, omega arith, omega arith, (omega arith, omega arith, omega arith, tt)))
+last_normal = for_widths LastIsNormal (λ pc h. search arith) (λ pc h. search arith)
 
 abbrev AfterIsNormal : ℕ → Type 0
 AfterIsNormal w = (pc answers wraps : ℕ) → 0 < pc → pc < answers → answers < wraps → IsNormal (after_in w pc answers wraps)
 
 after_normal : (w : ℕ) → IsWidth w → AfterIsNormal w
-after_normal = for_widths AfterIsNormal
-    (λ pc answers wraps h k l. (
-      omega arith,
-      omega arith,
-      omega arith,
-      (omega arith, omega arith, omega arith, (omega arith, omega arith, omega arith, (omega arith, omega arith, omega arith, tt))),
-    ))
-    (λ pc answers wraps h k l. (
-      omega arith,
-      omega arith,
-      omega arith,
-      (omega arith, omega arith, omega arith, (omega arith, omega arith, omega arith, (omega arith, omega arith, omega arith, tt))),
-    ))
+after_normal = for_widths AfterIsNormal (λ pc answers wraps h k l. search arith) (λ pc answers wraps h k l. search arith)
 
 -- the number of the operand's upper bits, m times, and a wire after them
 target_normal : (m k c least : ℕ) (a : OperandWires) (wraps : ℕ) → k ≤ 32 → m % P ≢ 0 → 0 < c → c < P → least ≤ a.word → a.word < a.bits.first
@@ -95,10 +67,10 @@ pc_normal w width state op a next some before row rise within =
     let answers : ℕ = op + place_of ANSWER in
     let flags = (1, op + place_of CJMP) ∷ (P - 1, op + place_of CNJMP) ∷ [] in
     let jumps = (1, op + place_of JMP) ∷ (1, op + place_of CNJMP) ∷ (1, next + 1 + 1) ∷ [] in
-    let wraps = if_zero_normal (goes_in op) (from_last w state.pc) next (goes_normal op) (omega arith) (last_normal w width state.pc some) in
-    let by_flag = times_normal (wire state.flag) flags (next + 1 + 1) (wire_normal 0 state.flag (omega arith)) (by_flag_normal op) in
+    let wraps = if_zero_normal (goes_in op) (from_last w state.pc) next (search arith) (omega arith) (last_normal w width state.pc some) in
+    let by_flag = times_normal (wire state.flag) flags (next + 1 + 1) (wire_normal 0 state.flag (omega arith)) (search arith) in
     let after = after_normal w width state.pc answers next some (omega arith) (omega arith) in
     let jump = jump_normal w width state.pc answers a next some (omega arith) (omega arith) rise within in
     let counter = accumulated_normal (after_in w state.pc answers next) jumps (jump_in w state.pc answers a next) (next + 1 + 1 + 1)
-    after (omega arith) (jumps_normal op (next + 1 + 1) (omega arith)) jump in
+    after (omega arith) (search arith) jump in
     (wraps.0, (wraps.1.0, (by_flag.0, (counter.0, tt))))

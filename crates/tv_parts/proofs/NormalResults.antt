@@ -1,19 +1,20 @@
 -- The result of a step, and the sign of its test, are put by normal combinations.
 use Rattle.std.proofs.Common.{ℕ, ◌+◌, ◌-◌, ◌^◌, ◌<◌, ◌≤◌, [], ◌∷◌, ◌++◌, refl, arith}
+use Rattle.tv_bits.proofs.NormalLaws.{wire_normal, rise_normal, times_normal}
 use Rattle.tv_bits.specs.Times.{times_of}
 use Rattle.tv_core.proofs.NormalCircuits.{normal_append, normal_both}
 use Rattle.tv_core.proofs.NormalLaws.{IsNormalFrom-lower}
 use Rattle.tv_core.specs.Circuits.{fresh, put, pure, ◌>>=◌}
 use Rattle.tv_core.specs.Combinations.{wire, top}
 use Rattle.tv_core.specs.Constraints.{Combination}
-use Rattle.tv_core.specs.Normal.{IsNormal, IsNormalFrom, IsNormalConstraint, AreNormal}
+use Rattle.tv_core.specs.Normal.{IsNormal, IsNormalFrom, AreNormal}
 use Rattle.tv_core.specs.declared.field.TheConstants.{P}
 use Rattle.tv_isa.specs.Opcodes.{place_of}
 use Rattle.tv_isa.specs.declared.opcode.TheConstants.{AND, OR, XOR, NOT, ADD, SUB, MULL, UMULH, SMULH, UDIV, UMOD, SHL, SHR, CMPE, CMPA, CMPAE, CMPG, CMPGE}
 use Rattle.tv_isa.specs.declared.opcode.TheConstants.{MOV, CMOV, LOAD_B}
 use Rattle.tv_word.proofs.WidthLaws.{width_short, for_widths}
 use Rattle.tv_word.specs.Widths.{IsWidth}
-use Rattle.tv_parts.proofs.NormalAccumulation.{accumulated_normal, rise_normal}
+use Rattle.tv_parts.proofs.NormalAccumulation.{accumulated_normal}
 use Rattle.tv_parts.proofs.NormalOpcodes.{opcodes_normal, opcodes_then, opcode_sum_normal}
 use Rattle.tv_parts.proofs.ResultFills.{result_answer, result_next}
 use Rattle.tv_parts.proofs.UpperLaws.{upper_normal, upper_top}
@@ -71,54 +72,31 @@ result_normal w width state op a from t next rise =
     let made = rise.made in
     let h = rise.before in
     let some = rise.taken_some in
-    let tapes : IsNormalFrom (op + 29) ((1, t.taken) ∷ (1, t.takes) ∷ []) = (
+    let low_terms = (P - 1, before) ∷ (opcode_sum op low_ops ++ (1, t.taken) ∷ (1, t.takes) ∷ []) in
+    let moved_terms = (P - 1, op + place_of NOT) ∷ opcode_sum op (MOV ∷ CMOV ∷ []) in
+    let parts = parts_in w (op + place_of NOT) next (next + 1) (next + 1 + 1) in
+    let half : (y : ℕ) → IsNormal (wire y) = λ y. wire_normal 0 y (omega arith) in
+    let row = opcodes_then 1 op 0 29 low_ops ((1, t.taken) ∷ (1, t.takes) ∷ []) (omega arith) (omega arith) refl refl (omega arith) (search arith) in
+    let low_gate : IsNormal low_terms = (
       omega arith,
       omega arith,
       omega arith,
-      (omega arith, omega arith, omega arith, tt),
-    ) in
-    let row = opcodes_then 1 op 0 29 low_ops ((1, t.taken) ∷ (1, t.takes) ∷ []) (omega arith) (omega arith) refl refl (omega arith) tapes in
-    let low_gate : IsNormal ((P - 1, before) ∷ (opcode_sum op low_ops ++ (1, t.taken) ∷ (1, t.takes) ∷ [])) = (
-      omega arith,
-      omega arith,
-      omega arith,
-      IsNormalFrom-lower (before + 1) (op + 0) (opcode_sum op low_ops ++ (1, t.taken) ∷ (1, t.takes) ∷ [])
-          (omega arith) row,
+      IsNormalFrom-lower (before + 1) (op + 0) (opcode_sum op low_ops ++ (
+        1,
+        t.taken,
+      ) ∷ (1, t.takes) ∷ []) (omega arith) row,
     ) in
     let moves = opcodes_normal 1 op 4 (MOV ∷ CMOV ∷ []) (omega arith) (omega arith) refl in
-    let moved_gate : IsNormal ((P - 1, op + place_of NOT) ∷ opcode_sum op (MOV ∷ CMOV ∷ [])) =
+    let moved_gate : IsNormal moved_terms =
     (omega arith, omega arith, omega arith, IsNormalFrom-lower (op + 3 + 1) (op + 4) (opcode_sum op (MOV ∷ CMOV ∷ [])) (omega arith) moves) in
     let most = largest w width in
-    let parts : IsNormal (parts_in w (op + place_of NOT) next (next + 1) (next + 1 + 1)) = (
-      omega arith,
-      most.0,
-      most.1,
-      (
-        omega arith,
-        omega arith,
-        omega arith,
-        (omega arith, omega arith, omega arith, (omega arith, omega arith, omega arith, tt)),
-      ),
-    ) in
-    let last = accumulated_normal (parts_in w (op + place_of NOT) next (next + 1) (next + 1 + 1)) (opcode_sum op (LOAD_B ∷ [])) (wire from.byte)
-    (next + 1 + 1 + 1)
-    parts (omega arith) (opcode_sum_normal op (LOAD_B ∷ []) refl) (omega arith, omega arith, omega arith, tt) in
-    let half : (y : ℕ) → IsNormal (wire y) = λ y. (omega arith, omega arith, omega arith, tt) in
-    let low_put : IsNormalConstraint (record {
-      a = (P - 1, before) ∷ (opcode_sum op low_ops ++ (1, t.taken) ∷ (1, t.takes) ∷ []);
-      b = wire from.low;
-      c = wire next;
-    }) =
-    record { a = low_gate; b = half from.low; c = half next } in
-    let high_put : IsNormalConstraint (record { a = opcode_sum op high_ops; b = wire from.high; c = wire (next + 1) }) =
-    record { a = opcode_sum_normal op high_ops refl; b = half from.high; c = half (next + 1) } in
-    let moved_put : IsNormalConstraint (record {
-      a = (P - 1, op + place_of NOT) ∷ opcode_sum op (MOV ∷ CMOV ∷ []);
-      b = wire a.word;
-      c = wire (next + 1 + 1);
-    }) =
-    record { a = moved_gate; b = half a.word; c = half (next + 1 + 1) } in
-    (low_put, (high_put, (moved_put, last)))
+    let parts_are : IsNormal parts = (omega arith, most.0, most.1, search arith) in
+    let low = times_normal low_terms (wire from.low) next low_gate (half from.low) in
+    let high = times_normal (opcode_sum op high_ops) (wire from.high) (next + 1) (opcode_sum_normal op high_ops refl) (half from.high) in
+    let moved = times_normal moved_terms (wire a.word) (next + 1 + 1) moved_gate (half a.word) in
+    let last = accumulated_normal parts (opcode_sum op (LOAD_B ∷ [])) (wire from.byte) (next + 1 + 1 + 1) parts_are (omega arith)
+    (opcode_sum_normal op (LOAD_B ∷ []) refl) (half from.byte) in
+    (low.0, (high.0, (moved.0, last)))
 
 -- ---- the number that is tested
 tested_normal : (w : ℕ) → IsWidth w → (op : ℕ) (a : OperandWires) (from : Sources) (result next : ℕ)
@@ -133,15 +111,16 @@ tested_normal w width op a from result next operand bits below halves high =
     let upper_is = upper_normal 0 (P - 1) a (place_bits w) (omega (arith, width)) (λ e. omega arith) (omega arith) operand in
     let within : top upper ≤ next = omega (arith, upper_top (P - 1) a (place_bits w) operand, bits, width) in
     let signs : IsNormal (signs_in w from.top from.high next) =
-    (omega arith, most.0, most.1, (omega arith, omega arith, omega arith, (omega arith, omega arith, omega arith, tt))) in
-    let shifts = normal_append 0 next upper (wire next) upper_is within (omega arith) (omega arith, omega arith, omega arith, tt) in (
-      record { a = opcode_sum_normal op zero_ops refl; b = rise_normal result next below; c = tt },
+    (omega arith, most.0, most.1, search arith) in
+    let shifts = normal_append 0 next upper (wire next) upper_is within (omega arith) (wire_normal next next (omega arith)) in
+    let zero_gate = opcode_sum_normal op zero_ops refl in
+    let carry_gate = opcode_sum_normal op carry_ops refl in
+    let signs_gate = opcode_sum_normal op (SMULH ∷ []) refl in
+    let shift_gate = opcode_sum_normal op (SHL ∷ SHR ∷ []) refl in (
+      record { a = zero_gate; b = rise_normal result next below; c = tt },
       (
-        record { a = opcode_sum_normal op carry_ops refl; b = rise_normal from.high next high; c = tt },
-        (
-          record { a = opcode_sum_normal op (SMULH ∷ []) refl; b = signs; c = tt },
-          (record { a = opcode_sum_normal op (SHL ∷ SHR ∷ []) refl; b = shifts; c = tt }, tt),
-        ),
+        record { a = carry_gate; b = rise_normal from.high next high; c = tt },
+        (record { a = signs_gate; b = signs; c = tt }, (record { a = shift_gate; b = shifts; c = tt }, tt)),
       ),
     )
 

@@ -182,13 +182,10 @@ pc_complete w width z next state op a v i has values =
     (ap (λ k. slice_index z k) e2 ∙ values.1.1.1.0 ∙ sym sum, tt) in
     Meets-join z wraps.list _ m1 (Meets-join z by_flag.list _ m2 m3)
 
-pc_answer : (w : ℕ) (state : StateWires) (op : ℕ) (a : OperandWires) (next : ℕ) → (pc_of w state op a next).answer ≡ next + 3
+pc_shape : (w : ℕ) (state : StateWires) (op : ℕ) (a : OperandWires) (next : ℕ) → let made = pc_of w state op a next in
+    (made.answer ≡ next + 3) × (made.next ≡ next + 4) × (length made.list ≡ 4)
 unfolding pc_of if_zero_of times_of closed_of fresh put pure ◌>>=◌
-pc_answer w state op a next = omega arith
-
-pc_next : (w : ℕ) (state : StateWires) (op : ℕ) (a : OperandWires) (next : ℕ) → (pc_of w state op a next).next ≡ next + 4
-unfolding pc_of if_zero_of times_of closed_of fresh put pure ◌>>=◌
-pc_next w state op a next = omega arith
+pc_shape w state op a next = (omega arith, omega arith, refl)
 
 pc_below : (w : ℕ) → IsWidth w → (pc a f k : ℕ) → pc < 2 ^ w → a < 2 ^ w → chosen (pcs w pc a f) k < P
 pc_below w width = for_widths (λ w. (pc a f k : ℕ) → pc < 2 ^ w → a < 2 ^ w → chosen (pcs w pc a f) k < P) sixteen thirty_two w width
@@ -215,15 +212,11 @@ pc_in_field w width v i small word =
 
 pub pc_sizes : PcSizes
 pc_sizes = record {
-  answer = pc_answer;
-  end = pc_next;
-  fills = λ w state op a v i next. pc_next w state op a next;
+  answer = λ w state op a next. (pc_shape w state op a next).0;
+  end = λ w state op a next. (pc_shape w state op a next).1;
+  fills = λ w state op a v i next. (pc_shape w state op a next).1;
   in_field = pc_in_field;
 }
-
-pc_count : (w : ℕ) (state : StateWires) (op : ℕ) (a : OperandWires) (next : ℕ) → length (pc_of w state op a next).list ≡ 4
-unfolding pc_of if_zero_of times_of closed_of fresh put pure ◌>>=◌
-pc_count w state op a next = refl
 
 pc_terms : (w : ℕ) → IsWidth w → (state : StateWires) (op : ℕ) (a : OperandWires) (next : ℕ) → terms_in (pc_of w state op a next).list ≡ w / 16 + 27
 unfolding pc_of if_zero_of times_of closed_of fresh put pure ◌>>=◌
@@ -232,4 +225,4 @@ pc_terms w width state op a next =
     omega (arith, length-append upper ((2 ^ w, next) ∷ []), length-upper (w / 4) a (w / 16 + 1))
 
 pub pc_costs : PcCosts
-pc_costs = record { constraints = pc_count; terms = pc_terms }
+pc_costs = record { constraints = λ w state op a next. (pc_shape w state op a next).2; terms = pc_terms }

@@ -6,10 +6,10 @@ use Rattle.tv_bits.proofs.BitLaws.{bit_cases}
 use Rattle.tv_bits.specs.Bit.{IsBit}
 use Rattle.tv_core.specs.declared.field.TheConstants.{P}
 use Rattle.tv_isa.specs.Opcodes.{among, chosen, unused_ops}
+use Rattle.tv_numbers.proofs.Cases.{for_opcode}
 use Rattle.tv_numbers.specs.Tables.{next_pc, target, pcs}
 use Rattle.tv_word.proofs.WidthLaws.{for_widths}
 use Rattle.tv_word.specs.Widths.{IsWidth}
-use Rattle.tv_parts.proofs.OpcodeCases.{for_opcode, unused}
 use Rattle.tv_word.specs.Word.{flag_of}
 
 -- ---- the place after the instruction
@@ -144,94 +144,8 @@ module _ (w : ℕ) (width : IsWidth w) (pc a f : ℕ) (small : pc < 2 ^ w) (alig
       ∙ passed (after_number w pc 1 (wrap w pc 0)) _ (after_small 1 (wrap w pc 0)) ∙ stays_there w width pc small
 
   pub pc_number : (k : ℕ) → k < 32 → among unused_ops k ≡ false → PcNumber w pc a f k
-  pc_number = for_opcode (PcNumber w pc a f) (
-    (λ _. ends),
-    (
-      (λ _. goes_on),
-      (
-        (λ _. goes_on),
-        (
-          (λ _. goes_on),
-          (
-            (λ _. goes_on),
-            (
-              (λ _. goes_on),
-              (
-                unused,
-                (
-                  unused,
-                  (
-                    unused,
-                    (
-                      (λ _. where_clear),
-                      (
-                        (λ _. where_set),
-                        (
-                          (λ _. always),
-                          (
-                            (λ _. goes_on),
-                            (
-                              (λ _. goes_on),
-                              (
-                                (λ _. goes_on),
-                                (
-                                  (λ _. goes_on),
-                                  (
-                                    (λ _. goes_on),
-                                    (
-                                      (λ _. goes_on),
-                                      (
-                                        (λ _. goes_on),
-                                        (
-                                          (λ _. goes_on),
-                                          (
-                                            (λ _. goes_on),
-                                            (
-                                              (λ _. goes_on),
-                                              (
-                                                (λ _. goes_on),
-                                                (
-                                                  (λ _. goes_on),
-                                                  (
-                                                    (λ _. goes_on),
-                                                    (
-                                                      (λ _. goes_on),
-                                                      (
-                                                        (λ _. goes_on),
-                                                        (
-                                                          (λ _. goes_on),
-                                                          (
-                                                            (λ _. goes_on),
-                                                            (
-                                                              (λ _. goes_on),
-                                                              ((λ _. goes_on), ((λ _. goes_on), tt)),
-                                                            ),
-                                                          ),
-                                                        ),
-                                                      ),
-                                                    ),
-                                                  ),
-                                                ),
-                                              ),
-                                            ),
-                                          ),
-                                        ),
-                                      ),
-                                    ),
-                                  ),
-                                ),
-                              ),
-                            ),
-                          ),
-                        ),
-                      ),
-                    ),
-                  ),
-                ),
-              ),
-            ),
-          ),
-        ),
-      ),
-    ),
-  )
+  pc_number =
+      for_opcode (PcNumber w pc a f)
+      (goes_on, (goes_on, (goes_on, (goes_on, (goes_on, (goes_on, (goes_on, (goes_on, (goes_on, (goes_on, (goes_on, (goes_on, (goes_on, tt)))))))))))))
+      (goes_on, (goes_on, (goes_on, (goes_on, (goes_on, tt))))) (goes_on, (goes_on, (always, (where_set, (where_clear, tt)))))
+      (goes_on, (goes_on, (goes_on, (goes_on, (goes_on, (ends, tt))))))

@@ -1,6 +1,6 @@
 -- The laws of a step's result, and of the number that is tested.
 use Rattle.std.proofs.Common.{◌≡◌, ℕ, ◌+◌, ◌-◌, ◌*◌, ◌/◌, ◌%◌, ◌^◌, ◌<◌, ◌==◌, ◌||◌, Bool, true, false, if◌then◌else◌, List, [], ◌∷◌, ◌++◌, length}
-use Rattle.std.proofs.Common.{length-append, div-le_self, inl, inr, refl, sym, ◌∙◌, ap, ap₂, subst, arith, mod-lt, true≢false}
+use Rattle.std.proofs.Common.{length-append, div-le_self, inl, inr, refl, sym, ◌∙◌, ap, ap₂, arith, mod-lt, true≢false}
 use Rattle.std.specs.Int.{bit_at}
 use Rattle.std.specs.Prelude.{slice_index}
 use Rattle.std.proofs.lemmas.Bool.{cases_eq, eqb-true, ne_eqb}
@@ -260,7 +260,7 @@ module _ (w : ℕ) (width : IsWidth w) (z : List ℕ) (n : ℕ) (state : StateWi
       → Meets z (tested_of w op a from result next).list
   unfolding tested_of fresh put pure ◌>>=◌
   tested_complete next result e =
-      let is = tested_is w at low high (slice_index z result) i.op has.opcode.within has.opcode.used in (
+      let is = tested_is w at low high (slice_index z result) i.op in (
         holds_by (among zero_ops i.op) _ _ zero_gate
             (λ k. value-two z (P - 1) 1 result next ∙ none_by (slice_index z result) (slice_index z next) (wire-below has.assigns result) (e ∙ is.0 k)),
         (
@@ -277,6 +277,44 @@ module _ (w : ℕ) (width : IsWidth w) (z : List ℕ) (n : ℕ) (state : StateWi
         ),
       )
 
+  -- ---- the result
+  word_sound : (next : ℕ) → Meets z (result_of w state op a from t next).list
+      → slice_index z (result_of w state op a from t next).answer ≡ result_number w i.op at low high finds
+  unfolding result_of ◌>>=◌
+  word_sound next meets =
+      let l = times_of low_terms (wire from.low) next in
+      let h = times_of (opcode_sum op high_ops) (wire from.high) l.next in
+      let m = times_of moved_terms (wire a.word) h.next in
+      let m1 = Meets-split z l.list _ meets in
+      let m2 = Meets-split z h.list _ m1.1 in
+      let m3 = Meets-split z m.list _ m2.1 in
+      let l_is = times_sound z next low_terms (wire from.low) has.assigns m1.0 ∙ low_is in
+      let h_is = times_sound z l.next (opcode_sum op high_ops) (wire from.high) has.assigns m2.0 ∙ high_is in
+      let m_is = times_sound z h.next moved_terms (wire a.word) has.assigns m3.0 ∙ moved_is in
+      accumulated_sound z m.next (parts_in w (op + place_of 3) l.answer h.answer m.answer) (opcode_sum op (27 ∷ [])) (wire from.byte) has.assigns m3.1
+      ∙ word_is l.answer h.answer m.answer l_is h_is m_is
+
+  word_complete : (next : ℕ) → slice_index z next ≡ low_part i.op low finds → slice_index z (next + 1) ≡ high_part i.op high
+      → slice_index z (next + 1 + 1) ≡ moved_part i.op at → slice_index z (next + 1 + 1 + 1) ≡ result_number w i.op at low high finds
+      → Meets z (result_of w state op a from t next).list
+  unfolding result_of ◌>>=◌
+  word_complete next e f g r =
+      let l = times_of low_terms (wire from.low) next in
+      let h = times_of (opcode_sum op high_ops) (wire from.high) l.next in
+      let m = times_of moved_terms (wire a.word) h.next in
+      let e1 : l.next ≡ next + 1 = times_next low_terms (wire from.low) next in
+      let e2 : h.next ≡ next + 1 + 1 = times_next (opcode_sum op high_ops) (wire from.high) l.next ∙ ap (λ k. k + 1) e1 in
+      let e3 : m.next ≡ next + 1 + 1 + 1 = times_next moved_terms (wire a.word) h.next ∙ ap (λ k. k + 1) e2 in
+      let m1 = times_complete z next low_terms (wire from.low) has.assigns (e ∙ sym low_is, tt) in
+      let m2 = times_complete z l.next (opcode_sum op high_ops) (wire from.high) has.assigns (ap (λ k. slice_index z k) e1 ∙ f ∙ sym high_is, tt) in
+      let m3 = times_complete z h.next moved_terms (wire a.word) has.assigns (ap (λ k. slice_index z k) e2 ∙ g ∙ sym moved_is, tt) in
+      let l_is = times_sound z next low_terms (wire from.low) has.assigns m1 ∙ low_is in
+      let h_is = times_sound z l.next (opcode_sum op high_ops) (wire from.high) has.assigns m2 ∙ high_is in
+      let m_is = times_sound z h.next moved_terms (wire a.word) has.assigns m3 ∙ moved_is in
+      let m4 = accumulated_complete z m.next (parts_in w (op + place_of 3) l.answer h.answer m.answer) (opcode_sum op (27 ∷ [])) (wire from.byte) has.assigns
+      (ap (λ k. slice_index z k) e3 ∙ r ∙ sym (word_is l.answer h.answer m.answer l_is h_is m_is), tt) in
+      Meets-join z l.list _ m1 (Meets-join z h.list _ m2 (Meets-join z m.list _ m3 m4))
+
 -- ---- the laws
 pub result_answer : (w : ℕ) (state : StateWires) (op : ℕ) (a : OperandWires) (from : Sources) (t : TapeWires) (next : ℕ)
     → (result_of w state op a from t next).answer ≡ next + 1 + 1 + 1
@@ -292,59 +330,6 @@ tested_answer : (w op : ℕ) (a : OperandWires) (from : Sources) (result next : 
 unfolding tested_of fresh put pure ◌>>=◌
 tested_answer w op a from result next = refl
 
-word_sound : (w : ℕ) (width : IsWidth w) (z : List ℕ) (next n : ℕ) (state : StateWires) (op : ℕ) (a : OperandWires) (from : Sources) (t : TapeWires) (v : View)
-    (i : Instr) (low high : ℕ)
-    (has : HasSources w z (record { state = state; op = op; operand = a; tapes = t }) from (input_of n v i low) high)
-    → Meets z (result_of w state op a from t next).list
-    → slice_index z (result_of w state op a from t next).answer ≡ result_number w i.op (operand_word v i) low high (takes_primary v i n || took z t)
-unfolding result_of ◌>>=◌
-word_sound w width z next n state op a from t v i low high has meets =
-    let assigns = has.assigns in
-    let low_terms = (P - 1, state.taken_of_primary) ∷ (opcode_sum op low_ops ++ (1, t.taken) ∷ (1, t.takes) ∷ []) in
-    let moved_terms = (P - 1, op + place_of 3) ∷ opcode_sum op (18 ∷ 19 ∷ []) in
-    let l = times_of low_terms (wire from.low) next in
-    let h = times_of (opcode_sum op high_ops) (wire from.high) l.next in
-    let m = times_of moved_terms (wire a.word) h.next in
-    let m1 = Meets-split z l.list _ meets in
-    let m2 = Meets-split z h.list _ m1.1 in
-    let m3 = Meets-split z m.list _ m2.1 in
-    let l_is = times_sound z next low_terms (wire from.low) assigns m1.0 ∙ low_is w width z n state op a from t v i low high has in
-    let h_is = times_sound z l.next (opcode_sum op high_ops) (wire from.high) assigns m2.0 ∙ high_is w width z n state op a from t v i low high has in
-    let m_is = times_sound z h.next moved_terms (wire a.word) assigns m3.0 ∙ moved_is w width z n state op a from t v i low high has in
-    accumulated_sound z m.next (parts_in w (op + place_of 3) l.answer h.answer m.answer) (opcode_sum op (27 ∷ [])) (wire from.byte) assigns m3.1
-    ∙ word_is w width z n state op a from t v i low high has l.answer h.answer m.answer l_is h_is m_is
-
-word_complete : (w : ℕ) (width : IsWidth w) (z : List ℕ) (next n : ℕ) (state : StateWires) (op : ℕ) (a : OperandWires) (from : Sources) (t : TapeWires)
-    (v : View) (i : Instr) (low high : ℕ)
-    (has : HasSources w z (record { state = state; op = op; operand = a; tapes = t }) from (input_of n v i low) high)
-    → let finds : Bool = takes_primary v i n || took z t in
-    slice_index z next ≡ low_part i.op low finds → slice_index z (next + 1) ≡ high_part i.op high
-    → slice_index z (next + 1 + 1) ≡ moved_part i.op (operand_word v i)
-    → slice_index z (next + 1 + 1 + 1) ≡ result_number w i.op (operand_word v i) low high finds → Meets z (result_of w state op a from t next).list
-unfolding result_of ◌>>=◌
-word_complete w width z next n state op a from t v i low high has e f g r =
-    let assigns = has.assigns in
-    let low_terms = (P - 1, state.taken_of_primary) ∷ (opcode_sum op low_ops ++ (1, t.taken) ∷ (1, t.takes) ∷ []) in
-    let moved_terms = (P - 1, op + place_of 3) ∷ opcode_sum op (18 ∷ 19 ∷ []) in
-    let l = times_of low_terms (wire from.low) next in
-    let h = times_of (opcode_sum op high_ops) (wire from.high) l.next in
-    let m = times_of moved_terms (wire a.word) h.next in
-    let e1 : l.next ≡ next + 1 = times_next low_terms (wire from.low) next in
-    let e2 : h.next ≡ next + 1 + 1 = times_next (opcode_sum op high_ops) (wire from.high) l.next ∙ ap (λ k. k + 1) e1 in
-    let e3 : m.next ≡ next + 1 + 1 + 1 = times_next moved_terms (wire a.word) h.next ∙ ap (λ k. k + 1) e2 in
-    let l_number = low_is w width z n state op a from t v i low high has in
-    let h_number = high_is w width z n state op a from t v i low high has in
-    let m_number = moved_is w width z n state op a from t v i low high has in
-    let m1 = times_complete z next low_terms (wire from.low) assigns (e ∙ sym l_number, tt) in
-    let m2 = times_complete z l.next (opcode_sum op high_ops) (wire from.high) assigns (ap (λ k. slice_index z k) e1 ∙ f ∙ sym h_number, tt) in
-    let m3 = times_complete z h.next moved_terms (wire a.word) assigns (ap (λ k. slice_index z k) e2 ∙ g ∙ sym m_number, tt) in
-    let l_is = times_sound z next low_terms (wire from.low) assigns m1 ∙ l_number in
-    let h_is = times_sound z l.next (opcode_sum op high_ops) (wire from.high) assigns m2 ∙ h_number in
-    let m_is = times_sound z h.next moved_terms (wire a.word) assigns m3 ∙ m_number in
-    let m4 = accumulated_complete z m.next (parts_in w (op + place_of 3) l.answer h.answer m.answer) (opcode_sum op (27 ∷ [])) (wire from.byte) assigns
-    (ap (λ k. slice_index z k) e3 ∙ r ∙ sym (word_is w width z n state op a from t v i low high has l.answer h.answer m.answer l_is h_is m_is), tt) in
-    Meets-join z l.list _ m1 (Meets-join z h.list _ m2 (Meets-join z m.list _ m3 m4))
-
 pub results_sound : ResultsAreSound
 unfolding results_of pure ◌>>=◌
 results_sound w width z next n state op a from t v i low high has meets =
@@ -353,21 +338,15 @@ results_sound w width z next n state op a from t v i low high has meets =
     let tested = tested_of w op a from word.answer word.next in
     let m1 = Meets-split z word.list _ meets in
     let m2 = Meets-split z tested.list _ m1.1 in
-    let is = word_sound w width z next n state op a from t v i low high has m1.0 in
+    let is = word_sound w width z n state op a from t v i low high has next m1.0 in
     let known = case_of w width z n state op a from t v i low high has in
     record {
       word = λ e. is ∙ result_is w width (other_word v i) (operand_word v i) low high finds
-          (HasBits-below has.operand.bits) i.op has.opcode.within has.opcode.used e known;
-      compared = λ e. is ∙ at_cmpe w width v i low high finds (HasBits-below has.operand.bits) e known;
+          (HasBits-below has.operand.bits) i.op e known;
+      compared = λ e. is ∙ compared_is w width (other_word v i) (operand_word v i) low high finds (HasBits-below has.operand.bits) i.op e known;
       tested = λ e. ap (λ k. slice_index z k) (tested_answer w op a from word.answer word.next)
           ∙ tested_sound w width z n state op a from t v i low high has word.next word.answer m2.0 e;
     }
-  where
-    at_cmpe : (w : ℕ) (width : IsWidth w) (v : View) (i : Instr) (low high : ℕ) (finds : Bool) (h : operand_word v i < 2 ^ w) → i.op ≡ 13
-        → ResultCase w width (other_word v i) (operand_word v i) low high finds h i.op → result_number w i.op (operand_word v i) low high finds ≡ low
-    at_cmpe w width v i low high finds h e = subst
-        (λ k. ResultCase w width (other_word v i) (operand_word v i) low high finds h k → result_number w k (operand_word v i) low high finds ≡ low) (sym e)
-        (compared_is w width (other_word v i) (operand_word v i) low high finds h)
 
 pub results_complete : ResultsAreComplete
 unfolding results_of pure ◌>>=◌
@@ -375,17 +354,24 @@ results_complete w width z next n state op a from t v i low high has values =
     let finds : Bool = takes_primary v i n || took z t in
     let word = result_of w state op a from t next in
     let tested = tested_of w op a from word.answer word.next in
-    let m1 = word_complete w width z next n state op a from t v i low high has values.0 values.1.0 values.1.1.0 values.1.1.1.0 in
+    let m1 = word_complete w width z n state op a from t v i low high has next values.0 values.1.0 values.1.1.0 values.1.1.1.0 in
     let is : slice_index z word.answer ≡ result_number w i.op (operand_word v i) low high finds = ap (λ k. slice_index z k)
     (result_answer w state op a from t next) ∙ values.1.1.1.0 in
     let m2 = tested_complete w width z n state op a from t v i low high has word.next word.answer
     (ap (λ k. slice_index z k) (result_next w state op a from t next) ∙ values.1.1.1.1.0 ∙ sym (ap (tested_number w i.op (operand_word v i) low high) is)) in
     Meets-join z word.list _ m1 (Meets-join z tested.list _ m2 tt)
 
-results_count : (w : ℕ) (state : StateWires) (op : ℕ) (a : OperandWires) (from : Sources) (t : TapeWires) (next : ℕ)
-    → length (results_of w state op a from t next).list ≡ 8
+abbrev wires_from : ℕ → ℕ → ResultWires
+wires_from a b = record { word = a; tested = b }
+
+results_shape : (w : ℕ) (state : StateWires) (op : ℕ) (a : OperandWires) (from : Sources) (t : TapeWires) (next : ℕ)
+    → let made = results_of w state op a from t next in
+    (made.answer ≡ record { word = next + 3; tested = next + 4 }) × (made.next ≡ next + 5) × (length made.list ≡ 8)
 unfolding results_of result_of tested_of times_of closed_of fresh put pure ◌>>=◌
-results_count w state op a from t next = refl
+results_shape w state op a from t next =
+    let word : next + 1 + 1 + 1 ≡ next + 3 = omega arith in
+    let tested : next + 1 + 1 + 1 + 1 ≡ next + 4 = omega arith in
+    (ap₂ wires_from word tested, omega arith, refl)
 
 results_terms : (w : ℕ) → IsWidth w → (state : StateWires) (op : ℕ) (a : OperandWires) (from : Sources) (t : TapeWires) (next : ℕ)
     → terms_in (results_of w state op a from t next).list ≡ w / 16 + 62
@@ -395,23 +381,9 @@ results_terms w width state op a from t next =
     omega (arith, length-append upper (wire (next + 1 + 1 + 1 + 1)), length-upper (P - 1) a (place_bits w))
 
 pub results_costs : ResultsCosts
-results_costs = record { constraints = results_count; terms = results_terms }
+results_costs = record { constraints = λ w state op a from t next. (results_shape w state op a from t next).2; terms = results_terms }
 
 -- ---- sizes
-abbrev wires_from : ℕ → ℕ → ResultWires
-wires_from a b = record { word = a; tested = b }
-
-results_answer : (w : ℕ) (state : StateWires) (op : ℕ) (a : OperandWires) (from : Sources) (t : TapeWires) (next : ℕ)
-    → (results_of w state op a from t next).answer ≡ record { word = next + 3; tested = next + 4 }
-unfolding results_of result_of tested_of times_of closed_of fresh put pure ◌>>=◌
-results_answer w state op a from t next = ap₂ wires_from (let e : next + 1 + 1 + 1 ≡ next + 3 = omega arith in e)
-    (let e : next + 1 + 1 + 1 + 1 ≡ next + 4 = omega arith in e)
-
-results_next : (w : ℕ) (state : StateWires) (op : ℕ) (a : OperandWires) (from : Sources) (t : TapeWires) (next : ℕ)
-    → (results_of w state op a from t next).next ≡ next + 5
-unfolding results_of result_of tested_of times_of closed_of fresh put pure ◌>>=◌
-results_next w state op a from t next = omega arith
-
 tested_below : (w : ℕ) → IsWidth w → (k a low high result : ℕ) → a < 2 ^ w → high < P → result < P → tested_number w k a low high result < P
 tested_below w width k a low high result h l m =
     let small = small_word w width a h in
@@ -441,8 +413,8 @@ results_in_field w width k a low high found h l m =
 
 pub results_sizes : ResultsSizes
 results_sizes = record {
-  answer = results_answer;
-  end = results_next;
-  fills = λ w state op a from t k x low high found next. results_next w state op a from t next;
+  answer = λ w state op a from t next. (results_shape w state op a from t next).0;
+  end = λ w state op a from t next. (results_shape w state op a from t next).1;
+  fills = λ w state op a from t k x low high found next. (results_shape w state op a from t next).1;
   in_field = results_in_field;
 }

@@ -202,14 +202,16 @@ pub record IsArithmetic (w : ℕ) (z : List ℕ) (made : ArithmeticWires) (f : �
 -- an assignment that satisfies the constraints has them at the returned wires
 abbrev pub ArithmeticIsSound : Type 0
 ArithmeticIsSound = (w : ℕ) → IsWidth w → (z : List ℕ) (next op other f : ℕ) (operand : OperandWires) (k x a : ℕ)
-    → HasArithmetic w z (record { op = op; other = other; f = f; operand = operand }) (operation_of k x a) → Meets z (arithmetic_of w op other f operand next).list
+    → HasArithmetic w z (record { op = op; other = other; f = f; operand = operand }) (operation_of k x a)
+    → Meets z (arithmetic_of w op other f operand next).list
     → IsArithmetic w z (arithmetic_of w op other f operand next).answer f operand (operation_of k x a)
 
 -- an assignment that has these values at the wires that are made meets the constraints, and has the halves in the row;
 -- the data word o is any word
 abbrev pub ArithmeticIsComplete : Type 0
 ArithmeticIsComplete = (w : ℕ) → IsWidth w → (z : List ℕ) (next op other f : ℕ) (operand : OperandWires) (k x a o : ℕ)
-    → HasArithmetic w z (record { op = op; other = other; f = f; operand = operand }) (operation_of k x a) → (among division_ops k ≡ true → slice_index z f ≡ flag_of (a == 0)) → o < 2 ^ w
+    → HasArithmetic w z (record { op = op; other = other; f = f; operand = operand }) (operation_of k x a)
+    → (among division_ops k ≡ true → slice_index z f ≡ flag_of (a == 0)) → o < 2 ^ w
     → HasFrom z next (arithmetic_values w (operation_of k x a) (slice_index z f) (low_number w k x a o) (high_number w k x a))
     → Meets z (arithmetic_of w op other f operand next).list
     × (slice_index z (arithmetic_of w op other f operand next).answer.row.low ≡ low_number w k x a o)
@@ -217,7 +219,8 @@ ArithmeticIsComplete = (w : ℕ) → IsWidth w → (z : List ℕ) (next op other
 
 -- at a shift the number that is tested for the flag is 0 exactly where the operand is below w, whatever the row holds
 abbrev pub ShiftTestIsSound : Type 0
-ShiftTestIsSound = (w : ℕ) → IsWidth w → (z : List ℕ) (next : ℕ) (state : StateWires) (op : ℕ) (operand : OperandWires) (from : Sources) (t : TapeWires) (k a : ℕ)
+ShiftTestIsSound = (w : ℕ) → IsWidth w → (z : List ℕ) (next : ℕ) (state : StateWires) (op : ℕ) (operand : OperandWires) (from : Sources) (t : TapeWires)
+    (k a : ℕ)
     → Assigns z → IsOpcode z op k → among shift_ops k ≡ true → IsOperand w z operand a → Meets z (results_of w state op operand from t next).list
     → (if slice_index z (results_of w state op operand from t next).answer.tested == 0 then 1 else 0) ≡ flag_of (nat_lt a w)
 

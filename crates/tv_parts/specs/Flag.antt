@@ -31,7 +31,8 @@ use Rattle.tv_word.specs.Word.{flag_of}
 -- is taken of a tape at read
 abbrev pub tested_in : ℕ → ℕ → ℕ → TapeWires → ℕ → ℕ → Combination
 tested_in before op f t left right =
-    (1, before) ∷ (opcode_sum op (ADD ∷ MULL ∷ UMULH ∷ SMULH ∷ CMPA ∷ CMPAE ∷ CMPG ∷ CMPGE ∷ READ ∷ []) ++ (1, f) ∷ (P - 1, t.taken) ∷ (P - 1, t.takes) ∷ (1, left) ∷ (1, right) ∷ [])
+    (1, before) ∷ (opcode_sum op (ADD ∷ MULL ∷ UMULH ∷ SMULH ∷ CMPA ∷ CMPAE ∷ CMPG ∷ CMPGE ∷ READ ∷ []) ++ (1, f) ∷ (P - 1, t.taken) ∷ (P - 1, t.takes)
+    ∷ (1, left) ∷ (1, right) ∷ [])
 
 -- the top bit of x at the shift to the left, in place of f, and its lowest bit at that to the right; the flag stays at
 -- the opcodes that keep it
@@ -74,7 +75,8 @@ flag_in w n v i o takes = chosen (flags w (other_word v i) (operand_word v i) (f
 
 -- an assignment that satisfies the constraints has it at the returned wire
 abbrev pub FlagIsSound : Type 0
-FlagIsSound = (w : ℕ) → IsWidth w → (z : List ℕ) (next n : ℕ) (state : StateWires) (op : ℕ) (x : Bits) (f : ℕ) (t : TapeWires) (v : View) (i : Instr) (low high result y o : ℕ)
+FlagIsSound = (w : ℕ) → IsWidth w → (z : List ℕ) (next n : ℕ) (state : StateWires) (op : ℕ) (x : Bits) (f : ℕ) (t : TapeWires) (v : View) (i : Instr)
+    (low high result y o : ℕ)
     → HasFlag w z (record { state = state; op = op; x = x; f = f; tapes = t }) (input_of n v i low) high (record { word = result; tested = y })
     → Meets z (next_flag_of w state op x f t next).list
     → slice_index z (next_flag_of w state op x f t next).answer ≡ flag_in w n v i o (took z t)
@@ -88,7 +90,8 @@ flag_values w step takes f =
 
 -- an assignment that has these values at the wires that are made meets the constraints
 abbrev pub FlagIsComplete : Type 0
-FlagIsComplete = (w : ℕ) → IsWidth w → (z : List ℕ) (next n : ℕ) (state : StateWires) (op : ℕ) (x : Bits) (f : ℕ) (t : TapeWires) (v : View) (i : Instr) (low high result y o : ℕ)
+FlagIsComplete = (w : ℕ) → IsWidth w → (z : List ℕ) (next n : ℕ) (state : StateWires) (op : ℕ) (x : Bits) (f : ℕ) (t : TapeWires) (v : View) (i : Instr)
+    (low high result y o : ℕ)
     → HasFlag w z (record { state = state; op = op; x = x; f = f; tapes = t }) (input_of n v i low) high (record { word = result; tested = y })
     → HasFrom z next (flag_values w (input_of n v i o) (took z t) (slice_index z f))
     → Meets z (next_flag_of w state op x f t next).list

@@ -20,6 +20,10 @@ pub record TapedWires : Type 0 where
   pub operand : OperandWires
   pub tapes : TapeWires
 
+-- the record of these wires
+abbrev pub taped_of : StateWires → ℕ → OperandWires → TapeWires → TapedWires
+taped_of state op operand tapes = record { state = state; op = op; operand = operand; tapes = tapes }
+
 -- the wires that the flag is made from: those of the state, of the opcode's row, of the bits x of the other word, of the
 -- test f, and of what the step does to the tapes
 pub record FlagWires : Type 0 where

@@ -127,27 +127,34 @@ pub record AreStored (w : ℕ) (z : List ℕ) (s : StoreWires) (step : StepInput
 
 -- an assignment that satisfies the constraints has them at the returned wires
 abbrev pub MemoryIsSound : Type 0
-MemoryIsSound = (w : ℕ) → IsWidth w → (z : List ℕ) (next n : ℕ) (state : StateWires) (op : ℕ) (a : OperandWires) (d : DataWires) (t : TapeWires) (v : View) (i : Instr) (x o : ℕ)
+MemoryIsSound = (w : ℕ) → IsWidth w → (z : List ℕ) (next n : ℕ) (state : StateWires) (op : ℕ) (a : OperandWires) (d : DataWires) (t : TapeWires) (v : View)
+    (i : Instr) (x o : ℕ)
     → HasMemory w z (record { state = state; op = op; operand = a; tapes = t }) d (input_of n v i o) x → Meets z (memory_of w state op a d t next).list
     → AreStored w z (memory_of w state op a d t next).answer (input_of n v i o)
 
 -- an assignment that has these values at the wires that are made meets the constraints
 abbrev pub MemoryIsComplete : Type 0
-MemoryIsComplete = (w : ℕ) → IsWidth w → (z : List ℕ) (next n : ℕ) (state : StateWires) (op : ℕ) (a : OperandWires) (d : DataWires) (t : TapeWires) (v : View) (i : Instr) (x o : ℕ)
+MemoryIsComplete = (w : ℕ) → IsWidth w → (z : List ℕ) (next n : ℕ) (state : StateWires) (op : ℕ) (a : OperandWires) (d : DataWires) (t : TapeWires) (v : View)
+    (i : Instr) (x o : ℕ)
     → HasMemory w z (record { state = state; op = op; operand = a; tapes = t }) d (input_of n v i o) x
     → HasFrom z next (memory_values w (input_of n v i o) x) → Meets z (memory_of w state op a d t next).list
 
 -- which wires are returned, and that the values are one number of the field for each wire that is made
 pub record MemorySizes : Type 0 where
-  pub answer : (w : ℕ) → IsWidth w → (state : StateWires) (op : ℕ) (a : OperandWires) (d : DataWires) (t : TapeWires) (next : ℕ) → (memory_of w state op a d t next).answer
+  pub answer : (w : ℕ) → IsWidth w → (state : StateWires) (op : ℕ) (a : OperandWires) (d : DataWires) (t : TapeWires) (next : ℕ)
+      → (memory_of w state op a d t next).answer
       ≡ record { line = record { cell = next + 1; old = next + 2 }; byte = next + (w / 8 + 1); new = next + (w / 8 + 4) }
-  pub end : (w : ℕ) → IsWidth w → (state : StateWires) (op : ℕ) (a : OperandWires) (d : DataWires) (t : TapeWires) (next : ℕ) → (memory_of w state op a d t next).next ≡ next + (w / 8 + 5)
+  pub end : (w : ℕ) → IsWidth w → (state : StateWires) (op : ℕ) (a : OperandWires) (d : DataWires) (t : TapeWires) (next : ℕ)
+      → (memory_of w state op a d t next).next ≡ next + (w / 8 + 5)
   pub fills : (w : ℕ) → IsWidth w → (n : ℕ) (state : StateWires) (op : ℕ) (a : OperandWires) (d : DataWires) (t : TapeWires) (v : View) (i : Instr) (x o : ℕ)
       → Fills (memory_of w state op a d t) (memory_values w (input_of n v i o) x)
-  pub in_field : (w : ℕ) → IsWidth w → (n : ℕ) (v : View) (i : Instr) (x o : ℕ) → n < 2 ^ 29 → v.taken ≤ n → operand_word v i < 2 ^ w → other_word v i < 2 ^ w → o < 2 ^ w
+  pub in_field : (w : ℕ) → IsWidth w → (n : ℕ) (v : View) (i : Instr) (x o : ℕ) → n < 2 ^ 29 → v.taken ≤ n → operand_word v i < 2 ^ w → other_word v i < 2 ^ w
+      → o < 2 ^ w
       → InField (memory_values w (input_of n v i o) x)
 
 -- nine constraints, or seven for words of two bytes, of 2 w + w / 8 + 37 terms
 pub record MemoryCosts : Type 0 where
-  pub constraints : (w : ℕ) → IsWidth w → (state : StateWires) (op : ℕ) (a : OperandWires) (d : DataWires) (t : TapeWires) (next : ℕ) → length (memory_of w state op a d t next).list ≡ w / 8 + 5
-  pub terms : (w : ℕ) → IsWidth w → (state : StateWires) (op : ℕ) (a : OperandWires) (d : DataWires) (t : TapeWires) (next : ℕ) → terms_in (memory_of w state op a d t next).list ≡ 2 * w + w / 8 + 37
+  pub constraints : (w : ℕ) → IsWidth w → (state : StateWires) (op : ℕ) (a : OperandWires) (d : DataWires) (t : TapeWires) (next : ℕ)
+      → length (memory_of w state op a d t next).list ≡ w / 8 + 5
+  pub terms : (w : ℕ) → IsWidth w → (state : StateWires) (op : ℕ) (a : OperandWires) (d : DataWires) (t : TapeWires) (next : ℕ)
+      → terms_in (memory_of w state op a d t next).list ≡ 2 * w + w / 8 + 37

@@ -49,7 +49,8 @@ unfoldable pub pc_of : ℕ → StateWires → ℕ → OperandWires → Circuit �
 pc_of w state op a = do
   wraps ← if_zero_of (goes_in op) (from_last w state.pc)
   by_flag ← times_of (wire state.flag) ((1, op + place_of CJMP) ∷ (P - 1, op + place_of CNJMP) ∷ [])
-  accumulated_of (after_in w state.pc (op + place_of ANSWER) wraps) ((1, op + place_of JMP) ∷ (1, op + place_of CNJMP) ∷ (1, by_flag) ∷ []) (jump_in w state.pc (op + place_of ANSWER) a wraps)
+  accumulated_of (after_in w state.pc (op + place_of ANSWER) wraps)
+      ((1, op + place_of JMP) ∷ (1, op + place_of CNJMP) ∷ (1, by_flag) ∷ []) (jump_in w state.pc (op + place_of ANSWER) a wraps)
 
 -- the values of the wires that are made: whether the counter wraps, and the hint of that; the flag where a jump is
 -- taken by it, or P less it; the counter

@@ -10,7 +10,8 @@ use Rattle.tv_core.specs.Meanings.{terms_in}
 use Rattle.tv_core.specs.declared.field.TheConstants.{P}
 use Rattle.tv_isa.specs.Opcodes.{among, Entry, chosen, writer_ops, place_of}
 use Rattle.tv_isa.specs.declared.instr.Instr.{Instr}
-use Rattle.tv_isa.specs.declared.opcode.TheConstants.{AND, OR, XOR, NOT, ADD, SUB, MULL, UMULH, SMULH, UDIV, UMOD, SHL, SHR, CMPE, CMPA, CMPAE, CMPG, CMPGE, MOV, CMOV, LOAD_B, LOAD_W}
+use Rattle.tv_isa.specs.declared.opcode.TheConstants.{AND, OR, XOR, NOT, ADD, SUB, MULL, UMULH, SMULH, UDIV, UMOD, SHL, SHR, CMPE, CMPA, CMPAE, CMPG, CMPGE}
+use Rattle.tv_isa.specs.declared.opcode.TheConstants.{MOV, CMOV, LOAD_B, LOAD_W}
 use Rattle.tv_mem.specs.Bytes.{byte_of}
 use Rattle.tv_numbers.specs.Numbers.{operand_word, other_word, found, result_in}
 use Rattle.tv_numbers.specs.Views.{View}
@@ -133,8 +134,10 @@ pub record AreResults (w : ℕ) (z : List ℕ) (r : ResultWires) (step : StepInp
 
 -- an assignment that satisfies the constraints has them at the returned wires
 abbrev pub ResultsAreSound : Type 0
-ResultsAreSound = (w : ℕ) → IsWidth w → (z : List ℕ) (next n : ℕ) (state : StateWires) (op : ℕ) (a : OperandWires) (from : Sources) (t : TapeWires) (v : View) (i : Instr) (low high : ℕ)
-    → HasSources w z (record { state = state; op = op; operand = a; tapes = t }) from (input_of n v i low) high → Meets z (results_of w state op a from t next).list
+ResultsAreSound = (w : ℕ) → IsWidth w → (z : List ℕ) (next n : ℕ) (state : StateWires) (op : ℕ) (a : OperandWires) (from : Sources) (t : TapeWires) (v : View)
+    (i : Instr) (low high : ℕ)
+    → HasSources w z (record { state = state; op = op; operand = a; tapes = t }) from (input_of n v i low) high
+    → Meets z (results_of w state op a from t next).list
     → AreResults w z (results_of w state op a from t next).answer (input_of n v i low) high (took z t)
 
 -- the values of the wires that are made: the parts of the result that are a half of the row or the operand, the result,
@@ -162,19 +165,26 @@ results_values w k a low high found =
 
 -- an assignment that has these values at the wires that are made meets the constraints
 abbrev pub ResultsAreComplete : Type 0
-ResultsAreComplete = (w : ℕ) → IsWidth w → (z : List ℕ) (next n : ℕ) (state : StateWires) (op : ℕ) (a : OperandWires) (from : Sources) (t : TapeWires) (v : View) (i : Instr) (low high : ℕ)
+ResultsAreComplete = (w : ℕ) → IsWidth w → (z : List ℕ) (next n : ℕ) (state : StateWires) (op : ℕ) (a : OperandWires) (from : Sources) (t : TapeWires)
+    (v : View) (i : Instr) (low high : ℕ)
     → HasSources w z (record { state = state; op = op; operand = a; tapes = t }) from (input_of n v i low) high
     → HasFrom z next (results_values w i.op (operand_word v i) low high (found w n v i low (took z t)))
     → Meets z (results_of w state op a from t next).list
 
 -- which wires are returned, and that the values are one number of the field for each wire that is made
 pub record ResultsSizes : Type 0 where
-  pub answer : (w : ℕ) (state : StateWires) (op : ℕ) (a : OperandWires) (from : Sources) (t : TapeWires) (next : ℕ) → (results_of w state op a from t next).answer ≡ record { word = next + 3; tested = next + 4 }
-  pub end : (w : ℕ) (state : StateWires) (op : ℕ) (a : OperandWires) (from : Sources) (t : TapeWires) (next : ℕ) → (results_of w state op a from t next).next ≡ next + 5
-  pub fills : (w : ℕ) (state : StateWires) (op : ℕ) (a : OperandWires) (from : Sources) (t : TapeWires) (k x low high : ℕ) (found : Bool) → Fills (results_of w state op a from t) (results_values w k x low high found)
-  pub in_field : (w : ℕ) → IsWidth w → (k a low high : ℕ) (found : Bool) → a < 2 ^ w → low < 2 ^ w → high < 2 ^ w → InField (results_values w k a low high found)
+  pub answer : (w : ℕ) (state : StateWires) (op : ℕ) (a : OperandWires) (from : Sources) (t : TapeWires) (next : ℕ)
+      → (results_of w state op a from t next).answer ≡ record { word = next + 3; tested = next + 4 }
+  pub end : (w : ℕ) (state : StateWires) (op : ℕ) (a : OperandWires) (from : Sources) (t : TapeWires) (next : ℕ)
+      → (results_of w state op a from t next).next ≡ next + 5
+  pub fills : (w : ℕ) (state : StateWires) (op : ℕ) (a : OperandWires) (from : Sources) (t : TapeWires) (k x low high : ℕ) (found : Bool)
+      → Fills (results_of w state op a from t) (results_values w k x low high found)
+  pub in_field : (w : ℕ) → IsWidth w → (k a low high : ℕ) (found : Bool) → a < 2 ^ w → low < 2 ^ w → high < 2 ^ w
+      → InField (results_values w k a low high found)
 
 -- eight constraints, of w / 16 + 62 terms
 pub record ResultsCosts : Type 0 where
-  pub constraints : (w : ℕ) (state : StateWires) (op : ℕ) (a : OperandWires) (from : Sources) (t : TapeWires) (next : ℕ) → length (results_of w state op a from t next).list ≡ 8
-  pub terms : (w : ℕ) → IsWidth w → (state : StateWires) (op : ℕ) (a : OperandWires) (from : Sources) (t : TapeWires) (next : ℕ) → terms_in (results_of w state op a from t next).list ≡ w / 16 + 62
+  pub constraints : (w : ℕ) (state : StateWires) (op : ℕ) (a : OperandWires) (from : Sources) (t : TapeWires) (next : ℕ)
+      → length (results_of w state op a from t next).list ≡ 8
+  pub terms : (w : ℕ) → IsWidth w → (state : StateWires) (op : ℕ) (a : OperandWires) (from : Sources) (t : TapeWires) (next : ℕ)
+      → terms_in (results_of w state op a from t next).list ≡ w / 16 + 62

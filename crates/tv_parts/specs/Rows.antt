@@ -2,7 +2,8 @@
 use Rattle.std.specs.Prelude.{◌≡◌, ℕ, ◌+◌, ◌/◌, ◌%◌, ◌^◌, ◌<◌, Bool, true, false, if◌then◌else◌, List, [], ◌∷◌}
 use Rattle.tv_isa.specs.Opcodes.{Entry, among, chosen}
 use Rattle.tv_isa.specs.declared.opcode.TheConstants.{AND, OR, XOR, ADD, SUB, MULL, UMULH, SMULH, UDIV, UMOD, SHL, SHR, CMPE, CMPA, CMPAE, CMPG, CMPGE}
-use Rattle.tv_word.specs.Operations.{and_result, xor_result, add_result, sub_result, mull_result, umulh_result, product_twos, smulh_result, udiv_result, umod_result, shl_result, shr_result, cmpa_flag, cmpae_flag, cmpg_flag, cmpge_flag}
+use Rattle.tv_word.specs.Operations.{and_result, xor_result, add_result, sub_result, mull_result, umulh_result, product_twos, smulh_result, udiv_result}
+use Rattle.tv_word.specs.Operations.{umod_result, shl_result, shr_result, cmpa_flag, cmpae_flag, cmpg_flag, cmpge_flag}
 use Rattle.tv_word.specs.Word.{flag_of}
 
 -- whether some entry has an opcode

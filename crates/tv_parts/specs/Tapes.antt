@@ -103,12 +103,14 @@ pub record HasTapes (w : ℕ) (z : List ℕ) (wires : StepWires) (n : ℕ) (v : 
 -- an assignment that satisfies the constraints has them at the returned wires
 abbrev pub TapesAreSound : Type 0
 TapesAreSound = (w : ℕ) → IsWidth w → (z : List ℕ) (next n : ℕ) (state : StateWires) (op : ℕ) (a : OperandWires) (v : View) (i : Instr)
-    → HasTapes w z (record { state = state; op = op; operand = a }) n v i → Meets z (tapes_of w n state op a next).list → AreTapes z (tapes_of w n state op a next).answer n v i
+    → HasTapes w z (record { state = state; op = op; operand = a }) n v i → Meets z (tapes_of w n state op a next).list
+    → AreTapes z (tapes_of w n state op a next).answer n v i
 
 -- an assignment that has these values at the wires that are made meets the constraints, and whether a word of tape 1
 -- is taken, where one is asked for, is free
 abbrev pub TapesAreComplete : Type 0
-TapesAreComplete = (w : ℕ) → IsWidth w → (z : List ℕ) (next n : ℕ) (state : StateWires) (op : ℕ) (a : OperandWires) (v : View) (i : Instr) (o : ℕ) (takes : Bool)
+TapesAreComplete = (w : ℕ) → IsWidth w → (z : List ℕ) (next n : ℕ) (state : StateWires) (op : ℕ) (a : OperandWires) (v : View) (i : Instr) (o : ℕ)
+    (takes : Bool)
     → HasTapes w z (record { state = state; op = op; operand = a }) n v i → (takes ≡ true → asks v i ≡ true) → HasFrom z next (tapes_values w n v i o takes)
     → Meets z (tapes_of w n state op a next).list × (took z (tapes_of w n state op a next).answer ≡ takes)
 
@@ -117,7 +119,8 @@ pub record TapesSizes : Type 0 where
   pub answer : (w n : ℕ) (state : StateWires) (op : ℕ) (a : OperandWires) (next : ℕ)
       → (tapes_of w n state op a next).answer ≡ record { taken = next + 3; takes = next + 5; ended = next + 6 }
   pub end : (w n : ℕ) (state : StateWires) (op : ℕ) (a : OperandWires) (next : ℕ) → (tapes_of w n state op a next).next ≡ next + 7
-  pub fills : (w n : ℕ) (state : StateWires) (op : ℕ) (a : OperandWires) (v : View) (i : Instr) (o : ℕ) (takes : Bool) → Fills (tapes_of w n state op a) (tapes_values w n v i o takes)
+  pub fills : (w n : ℕ) (state : StateWires) (op : ℕ) (a : OperandWires) (v : View) (i : Instr) (o : ℕ) (takes : Bool)
+      → Fills (tapes_of w n state op a) (tapes_values w n v i o takes)
   pub in_field : (w n : ℕ) (v : View) (i : Instr) (o : ℕ) (takes : Bool) → n < 2 ^ 29 → v.taken ≤ n → v.ended < 2 → InField (tapes_values w n v i o takes)
 
 -- how many terms the tapes cost: where n is not 0, two combinations have the constant n
@@ -127,4 +130,5 @@ tapes_terms n = if n == 0 then 29 else 31
 -- how many constraints and terms the tapes cost
 pub record TapesCosts : Type 0 where
   pub constraints : (w n : ℕ) (state : StateWires) (op : ℕ) (a : OperandWires) (next : ℕ) → length (tapes_of w n state op a next).list ≡ 7
-  pub terms : (w : ℕ) → IsWidth w → (n : ℕ) (state : StateWires) (op : ℕ) (a : OperandWires) (next : ℕ) → terms_in (tapes_of w n state op a next).list ≡ tapes_terms n
+  pub terms : (w : ℕ) → IsWidth w → (n : ℕ) (state : StateWires) (op : ℕ) (a : OperandWires) (next : ℕ)
+      → terms_in (tapes_of w n state op a next).list ≡ tapes_terms n

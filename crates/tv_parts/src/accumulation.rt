@@ -25,18 +25,11 @@ pub fn accumulated<S: Sink>(s: &mut S, product: &mut Lc, f: &Lc, g: &Lc) -> Put<
     Ok(sum)
 }
 
-/// In an assignment that meets the constraint the wire holds the sum.
-pub fn accumulated_is_sound()
-    ensures { AccumulatedIsSound }
-{}
-
-/// An assignment that has the sum at the wire meets the constraint.
-pub fn accumulated_is_complete()
-    ensures { AccumulatedIsComplete }
-{}
-
-/// Says which wire `accumulated` returns, and that its value is one number of the field.
-#[tactic(auto, using(crate::proofs::AccumulationLaws::accumulated_sizes))]
-pub fn accumulated_fills()
-    ensures { AccumulatedSizes }
+/// The laws of `accumulated`. In an assignment that meets the constraint the wire holds the sum,
+/// and an assignment that has the sum at the wire meets it. They also say which wire is returned,
+/// and that its value is one number of the field.
+pub fn accumulated_laws()
+    ensures sound { AccumulatedIsSound }
+    ensures complete { AccumulatedIsComplete }
+    ensures sizes { AccumulatedSizes }
 {}

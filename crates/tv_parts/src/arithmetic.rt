@@ -344,30 +344,16 @@ fn shifted_word<const W: u32>(x: u32, a: u32) -> u32
     if a < W { x } else { 0 }
 }
 
-/// An assignment that satisfies the constraints has the halves of the operation's number in the
-/// row.
-pub fn arithmetic_is_sound()
-    ensures { ArithmeticIsSound }
-{}
-
-/// At a shift, an assignment that satisfies the constraints of the result tests a number that is 0
-/// exactly where the operand is below the width, whatever the row holds.
-pub fn shift_test_is_sound()
-    ensures { ShiftTestIsSound }
-{}
-
-/// An assignment that has the values of the operation's halves meets the constraints.
-pub fn arithmetic_is_complete()
-    ensures { ArithmeticIsComplete }
-{}
-
-/// Says which wires `put_arithmetic` returns, and that `fill_arithmetic` assigns one number to each
-/// wire that it makes.
-pub fn arithmetic_fills()
-    ensures { ArithmeticSizes }
-{}
-
-/// Says how many constraints and terms the operations cost.
-pub fn arithmetic_costs()
-    ensures { ArithmeticCosts }
+/// The laws of the arithmetic. An assignment that satisfies the constraints has the halves of the
+/// operation's number in the row; at a shift, one that satisfies the constraints of the result
+/// tests a number that is 0 exactly where the operand is below the width, whatever the row holds.
+/// An assignment that has the values of the operation's halves meets the constraints. They also say
+/// which wires `put_arithmetic` returns, that `fill_arithmetic` assigns one number to each wire
+/// that it makes, and how many constraints and terms the operations cost.
+pub fn arithmetic_laws()
+    ensures sound { ArithmeticIsSound }
+    ensures shift_test { ShiftTestIsSound }
+    ensures complete { ArithmeticIsComplete }
+    ensures sizes { ArithmeticSizes }
+    ensures costs { ArithmeticCosts }
 {}

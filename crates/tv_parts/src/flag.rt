@@ -199,25 +199,13 @@ fn flag_after<const W: u32>(op: u8, x: u32, a: u32, found: bool, flag: bool) -> 
     }
 }
 
-/// An assignment that satisfies the constraints has the flag after the step.
-pub fn flag_is_sound()
-    ensures { FlagIsSound }
-{}
-
-/// An assignment that has the flag after the step meets the constraints.
-pub fn flag_is_complete()
-    ensures { FlagIsComplete }
-{}
-
-/// Says which wire `put_flag` returns, and that `fill_flag` assigns one number to each wire that it
-/// makes.
-#[tactic(auto, using(crate::proofs::FlagFills::flag_sizes))]
-pub fn flag_fills()
-    ensures { FlagSizes }
-{}
-
-/// Says how many constraints and terms the flag costs.
-#[tactic(auto, using(crate::proofs::FlagFills::flag_costs))]
-pub fn flag_costs()
-    ensures { FlagCosts }
+/// The laws of the flag. An assignment that satisfies the constraints has the flag after the step,
+/// and one that has it meets the constraints. They also say which wire `put_flag` returns, that
+/// `fill_flag` assigns one number to each wire that it makes, and how many constraints and terms
+/// the flag costs.
+pub fn flag_laws()
+    ensures sound { FlagIsSound }
+    ensures complete { FlagIsComplete }
+    ensures sizes { FlagSizes }
+    ensures costs { FlagCosts }
 {}

@@ -7,6 +7,7 @@ ghost use Rattle.tv_core.specs.Sinks.{PutsIn, Grows, Room};
 ghost use Rattle.tv_parts.specs.Memory.{located_line, byte_of_pair, byte_of_four, byte_at_of};
 ghost use Rattle.tv_parts.specs.Memory.{power_in, new_of, memory_of};
 ghost use Rattle.tv_parts.specs.Memory.{MemoryIsSound, MemoryIsComplete, MemorySizes, MemoryCosts};
+ghost use Rattle.tv_parts.specs.Inputs.{taped_of};
 ghost use Rattle.tv_parts.specs.States.{TapedUnder, DataUnder, LineUnder, StoreUnder};
 ghost use Rattle.tv_parts.specs.Memory.{line_values, byte_values, gained, new_values};
 ghost use Rattle.tv_parts.specs.Memory.{memory_values};
@@ -45,12 +46,8 @@ pub fn put_memory<const W: u32, S: Sink>(
 ) -> Put<StoreWires>
     requires width { IsWidth W }
     requires room { Room S.meaning s.old (W / 8 + 5) (W / 8 + 5) }
-    requires step_made { TapedUnder W (S.meaning.wires s.old) (record {
-      state = state.now;
-      op = op;
-      operand = a.now;
-      tapes = tapes.now;
-    }) }
+    requires step_made { TapedUnder W (S.meaning.wires s.old)
+        (taped_of state.now op a.now tapes.now) }
     requires data_made { DataUnder W (S.meaning.wires s.old) d.now }
     ensures puts { PutsIn S.meaning s.old s.new (memory_of W state.now op a.now d.now tapes.now)
         result }
@@ -75,12 +72,8 @@ fn put_line<const W: u32, S: Sink>(
 ) -> Put<LineWires>
     requires width { IsWidth W }
     requires room { Room S.meaning s.old 3 3 }
-    requires step_made { TapedUnder W (S.meaning.wires s.old) (record {
-      state = state.now;
-      op = op;
-      operand = a.now;
-      tapes = tapes.now;
-    }) }
+    requires step_made { TapedUnder W (S.meaning.wires s.old)
+        (taped_of state.now op a.now tapes.now) }
     requires word_made { word < S.meaning.wires s.old }
     ensures puts { PutsIn S.meaning s.old s.new (located_line W state.now op a.now word tapes.now)
         result }
@@ -363,25 +356,13 @@ fn with_byte<const W: u32>(word: u32, j: u32, byte: u32) -> u32
     (u64::from(word) + u64::from(byte) * power - old * power) as u32
 }
 
-/// An assignment that meets the constraints has the data line of the step, and the byte.
-pub fn memory_is_sound()
-    ensures { MemoryIsSound }
-{}
-
-/// An assignment that has the data line of the step and the byte meets the constraints.
-pub fn memory_is_complete()
-    ensures { MemoryIsComplete }
-{}
-
-/// Says which wires `put_memory` returns, and that `fill_memory` assigns one number to each wire
-/// that it makes.
-#[tactic(auto, using(crate::proofs::MemoryFills::memory_sizes))]
-pub fn memory_fills()
-    ensures { MemorySizes }
-{}
-
-/// Says how many constraints and terms memory costs.
-#[tactic(auto, using(crate::proofs::MemoryFills::memory_costs))]
-pub fn memory_costs()
-    ensures { MemoryCosts }
+/// The laws of the data line. An assignment that meets the constraints has the data line of the
+/// step, and the byte, and one that has these meets the constraints. They also say which wires
+/// `put_memory` returns, that `fill_memory` assigns one number to each wire that it makes, and how
+/// many constraints and terms memory costs.
+pub fn memory_laws()
+    ensures sound { MemoryIsSound }
+    ensures complete { MemoryIsComplete }
+    ensures sizes { MemorySizes }
+    ensures costs { MemoryCosts }
 {}

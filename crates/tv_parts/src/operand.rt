@@ -14,7 +14,7 @@ ghost use Rattle.tv_word.specs.Widths.{IsWidth};
 use crate::accumulation::accumulated;
 use crate::records::OperandWires;
 use crate::tapes::{set_negated, set_terms};
-use tv_bits::{Bits, bits_by, fill_bits};
+use tv_bits::{Bits, fill_bits, new_bits_by};
 use tv_core::{F, Lc, P, Put, Scratch, Sink, Values, Wire};
 
 /// Constrains the operand of an instruction, with its bits: the second word `tail` where the
@@ -40,9 +40,11 @@ pub fn put_operand<const W: u32, S: Sink>(
     set_terms(&mut scratch.b, &[(F::ONE, tail), (-F::ONE, register)]);
     set_negated(&mut scratch.c, &[(F::ONE, register)]);
     let word = accumulated(s, &mut scratch.c, &scratch.a, &scratch.b)?;
-    let mut number = Lc::empty();
-    number.set_wire(word);
-    let bits = bits_by(s, scratch, &number, W)?;
+    let bits = new_bits_by(s, &mut scratch.a, W)?;
+    bits.set_number(&mut scratch.a);
+    scratch.b.set_wire(Wire(0));
+    scratch.c.set_wire(word);
+    s.put(&scratch.a, &scratch.b, &scratch.c)?;
     Ok(OperandWires { word, bits })
 }
 
@@ -85,23 +87,13 @@ pub fn fill_operand<const W: u32, V: Values>(v: &mut V, a: u32) -> Put<()>
     fill_bits(v, F::from(a), W)
 }
 
-/// An assignment that satisfies the constraints has the operand and its bits.
-pub fn operand_is_sound()
-    ensures { OperandIsSound }
-{}
-
-/// An assignment that has the operand and its bits meets the constraints.
-pub fn operand_is_complete()
-    ensures { OperandIsComplete }
-{}
-
-/// Says which wires `put_operand` returns, and that `fill_operand` assigns one number to each wire
-/// that it makes.
-pub fn operand_fills()
-    ensures { OperandSizes }
-{}
-
-/// Says how many constraints and terms the operand costs.
-pub fn operand_costs()
-    ensures { OperandCosts }
+/// The laws of the operand. An assignment that satisfies the constraints has the operand and its
+/// bits, and one that has these meets the constraints. They also say which wires `put_operand`
+/// returns, that `fill_operand` assigns one number to each wire that it makes, and how many
+/// constraints and terms the operand costs.
+pub fn operand_laws()
+    ensures sound { OperandIsSound }
+    ensures complete { OperandIsComplete }
+    ensures sizes { OperandSizes }
+    ensures costs { OperandCosts }
 {}

@@ -211,25 +211,13 @@ fn pc_after<const W: u32>(op: u8, pc: u32, a: u32, flag: bool) -> u32
     }
 }
 
-/// An assignment that meets the constraints has the program counter after the step.
-pub fn pc_is_sound()
-    ensures { PcIsSound }
-{}
-
-/// An assignment that has the program counter after the step meets the constraints.
-pub fn pc_is_complete()
-    ensures { PcIsComplete }
-{}
-
-/// Says which wire `put_pc` returns, and that `fill_pc` assigns one number to each wire that it
-/// makes.
-#[tactic(auto, using(crate::proofs::PcFills::pc_sizes))]
-pub fn pc_fills()
-    ensures { PcSizes }
-{}
-
-/// Says how many constraints and terms the program counter costs.
-#[tactic(auto, using(crate::proofs::PcFills::pc_costs))]
-pub fn pc_costs()
-    ensures { PcCosts }
+/// The laws of the program counter. An assignment that meets the constraints has the program
+/// counter after the step, and one that has it meets the constraints. They also say which wire
+/// `put_pc` returns, that `fill_pc` assigns one number to each wire that it makes, and how many
+/// constraints and terms the program counter costs.
+pub fn pc_laws()
+    ensures sound { PcIsSound }
+    ensures complete { PcIsComplete }
+    ensures sizes { PcSizes }
+    ensures costs { PcCosts }
 {}

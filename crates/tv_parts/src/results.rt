@@ -9,6 +9,7 @@ ghost use Rattle.tv_parts.specs.Results.{parts_in, signs_in, result_of, tested_o
 ghost use Rattle.tv_parts.specs.Results.{sign_of};
 ghost use Rattle.tv_parts.specs.Results.{ResultsAreSound, ResultsAreComplete, ResultsSizes};
 ghost use Rattle.tv_parts.specs.Results.{ResultsCosts};
+ghost use Rattle.tv_parts.specs.Inputs.{taped_of};
 ghost use Rattle.tv_parts.specs.States.{TapedUnder, OperationUnder, SourcesUnder};
 ghost use Rattle.tv_parts.specs.States.{ResultUnder};
 ghost use Rattle.tv_parts.specs.Results.{low_part, high_part, moved_part};
@@ -46,12 +47,8 @@ pub fn put_results<const W: u32, S: Sink>(
 ) -> Put<ResultWires>
     requires width { IsWidth W }
     requires room { Room S.meaning s.old 5 8 }
-    requires step_made { TapedUnder W (S.meaning.wires s.old) (record {
-      state = state.now;
-      op = op;
-      operand = a.now;
-      tapes = tapes.now;
-    }) }
+    requires step_made { TapedUnder W (S.meaning.wires s.old)
+        (taped_of state.now op a.now tapes.now) }
     requires from_made { SourcesUnder (S.meaning.wires s.old) from.now }
     ensures puts { PutsIn S.meaning s.old s.new (results_of W state.now op a.now from.now tapes.now)
         result }
@@ -75,12 +72,8 @@ fn put_result<const W: u32, S: Sink>(
 ) -> Put<Wire>
     requires width { IsWidth W }
     requires room { Room S.meaning s.old 4 4 }
-    requires step_made { TapedUnder W (S.meaning.wires s.old) (record {
-      state = state.now;
-      op = op;
-      operand = a.now;
-      tapes = tapes.now;
-    }) }
+    requires step_made { TapedUnder W (S.meaning.wires s.old)
+        (taped_of state.now op a.now tapes.now) }
     requires from_made { SourcesUnder (S.meaning.wires s.old) from.now }
     ensures puts { PutsIn S.meaning s.old s.new (result_of W state.now op a.now from.now
         tapes.now) result }
@@ -300,25 +293,13 @@ fn signs<const W: u32>(low: u32, high: u32) -> F
     }
 }
 
-/// An assignment that meets the constraints has the result, and the number that is tested.
-pub fn results_are_sound()
-    ensures { ResultsAreSound }
-{}
-
-/// An assignment that has the result and the number that is tested meets the constraints.
-pub fn results_are_complete()
-    ensures { ResultsAreComplete }
-{}
-
-/// Says which wires `put_results` returns, and that `results_values` returns one number for each
-/// wire that it makes.
-#[tactic(auto, using(crate::proofs::ResultFills::results_sizes))]
-pub fn results_fill()
-    ensures { ResultsSizes }
-{}
-
-/// Says how many constraints and terms the result costs.
-#[tactic(auto, using(crate::proofs::ResultFills::results_costs))]
-pub fn results_cost()
-    ensures { ResultsCosts }
+/// The laws of the result. An assignment that meets the constraints has the result, and the number
+/// that is tested, and one that has these meets the constraints. They also say which wires
+/// `put_results` returns, that `results_values` returns one number for each wire that it makes, and
+/// how many constraints and terms the result costs.
+pub fn results_laws()
+    ensures sound { ResultsAreSound }
+    ensures complete { ResultsAreComplete }
+    ensures sizes { ResultsSizes }
+    ensures costs { ResultsCosts }
 {}

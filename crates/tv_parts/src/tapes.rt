@@ -260,25 +260,13 @@ fn ended_after<const W: u32>(state: &TraceState, step: &StepNumbers) -> bool
     state.ended || step.instr.op == READ && step.operand == 1 && !step.aux
 }
 
-/// An assignment that meets the constraints has what the instruction does to the tapes.
-pub fn tapes_are_sound()
-    ensures { TapesAreSound }
-{}
-
-/// An assignment that has what the instruction does to the tapes meets the constraints.
-pub fn tapes_are_complete()
-    ensures { TapesAreComplete }
-{}
-
-/// Says which wires `put_tapes` returns, and that `fill_tapes` assigns one number to each wire that
-/// it makes.
-#[tactic(auto, using(crate::proofs::TapeFills::tapes_sizes))]
-pub fn tapes_fill()
-    ensures { TapesSizes }
-{}
-
-/// Says how many constraints and terms the tapes cost.
-#[tactic(auto, using(crate::proofs::TapeFills::tapes_costs))]
-pub fn tapes_cost()
-    ensures { TapesCosts }
+/// The laws of the tapes. An assignment that meets the constraints has what the instruction does to
+/// the tapes, and one that has it meets the constraints. They also say which wires `put_tapes`
+/// returns, that `fill_tapes` assigns one number to each wire that it makes, and how many
+/// constraints and terms the tapes cost.
+pub fn tapes_laws()
+    ensures sound { TapesAreSound }
+    ensures complete { TapesAreComplete }
+    ensures sizes { TapesSizes }
+    ensures costs { TapesCosts }
 {}

@@ -153,21 +153,11 @@ fn writes(op: u8, flag: bool) -> bool
     }
 }
 
-/// An assignment that has the registers after the step meets the constraints.
-#[tactic(auto, using(crate::proofs::WrittenFills::written_complete))]
-pub fn written_is_complete()
-    ensures { WrittenIsComplete }
-{}
-
-/// Says which wires `put_written` returns, and that `fill_written` assigns one number to each wire
-/// that it makes.
-#[tactic(auto, using(crate::proofs::WrittenFills::written_sizes))]
-pub fn written_fills()
-    ensures { WrittenSizes }
-{}
-
-/// Says how many constraints and terms the registers written cost.
-#[tactic(auto, using(crate::proofs::WrittenFills::written_costs))]
-pub fn written_costs()
-    ensures { WrittenCosts }
+/// The laws of the registers written. An assignment that has the registers after the step meets the
+/// constraints. They also say which wires `put_written` returns, that `fill_written` assigns one
+/// number to each wire that it makes, and how many constraints and terms the registers cost.
+pub fn written_laws()
+    ensures complete { WrittenIsComplete }
+    ensures sizes { WrittenSizes }
+    ensures costs { WrittenCosts }
 {}

@@ -1,4 +1,4 @@
-use Rattle.tv_core.proofs.Chain.{refused_then, refused}
+use Rattle.tv_core.proofs.Chain.{some_first, refused}
 use Rattle.tv_core.proofs.TailCalls.{puts_in_then}
 use Rattle.tv_parts.specs.Arithmetic.{products_of}
 use Rattle.tv_parts.proofs.arithmetic.put_products.Goals as goal
@@ -7,7 +7,7 @@ pub returns-in_err-row_product-clause-puts : goal.returns-in_err-row_product-cla
 unfolding products_of
 returns-in_err-row_product-clause-puts g c =
     let p0 = rw c.set_opcodes.ensures.terms at c.in_err-row_product.ensures.puts in
-    refused _ _ _ _ _ c.from_residual.ensures.1 (refused_then _ _ _ _ _ _ p0)
+    refused _ _ _ _ _ c.from_residual.ensures.1 (some_first _ p0)
 
 pub returns-clause-puts : goal.returns-clause-puts
 unfolding products_of

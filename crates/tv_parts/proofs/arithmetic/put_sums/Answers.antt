@@ -1,4 +1,4 @@
-use Rattle.tv_core.proofs.Chain.{puts_then_refused, refused_then, refused}
+use Rattle.tv_core.proofs.Chain.{some_then, some_first, refused}
 use Rattle.tv_core.proofs.TailCalls.{puts_in_then}
 use Rattle.tv_parts.specs.Arithmetic.{sums_of}
 use Rattle.tv_parts.proofs.arithmetic.put_sums.Goals as goal
@@ -7,33 +7,21 @@ pub returns-in_err-row_sum-clause-puts : goal.returns-in_err-row_sum-clause-puts
 unfolding sums_of
 returns-in_err-row_sum-clause-puts g c =
     let p0 = rw c.set_opcodes.ensures.terms at c.in_err-row_sum.ensures.puts in
-    refused _ _ _ _ _ c.from_residual.ensures.1 (refused_then _ _ _ _ _ _ p0)
+    refused _ _ _ _ _ c.from_residual.ensures.1 (some_first _ p0)
 
 pub returns-in_err-row_difference-clause-puts : goal.returns-in_err-row_difference-clause-puts
 unfolding sums_of
 returns-in_err-row_difference-clause-puts g c =
     let p0 = rw c.set_opcodes.ensures.terms at c.in_ok-row_sum.ensures.puts in
-    let p1 = rw (
-      c.set_opcodes-2.ensures.terms,
-      c.set_opcodes-3.ensures.terms,
-      c.opcode_wire.ensures,
-      c.opcode_wire-2.ensures,
-      c.with_sign-left.ensures,
-      c.with_sign-right.ensures,
-    ) at c.in_err-row_difference.ensures.puts in
-    refused _ _ _ _ _ c.from_residual-in_err-row_difference.ensures.1 (puts_then_refused _ _ _ _ _ _ _ _ p0 (refused_then _ _ _ _ _ _ p1))
+    let q1 = rw (c.set_opcodes-2.ensures.terms, c.set_opcodes-3.ensures.terms, c.opcode_wire.ensures) at c.in_err-row_difference.ensures.puts in
+    let p1 = rw (c.opcode_wire-2.ensures, c.with_sign-left.ensures, c.with_sign-right.ensures) at q1 in
+    refused _ _ _ _ _ c.from_residual-in_err-row_difference.ensures.1 (some_then _ p0 (some_first _ p1))
 
 pub returns-clause-puts : goal.returns-clause-puts
 unfolding sums_of
 returns-clause-puts g c =
     let p0 = rw c.set_opcodes.ensures.terms at c.in_ok-row_sum.ensures.puts in
-    let p1 = rw (
-      c.set_opcodes-2.ensures.terms,
-      c.set_opcodes-3.ensures.terms,
-      c.opcode_wire.ensures,
-      c.opcode_wire-2.ensures,
-      c.with_sign-left.ensures,
-      c.with_sign-right.ensures,
-    ) at c.in_ok-row_difference.ensures.puts in
+    let q1 = rw (c.set_opcodes-2.ensures.terms, c.set_opcodes-3.ensures.terms, c.opcode_wire.ensures) at c.in_ok-row_difference.ensures.puts in
+    let p1 = rw (c.opcode_wire-2.ensures, c.with_sign-left.ensures, c.with_sign-right.ensures) at q1 in
     let p2 = rw c.set_opcodes-4.ensures.terms at c.bitwise.ensures.puts in
     puts_in_then _ _ _ _ _ _ _ _ p0 (puts_in_then _ _ _ _ _ _ _ _ p1 p2)

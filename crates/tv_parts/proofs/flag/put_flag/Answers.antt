@@ -1,4 +1,4 @@
-use Rattle.tv_core.proofs.Chain.{puts_then_refused, refused_then, refused}
+use Rattle.tv_core.proofs.Chain.{some_then, some_first, refused}
 use Rattle.tv_core.proofs.TailCalls.{puts_in_then}
 use Rattle.tv_parts.specs.Flag.{next_flag_of}
 use Rattle.tv_parts.proofs.flag.put_flag.Goals as goal
@@ -8,7 +8,7 @@ unfolding next_flag_of
 returns-in_err-left-clause-puts g c =
     let p0 = rw (c.set_wire.ensures.terms, c.opcode_wire.ensures, c.set_terms.ensures.terms, c.offset-highest.ensures, c.neg-minus.ensures)
     at c.in_err-left.ensures.puts in
-    refused _ _ _ _ _ c.from_residual.ensures.1 (refused_then _ _ _ _ _ _ p0)
+    refused _ _ _ _ _ c.from_residual.ensures.1 (some_first _ p0)
 
 pub returns-in_err-right-clause-puts : goal.returns-in_err-right-clause-puts
 unfolding next_flag_of
@@ -16,7 +16,7 @@ returns-in_err-right-clause-puts g c =
     let p0 = rw (c.set_wire.ensures.terms, c.opcode_wire.ensures, c.set_terms.ensures.terms, c.offset-highest.ensures, c.neg-minus.ensures)
     at c.in_ok-left.ensures.puts in
     let p1 = rw (c.set_wire-2.ensures.terms, c.opcode_wire-2.ensures, c.set_terms-2.ensures.terms, c.neg-minus.ensures) at c.in_err-right.ensures.puts in
-    refused _ _ _ _ _ c.from_residual-in_err-right.ensures.1 (puts_then_refused _ _ _ _ _ _ _ _ p0 (refused_then _ _ _ _ _ _ p1))
+    refused _ _ _ _ _ c.from_residual-in_err-right.ensures.1 (some_then _ p0 (some_first _ p1))
 
 pub returns-clause-puts : goal.returns-clause-puts
 unfolding next_flag_of

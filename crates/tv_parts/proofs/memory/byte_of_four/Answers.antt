@@ -1,18 +1,17 @@
-use Rattle.tv_core.proofs.Chain.{puts_then_refused, refused_then, refused}
+use Rattle.tv_core.proofs.Chain.{some_then, some_first, refused}
 use Rattle.tv_core.proofs.TailCalls.{puts_in_then}
 use Rattle.tv_parts.specs.Memory.{byte_of_four}
 use Rattle.tv_parts.proofs.memory.byte_of_four.Goals as goal
 
 pub returns-in_err-low-clause-puts : goal.returns-in_err-low-clause-puts
 unfolding byte_of_four
-returns-in_err-low-clause-puts g c =
-    refused _ _ _ _ _ c.from_residual.ensures.1 (refused_then _ _ _ _ _ _ c.in_err-low.ensures.puts)
+returns-in_err-low-clause-puts g c = refused _ _ _ _ _ c.from_residual.ensures.1 (some_first _ c.in_err-low.ensures.puts)
 
 pub returns-in_err-high-clause-puts : goal.returns-in_err-high-clause-puts
 unfolding byte_of_four
 returns-in_err-high-clause-puts g c =
     let p1 = rw c.offset.ensures at c.in_err-high.ensures.puts in
-    refused _ _ _ _ _ c.from_residual-in_err-high.ensures.1 (puts_then_refused _ _ _ _ _ _ _ _ c.in_ok-low.ensures.puts (refused_then _ _ _ _ _ _ p1))
+    refused _ _ _ _ _ c.from_residual-in_err-high.ensures.1 (some_then _ c.in_ok-low.ensures.puts (some_first _ p1))
 
 pub returns-clause-puts : goal.returns-clause-puts
 unfolding byte_of_four

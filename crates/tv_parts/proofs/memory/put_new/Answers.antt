@@ -1,4 +1,4 @@
-use Rattle.tv_core.proofs.Chain.{puts_then_refused, refused_then, refused}
+use Rattle.tv_core.proofs.Chain.{some_then, some_first, refused}
 use Rattle.tv_core.proofs.TailCalls.{puts_in_then}
 use Rattle.tv_parts.specs.Memory.{new_of}
 use Rattle.tv_parts.proofs.memory.put_new.Goals as goal
@@ -7,14 +7,14 @@ pub returns-in_err-change-clause-puts : goal.returns-in_err-change-clause-puts
 unfolding new_of
 returns-in_err-change-clause-puts g c =
     let p0 = rw (c.set_power.ensures.terms, c.plus.ensures.terms, c.set_number.ensures.terms, c.neg-minus.ensures) at c.in_err-change.ensures.puts in
-    refused _ _ _ _ _ c.from_residual.ensures.1 (refused_then _ _ _ _ _ _ p0)
+    refused _ _ _ _ _ c.from_residual.ensures.1 (some_first _ p0)
 
 pub returns-in_err-changed-clause-puts : goal.returns-in_err-changed-clause-puts
 unfolding new_of
 returns-in_err-changed-clause-puts g c =
     let p0 = rw (c.set_power.ensures.terms, c.plus.ensures.terms, c.set_number.ensures.terms, c.neg-minus.ensures) at c.in_ok-change.ensures.puts in
     let p1 = rw (c.set_wire.ensures.terms, c.set_wire-2.ensures.terms, c.opcode_wire.ensures) at c.in_err-changed.ensures.puts in
-    refused _ _ _ _ _ c.from_residual-in_err-changed.ensures.1 (puts_then_refused _ _ _ _ _ _ _ _ p0 (refused_then _ _ _ _ _ _ p1))
+    refused _ _ _ _ _ c.from_residual-in_err-changed.ensures.1 (some_then _ p0 (some_first _ p1))
 
 pub returns-clause-puts : goal.returns-clause-puts
 unfolding new_of

@@ -1,16 +1,13 @@
-use Rattle.tv_core.proofs.ValuesChain.{gives_refused_then, gives_refused}
-use Rattle.tv_core.proofs.ValuesTails.{gives_in_then}
+use Rattle.tv_core.proofs.ValuesChain.{first_given, in_given, gives_refused}
 use Rattle.tv_parts.proofs.operand.fill_operand.Goals as goal
 
 pub returns-in_err-give-clause-gives : goal.returns-in_err-give-clause-gives
 returns-in_err-give-clause-gives g c =
-    let m = g.V.Values.giving in
     let word = rw c.from.ensures at c.in_err-give.ensures.gives in
-    gives_refused m _ _ _ c.from_residual.result c.from_residual.ensures.1 (gives_refused_then m _ _ _ _ _ word)
+    gives_refused _ _ _ _ _ c.from_residual.ensures.1 (first_given _ word)
 
 pub returns-clause-gives : goal.returns-clause-gives
 returns-clause-gives g c =
-    let m = g.V.Values.giving in
     let word = rw c.from.ensures at c.in_ok-give.ensures.gives in
     let bits = rw c.from-2.ensures at c.fill_bits.ensures.gives in
-    gives_in_then m _ _ _ _ _ _ word bits
+    in_given _ _ _ word bits

@@ -1,4 +1,5 @@
-use Rattle.tv_core.proofs.Chain.{puts_then, puts_then_refused, refused_then, puts_nothing, refused}
+use Rattle.tv_bits.specs.Bits.{bits_of}
+use Rattle.tv_core.proofs.Chain.{refused, all_then, all_pure, some_then, some_first}
 use Rattle.tv_parts.specs.Operand.{operand_of}
 use Rattle.tv_parts.proofs.operand.put_operand.Goals as goal
 
@@ -6,18 +7,25 @@ pub returns-in_err-word-clause-puts : goal.returns-in_err-word-clause-puts
 unfolding operand_of
 returns-in_err-word-clause-puts g c =
     let p0 = rw (c.set_wire.ensures.terms, c.set_terms.ensures.terms, c.set_negated.ensures.terms, c.neg.ensures) at c.in_err-word.ensures.puts in
-    refused _ _ _ _ _ c.from_residual.ensures.1 (refused_then _ _ _ _ _ _ p0)
+    refused _ _ _ _ _ c.from_residual.ensures.1 (some_first _ p0)
 
 pub returns-in_err-bits-clause-puts : goal.returns-in_err-bits-clause-puts
-unfolding operand_of
+unfolding operand_of bits_of
 returns-in_err-bits-clause-puts g c =
     let p0 = rw (c.set_wire.ensures.terms, c.set_terms.ensures.terms, c.set_negated.ensures.terms, c.neg.ensures) at c.in_ok-word.ensures.puts in
-    let p1 = rw c.set_wire-2.ensures.terms at c.in_err-bits.ensures.puts in
-    refused _ _ _ _ _ c.from_residual-in_err-bits.ensures.1 (puts_then_refused _ _ _ _ _ _ _ _ p0 (refused_then _ _ _ _ _ _ p1))
+    refused _ _ _ _ _ c.from_residual-in_err-bits.ensures.1 (some_then _ p0 (some_first _ (some_first _ c.in_err-bits.ensures.puts)))
+
+pub returns-in_err-put-clause-puts : goal.returns-in_err-put-clause-puts
+unfolding operand_of bits_of
+returns-in_err-put-clause-puts g c =
+    let p0 = rw (c.set_wire.ensures.terms, c.set_terms.ensures.terms, c.set_negated.ensures.terms, c.neg.ensures) at c.in_ok-word.ensures.puts in
+    let p2 = rw (c.set_number.ensures.terms, c.set_wire-2.ensures.terms, c.set_wire-3.ensures.terms) at c.in_err-put.ensures.puts in
+    refused _ _ _ _ _ c.from_residual-in_err-put.ensures.1
+    (some_then _ p0 (some_first _ (some_then _ c.in_ok-bits.ensures.puts (some_first _ p2))))
 
 pub returns-clause-puts : goal.returns-clause-puts
-unfolding operand_of
+unfolding operand_of bits_of
 returns-clause-puts g c =
     let p0 = rw (c.set_wire.ensures.terms, c.set_terms.ensures.terms, c.set_negated.ensures.terms, c.neg.ensures) at c.in_ok-word.ensures.puts in
-    let p1 = rw c.set_wire-2.ensures.terms at c.in_ok-bits.ensures.puts in
-    puts_then _ _ _ _ _ _ _ _ p0 (puts_then _ _ _ _ _ _ _ _ p1 (puts_nothing _ _ _))
+    let p2 = rw (c.set_number.ensures.terms, c.set_wire-2.ensures.terms, c.set_wire-3.ensures.terms) at c.in_ok-put.ensures.puts in
+    all_then _ p0 (all_then _ (all_then _ c.in_ok-bits.ensures.puts (all_then _ p2 all_pure)) all_pure)

@@ -1,4 +1,4 @@
-use Rattle.tv_core.proofs.Chain.{puts_then_refused, refused_then, refused}
+use Rattle.tv_core.proofs.Chain.{some_then, some_first, refused}
 use Rattle.tv_core.proofs.TailCalls.{puts_in_then}
 use Rattle.tv_parts.specs.Results.{result_of}
 use Rattle.tv_parts.proofs.results.put_result.Goals as goal
@@ -8,7 +8,7 @@ unfolding result_of
 returns-in_err-low-clause-puts g c =
     let p0 = rw (c.plus_terms.ensures.terms, c.plus_opcodes.ensures.terms, c.set_terms.ensures.terms, c.set_wire.ensures.terms, c.neg-minus.ensures)
     at c.in_err-low.ensures.puts in
-    refused _ _ _ _ _ c.from_residual.ensures.1 (refused_then _ _ _ _ _ _ p0)
+    refused _ _ _ _ _ c.from_residual.ensures.1 (some_first _ p0)
 
 pub returns-in_err-high-clause-puts : goal.returns-in_err-high-clause-puts
 unfolding result_of
@@ -16,7 +16,7 @@ returns-in_err-high-clause-puts g c =
     let p0 = rw (c.plus_terms.ensures.terms, c.plus_opcodes.ensures.terms, c.set_terms.ensures.terms, c.set_wire.ensures.terms, c.neg-minus.ensures)
     at c.in_ok-low.ensures.puts in
     let p1 = rw (c.set_opcodes.ensures.terms, c.set_wire-2.ensures.terms) at c.in_err-high.ensures.puts in
-    refused _ _ _ _ _ c.from_residual-in_err-high.ensures.1 (puts_then_refused _ _ _ _ _ _ _ _ p0 (refused_then _ _ _ _ _ _ p1))
+    refused _ _ _ _ _ c.from_residual-in_err-high.ensures.1 (some_then _ p0 (some_first _ p1))
 
 pub returns-in_err-moved-clause-puts : goal.returns-in_err-moved-clause-puts
 unfolding result_of
@@ -26,8 +26,7 @@ returns-in_err-moved-clause-puts g c =
     let p1 = rw (c.set_opcodes.ensures.terms, c.set_wire-2.ensures.terms) at c.in_ok-high.ensures.puts in
     let p2 = rw (c.plus_opcodes-2.ensures.terms, c.set_terms-2.ensures.terms, c.set_wire-3.ensures.terms, c.neg-minus.ensures, c.opcode_wire-not.ensures)
     at c.in_err-moved.ensures.puts in
-    refused _ _ _ _ _ c.from_residual-in_err-moved.ensures.1 (puts_then_refused _ _ _ _ _ _ _ _ p0 (puts_then_refused _ _ _ _ _ _ _ _ p1
-    (refused_then _ _ _ _ _ _ p2)))
+    refused _ _ _ _ _ c.from_residual-in_err-moved.ensures.1 (some_then _ p0 (some_then _ p1 (some_first _ p2)))
 
 pub returns-clause-puts : goal.returns-clause-puts
 unfolding result_of

@@ -1,5 +1,5 @@
 use Rattle.std.proofs.Common.{◌≡◌, ◌-◌, ◌++◌, ◌∙◌, ap₂}
-use Rattle.tv_core.proofs.Chain.{puts_then, puts_then_refused, refused_then, puts_nothing, refused}
+use Rattle.tv_core.proofs.Chain.{some_then, some_first, refused, puts_then, puts_then_refused, refused_then, puts_nothing}
 use Rattle.tv_core.specs.declared.field.TheConstants.{P}
 use Rattle.tv_parts.specs.Operand.{upper_of}
 use Rattle.tv_parts.specs.Results.{place_bits, tested_of}
@@ -9,15 +9,14 @@ pub returns-in_err-put-clause-puts : goal.returns-in_err-put-clause-puts
 unfolding tested_of
 returns-in_err-put-clause-puts g c =
     let p0 = rw (c.set_opcodes.ensures.terms, c.set_terms.ensures.terms, c.clear.ensures, c.neg-minus.ensures) at c.in_err-put.ensures.puts in
-    refused _ _ _ _ _ c.from_residual.ensures.1 (puts_then_refused _ _ _ _ _ _ _ _ c.fresh-y.ensures.puts (refused_then _ _ _ _ _ _ p0))
+    refused _ _ _ _ _ c.from_residual.ensures.1 (some_then _ c.fresh-y.ensures.puts (some_first _ p0))
 
 pub returns-in_err-put-2-clause-puts : goal.returns-in_err-put-2-clause-puts
 unfolding tested_of
 returns-in_err-put-2-clause-puts g c =
     let p0 = rw (c.set_opcodes.ensures.terms, c.set_terms.ensures.terms, c.clear.ensures, c.neg-minus.ensures) at c.in_ok-put.ensures.puts in
     let p1 = rw (c.set_opcodes-2.ensures.terms, c.set_terms-2.ensures.terms, c.clear.ensures, c.neg-minus.ensures) at c.in_err-put-2.ensures.puts in
-    refused _ _ _ _ _ c.from_residual-in_err-put-2.ensures.1 (puts_then_refused _ _ _ _ _ _ _ _ c.fresh-y.ensures.puts
-    (puts_then_refused _ _ _ _ _ _ _ _ p0 (refused_then _ _ _ _ _ _ p1)))
+    refused _ _ _ _ _ c.from_residual-in_err-put-2.ensures.1 (some_then _ c.fresh-y.ensures.puts (some_then _ p0 (some_first _ p1)))
 
 pub returns-in_err-put-3-clause-puts : goal.returns-in_err-put-3-clause-puts
 unfolding tested_of
@@ -25,8 +24,7 @@ returns-in_err-put-3-clause-puts g c =
     let p0 = rw (c.set_opcodes.ensures.terms, c.set_terms.ensures.terms, c.clear.ensures, c.neg-minus.ensures) at c.in_ok-put.ensures.puts in
     let p1 = rw (c.set_opcodes-2.ensures.terms, c.set_terms-2.ensures.terms, c.clear.ensures, c.neg-minus.ensures) at c.in_ok-put-2.ensures.puts in
     let p2 = rw (c.set_wire.ensures.terms, c.opcode_wire.ensures, c.set_signs.ensures.terms, c.clear.ensures) at c.in_err-put-3.ensures.puts in
-    refused _ _ _ _ _ c.from_residual-in_err-put-3.ensures.1 (puts_then_refused _ _ _ _ _ _ _ _ c.fresh-y.ensures.puts
-    (puts_then_refused _ _ _ _ _ _ _ _ p0 (puts_then_refused _ _ _ _ _ _ _ _ p1 (refused_then _ _ _ _ _ _ p2))))
+    refused _ _ _ _ _ c.from_residual-in_err-put-3.ensures.1 (some_then _ c.fresh-y.ensures.puts (some_then _ p0 (some_then _ p1 (some_first _ p2))))
 
 pub returns-in_err-put-4-clause-puts : goal.returns-in_err-put-4-clause-puts
 unfolding tested_of

@@ -1,4 +1,4 @@
-use Rattle.tv_core.proofs.Chain.{puts_then, puts_then_refused, refused_then, puts_nothing, refused}
+use Rattle.tv_core.proofs.Chain.{all_then, some_then, some_first, all_pure, refused}
 use Rattle.tv_parts.specs.Tapes.{if_zero_of}
 use Rattle.tv_parts.proofs.tapes.if_zero.Goals as goal
 
@@ -6,21 +6,19 @@ pub returns-in_err-put-clause-puts : goal.returns-in_err-put-clause-puts
 unfolding if_zero_of
 returns-in_err-put-clause-puts g c =
     let first = rw (c.set_wire.ensures.terms, c.plus.ensures.terms, c.plus_terms.ensures.terms, c.clear.ensures, c.neg.ensures) at c.in_err-put.ensures.puts in
-    refused _ _ _ _ _ c.from_residual.ensures.1 (puts_then_refused _ _ _ _ _ _ _ _ c.fresh-w.ensures.puts
-    (puts_then_refused _ _ _ _ _ _ _ _ c.fresh-hint.ensures.puts (refused_then _ _ _ _ _ _ first)))
+    refused _ _ _ _ _ c.from_residual.ensures.1 (some_then _ c.fresh-w.ensures.puts (some_then _ c.fresh-hint.ensures.puts (some_first _ first)))
 
 pub returns-in_err-put-2-clause-puts : goal.returns-in_err-put-2-clause-puts
 unfolding if_zero_of
 returns-in_err-put-2-clause-puts g c =
     let first = rw (c.set_wire.ensures.terms, c.plus.ensures.terms, c.plus_terms.ensures.terms, c.clear.ensures, c.neg.ensures) at c.in_ok-put.ensures.puts in
     let second = rw (c.set_wire-2.ensures.terms, c.clear-2.ensures) at c.in_err-put-2.ensures.puts in
-    refused _ _ _ _ _ c.from_residual-in_err-put-2.ensures.1 (puts_then_refused _ _ _ _ _ _ _ _ c.fresh-w.ensures.puts
-    (puts_then_refused _ _ _ _ _ _ _ _ c.fresh-hint.ensures.puts (puts_then_refused _ _ _ _ _ _ _ _ first (refused_then _ _ _ _ _ _ second))))
+    refused _ _ _ _ _ c.from_residual-in_err-put-2.ensures.1 (some_then _ c.fresh-w.ensures.puts (some_then _ c.fresh-hint.ensures.puts (some_then _ first
+    (some_first _ second))))
 
 pub returns-clause-puts : goal.returns-clause-puts
 unfolding if_zero_of
 returns-clause-puts g c =
     let first = rw (c.set_wire.ensures.terms, c.plus.ensures.terms, c.plus_terms.ensures.terms, c.clear.ensures, c.neg.ensures) at c.in_ok-put.ensures.puts in
     let second = rw (c.set_wire-2.ensures.terms, c.clear-2.ensures) at c.in_ok-put-2.ensures.puts in
-    puts_then _ _ _ _ _ _ _ _ c.fresh-w.ensures.puts (puts_then _ _ _ _ _ _ _ _ c.fresh-hint.ensures.puts (puts_then _ _ _ _ _ _ _ _ first
-    (puts_then _ _ _ _ _ _ _ _ second (puts_nothing _ _ _))))
+    all_then _ c.fresh-w.ensures.puts (all_then _ c.fresh-hint.ensures.puts (all_then _ first (all_then _ second all_pure)))

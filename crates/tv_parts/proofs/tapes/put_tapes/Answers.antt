@@ -1,4 +1,4 @@
-use Rattle.tv_core.proofs.Chain.{puts_then_refused, refused_then, refused}
+use Rattle.tv_core.proofs.Chain.{some_then, some_first, refused}
 use Rattle.tv_core.proofs.TailCalls.{puts_in_then}
 use Rattle.tv_parts.specs.Tapes.{tapes_of}
 use Rattle.tv_parts.proofs.tapes.put_tapes.Goals as goal
@@ -7,22 +7,21 @@ pub returns-in_err-reads-clause-puts : goal.returns-in_err-reads-clause-puts
 unfolding tapes_of
 returns-in_err-reads-clause-puts g c =
     let p0 = rw (c.plus_upper.ensures.terms, c.clear.ensures, c.opcode_wire.ensures) at c.in_err-reads.ensures.puts in
-    refused _ _ _ _ _ c.from_residual.ensures.1 (refused_then _ _ _ _ _ _ p0)
+    refused _ _ _ _ _ c.from_residual.ensures.1 (some_first _ p0)
 
 pub returns-in_err-aux-clause-puts : goal.returns-in_err-aux-clause-puts
 unfolding tapes_of
 returns-in_err-aux-clause-puts g c =
     let p0 = rw (c.plus_upper.ensures.terms, c.clear.ensures, c.opcode_wire.ensures) at c.in_ok-reads.ensures.puts in
     let p1 = rw (c.set_wire.ensures.terms, c.set_wire-2.ensures.terms) at c.in_err-aux.ensures.puts in
-    refused _ _ _ _ _ c.from_residual-in_err-aux.ensures.1 (puts_then_refused _ _ _ _ _ _ _ _ p0 (refused_then _ _ _ _ _ _ p1))
+    refused _ _ _ _ _ c.from_residual-in_err-aux.ensures.1 (some_then _ p0 (some_first _ p1))
 
 pub returns-in_err-taken-clause-puts : goal.returns-in_err-taken-clause-puts
 unfolding tapes_of
 returns-in_err-taken-clause-puts g c =
     let p0 = rw (c.plus_upper.ensures.terms, c.clear.ensures, c.opcode_wire.ensures) at c.in_ok-reads.ensures.puts in
     let p1 = rw (c.set_wire.ensures.terms, c.set_wire-2.ensures.terms) at c.in_ok-aux.ensures.puts in
-    refused _ _ _ _ _ c.from_residual-in_err-taken.ensures.1 (puts_then_refused _ _ _ _ _ _ _ _ p0 (puts_then_refused _ _ _ _ _ _ _ _ p1
-    (refused_then _ _ _ _ _ _ c.in_err-taken.ensures.puts)))
+    refused _ _ _ _ _ c.from_residual-in_err-taken.ensures.1 (some_then _ p0 (some_then _ p1 (some_first _ c.in_err-taken.ensures.puts)))
 
 pub returns-clause-puts : goal.returns-clause-puts
 unfolding tapes_of
