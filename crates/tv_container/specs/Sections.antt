@@ -1,5 +1,6 @@
 -- A container cut into its sections.
-use Rattle.std.specs.Prelude.{ℕ, zero, suc, ◌+◌, Bool, not, is_some, List, [], ◌∷◌, ◌++◌, length, Option, Some, None, Result, Ok, nat_lt, nat_le, ◌==◌, ◌&&◌, if◌then◌else◌}
+use Rattle.std.specs.Prelude.{ℕ, zero, suc, ◌+◌, Bool, not, is_some, List, [], ◌∷◌, ◌++◌, length, Option, Some, None, Result, Ok, nat_lt, nat_le, ◌==◌, ◌&&◌}
+use Rattle.std.specs.Prelude.{if◌then◌else◌}
 use Rattle.tv_container.specs.declared.sections.Section.{Section}
 use Rattle.tv_container.specs.declared.why.ReadWhy.TheVariants.{BadMagic, BadVersion, Missing, Doubled, Truncated, Trailing}
 use Rattle.tv_container.specs.Places.{Fault, ◌>>=◌, wrong, unless, number, places, fit}

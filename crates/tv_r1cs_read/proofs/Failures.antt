@@ -77,8 +77,19 @@ pub failed : (z : List ℕ) (old new : Reached) (file : List ℕ) (rows more : L
 failed z old new file rows more all before none over count place = (
   more ++ over.more,
   rw (← append_assoc rows more over.more) over.place,
-  omega (arith, count, place, over.count, length-append more over.more),
-  after_all z 0 more over.more none ∙ over.is (0 + length more) ∙ ap (λ (n : ℕ). Some n) (omega (arith, count, place, over.count)),
+  omega (
+    arith,
+    count,
+    place,
+    over.count,
+    length-append more over.more,
+  ),
+  after_all z 0 more over.more none ∙ over.is (0 + length more) ∙ ap (λ (n : ℕ). Some n) (omega (
+    arith,
+    count,
+    place,
+    over.count,
+  )),
 )
 
 -- all hold, or reading stopped

@@ -1,7 +1,7 @@
 -- Files that another reader of the format was given, and what the definition makes of each.
-use Rattle.std.specs.Prelude.{◌≡◌, ℕ, ◌+◌, List, [], ◌∷◌, ◌++◌, length, take, drop, Ok, refl}
+use Rattle.std.specs.Prelude.{◌≡◌, ℕ, ◌+◌, List, [], ◌∷◌, ◌++◌, length, map, take, drop, Ok, Result, refl}
 use Rattle.tv_core.specs.Constraints.{System}
-use Rattle.tv_container.specs.Places.{wrong}
+use Rattle.tv_container.specs.Places.{Fault, wrong}
 use Rattle.tv_r1cs_read.specs.R1cs.{r1cs_system, header_of, header_in, constraints_from, constraint_at, combination_at, count_at, terms_at, term_at}
 use Rattle.tv_container.specs.Field.{this_field}
 use Rattle.tv_container.specs.Sections.{sections_of, sections_in, sections_from, section_at}
@@ -53,78 +53,54 @@ system = record {
   constraints = (record { a = (1, 1) ∷ []; b = (1, 2) ∷ []; c = (1, 3) ∷ [] }) ∷ [];
 }
 
--- what the definition makes of the worked file and of files that differ from it in one place
-record AreRead : Type 0 where
-  -- as it stands
-  as_it_stands : r1cs_system worked ≡ Ok system
-  -- its sections in the order 3, 2, 1
-  other_order : r1cs_system (front ++ (labels ++ (rows ++ counts))) ≡ Ok system
-  -- a section of a type that isn't looked up, in the place of section 3
-  other_type : r1cs_system (changed 124 (9 ∷ []) worked) ≡ Ok system
-  -- the last byte is lacking
-  cut_by_one : r1cs_system (take 167 worked) ≡ wrong 124 Truncated
-  -- only three bytes
-  cut_to_three : r1cs_system (take 3 worked) ≡ wrong 0 Truncated
-  -- a byte after the last section
-  one_more : r1cs_system (worked ++ 0 ∷ []) ≡ wrong 168 Trailing
-  -- another first byte
-  bad_magic : r1cs_system (changed 0 (0 ∷ []) worked) ≡ wrong 0 BadMagic
-  -- version 2
-  version_two : r1cs_system (changed 4 (2 ∷ []) worked) ≡ wrong 4 (BadVersion 2)
-  -- two sections are counted, or four
-  two_sections : r1cs_system (changed 8 (2 ∷ []) worked) ≡ wrong 124 Trailing
-  four_sections : r1cs_system (changed 8 (4 ∷ []) worked) ≡ wrong 168 Truncated
-  -- the third section is of type 1 again, or of type 2
-  one_twice : r1cs_system (changed 124 (1 ∷ []) worked) ≡ wrong 124 (Doubled 1)
-  two_twice : r1cs_system (changed 124 (2 ∷ []) worked) ≡ wrong 124 (Doubled 2)
-  -- there is no section 1, or no section 2
-  no_one : r1cs_system (changed 12 (9 ∷ []) worked) ≡ wrong 168 (Missing 1)
-  no_two : r1cs_system (changed 64 (9 ∷ []) worked) ≡ wrong 168 (Missing 2)
-  -- section 1 has 2^64 - 1 bytes
-  long_section : r1cs_system (changed 16 (255 ∷ 255 ∷ 255 ∷ 255 ∷ 255 ∷ 255 ∷ 255 ∷ 255 ∷ []) worked) ≡ wrong 12 Truncated
-  -- numbers of 32 bytes, or another prime of 8 bytes
-  wide_numbers : r1cs_system (changed 24 (32 ∷ []) worked) ≡ wrong 24 OtherPrime
-  other_prime : r1cs_system (changed 28 (2 ∷ []) worked) ≡ wrong 24 OtherPrime
-  -- one wire, or three
-  one_wire : r1cs_system (changed 36 (1 ∷ []) worked) ≡ wrong 24 (BadCount 1 2)
-  three_wires : r1cs_system (changed 36 (3 ∷ []) worked) ≡ wrong 136 (BadCount 32 24)
-  -- no constraint is counted, or two
-  no_constraint : r1cs_system (changed 60 (0 ∷ []) worked) ≡ wrong 76 (BadCount 48 0)
-  two_constraints : r1cs_system (changed 60 (2 ∷ []) worked) ≡ wrong 124 Truncated
-  -- a combination of 1,048,577 terms
-  too_wide : r1cs_system (changed 78 (16 ∷ []) worked) ≡ wrong 76 (TooWide 1048577)
-  -- a term of wire 4
-  no_such_wire : r1cs_system (changed 80 (4 ∷ []) worked) ≡ wrong 80 (WireRange 4 4)
-  -- a coefficient that is P
-  not_canonical : r1cs_system (changed 88 (255 ∷ 255 ∷ 255 ∷ 255 ∷ []) worked) ≡ wrong 84 NotCanonical
+-- the worked file, and files that differ from it in one place, and what each is read as
+abbrev vectors : List (List ℕ × Result System Fault)
+vectors =
+    -- as it stands
+    (worked, Ok system) ∷
+    -- its sections in the order 3, 2, 1
+    (front ++ (labels ++ (rows ++ counts)), Ok system) ∷
+    -- a section of a type that isn't looked up, in the place of section 3
+    (changed 124 (9 ∷ []) worked, Ok system) ∷
+    -- the last byte is lacking
+    (take 167 worked, wrong 124 Truncated) ∷
+    -- only three bytes
+    (take 3 worked, wrong 0 Truncated) ∷
+    -- a byte after the last section
+    (worked ++ 0 ∷ [], wrong 168 Trailing) ∷
+    -- another first byte
+    (changed 0 (0 ∷ []) worked, wrong 0 BadMagic) ∷
+    -- version 2
+    (changed 4 (2 ∷ []) worked, wrong 4 (BadVersion 2)) ∷
+    -- two sections are counted, or four
+    (changed 8 (2 ∷ []) worked, wrong 124 Trailing) ∷
+    (changed 8 (4 ∷ []) worked, wrong 168 Truncated) ∷
+    -- the third section is of type 1 again, or of type 2
+    (changed 124 (1 ∷ []) worked, wrong 124 (Doubled 1)) ∷
+    (changed 124 (2 ∷ []) worked, wrong 124 (Doubled 2)) ∷
+    -- there is no section 1, or no section 2
+    (changed 12 (9 ∷ []) worked, wrong 168 (Missing 1)) ∷
+    (changed 64 (9 ∷ []) worked, wrong 168 (Missing 2)) ∷
+    -- section 1 has 2^64 - 1 bytes
+    (changed 16 (255 ∷ 255 ∷ 255 ∷ 255 ∷ 255 ∷ 255 ∷ 255 ∷ 255 ∷ []) worked, wrong 12 Truncated) ∷
+    -- numbers of 32 bytes, or another prime of 8 bytes
+    (changed 24 (32 ∷ []) worked, wrong 24 OtherPrime) ∷
+    (changed 28 (2 ∷ []) worked, wrong 24 OtherPrime) ∷
+    -- one wire, or three
+    (changed 36 (1 ∷ []) worked, wrong 24 (BadCount 1 2)) ∷
+    (changed 36 (3 ∷ []) worked, wrong 136 (BadCount 32 24)) ∷
+    -- no constraint is counted, or two
+    (changed 60 (0 ∷ []) worked, wrong 76 (BadCount 48 0)) ∷
+    (changed 60 (2 ∷ []) worked, wrong 124 Truncated) ∷
+    -- a combination of 1,048,577 terms
+    (changed 78 (16 ∷ []) worked, wrong 76 (TooWide 1048577)) ∷
+    -- a term of wire 4
+    (changed 80 (4 ∷ []) worked, wrong 80 (WireRange 4 4)) ∷
+    -- a coefficient that is P
+    (changed 88 (255 ∷ 255 ∷ 255 ∷ 255 ∷ []) worked, wrong 84 NotCanonical) ∷ []
 
-are_read : AreRead
+each_is_read : map (λ vector. r1cs_system vector.0) vectors ≡ map (λ vector. vector.1) vectors
 unfolding r1cs_system header_of header_in this_field constraints_from constraint_at combination_at count_at terms_at term_at sections_of sections_in
     sections_from
     section_at
-are_read = record {
-  as_it_stands = refl;
-  other_order = refl;
-  other_type = refl;
-  cut_by_one = refl;
-  cut_to_three = refl;
-  one_more = refl;
-  bad_magic = refl;
-  version_two = refl;
-  two_sections = refl;
-  four_sections = refl;
-  one_twice = refl;
-  two_twice = refl;
-  no_one = refl;
-  no_two = refl;
-  long_section = refl;
-  wide_numbers = refl;
-  other_prime = refl;
-  one_wire = refl;
-  three_wires = refl;
-  no_constraint = refl;
-  two_constraints = refl;
-  too_wide = refl;
-  no_such_wire = refl;
-  not_canonical = refl;
-}
+each_is_read = refl

@@ -23,7 +23,8 @@ pub record HasRead (done : List Constraint) (all left : Result (List Constraint)
 pub record IsAt (reached : Reached) (file : List ℕ) (rows : List Constraint) : Type 0 where
   pub follows : Follows reached file
   pub header : header_of file ≡ Ok reached.header
-  pub read : HasRead rows (constraints_from file reached.header.wires reached.header.rows reached.header.constraints reached.header.rows.at) (ahead reached file)
+  pub read : HasRead rows (constraints_from file reached.header.wires reached.header.rows reached.header.constraints reached.header.rows.at)
+      (ahead reached file)
   pub terms : reached.terms ≡ terms_in rows
 
 -- reading has returned all constraints: the file holds this system, and these are its counts

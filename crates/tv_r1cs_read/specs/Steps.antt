@@ -1,5 +1,6 @@
 -- What each step of reading a system promises.
-use Rattle.std.specs.Prelude.{◌≡◌, ℕ, ◌+◌, ◌-◌, ◌<◌, ◌≤◌, Bool, true, false, if◌then◌else◌, List, [], ◌∷◌, ◌++◌, length, Option, Some, None, MatchOption, Result, MatchResult}
+use Rattle.std.specs.Prelude.{◌≡◌, ℕ, ◌+◌, ◌-◌, ◌<◌, ◌≤◌, Bool, true, false, if◌then◌else◌, List, [], ◌∷◌, ◌++◌, length, Option, Some, None, MatchOption}
+use Rattle.std.specs.Prelude.{Result, MatchResult}
 use Rattle.tv_files.specs.Outside.{Outside}
 use Rattle.tv_core.specs.Constraints.{Constraint}
 use Rattle.tv_core.specs.Meanings.{first_failure}
@@ -21,7 +22,8 @@ pub record Steps (before after : Outside) (name : List ℕ) (old new : Reached) 
   pub looks : old.stopped ≡ None → MatchOption new.stopped (after ≡ before) (λ why. Stopped before after name why)
   -- after these constraints of the file, the step returns what is next in it, or reading stops at the file's first
   -- fault
-  pub gives : (rows : List Constraint) → Known before name (λ file. IsAt old file rows → MatchOption new.stopped (Gives file rows) (λ why. Refuses why (r1cs_system file)))
+  pub gives : (rows : List Constraint) → Known before name (λ file. IsAt old file rows
+      → MatchOption new.stopped (Gives file rows) (λ why. Refuses why (r1cs_system file)))
 
 -- an answer is a refusal where reading has stopped, and says why
 abbrev pub ReportsStop : {A : Type 0} → Result A ReadRefusal → Option ReadRefusal → Type 0

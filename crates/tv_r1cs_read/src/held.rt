@@ -1,8 +1,7 @@
 //! How much of a constraint the window holds.
 
-ghost use Rattle.std.specs.Prelude.{◌≡◌, ℕ, ◌+◌, ◌-◌, ◌*◌, ◌≤◌, ◌<◌, List, IfSome, true, ◌↔◌};
-ghost use Rattle.tv_container.specs.Places.{number};
-ghost use Rattle.tv_container.specs.Reading.{Holds, IsPiece};
+ghost use Rattle.std.specs.Prelude.{◌≡◌, ◌+◌, ◌-◌, ◌*◌, ◌≤◌, ◌<◌, IfSome, true, ◌↔◌};
+ghost use Rattle.tv_container.specs.Reading.{Holds};
 ghost use Rattle.tv_r1cs_read.specs.Held.{IsHeld};
 
 use crate::terms::{Bounds, TERM_BYTES};
@@ -43,17 +42,14 @@ impl Held {
         self.to - self.from >= size
     }
 
-    /// Returns how many terms the combination at the place has; `None` where the window doesn't
-    /// hold all of it.
+    // Returns how many terms the combination at the place has; `None` where the window doesn't hold
+    // all of it.
     #[inline(always)]
-    pub(crate) fn terms(self, window: &Window) -> Option<u32>
+    fn terms(self, window: &Window) -> Option<u32>
         requires before { self.from ≤ self.to }
         requires short { self.to ≤ self.from + 65536 }
         requires holds { self.from < self.to → Holds window.now self.from (self.to - self.from) }
-        ensures narrow { IfSome result (λ terms. terms ≤ 1048576) }
         ensures within { IfSome result (λ terms. self.from + 4 + 12 * terms ≤ self.to) }
-        ensures counts { (file : List ℕ) → IsPiece window.now file
-            → IfSome result (λ terms. terms ≡ number file 4 self.from) }
     {
         if !self.has(4) {
             return None;

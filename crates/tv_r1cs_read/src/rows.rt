@@ -1,16 +1,13 @@
 //! Constraints as they are read: three combinations in vectors that are reused.
-ghost use Rattle.std.specs.Prelude.{◌≡◌, ℕ, ◌+◌, ◌*◌, ◌≤◌, ◌<◌, ◌^◌, List, [], ◌∷◌, ◌++◌, length};
-ghost use Rattle.std.specs.Prelude.{Ok, IfOk, IfSome, OnOk};
-ghost use Rattle.std.specs.Bool.{OnTrue};
+ghost use Rattle.std.specs.Prelude.{◌≡◌, ◌+◌, ◌*◌, ◌≤◌, ◌<◌, [], ◌∷◌, ◌++◌, length};
+ghost use Rattle.std.specs.Prelude.{IfOk, OnOk};
 ghost use Rattle.std.specs.List.{All};
 ghost use Rattle.tv_container.specs.Places.{places};
-ghost use Rattle.tv_container.specs.Reading.{ReadsAsBy, Holds, IsPiece, ReadsIn};
-ghost use Rattle.tv_r1cs_read.specs.Held.{IsHeld};
-ghost use Rattle.tv_r1cs_read.specs.R1cs.{combination_at, constraint_at, terms_at};
+ghost use Rattle.tv_container.specs.Reading.{ReadsAsBy, ReadsIn};
+ghost use Rattle.tv_r1cs_read.specs.R1cs.{combination_at, constraint_at};
 ghost use Rattle.tv_r1cs_read.specs.Rows.{combination_read, constraint_read, terms_in, IsOver};
 
-use crate::held::{Held, held_from};
-use crate::terms::{Bounds, TERM_BYTES, held_term, read_count, read_term};
+use crate::terms::{Bounds, TERM_BYTES, read_count, read_term};
 use std::alloc::{AllocFailed, Global};
 use std::marker::Model;
 use tv_container::{ReadRefusal, Window};
@@ -77,8 +74,6 @@ pub struct Row {
 }
 
 impl Row {
-    ghost use Rattle.tv_r1cs_read.specs.Rows.{terms_in};
-
     /// Returns a row without terms; takes no memory.
     pub fn new(alloc: Global) -> Row
         ensures a { result.a ≡ [] }
@@ -90,14 +85,6 @@ impl Row {
             b: Terms::new(alloc),
             c: Terms::new(alloc),
         }
-    }
-
-    // How many terms it has.
-    pub(crate) fn terms(&self) -> usize
-        requires { terms_in self.now < 2 ^ 64 }
-        ensures { result ≡ terms_in self.now }
-    {
-        self.a.items.len() + self.b.items.len() + self.c.items.len()
     }
 }
 
@@ -121,120 +108,31 @@ pub(crate) fn read_row<D: Files>(
         ReadsAsBy result (constraint_read row.new)
         (constraint_at file bounds.now.wires bounds.now.end at)) }
 {
-    let held = held_from(window, bounds, at);
-    let held = read_combination(files, name, window, bounds, held, &mut row.a)?;
-    let held = read_combination(files, name, window, bounds, held, &mut row.b)?;
-    let held = read_combination(files, name, window, bounds, held, &mut row.c)?;
-    Ok(held.from)
+    let next = read_combination(files, name, window, bounds, at, &mut row.a)?;
+    let next = read_combination(files, name, window, bounds, next, &mut row.b)?;
+    let next = read_combination(files, name, window, bounds, next, &mut row.c)?;
+    Ok(next)
 }
 
-// Reads the combination at a place, and returns what the window holds after it.
+// Reads the combination at a place, and returns the place after it.
 #[inline(always)]
+#[tactic(auto, unfolding(crate::specs::R1cs::combination_at))]
 fn read_combination<D: Files>(
     files: &mut D,
     name: &str,
     window: &mut Window,
     bounds: &Bounds,
-    held: Held,
-    terms: &mut Terms,
-) -> Result<Held, ReadRefusal>
-    requires { IsHeld window.old bounds.now.end held }
-    ensures held { IfOk result (λ remainder. IsHeld window.new bounds.now.end remainder) }
-    ensures size { IfOk result (λ remainder. remainder.from
-        ≡ held.from + 4 + 12 * length terms.new) }
-    ensures wires { OnOk result (All (λ t. t.0 < bounds.now.wires) terms.new) }
-    ensures reads { ReadsIn (D.seen files.old) (D.seen files.new) name.now window.old window.new
-        result
-        (λ file. bounds.now.end ≤ places file →
-        ReadsAsBy result (λ remainder. combination_read terms.new remainder.from)
-        (combination_at file bounds.now.wires bounds.now.end held.from)) }
-{
-    match read_held(window, bounds, held, terms)? {
-        Some(remainder) => Ok(remainder),
-        None => read_far(files, name, window, bounds, held.from, terms),
-    }
-}
-
-// Takes the combination at a place from the window, and returns what the window holds after it;
-// `None` where the window doesn't hold all of it, or it isn't as it should be.
-#[inline(always)]
-fn read_held(
-    window: &Window,
-    bounds: &Bounds,
-    held: Held,
-    terms: &mut Terms,
-) -> Result<Option<Held>, AllocFailed<(u32, F)>>
-    requires { IsHeld window.now bounds.now.end held }
-    ensures held { IfOk result (λ taken. IfSome taken
-        (λ remainder. IsHeld window.now bounds.now.end remainder)) }
-    ensures size { IfOk result (λ taken. IfSome taken
-        (λ remainder. remainder.from ≡ held.from + 4 + 12 * length terms.new)) }
-    ensures wires { IfOk result (λ taken. IfSome taken
-        (λ _. All (λ t. t.0 < bounds.now.wires) terms.new)) }
-    ensures gives { (file : List ℕ) → IsPiece window.now file → IfOk result (λ taken. IfSome taken
-        (λ remainder. combination_at file bounds.now.wires bounds.now.end held.from
-        ≡ Ok (combination_read terms.new remainder.from))) }
-{
-    let Some(count) = held.terms(window) else {
-        return Ok(None);
-    };
-    if take_terms(window, bounds, held.from + 4, count, terms)? {
-        return Ok(Some(held.remainder(count)));
-    }
-    Ok(None)
-}
-
-// Takes n terms from a place on, which the window holds, up to the first that isn't as it should
-// be, and returns whether all are.
-#[inline(always)]
-fn take_terms(
-    window: &Window,
-    bounds: &Bounds,
-    at: u64,
-    count: u32,
-    terms: &mut Terms,
-) -> Result<bool, AllocFailed<(u32, F)>>
-    requires held { Holds window.now at (12 * count) }
-    requires within { at + 12 * count ≤ bounds.now.end }
-    ensures size { IfOk result (λ all. OnTrue all (length terms.new ≡ count)) }
-    ensures wires { IfOk result (λ all. OnTrue all (All (λ t. t.0 < bounds.now.wires) terms.new)) }
-    ensures gives { (file : List ℕ) → IsPiece window.now file → IfOk result (λ all. OnTrue all
-        (terms_at file bounds.now.wires bounds.now.end count at
-        ≡ Ok (combination_read terms.new (at + 12 * count)))) }
-{
-    terms.clear();
-    let mut at = at;
-    for _ in 0..count {
-        let Some(term) = held_term(window, bounds, at) else {
-            return Ok(false);
-        };
-        let (wire, coefficient) = term;
-        terms.push(wire, coefficient)?;
-        at += TERM_BYTES;
-    }
-    Ok(true)
-}
-
-// Reads the combination at a place term by term, and returns what the window holds after it.
-#[cold]
-#[inline(never)]
-#[tactic(auto, unfolding(crate::specs::R1cs::combination_at))]
-fn read_far<D: Files>(
-    files: &mut D,
-    name: &str,
-    window: &mut Window,
-    bounds: &Bounds,
     at: u64,
     terms: &mut Terms,
-) -> Result<Held, ReadRefusal>
+) -> Result<u64, ReadRefusal>
     requires { at ≤ bounds.now.end }
-    ensures held { IfOk result (λ remainder. IsHeld window.new bounds.now.end remainder) }
-    ensures size { IfOk result (λ remainder. remainder.from ≡ at + 4 + 12 * length terms.new) }
+    ensures within { IfOk result (λ next. next ≤ bounds.now.end) }
+    ensures size { IfOk result (λ next. next ≡ at + 4 + 12 * length terms.new) }
     ensures wires { OnOk result (All (λ t. t.0 < bounds.now.wires) terms.new) }
     ensures reads { ReadsIn (D.seen files.old) (D.seen files.new) name.now window.old window.new
         result
         (λ file. bounds.now.end ≤ places file →
-        ReadsAsBy result (λ remainder. combination_read terms.new remainder.from)
+        ReadsAsBy result (combination_read terms.new)
         (combination_at file bounds.now.wires bounds.now.end at)) }
 {
     let count = read_count(files, name, window, bounds, at)?;
@@ -245,5 +143,5 @@ fn read_far<D: Files>(
         terms.push(wire, coefficient)?;
         at += TERM_BYTES;
     }
-    Ok(held_from(window, bounds, at))
+    Ok(at)
 }

@@ -16,7 +16,7 @@ use Rattle.tv_r1cs_read.specs.R1cs.{r1cs_system}
 use Rattle.tv_r1cs_write.proofs.Files.{files_are_fronts, files_of_systems}
 use Rattle.tv_r1cs_write.proofs.Systems.{systems_come_back}
 use Rattle.tv_r1cs_write.specs.Bytes.{system_bytes}
-use Rattle.tv_r1cs_write.specs.Streams.{Stream, SystemProgress, Stands, Finishes, IsSystemStreamed, KeepsFile, begun, stream_meaning, finished_bytes}
+use Rattle.tv_r1cs_write.specs.Streams.{Stream, SystemProgress, Stands, Finishes, IsSystemStreamed, KeepsFile, begun, labelled, stream_meaning, finished_bytes}
 
 -- what a sink is that was begun with the counts of a system, whose constraints are a circuit's, and a number of labels
 pub record IsBegun {S A : Type 0} (seen : S → Stream) (name : List ℕ) (old : Outside) (sink : S) (circuit : Circuit A) (system : System) (counts : Counts)
@@ -51,7 +51,7 @@ module _ {S A : Type 0} (seen : S → Stream) (name : List ℕ) (old : Outside) 
 
   -- a constraint was refused
   pub streamed_some : (new : S) (fault : SinkFault) → PutsSome (stream_meaning seen) sink new circuit fault
-      → IsSystemStreamed old (seen new).outside name system count (labels system.wires) (Err fault)
+      → IsSystemStreamed old (seen new).outside name (labelled system count (labels system.wires)) (Err fault)
   streamed_some new fault some =
       let tried = some.front ++ some.refused ∷ [] in
       let named : (seen new).name ≡ name = some.keeps.name ∙ is.named in
@@ -67,8 +67,9 @@ module _ {S A : Type 0} (seen : S → Stream) (name : List ℕ) (old : Outside) 
 
   -- all constraints were put, and the file was finished, or finishing it was refused
   pub streamed_all : (done : S) (new : Outside) (answer : A) (result : Result (Unit {0}) SinkFault) → length (labels system.wires) ≡ system.wires
-      → PutsAll (stream_meaning seen) sink done circuit answer →
-      Finishes (seen done) new (labels (seen done).progress.counts.wires) result → IsSystemStreamed old new name system count (labels system.wires) result
+      → PutsAll (stream_meaning seen) sink done circuit answer
+      → Finishes (seen done) new (labels (seen done).progress.counts.wires) result
+      → IsSystemStreamed old new name (labelled system count (labels system.wires)) result
   streamed_all done new answer result each all finishes =
       let named : (seen done).name ≡ name = all.keeps.name ∙ is.named in
       let stands : Stands (seen done) system.constraints = rw list at (all.stands [] is.stands) in

@@ -138,9 +138,17 @@ pub record Finishes (sink : Stream) (new : Outside) (labels : List ℕ) (result 
   pub only : OnlyAppends sink.outside new sink.name
   pub cause : HasCause sink.outside new result
 
--- what a call did that streamed a system, whose wires have these labels, to a file; a whole file is read as the system
--- again
-pub record IsSystemStreamed (old new : Outside) (name : List ℕ) (system : System) (count : ℕ) (labels : List ℕ)
-    (result : Result (Unit {0}) SinkFault) : Type 0 where
-  pub file : IsStreamed old new name (system_bytes system count labels) result
-  pub read : OnOk result (r1cs_system (system_bytes system count labels) ≡ Ok system)
+-- a system whose wires have labels, and the number of labels that the head of its file has: a label says which wire of
+-- another system it is
+pub record LabelledSystem : Type 0 where
+  pub system : System
+  pub count : ℕ
+  pub labels : List ℕ
+
+abbrev pub labelled : System → ℕ → List ℕ → LabelledSystem
+labelled system count labels = record { system = system; count = count; labels = labels }
+
+-- what a call did that streamed such a system to a file; a whole file is read as the system again
+pub record IsSystemStreamed (old new : Outside) (name : List ℕ) (written : LabelledSystem) (result : Result (Unit {0}) SinkFault) : Type 0 where
+  pub file : IsStreamed old new name (system_bytes written.system written.count written.labels) result
+  pub read : OnOk result (r1cs_system (system_bytes written.system written.count written.labels) ≡ Ok written.system)

@@ -3,15 +3,15 @@ ghost use Rattle.std.specs.Prelude.{◌≡◌, ◌*◌, ◌++◌, []};
 ghost use Rattle.std.specs.List.Sorted.{IsStrictlyIncreasing};
 ghost use Rattle.tv_container.specs.Bytes.{section_head};
 ghost use Rattle.tv_container.specs.Taking.{TakesBytes};
-ghost use Rattle.tv_r1cs_write.specs.Bytes.{combination_bytes, constraint_bytes, label_bytes};
+ghost use Rattle.tv_r1cs_write.specs.Bytes.{constraint_bytes, label_bytes};
 ghost use Rattle.tv_r1cs_write.specs.Bytes.{others};
-ghost use Rattle.tv_r1cs_write.specs.Narrow.{AreShort, IsShort};
+ghost use Rattle.tv_r1cs_write.specs.Narrow.{AreShort};
 
 use tv_container::{Pending, long_bytes};
 use tv_core::Lc;
 use tv_files::Files;
 
-// Writes a constraint: its three combinations.
+// Writes a constraint: its three combinations, each as how many terms it has, and the terms.
 pub(crate) fn put_row<D: Files>(
     pending: &mut Pending,
     files: &mut D,
@@ -24,18 +24,9 @@ pub(crate) fn put_row<D: Files>(
         (constraint_bytes (record { a = a.now; b = b.now; c = c.now })) }
     ensures short { AreShort (record { a = a.now; b = b.now; c = c.now }) }
 {
-    put_combination(pending, files, name, a);
-    put_combination(pending, files, name, b);
-    put_combination(pending, files, name, c);
-}
-
-// Writes a combination: how many terms it has, and the terms.
-fn put_combination<D: Files>(pending: &mut Pending, files: &mut D, name: &str, lc: &Lc)
-    ensures took { TakesBytes name.now (D.seen files.old) pending.old (D.seen files.new) pending.new
-        (combination_bytes lc.now) }
-    ensures short { IsShort lc.now }
-{
-    pending.put_terms(files, name, lc.terms());
+    pending.put_terms(files, name, a.terms());
+    pending.put_terms(files, name, b.terms());
+    pending.put_terms(files, name, c.terms());
 }
 
 // Writes section 3, with this number of labels, which are the numbers below `count` but these, and

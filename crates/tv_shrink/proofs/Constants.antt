@@ -1,5 +1,5 @@
 -- Looking into a normal combination.
-use Rattle.std.proofs.Common.{◌≡◌, ℕ, zero, suc, ◌+◌, ◌-◌, ◌*◌, ◌%◌, ◌<◌, ◌≤◌, ◌&&◌, [], ◌∷◌, Some, None, refl, sym, ◌∙◌, ap, ap₂, subst, arith, eqb, ltb}
+use Rattle.std.proofs.Common.{◌≡◌, ℕ, zero, suc, ◌+◌, ◌*◌, ◌%◌, ◌<◌, ◌≤◌, ◌&&◌, [], ◌∷◌, Some, None, refl, sym, ◌∙◌, ap, ap₂, subst, arith, eqb, ltb}
 use Rattle.std.proofs.Common.{true, false, inl, inr, cond, length, get_or, eq-eqb, ne_eqb, ltb-true, one-mul, mod-eq_of_lt}
 use Rattle.std.specs.List.{list_all}
 use Rattle.std.proofs.lemmas.Bool.{and_left, and_right, cases_lt, ltb-false, or_from}
@@ -115,12 +115,3 @@ split_missing w i x n point apart =
           let most : (get_or x i d).1 ≤ (get_or x k d).1 = rising 0 x n i k d behind h in
           apart d inside (omega arith)
     ])
-
--- and nowhere where the last wire is below it
-pub after_missing : (w : ℕ) (t : ℕ × ℕ) (x : Combination) → IsNormalFrom 0 x → 0 < length x → ((d : ℕ × ℕ) → get_or x (length x - 1) d ≡ t) → t.1 < w
-    → None ≡ cond (has_wire w x) (Some (coefficient w x)) None
-after_missing w t x n some at below =
-    coefficient_missing w x (λ k d h e.
-    let most : (get_or x k d).1 ≤ (get_or x (length x - 1) d).1 = rising 0 x n k (length x - 1) d (omega arith) (omega arith) in
-    let last = ap (λ (u : ℕ × ℕ). u.1) (at d) in
-    absurd (omega arith))

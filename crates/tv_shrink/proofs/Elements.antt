@@ -1,6 +1,7 @@
 -- What holds of each element of a list.
 use Rattle.std.proofs.Common.{ℕ, zero, suc, List, [], ◌∷◌, ◌++◌, get_or, set}
 use Rattle.std.specs.List.{AllByRecursion}
+use Rattle.std.proofs.lemmas.List.Elements.{recursion_from_All, All-from_recursion, All-push, All-set}
 
 module _ {A : Type 0} (R : A → Type 0) where
   -- at a place, or of what stands for one past the end
@@ -11,13 +12,10 @@ module _ {A : Type 0} (R : A → Type 0) where
 
   -- once an element was changed, or put after the others
   pub each_set : (xs : List A) (i : ℕ) (x : A) → R x → AllByRecursion R xs → AllByRecursion R (set xs i x)
-  each_set [] i x here h = h
-  each_set (first ∷ xs) zero x here h = (here, h.1)
-  each_set (first ∷ xs) (suc i) x here h = (h.0, each_set xs i x here h.1)
+  each_set xs i x here h = recursion_from_All R (set xs i x) (All-set R xs i x here (All-from_recursion R xs h))
 
   pub each_pushed : (xs : List A) (x : A) → R x → AllByRecursion R xs → AllByRecursion R (xs ++ x ∷ [])
-  each_pushed [] x here h = (here, tt)
-  each_pushed (first ∷ xs) x here h = (h.0, each_pushed xs x here h.1)
+  each_pushed xs x here h = recursion_from_All R (xs ++ x ∷ []) (All-push R xs x (All-from_recursion R xs h) here)
 
 -- and what follows from it
 pub each_weaker : {A : Type 0} (R S : A → Type 0) → ((x : A) → R x → S x) → (xs : List A) → AllByRecursion R xs → AllByRecursion S xs

@@ -7,11 +7,12 @@ use Rattle.std.specs.List.Sorted.{IsNonDecreasingBy, IsPartitionPoint}
 use Rattle.std.proofs.lemmas.Bool.{cases_Bool, cases_eq, cases_lt, or_left, or_right}
 use Rattle.std.proofs.lemmas.List.{get_or-set_other, get_or-set_same, length-append, length-replicate}
 use Rattle.std.proofs.lemmas.List.Sums.{fold_push}
+use Rattle.std.proofs.Math.Bool.{or-false}
 use Rattle.tv_r1cs_write.specs.Bytes.{others}
 use Rattle.tv_r1cs_write.proofs.Others.{none_before, others_more, Rising}
 use Rattle.tv_shrink.specs.Shrunk.{kept, place}
 use Rattle.tv_shrink.specs.Tidy.{marked}
-use Rattle.tv_shrink.proofs.Labels.{kept_below, kept_is, place_is, Rising-at}
+use Rattle.tv_shrink.proofs.Labels.{kept_below, place_is, Rising-at}
 use Rattle.tv_shrink.proofs.Solutions.{none_gone}
 
 -- how many of the numbers are below one
@@ -150,13 +151,9 @@ length_from flags (v ∷ gone) = length_from (set flags v true) gone ∙ length-
 pub length_marked : (wires : ℕ) (gone : List ℕ) → length (marked wires gone) ≡ wires
 length_marked wires gone = length_from (replicate wires false) gone ∙ length-replicate wires false
 
-or_none : (b : Bool) → b ≡ (b || false)
-or_none true = refl
-or_none false = refl
-
 marks_from : (flags : List Bool) (gone : List ℕ) (w : ℕ) → w < length flags
     → get_or (fold (λ (flags : List Bool) v. set flags v true) flags gone) w false ≡ (get_or flags w false || list_any (λ v. eqb v w) gone)
-marks_from flags [] w h = or_none (get_or flags w false)
+marks_from flags [] w h = sym (or-false (get_or flags w false))
 marks_from flags (v ∷ gone) w h =
     let rest = marks_from (set flags v true) gone w (omega (arith, length-set flags v true)) in
     elim (cases_eq w v) [
@@ -187,7 +184,8 @@ module _ (wires : ℕ) (flags : List Bool) (gone : List ℕ) (same : (w : ℕ) �
   kept_first n h = kept_from 0 n (omega arith)
 
   pub kept_others : kept wires flags ≡ others wires gone
-  kept_others = kept_is wires flags ∙ kept_first wires (omega arith)
+  unfolding kept
+  kept_others = kept_first wires (omega arith)
 
   pub numbered : (w : ℕ) → w < wires → get_or flags w false ≡ false → length (others w gone) ≡ place w (kept wires flags)
   numbered w h stays = sym (place_is wires w flags h stays ∙ ap length (kept_first w (omega arith)))

@@ -1,9 +1,9 @@
 -- The wires that are kept, and the place of each among them.
-use Rattle.std.proofs.Common.{◌≡◌, ◌≢◌, ℕ, zero, suc, ◌+◌, ◌<◌, ◌≤◌, Bool, not, List, [], ◌∷◌, ◌++◌, refl, sym, ◌∙◌, ap, ap₂, arith, ◌-◌, eqb}
+use Rattle.std.proofs.Common.{◌≡◌, ◌≢◌, ℕ, zero, suc, ◌+◌, ◌<◌, ◌≤◌, Bool, not, ◌||◌, List, [], ◌∷◌, ◌++◌, refl, sym, ◌∙◌, ap, ap₂, arith, ◌-◌, eqb}
 use Rattle.std.proofs.Common.{true, false, inl, inr, cond, map, length, get_or, take, eqb-true, eq-eqb, ne_eqb, one-add}
 use Rattle.std.specs.List.{AllByRecursion, filter, list_any, range_with_len}
 use Rattle.std.specs.Prelude.{slice_index}
-use Rattle.std.proofs.lemmas.Bool.{cond_both, cases_Bool, eqb-false, or_left, or_right, or_cases, false_from_ne_true, not-true, cond-true, cond-false}
+use Rattle.std.proofs.lemmas.Bool.{cond_both, cases_Bool, eqb-false, or_left, or_right, false_from_ne_true, not-true, cond-true, cond-false}
 use Rattle.std.proofs.lemmas.List.Elements.{filter-append}
 use Rattle.std.proofs.lemmas.List.{ext_get_or, get_or-map, length-map}
 use Rattle.tv_core.proofs.BelowLaws.{range-append}
@@ -17,29 +17,18 @@ place-later : (w x : ℕ) (xs : List ℕ) → eqb x w ≡ false → place w (x �
 place-later w x xs e = cond-true (not (eqb x w)) _ 0 (ap not e) ∙ one-add (place w xs)
 
 -- a wire that is there stands at its place
-at_place_step : (w x : ℕ) (xs : List ℕ) (b : Bool) → eqb x w ≡ b → (list_any (λ v. eqb v w) xs ≡ true → get_or xs (place w xs) 0 ≡ w)
-    → list_any (λ v. eqb v w) (x ∷ xs) ≡ true → get_or (x ∷ xs) (place w (x ∷ xs)) 0 ≡ w
-at_place_step w x xs true e later h = ap (λ k. get_or (x ∷ xs) k 0) (place-here w x xs e) ∙ eqb-true x w e
-at_place_step w x xs false e later h =
-    let there : list_any (λ v. eqb v w) xs ≡ true = elim
-    (or_cases _ _ h) [ inl here ↦ absurd (let both : true ≡ false = sym here ∙ e in cc) | inr behind ↦ behind ] in
-    ap (λ k. get_or (x ∷ xs) k 0) (place-later w x xs e) ∙ later there
-
-at_place : (w : ℕ) (xs : List ℕ) → list_any (λ v. eqb v w) xs ≡ true → get_or xs (place w xs) 0 ≡ w
-at_place w [] h = absurd (let no : false ≡ true = h in cc)
-at_place w (x ∷ xs) h = at_place_step w x xs (eqb x w) refl (at_place w xs) h
-
-place_inside_step : (w x : ℕ) (xs : List ℕ) (b : Bool) → eqb x w ≡ b → (list_any (λ v. eqb v w) xs ≡ true → place w xs < length xs)
-    → list_any (λ v. eqb v w) (x ∷ xs) ≡ true → place w (x ∷ xs) < length (x ∷ xs)
-place_inside_step w x xs true e later h = omega (arith, place-here w x xs e)
-place_inside_step w x xs false e later h =
-    let there : list_any (λ v. eqb v w) xs ≡ true = elim
-    (or_cases _ _ h) [ inl here ↦ absurd (let both : true ≡ false = sym here ∙ e in cc) | inr behind ↦ behind ] in
-    omega (arith, place-later w x xs e, later there)
-
-place_inside : (w : ℕ) (xs : List ℕ) → list_any (λ v. eqb v w) xs ≡ true → place w xs < length xs
-place_inside w [] h = absurd (let no : false ≡ true = h in cc)
-place_inside w (x ∷ xs) h = place_inside_step w x xs (eqb x w) refl (place_inside w xs) h
+found_place : (w : ℕ) (xs : List ℕ) → list_any (λ v. eqb v w) xs ≡ true → (place w xs < length xs) × (get_or xs (place w xs) 0 ≡ w)
+found_place w [] h = absurd (let no : false ≡ true = h in cc)
+found_place w (x ∷ xs) h =
+    elim (cases_Bool (eqb x w)) [
+      | inl here ↦
+          let first = place-here w x xs here in
+          (omega (arith, first), ap (λ k. get_or (x ∷ xs) k 0) first ∙ eqb-true x w here)
+      | inr apart ↦
+          let later = found_place w xs (sym (ap (λ b. b || list_any (λ v. eqb v w) xs) apart) ∙ h) in
+          let next = place-later w x xs apart in
+          (omega (arith, next, later.0), ap (λ k. get_or (x ∷ xs) k 0) next ∙ later.1)
+    ]
 
 Rising-lower : (least more : ℕ) (xs : List ℕ) → least ≤ more → Rising more xs → Rising least xs
 Rising-lower least more [] h r = tt
@@ -90,7 +79,8 @@ module _ (wires : ℕ) (gone : List Bool) where
   -- a wire that stays stands at its place
   pub at_place-kept : (w : ℕ) → w < wires → get_or gone w false ≡ false → slice_index (kept wires gone) (place w (kept wires gone)) ≡ w
   unfolding kept
-  at_place-kept w h stays = at_place w (kept wires gone) (any_filter (λ v. not (get_or gone v false)) 0 wires w (ap not stays) (omega arith) (omega arith))
+  at_place-kept w h stays =
+      (found_place w (kept wires gone) (any_filter (λ v. not (get_or gone v false)) 0 wires w (ap not stays) (omega arith) (omega arith))).1
 
   filter_stay : (a n : ℕ) → a + n ≤ wires → AllByRecursion (λ w. (w < wires) × (get_or gone w false ≡ false))
       (filter (λ w. not (get_or gone w false)) (range_with_len a n))
@@ -104,7 +94,8 @@ module _ (wires : ℕ) (gone : List Bool) where
 
   pub inside-kept : (w : ℕ) → w < wires → get_or gone w false ≡ false → place w (kept wires gone) < length (kept wires gone)
   unfolding kept
-  inside-kept w h stays = place_inside w (kept wires gone) (any_filter (λ v. not (get_or gone v false)) 0 wires w (ap not stays) (omega arith) (omega arith))
+  inside-kept w h stays =
+      (found_place w (kept wires gone) (any_filter (λ v. not (get_or gone v false)) 0 wires w (ap not stays) (omega arith) (omega arith))).0
 
   -- and each wire that is kept stays
   pub kept_stay : AllByRecursion (λ w. (w < wires) × (get_or gone w false ≡ false)) (kept wires gone)
@@ -142,10 +133,6 @@ first_of w n = let one : 1 + n ≡ suc n = omega arith in let same : 0 + w ≡ w
 
 abbrev pub kept_below : ℕ → List Bool → List ℕ
 kept_below n gone = filter (λ w. not (get_or gone w false)) (range_with_len 0 n)
-
-pub kept_is : (n : ℕ) (gone : List Bool) → kept n gone ≡ kept_below n gone
-unfolding kept
-kept_is n gone = refl
 
 -- a wire's place is after those before it
 place-after : (w : ℕ) (xs ys : List ℕ) → AllByRecursion (λ v. v < w) xs → place w (xs ++ (w ∷ ys)) ≡ length xs

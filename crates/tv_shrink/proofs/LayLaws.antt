@@ -10,7 +10,7 @@ use Rattle.tv_core.specs.Constraints.{Combination, Constraint}
 use Rattle.tv_shrink.specs.Spans.{end_of, laid, row_at, row_terms, span_of, AreApart, AreInside, AreLaid, IsClear, IsFree, IsInside}
 use Rattle.tv_shrink.specs.declared.arena.Span.{Span}
 use Rattle.tv_shrink.proofs.Elements.{each_at, each_pushed, each_set, each_weaker}
-use Rattle.tv_shrink.proofs.Spans.{inside_more, part_kept, row_appended, row_end, row_kept, rows_kept, same_row}
+use Rattle.tv_shrink.proofs.Spans.{inside_more, part_kept, row_appended, row_by, row_end, row_kept, rows_kept}
 
 -- a part of the terms before or after those that were put
 part_clear : (xs put : Combination) (start i j : ℕ) → start ≤ length xs → i ≤ j → j ≤ length xs → (j ≤ start) ⊎ (start + length put ≤ i)
@@ -35,16 +35,9 @@ part_clear xs put start i j h below inside (inr behind) =
 -- a constraint there
 row_clear : (xs put : Combination) (start : ℕ) (span : Span) → start ≤ length xs → end_of span ≤ length xs → (end_of span ≤ start)
     ⊎ (start + length put ≤ span.start) → row_at (laid start put xs) span ≡ row_at xs span
-row_clear xs put start span h inside (inl before) =
-    same_row _ _ _ _ _ _
-    (part_clear xs put start span.start (span.start + span.a) h (omega arith) (omega arith) (inl (omega arith)))
-    (part_clear xs put start (span.start + span.a) (span.start + span.a + span.b) h (omega arith) (omega arith) (inl (omega arith)))
-    (part_clear xs put start (span.start + span.a + span.b) (span.start + span.a + span.b + span.c) h (omega arith) (omega arith) (inl (omega arith)))
-row_clear xs put start span h inside (inr behind) =
-    same_row _ _ _ _ _ _
-    (part_clear xs put start span.start (span.start + span.a) h (omega arith) (omega arith) (inr (omega arith)))
-    (part_clear xs put start (span.start + span.a) (span.start + span.a + span.b) h (omega arith) (omega arith) (inr (omega arith)))
-    (part_clear xs put start (span.start + span.a + span.b) (span.start + span.a + span.b + span.c) h (omega arith) (omega arith) (inr (omega arith)))
+row_clear xs put start span h inside clear =
+    row_by (laid start put xs) xs span (λ i j low le high. part_clear xs put start i j h le (omega arith)
+    (elim clear [ inl before ↦ inl (omega arith) | inr behind ↦ inr (omega arith) ]))
 
 -- the constraint that was put
 row_laid : (xs : Combination) (row : Constraint) (start : ℕ) → start ≤ length xs → row_at (laid start (row_terms row) xs) (span_of start row) ≡ row

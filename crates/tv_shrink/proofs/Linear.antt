@@ -1,7 +1,7 @@
 -- What the functions on a constraint's combinations return.
 use Rattle.std.proofs.Common.{◌≡◌, ◌≢◌, ℕ, ◌+◌, ◌-◌, ◌*◌, ◌%◌, ◌<◌, ◌≤◌, Bool, not, ◌||◌, leb, length, [], ◌∷◌, ◌++◌, Some, None, refl, sym, ◌∙◌, ap}
 use Rattle.std.proofs.Common.{ap₂, arith, eqb, true, false, inl, inr, cond, mul-zero}
-use Rattle.std.proofs.lemmas.Bool.{cases_Bool, cond_both, le-leb, leb-true, or_left, or_right}
+use Rattle.std.proofs.lemmas.Bool.{cond_both, le-leb, leb-true, not-true, or_cases, or_left, or_right}
 use Rattle.std.proofs.lemmas.List.{length-append, length-map}
 use Rattle.std.specs.Option.{option_or}
 use Rattle.tv_core.specs.Combinations.{scaled}
@@ -72,9 +72,9 @@ unfolding solved
 solve-made factor own w x out is of made = made ∙ ap (λ f. normal (scaled f (without w x))) (is ∙ ap (λ k. P - inverse_of k) of)
 
 -- whether a combination keeps to its most terms
-pub fits-lacking : (w : ℕ) (r x : Combination) (has : Bool) → has ≡ has_wire w x → has ≡ false → not has ≡ fits w r x
+pub fits-lacking : (w : ℕ) (r x : Combination) → has_wire w x ≡ false → fits w r x ≡ true
 unfolding fits
-fits-lacking w r x has is e = ap not e ∙ sym (or_left (not (has_wire w x)) (leb (length (replaced w r x)) 128) (ap not (sym is ∙ e)))
+fits-lacking w r x e = or_left (not (has_wire w x)) (leb (length (replaced w r x)) 128) (ap not e)
 
 pub fits-having : (w : ℕ) (r x out : Combination) (has : Bool) → has ≡ has_wire w x → has ≡ true → out ≡ replaced w r x → leb (length out) 128 ≡ fits w r x
 unfolding fits
@@ -108,14 +108,11 @@ fits-few w r x few =
     let short : length (replaced w r x) ≤ 128 = omega (arith, length-replaced w r x) in
     or_right (not (has_wire w x)) (leb (length (replaced w r x)) 128) (le-leb (length (replaced w r x)) 128 short)
 
--- what fits is short, if the wire stands in it
-fits_short : (w : ℕ) (r x : Combination) → fits w r x ≡ true → has_wire w x ≡ true → length (replaced w r x) ≤ 128
+-- what fits stays short
+pub replaced_short : (n w : ℕ) (r x : Combination) → 128 ≤ n → fits w r x ≡ true → length x ≤ n → length (replaced w r x) ≤ n
 unfolding fits
-fits_short w r x e has = leb-true (length (replaced w r x)) 128 (ap (λ b. not b || leb (length (replaced w r x)) 128) (sym has) ∙ e)
-
-pub part_short : (w : ℕ) (r x : Combination) → fits w r x ≡ true → length x < 256 → length (replaced w r x) < 256
-part_short w r x e few =
-    elim (cases_Bool (has_wire w x)) [
-      | inl has ↦ omega (arith, fits_short w r x e has)
-      | inr lacks ↦ omega (arith, ap length (replaced-lacking w r x (sym lacks)))
+replaced_short n w r x most e few =
+    elim (or_cases (not (has_wire w x)) (leb (length (replaced w r x)) 128) e) [
+      | inl lacks ↦ omega (arith, ap length (replaced-lacking w r x (sym (not-true (has_wire w x) lacks))))
+      | inr short ↦ omega (arith, leb-true (length (replaced w r x)) 128 short)
     ]

@@ -1,12 +1,12 @@
 -- The rows that wires may stand in.
-use Rattle.std.proofs.Common.{◌≡◌, ℕ, suc, ◌+◌, ◌-◌, ◌%◌, ◌<◌, ◌≤◌, Bool, List, [], ◌∷◌, ◌++◌, true, false, refl, sym, ◌∙◌, ap, ap₂, subst, arith, eqb}
+use Rattle.std.proofs.Common.{◌≡◌, ℕ, suc, ◌+◌, ◌-◌, ◌%◌, ◌<◌, ◌≤◌, Bool, List, [], ◌∷◌, ◌++◌, true, refl, sym, ◌∙◌, ap, ap₂, subst, arith}
 use Rattle.std.proofs.Common.{eq-eqb, ne_eqb, cond, inl, inr, map, length, length-set, get_or, set, reverse}
 use Rattle.std.specs.List.{AllByRecursion, list_any}
 use Rattle.std.specs.Prelude.{slice_index}
-use Rattle.std.proofs.lemmas.Bool.{cond_both, cases_eq, or_left, or_right}
+use Rattle.std.proofs.lemmas.Bool.{cases_eq, or_right}
 use Rattle.std.proofs.lemmas.List.{get_or_default, get_or-map, get_or-reverse, get_or-set_other, get_or-set_same, length-map, length-reverse, reverse-append}
 use Rattle.std.proofs.lemmas.Nat.{mod_below}
-use Rattle.tv_shrink.specs.Occurrences.{rows_from, rows_of, with_row, AreLinked, LeadBack}
+use Rattle.tv_shrink.specs.Occurrences.{rows_from, rows_of, AreLinked, LeadBack}
 use Rattle.tv_shrink.proofs.Elements.{each_at, each_set, each_weaker}
 use Rattle.tv_shrink.specs.declared.occurrences.Entry.{Entry}
 
@@ -159,27 +159,3 @@ module _ (entries more : List Entry) (heads : List ℕ) (row head : ℕ) (linked
               ∙ or_right (q row) (list_any q (rows_from (reverse entries) head)) (ap (list_any q) (sym before) ∙ e)
           | inr apart ↦ ap (list_any q) (rows_of-apart w apart) ∙ e
         ]
-
--- the rows with one more have it
-pub with_row-has : (row : ℕ) (rows : List ℕ) → list_any (λ p. eqb p row) (with_row row rows) ≡ true
-with_row-has row [] = or_left (eqb row row) false (eq-eqb row row refl)
-with_row-has row (first ∷ rows) =
-    cond_both (eqb first row) (first ∷ rows) (row ∷ first ∷ rows) (λ xs. list_any (λ p. eqb p row) xs ≡ true)
-    (λ same. or_left (eqb first row) (list_any (λ p. eqb p row) rows) same)
-    (λ _. or_left (eqb row row) (list_any (λ p. eqb p row) (first ∷ rows)) (eq-eqb row row refl))
-
--- whether a list begins with a row
-pub with_row-none : (entries : List Entry) (number row : ℕ) → number ≡ 0
-    → with_row row (rows_from (reverse entries) number) ≡ row ∷ rows_from (reverse entries) number
-with_row-none entries number row e =
-    let none : rows_from (reverse entries) number ≡ [] = ap (rows_from (reverse entries)) e ∙ rows_from-none (reverse entries) in
-    ap (with_row row) none ∙ ap (λ rows. row ∷ rows) (sym none)
-
-pub with_row-first : (entries : List Entry) (number row : ℕ) (entry : Entry) (same : Bool) → 0 < number → number ≤ length entries → LeadBack (reverse entries)
-    → entry ≡ get_or entries (number - 1) entry → same ≡ eqb entry.row row →
-    with_row row (rows_from (reverse entries) number) ≡ cond same (rows_from (reverse entries) number) (row ∷ rows_from (reverse entries) number)
-with_row-first entries number row entry same some inside back at is =
-    let found = (rows_from-at entries (0 ∷ []) number entry some inside (record { some = omega arith; back = back; within = (omega arith, tt) }) at).0 in
-    ap (with_row row) found
-    ∙ ap (λ b. cond b (entry.row ∷ rows_from (reverse entries) entry.next) (row ∷ entry.row ∷ rows_from (reverse entries) entry.next)) (sym is)
-    ∙ ap (λ rows. cond same rows (row ∷ rows)) (sym found)

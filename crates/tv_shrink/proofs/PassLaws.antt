@@ -14,7 +14,7 @@ use Rattle.tv_core.specs.Normal.{IsNormalFrom}
 use Rattle.tv_shrink.specs.Substitution.{linear_form, greatest_from, solved, replaced, replaced_in}
 use Rattle.tv_shrink.specs.Pass.{Pass, dropped, substituted, row_fits, attempted, eliminated, treated, linear_row, turn}
 use Rattle.tv_core.proofs.NormalLaws.{Over, Over-weaker, value-local}
-use Rattle.tv_shrink.proofs.Elements.{each_at, each_set, each_weaker}
+use Rattle.tv_shrink.proofs.Elements.{each_at, each_set}
 use Rattle.tv_shrink.proofs.ReplacingLaws.{value-replaced, solved-from_zero, zero-from_solved, holds_where_zero, zero_where_holds, Over-linear_form}
 use Rattle.tv_shrink.proofs.ReplacingLaws.{Over-solved, Over-replaced, Over-has_wire, greatest_is, coefficient-apart}
 
@@ -63,15 +63,10 @@ row_local Q y z same None h = tt
 row_local Q y z same (Some c) h =
     same_holds c c y z (value-local Q y z c.a h.0.0 same) (value-local Q y z c.b h.0.1 same) (value-local Q y z c.c h.0.2 same) h.1
 
-both_hold : (R S : Option Constraint → Type 0) (rows : List (Option Constraint)) → AllByRecursion R rows → AllByRecursion S rows
-    → AllByRecursion (λ row. R row × S row) rows
-both_hold R S [] h k = tt
-both_hold R S (row ∷ rows) h k = ((h.0, k.0), both_hold R S rows h.1 k.1)
-
 rows_local : (Q : ℕ → Type 0) (y z : List ℕ) → ((v : ℕ) → Q v → slice_index y v ≡ slice_index z v) → (rows : List (Option Constraint)) → RowsOver Q rows
     → RowsHold y rows → RowsHold z rows
-rows_local Q y z same rows h k = each_weaker (λ row. RowOver Q row × RowHolds y row) (RowHolds z) (row_local Q y z same) rows
-    (both_hold (RowOver Q) (RowHolds y) rows h k)
+rows_local Q y z same [] h k = tt
+rows_local Q y z same (row ∷ rows) h k = (row_local Q y z same row (h.0, k.0), rows_local Q y z same rows h.1 k.1)
 
 -- a wire that there is, and that is not gone
 abbrev pub Stays : ℕ → List Bool → ℕ → Type 0
@@ -278,13 +273,10 @@ module _ (start : List (Option Constraint)) (wires publics : ℕ) (positive : 0 
   treated-sound i c (Some []) pass at says sound = dropped-sound i c pass at says sound
   treated-sound i c (Some (t ∷ x)) pass at says sound = eliminated-sound i c (t ∷ x) (greatest_from publics (t ∷ x)) pass at says refl sound
 
-  unlinear : (i : ℕ) (pass : Pass) → Sound start wires publics pass → Sound start wires publics (treated publics i None pass)
-  unfolding treated
-  unlinear i pass sound = sound
-
   row-sound : (i : ℕ) (o : Option Constraint) (pass : Pass) → get_or pass.rows i None ≡ o → Sound start wires publics pass
       → Sound start wires publics (treated publics i (linear_row o) pass)
-  row-sound i None pass at sound = unlinear i pass sound
+  unfolding treated
+  row-sound i None pass at sound = sound
   row-sound i (Some c) pass at sound = treated-sound i c (linear_form c) pass at refl sound
 
   pub turn-sound : (i : ℕ) (pass : Pass) → Sound start wires publics pass → Sound start wires publics (turn publics pass i)

@@ -1,6 +1,6 @@
 -- What the loops of a pass keep.
-use Rattle.std.proofs.Common.{◌≡◌, ◌≢◌, ◌⊎◌, ℕ, zero, suc, ◌+◌, ◌<◌, ◌≤◌, Bool, not, ◌||◌, ◌&&◌, List, [], ◌∷◌, ◌++◌, Option, Some, None, refl, sym, ◌∙◌, ap}
-use Rattle.std.proofs.Common.{subst, arith, eqb, true, false, inl, inr, cond, map, length, get_or, set, take, leb, ltb, ◌-◌, ltb-true, lt-ltb, le-ltb}
+use Rattle.std.proofs.Common.{◌≡◌, ◌≢◌, ◌⊎◌, ℕ, zero, suc, ◌+◌, ◌<◌, ◌≤◌, Bool, ◌||◌, ◌&&◌, List, [], ◌∷◌, ◌++◌, Option, Some, None, refl, sym, ◌∙◌, ap}
+use Rattle.std.proofs.Common.{subst, arith, eqb, true, false, inl, inr, cond, map, length, get_or, set, take, ltb, ◌-◌, ltb-true, lt-ltb, le-ltb}
 use Rattle.std.proofs.Common.{eqb-true, eq-eqb, ne_eqb, take_all, add-one}
 use Rattle.std.specs.List.{fold, list_any, list_all, range_with_len}
 use Rattle.std.specs.Option.{option_map}
@@ -19,19 +19,12 @@ use Rattle.tv_shrink.specs.Pass.{Pass, all_replaced, attempted, dropped, substit
 use Rattle.tv_shrink.specs.Occurrences.{rows_of}
 use Rattle.tv_shrink.specs.Substitution.{greater_from, greatest_from, has_wire, without, solved, replaced, replaced_in, fits}
 use Rattle.tv_shrink.specs.Tidy.{RowIsNormal, Covers, pass_of, row_has}
-use Rattle.tv_shrink.proofs.Linear.{replaced-lacking}
+use Rattle.std.proofs.Math.Bool.{or-false}
+use Rattle.tv_shrink.proofs.Linear.{fits-lacking, replaced-lacking}
+use Rattle.tv_shrink.proofs.Spans.{same_row}
 use Rattle.tv_core.proofs.NormalLaws.{Over, Over-weaker, IsNormalFrom-normal}
-use Rattle.tv_shrink.proofs.ReplacingLaws.{none_some, Over-linear_form, Over-solved, Over-has_wire, Over-replaced, Over-lacking, found_later}
+use Rattle.tv_shrink.proofs.ReplacingLaws.{none_some, Over-linear_form, Over-solved, Over-has_wire, Over-replaced, Over-lacking, found_here, found_later}
 use Rattle.tv_shrink.proofs.Constants.{above_at, found_at}
-
-or_false : (b : Bool) → (b || false) ≡ b
-or_false true = refl
-or_false false = refl
-
-same_row : (c : Constraint) (a b e : Combination) → a ≡ c.a → b ≡ c.b → e ≡ c.c → Some (record { a = a; b = b; c = e }) ≡ Some c
-same_row c a b e p q s =
-    ap (λ y. Some (record { a = y; b = b; c = e })) p ∙ ap (λ y. Some (record { a = c.a; b = y; c = e })) q
-    ∙ ap (λ y. Some (record { a = c.a; b = c.b; c = y })) s
 
 pub all_units : (x : Combination) → Over (λ v. Unit {0}) x
 all_units [] = tt
@@ -44,25 +37,21 @@ lacks_over w (t ∷ x) h = or_from (eqb t.1 w) (has_wire w x) (ne_eqb t.1 w h.0.
 
 -- a constraint without the wire
 module _ (w : ℕ) (r : Combination) where
-  lacking-fits : (x : Combination) → has_wire w x ≡ false → fits w r x ≡ true
-  unfolding fits
-  lacking-fits x e = or_left (not (has_wire w x)) (leb (length (replaced w r x)) 128) (ap not e)
-
   pub row-lacking-fits : (row : Option Constraint) → row_has w row ≡ false → row_fits w r row ≡ true
   row-lacking-fits None e = refl
   row-lacking-fits (Some c) e =
       let first = or_parts (has_wire w c.a) (has_wire w c.b || has_wire w c.c) e in
       let others = or_parts (has_wire w c.b) (has_wire w c.c) first.1 in
-      and_from (fits w r c.a) (fits w r c.b && fits w r c.c) (lacking-fits c.a first.0)
-      (and_from (fits w r c.b) (fits w r c.c) (lacking-fits c.b others.0) (lacking-fits c.c others.1))
+      and_from (fits w r c.a) (fits w r c.b && fits w r c.c) (fits-lacking w r c.a first.0)
+      (and_from (fits w r c.b) (fits w r c.c) (fits-lacking w r c.b others.0) (fits-lacking w r c.c others.1))
 
   pub row-lacking-same : (row : Option Constraint) → row_has w row ≡ false → option_map (replaced_in w r) row ≡ row
   row-lacking-same None e = refl
   row-lacking-same (Some c) e =
       let first = or_parts (has_wire w c.a) (has_wire w c.b || has_wire w c.c) e in
       let others = or_parts (has_wire w c.b) (has_wire w c.c) first.1 in
-      same_row c (replaced w r c.a) (replaced w r c.b) (replaced w r c.c) (replaced-lacking w r c.a (sym first.0)) (replaced-lacking w r c.b (sym others.0))
-      (replaced-lacking w r c.c (sym others.1))
+      ap Some (same_row _ _ _ _ _ _ (replaced-lacking w r c.a (sym first.0)) (replaced-lacking w r c.b (sym others.0))
+      (replaced-lacking w r c.c (sym others.1)))
 
   -- once a wire is replaced, it is there no more
   module _ (lacks : has_wire w r ≡ false) where
@@ -74,9 +63,8 @@ module _ (w : ℕ) (r : Combination) where
     pub replaced-twice : (row : Option Constraint) → option_map (replaced_in w r) (option_map (replaced_in w r) row) ≡ option_map (replaced_in w r) row
     replaced-twice None = refl
     replaced-twice (Some c) =
-        same_row (replaced_in w r c) (replaced w r (replaced w r c.a)) (replaced w r (replaced w r c.b)) (replaced w r (replaced w r c.c))
-        (replaced-lacking w r (replaced w r c.a) (sym (lacks-replaced c.a))) (replaced-lacking w r (replaced w r c.b) (sym (lacks-replaced c.b)))
-        (replaced-lacking w r (replaced w r c.c) (sym (lacks-replaced c.c)))
+        let same = λ (x : Combination). replaced-lacking w r (replaced w r x) (sym (lacks-replaced x)) in
+        ap Some (same_row _ _ _ _ _ _ (same c.a) (same c.b) (same c.c))
 
     -- one turn of the loop that replaces
     replaced_seen : (seen : Bool) (row : Option Constraint)
@@ -113,7 +101,7 @@ module _ (w : ℕ) (r : Combination) where
           | inr apart ↦
               let now : list_any (λ p. eqb p i) (take (k + 1) places) ≡ list_any (λ p. eqb p i) (take k places) =
               next ∙ ap (λ b. list_any (λ p. eqb p i) (take k places) || b) (ne_eqb (get_or places k 0) i (λ e. apart (sym e ∙ is)))
-              ∙ or_false (list_any (λ p. eqb p i) (take k places)) in
+              ∙ or-false (list_any (λ p. eqb p i) (take k places)) in
               get_or-set_other rows at i (option_map (replaced_in w r) (get_or rows at None)) None apart
               ∙ before i
               ∙ sym (ap (λ b. cond b (option_map (replaced_in w r) row) row) now)
@@ -124,9 +112,9 @@ module _ (w : ℕ) (r : Combination) where
     fits_seen true None e = refl
     fits_seen true (Some c) e =
         and_from (fits w r (replaced w r c.a)) (fits w r (replaced w r c.b) && fits w r (replaced w r c.c))
-        (lacking-fits (replaced w r c.a) (lacks-replaced c.a))
-        (and_from (fits w r (replaced w r c.b)) (fits w r (replaced w r c.c)) (lacking-fits (replaced w r c.b) (lacks-replaced c.b))
-        (lacking-fits (replaced w r c.c) (lacks-replaced c.c)))
+        (fits-lacking w r (replaced w r c.a) (lacks-replaced c.a))
+        (and_from (fits w r (replaced w r c.b)) (fits w r (replaced w r c.c)) (fits-lacking w r (replaced w r c.b) (lacks-replaced c.b))
+        (fits-lacking w r (replaced w r c.c) (lacks-replaced c.c)))
 
     fits_at : (rows : List (Option Constraint)) (i : ℕ) → list_all (row_fits w r) rows ≡ true → row_fits w r (get_or rows i None) ≡ true
     fits_at [] i all = refl
@@ -177,13 +165,12 @@ has_at k t [] h at = absurd (omega arith)
 has_at zero t (u ∷ x) h at = or_left (eqb u.1 t.1) (list_any (λ v. eqb v.1 t.1) x) (eq-eqb u.1 t.1 (ap (λ v. v.1) (sym at)))
 has_at (suc k) t (u ∷ x) h at = or_right (eqb u.1 t.1) (list_any (λ v. eqb v.1 t.1) x) (has_at k t x (omega arith) at)
 
-has_first : (t : ℕ × ℕ) (x : Combination) → has_wire t.1 (t ∷ x) ≡ true
-unfolding has_wire
-has_first t x = or_left (eqb t.1 t.1) (list_any (λ u. eqb u.1 t.1) x) (eq-eqb t.1 t.1 refl)
-
 pub over_itself : (x : Combination) → Over (λ w. has_wire w x ≡ true) x
 over_itself [] = tt
-over_itself (t ∷ x) = (has_first t x, Over-weaker (λ w. has_wire w x ≡ true) (λ w. has_wire w (t ∷ x) ≡ true) x (λ w e. found_later w t x e) (over_itself x))
+over_itself (t ∷ x) = (
+  found_here t.1 t x refl,
+  Over-weaker (λ w. has_wire w x ≡ true) (λ w. has_wire w (t ∷ x) ≡ true) x (λ w e. found_later w t x e) (over_itself x),
+)
 
 -- what a row says is 0 is normal
 pub form-normal : (row : Option Constraint) (form : Combination) → linear_row row ≡ Some form → IsNormalFrom 0 form
@@ -380,10 +367,6 @@ all-fit-there w at r publics rows lists covers above fit =
       | inl has ↦ fit i (covers-dropped publics at rows lists covers i w above has)
       | inr lacks ↦ row-lacking-fits w r (get_or (set rows at None) i None) lacks
     ]))
-
-pub nil_of : (x : Combination) → length x ≡ 0 → x ≡ []
-nil_of [] e = refl
-nil_of (t ∷ x) e = absurd (omega arith)
 
 pub passed-more : (publics n : ℕ) (pass : Pass)
     → fold (turn publics) pass (range_with_len 0 (n + 1)) ≡ turn publics (fold (turn publics) pass (range_with_len 0 n)) n

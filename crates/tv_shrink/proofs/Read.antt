@@ -1,7 +1,6 @@
 -- Terms that were read, made normal.
-use Rattle.std.proofs.Common.{◌≡◌, ℕ, zero, suc, ◌+◌, ◌<◌, ◌≤◌, List, [], ◌∷◌, ◌++◌, Option, Some, None, refl, sym, ◌∙◌, ap, ap₂, subst, arith, ltb, inl, inr}
-use Rattle.std.proofs.Common.{cond, map, length, get_or, drop, take, add-one, drop-cons, set}
-use Rattle.std.proofs.Common.{Result, Ok, Err}
+use Rattle.std.proofs.Common.{◌≡◌, ℕ, ◌<◌, ◌≤◌, List, [], ◌∷◌, ◌++◌, Option, Some, None, refl, sym, ◌∙◌, ap, subst, arith, ltb, inl, inr}
+use Rattle.std.proofs.Common.{cond, length, Result, Ok, Err}
 use Rattle.std.specs.List.{AllByRecursion, All}
 use Rattle.std.specs.Option.{option_or}
 use Rattle.tv_container.specs.Places.{Fault, ◌>>=◌, wrong}
@@ -24,21 +23,13 @@ use Rattle.tv_core.specs.Combinations.{top}
 use Rattle.tv_core.specs.declared.lines.Counts.{Counts}
 use Rattle.tv_r1cs_read.specs.Survey.{survey_of}
 use Rattle.tv_core.specs.Constraints.{Combination, Constraint, System}
-use Rattle.tv_core.specs.declared.field.TheConstants.{P}
 use Rattle.tv_r1cs_read.specs.Rows.{combination_of, constraint_of, IsOver}
 use Rattle.tv_r1cs_read.specs.declared.rows.Row.{Row}
 use Rattle.tv_shrink.specs.Answers.{first_wide, read_fault, start_rows, wide, wide_in, all_terms, most, Halted, IsLong, IsSmall, IsTooWide, FaultMeans}
-use Rattle.tv_core.specs.Normal.{normal, normal_constraint, IsNormalFrom}
+use Rattle.tv_core.specs.Normal.{normal, normal_constraint}
 use Rattle.tv_core.proofs.NormalLaws.{Over, Over-normal, IsNormalFrom-normal}
 use Rattle.tv_shrink.specs.Tidy.{RowsAreNormal, IsWithin, RowIsNormal}
 use Rattle.tv_shrink.proofs.Elements.{each_pushed}
-
--- one more term before a normal combination
-pub normal_before : (least i : ℕ) (t : ℕ × ℕ) (terms : List (ℕ × ℕ)) → i < length terms → t ≡ get_or terms i t → least ≤ t.0 → 0 < t.1 → t.1 < P →
-    IsNormalFrom (t.0 + 1) (combination_of (drop (i + 1) terms)) → IsNormalFrom least (combination_of (drop i terms))
-normal_before least i t terms h at above some small behind =
-    let split : drop i terms ≡ t ∷ drop (i + 1) terms = drop-cons terms i t h ∙ ap₂ (λ u rest. u ∷ rest) (sym at) (ap (λ k. drop k terms) (sym (add-one i))) in
-    subst (λ xs. IsNormalFrom least (combination_of xs)) (sym split) (above, some, small, behind)
 
 -- the wires of terms that were read
 over_terms : (n : ℕ) (terms : List (ℕ × ℕ)) → AllByRecursion (λ t. t.0 < n) terms → Over (λ v. v < n) (combination_of terms)
@@ -78,27 +69,6 @@ pub pushed_normal : (rows next : List (Option Constraint)) (row : Constraint) �
 pushed_normal rows next row is normal =
     subst RowsAreNormal (sym is) (each_pushed RowIsNormal rows (Some (normal_constraint row))
     (record { a = IsNormalFrom-normal row.a; b = IsNormalFrom-normal row.b; c = IsNormalFrom-normal row.c }) normal)
-
--- one element changed after another
-module _ {A : Type 0} (f : A → A) where
-  pub untouched : (xs : List A) (i : ℕ) (d : A) → get_or (map f (take i xs) ++ drop i xs) i d ≡ get_or xs i d
-  untouched [] zero d = refl
-  untouched [] (suc i) d = refl
-  untouched (x ∷ xs) zero d = refl
-  untouched (x ∷ xs) (suc i) d = untouched xs i d
-
-  touched : (xs : List A) (i : ℕ) (d : A) → i < length xs
-      → set (map f (take i xs) ++ drop i xs) i (f (get_or xs i d)) ≡ map f (take (suc i) xs) ++ drop (suc i) xs
-  touched [] i d h = absurd (omega arith)
-  touched (x ∷ xs) zero d h = refl
-  touched (x ∷ xs) (suc i) d h = ap (λ rest. f x ∷ rest) (touched xs i d (omega arith))
-
-  pub touched_more : (xs ys : List A) (i : ℕ) (y d : A) → i < length xs → ys ≡ map f (take i xs) ++ drop i xs → y ≡ get_or ys i d
-      → set ys i (f y) ≡ map f (take (i + 1) xs) ++ drop (i + 1) xs
-  touched_more xs ys i y d h is at =
-      ap₂ (λ zs z. set zs i (f z)) is (at ∙ ap (λ zs. get_or zs i d) is ∙ untouched xs i d)
-      ∙ touched xs i d h
-      ∙ ap (λ k. map f (take k xs) ++ drop k xs) (sym (add-one i))
 
 -- the first wide combination of a list and one more constraint
 pub no_wide : first_wide [] ≡ None

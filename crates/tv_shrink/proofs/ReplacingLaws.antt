@@ -1,8 +1,8 @@
 -- A combination in place of a wire: the value stays where the wire has the combination's value.
 use Rattle.std.proofs.Common.{◌≡◌, ◌≢◌, ◌⊎◌, ℕ, ◌+◌, ◌-◌, ◌*◌, ◌%◌, ◌<◌, ◌≤◌, Bool, not, List, [], ◌∷◌, ◌++◌, Option, Some, None, refl, sym, ◌∙◌, ap, subst}
-use Rattle.std.proofs.Common.{arith, ltb, eqb, true, false, inl, inr, cond, max, ltb-false, eqb-true, eq-eqb, ne_eqb, add-mul, mul-add, mul_assoc, mul_comm}
+use Rattle.std.proofs.Common.{arith, ltb, eqb, true, false, inl, inr, cond, max, ltb-false, eqb-true, eq-eqb, add-mul, mul-add, mul_assoc, mul_comm}
 use Rattle.std.proofs.Common.{one-mul, mod-lt, mod-eq_of_lt}
-use Rattle.std.specs.List.{list_all, sum_by}
+use Rattle.std.specs.List.{list_all}
 use Rattle.std.specs.Prelude.{slice_index}
 use Rattle.std.proofs.lemmas.Bool.{cond_both, eqb-false, or_cases, or_parts, and_parts, or_left, or_right, cases_lt, cond-false}
 use Rattle.std.proofs.lemmas.Nat.{mul-mod_second}
@@ -12,6 +12,7 @@ use Rattle.tv_core.proofs.CombinationLaws.{value-cons, value-append, value-scale
 use Rattle.tv_core.proofs.DifferenceLaws.{same_of_minus}
 use Rattle.tv_core.proofs.InverseLaws.{mul-inverse_of, inverse_of-below}
 use Rattle.tv_core.proofs.Residues.{add-mod_same, mul-mod_zero, mul-mod_one, same_of_difference}
+use Rattle.tv_core.proofs.Unique.{summed, summed-none}
 use Rattle.tv_core.specs.Constraints.{Combination, Constraint, value, Holds}
 use Rattle.tv_core.specs.Combinations.{scaled, less}
 use Rattle.tv_core.specs.Inverse.{inverse_of}
@@ -20,10 +21,6 @@ use Rattle.tv_core.specs.declared.field.TheConstants.{P}
 use Rattle.tv_core.specs.Normal.{coefficient, normal, IsNormalFrom}
 use Rattle.tv_shrink.specs.Substitution.{has_wire, without, constant_in, difference, linear_form, greater_from, greatest_from, solved, replaced}
 use Rattle.tv_core.proofs.NormalLaws.{Over, Over-normal, Over-append, Over-scaled, value-normal, regrouped, exchanged, residue_first, IsNormalFrom-normal}
-
--- the sum of a wire's coefficients
-abbrev pub summed : ℕ → Combination → ℕ
-summed w x = sum_by (λ t. cond (eqb t.1 w) t.0 0) x
 
 turned : (a b : ℕ) → (a + b % P) % P ≡ (b + a) % P
 turned a b = omega arith
@@ -281,13 +278,6 @@ pub greatest_is : (least w : ℕ) (x : Combination) → greatest_from least x �
 unfolding greatest_from
 greatest_is least w [] e = absurd (none_some w e)
 greatest_is least w (t ∷ x) e = greatest_step least w t x (greatest_from least x) (λ v. greatest_is least v x) e
-
-pub summed-none : (least w : ℕ) (x : Combination) → IsNormalFrom least x → w < least → summed w x ≡ 0
-summed-none least w [] n h = refl
-summed-none least w (t ∷ x) n h =
-    sum_by-cons (λ u. cond (eqb u.1 w) u.0 0) t x
-    ∙ ap (λ b. cond b t.0 0 + summed w x) (ne_eqb t.1 w (λ e. absurd (omega (arith, n.0))))
-    ∙ ap (λ k. 0 + k) (summed-none (t.1 + 1) w x n.3 (omega (arith, n.0)))
 
 summed_step : (w : ℕ) (b : Bool) (t : ℕ × ℕ) (x : Combination) → eqb t.1 w ≡ b → (0 < t.0) × (t.0 < P) → IsNormalFrom (t.1 + 1) x
     → ((b ≡ false) → (0 < summed w x) × (summed w x < P)) → (0 < cond b t.0 0 + summed w x) × (cond b t.0 0 + summed w x < P)

@@ -1,49 +1,43 @@
 -- What is left once a pass has run, its wires numbered anew.
-use Rattle.std.proofs.Common.{◌≡◌, ℕ, ◌+◌, ◌<◌, ◌≤◌, Bool, not, ◌&&◌, List, [], ◌∷◌, Option, Some, None, refl, sym, ◌∙◌, ap, ap₂, subst}
-use Rattle.std.proofs.Common.{arith, true, false, inl, inr, eqb, map, length, get_or, leb, leb-true, replicate}
+use Rattle.std.proofs.Common.{◌≡◌, ℕ, ◌+◌, ◌<◌, ◌≤◌, Bool, ◌&&◌, List, [], ◌∷◌, Option, Some, None, refl, sym, ◌∙◌, ap, ap₂, subst}
+use Rattle.std.proofs.Common.{arith, true, false, eqb, map, length, get_or, replicate}
 use Rattle.std.specs.List.{AllByRecursion, filter_map, fold, list_all, list_any, range_with_len}
 use Rattle.std.specs.Option.{option_map}
 use Rattle.tv_r1cs_write.specs.Bytes.{others}
-use Rattle.std.proofs.lemmas.Bool.{or_cases, and_parts, not-true}
-use Rattle.std.proofs.lemmas.List.{length-map, length-replicate, length-take}
+use Rattle.std.proofs.lemmas.Bool.{and_parts}
+use Rattle.std.proofs.lemmas.List.{length-map, length-take}
 use Rattle.std.proofs.lemmas.List.FromFn.{length-range_with_len}
-use Rattle.tv_core.specs.Constraints.{Combination, Constraint, System}
+use Rattle.tv_core.specs.Constraints.{Combination, Constraint}
 use Rattle.tv_core.specs.declared.lines.Counts.{Counts}
 use Rattle.tv_shrink.specs.Answers.{counted_system, start_rows, IsReady}
-use Rattle.tv_shrink.specs.Renumbering.{moved, moved_in, moved_rows}
+use Rattle.tv_shrink.specs.Renumbering.{moved, moved_rows}
 use Rattle.tv_core.specs.Normal.{normal_constraint}
 use Rattle.tv_shrink.specs.Pass.{Pass, all_replaced, begun, dropped, passed, row_fits, substituted, turn}
-use Rattle.tv_shrink.specs.Substitution.{fits, has_wire, replaced, replaced_in}
+use Rattle.tv_shrink.specs.Substitution.{fits, replaced_in}
 use Rattle.tv_shrink.specs.Shrunk.{kept, left_over, renumbered, renumbered_in, shrink}
 use Rattle.tv_shrink.specs.Tidy.{AreWithin, pass_of}
 use Rattle.tv_shrink.proofs.Labels.{front-kept, inside-kept}
-use Rattle.tv_shrink.proofs.Linear.{replaced-lacking}
+use Rattle.tv_shrink.proofs.Linear.{replaced_short}
+use Rattle.tv_shrink.proofs.Spans.{same_row}
 use Rattle.tv_core.proofs.NormalLaws.{Over, Over-weaker}
 use Rattle.tv_shrink.proofs.Elements.{each_set}
 use Rattle.tv_shrink.proofs.PassLaws.{RowsOver, Sound, Stays, turns-sound}
 use Rattle.tv_shrink.proofs.States.{turns_keep}
 use Rattle.tv_shrink.proofs.Gone.{kept_others, numbered}
-use Rattle.tv_shrink.proofs.Solutions.{none_gone}
+use Rattle.tv_shrink.proofs.Solutions.{none_gone, start-sound}
 
 -- combinations of at most 128 terms
 abbrev RowIsShort : Option Constraint → Type 0
 RowIsShort None = Unit {0}
 RowIsShort (Some c) = (length c.a ≤ 128) × (length c.b ≤ 128) × (length c.c ≤ 128)
 
-short_fits : (w : ℕ) (r x : Combination) → length x ≤ 128 → fits w r x ≡ true → length (replaced w r x) ≤ 128
-unfolding fits
-short_fits w r x h e =
-    elim (or_cases (not (has_wire w x)) (leb (length (replaced w r x)) 128) e) [
-      | inl lacks ↦ subst (λ y. length y ≤ 128) (sym (replaced-lacking w r x (sym (not-true (has_wire w x) lacks)))) h
-      | inr few ↦ leb-true (length (replaced w r x)) 128 few
-    ]
-
 short_row : (w : ℕ) (r : Combination) (row : Option Constraint) → RowIsShort row → row_fits w r row ≡ true → RowIsShort (option_map (replaced_in w r) row)
 short_row w r None h e = tt
 short_row w r (Some c) h e =
     let first = and_parts (fits w r c.a) (fits w r c.b && fits w r c.c) e in
     let others = and_parts (fits w r c.b) (fits w r c.c) first.1 in
-    (short_fits w r c.a h.0 first.0, short_fits w r c.b h.1 others.0, short_fits w r c.c h.2 others.1)
+    let short = λ (x : Combination) (few : length x ≤ 128) (fit : fits w r x ≡ true). replaced_short 128 w r x (omega arith) fit few in
+    (short c.a h.0 first.0, short c.b h.1 others.0, short c.c h.2 others.1)
 
 short_rows : (w : ℕ) (r : Combination) (rows : List (Option Constraint)) → AllByRecursion RowIsShort rows → list_all (row_fits w r) rows ≡ true
     → AllByRecursion RowIsShort (all_replaced w r rows)
@@ -79,18 +73,9 @@ short_end (Some c ∷ rows) k room gone h =
 
 -- a pass over constraints of these wires, before its first turn and after its last
 module _ (room publics : ℕ) (positive : 0 < publics) (rows : List (Option Constraint)) (within : AreWithin room rows) where
-  start-sound : Sound rows room publics (pass_of rows (replicate room false))
-  start-sound = record {
-    over = (over_start room rows within).0;
-    each = length-replicate room false;
-    private = λ v e. absurd (let both : true ≡ false = sym e ∙ none_gone room v in cc);
-    down = λ z assigns h. h;
-    up = λ z assigns each h. record { y = z; assigns = assigns; each = each; holds = h; agree = λ v e. refl };
-    unique = λ y z ay az hy hz agree v. agree v (none_gone room v);
-  }
-
   run-sound : Sound rows room publics (fold (turn publics) (pass_of rows (replicate room false)) (range_with_len 0 (length rows)))
-  run-sound = turns-sound rows room publics positive (range_with_len 0 (length rows)) (pass_of rows (replicate room false)) start-sound
+  run-sound = turns-sound rows room publics positive (range_with_len 0 (length rows)) (pass_of rows (replicate room false))
+      (start-sound room publics rows (over_start room rows within).0)
 
   run-within : AreWithin room (fold (turn publics) (pass_of rows (replicate room false)) (range_with_len 0 (length rows))).rows
   run-within =
@@ -111,12 +96,7 @@ module _ (wires : ℕ) (flags : List Bool) (gone : List ℕ) (same : (w : ℕ) �
   rows-renumbered (None ∷ rows) h = ap (λ rest. None ∷ rest) (rows-renumbered rows h.1)
   rows-renumbered (Some c ∷ rows) h =
       ap₂ (λ row rest. Some row ∷ rest)
-      (same_parts c (moved-renumbered c.a h.0.0) (moved-renumbered c.b h.0.1) (moved-renumbered c.c h.0.2)) (rows-renumbered rows h.1)
-    where
-      same_parts : (c : Constraint) → moved gone c.a ≡ renumbered (kept wires flags) c.a → moved gone c.b ≡ renumbered (kept wires flags) c.b
-          → moved gone c.c ≡ renumbered (kept wires flags) c.c → moved_in gone c ≡ renumbered_in (kept wires flags) c
-      same_parts c p q r = ap₂ (λ x y. record { a = x; b = y; c = moved gone c.c }) p q
-          ∙ ap (λ x. record { a = renumbered (kept wires flags) c.a; b = renumbered (kept wires flags) c.b; c = x }) r
+      (same_row _ _ _ _ _ _ (moved-renumbered c.a h.0.0) (moved-renumbered c.b h.0.1) (moved-renumbered c.c h.0.2)) (rows-renumbered rows h.1)
 
   -- the rows are of the wires that are kept
   over-moved : (x : Combination) → Over (Stays wires flags) x → Over (λ v. v < length (kept wires flags)) (moved gone x)
@@ -168,21 +148,6 @@ shrink_is counts list last ran =
     (ran ∙ ap (λ n. fold (turn publics) (pass_of (start_rows list) (replicate counts.wires false)) (range_with_len 0 n))
     (length-map list (λ c. Some (normal_constraint c))))
 
--- what is left, from its parts
-left_is : (system : System) (rows : List (Option Constraint)) (labels : List ℕ) →
-    record {
-      system = record {
-        wires = length labels;
-        outputs = system.outputs;
-        inputs = system.inputs;
-        constraints = filter_map (option_map (renumbered_in labels)) rows;
-      };
-      labels = labels;
-      wires = system.wires;
-    } ≡ left_over system rows labels
-unfolding left_over
-left_is system rows labels = refl
-
 -- what is left, by what the calls gave
 module _ (counts : Counts) (rows : List (Option Constraint)) (ready : IsReady counts rows)
     (publics : ℕ) (private : publics ≡ 1 + counts.outputs + counts.inputs) (left : List (Option Constraint)) (flags : List Bool)
@@ -225,24 +190,15 @@ module _ (counts : Counts) (rows : List (Option Constraint)) (ready : IsReady co
           wires = counts.wires;
         }
         ≡ shrink (counted_system counts list)
+    unfolding left_over
     system_is list start =
-        ap₂ (λ xs rest. record {
-          system = record {
-            wires = length xs;
-            outputs = counts.outputs;
-            inputs = counts.inputs;
-            constraints = filter_map (λ (row : Option Constraint). row) rest;
-          };
+        ap₂ (λ xs cs. record {
+          system = record { wires = length xs; outputs = counts.outputs; inputs = counts.inputs; constraints = cs };
           labels = xs;
           wires = counts.wires;
         })
-        (sym labels_are) (lowered_on ∙ rows-renumbered counts.wires flags gone same left sound.over)
-        ∙ ap (λ cs. record {
-          system = record { wires = length (kept counts.wires flags); outputs = counts.outputs; inputs = counts.inputs; constraints = cs };
-          labels = kept counts.wires flags;
-          wires = counts.wires;
-        })
-        (left_rows (renumbered_in (kept counts.wires flags)) left)
-        ∙ left_is (counted_system counts list) left (kept counts.wires flags)
+        (sym labels_are)
+        (ap (filter_map (λ (row : Option Constraint). row)) (lowered_on ∙ rows-renumbered counts.wires flags gone same left sound.over)
+        ∙ left_rows (renumbered_in (kept counts.wires flags)) left)
         ∙ shrink_is counts list (pass_of left flags)
         (ran ∙ ap₂ (λ n rs. fold (turn n) (pass_of rs (replicate counts.wires false)) (range_with_len 0 (length rs))) private start)

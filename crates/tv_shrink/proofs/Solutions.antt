@@ -15,6 +15,7 @@ use Rattle.tv_core.specs.declared.field.TheConstants.{P}
 use Rattle.tv_shrink.specs.Laws.{AreOver, IsWhole, KeepsSolutions, SolutionsAreOne, KeepsPublics}
 use Rattle.tv_core.specs.Normal.{normal_constraint}
 use Rattle.tv_shrink.specs.Pass.{begun, passed}
+use Rattle.tv_shrink.specs.Tidy.{pass_of}
 use Rattle.tv_shrink.specs.Shrunk.{kept, place, renumbered, renumbered_in, left_over, shrink, at_wires}
 use Rattle.tv_core.proofs.NormalLaws.{Over, Over-normal, Over-weaker, value-normal}
 use Rattle.tv_shrink.proofs.PassLaws.{RowsOver, RowsHold, Stays, Agree, Extended, Sound, same_holds, turns-sound}
@@ -53,17 +54,22 @@ start_over wires (c ∷ list) h =
     (Over-weaker (λ v. v < wires) (Stays wires (replicate wires false)) x (λ v l. (l, none_gone wires v)) (over-from_All wires x k)) in
     ((each c.a h.0.a, each c.b h.0.b, each c.c h.0.c), start_over wires list h.1)
 
+pub start-sound : (wires publics : ℕ) (rows : List (Option Constraint)) → RowsOver (Stays wires (replicate wires false)) rows
+    → Sound rows wires publics (pass_of rows (replicate wires false))
+start-sound wires publics rows over = record {
+  over = over;
+  each = length-replicate wires false;
+  private = λ v e. absurd (let both : true ≡ false = sym e ∙ none_gone wires v in cc);
+  down = λ z assigns h. h;
+  up = λ z assigns each h. record { y = z; assigns = assigns; each = each; holds = h; agree = λ v e. refl };
+  unique = λ y z ay az hy hz agree v. agree v (none_gone wires v);
+}
+
 module _ (system : System) (whole : IsWhole system) where
   begun-sound : Sound (begun system).rows system.wires (1 + system.outputs + system.inputs) (begun system)
   unfolding begun
-  begun-sound = record {
-    over = start_over system.wires system.constraints (recursion_from_All (AreOver system.wires) system.constraints whole.within);
-    each = length-replicate system.wires false;
-    private = λ v e. absurd (let both : true ≡ false = sym e ∙ none_gone system.wires v in cc);
-    down = λ z assigns h. h;
-    up = λ z assigns each h. record { y = z; assigns = assigns; each = each; holds = h; agree = λ v e. refl };
-    unique = λ y z ay az hy hz agree v. agree v (none_gone system.wires v);
-  }
+  begun-sound = start-sound system.wires (1 + system.outputs + system.inputs) (map (λ c. Some (normal_constraint c)) system.constraints)
+      (start_over system.wires system.constraints (recursion_from_All (AreOver system.wires) system.constraints whole.within))
 
   passed-sound : Sound (begun system).rows system.wires (1 + system.outputs + system.inputs) (passed system)
   unfolding passed

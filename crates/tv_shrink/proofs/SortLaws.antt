@@ -8,6 +8,7 @@ use Rattle.tv_core.proofs.CombinationLaws.{value-below, value-cons}
 use Rattle.tv_core.specs.Constraints.{Combination, value}
 use Rattle.tv_core.specs.declared.field.TheConstants.{P}
 use Rattle.tv_core.specs.Normal.{normal, with_term}
+use Rattle.tv_r1cs_read.specs.Rows.{combination_of}
 use Rattle.tv_shrink.proofs.Merges.{with_term-front}
 use Rattle.tv_core.proofs.NormalLaws.{Over, normal_from, regrouped, residue_first}
 use Rattle.std.proofs.lemmas.List.{get_or_default}
@@ -55,6 +56,16 @@ module _ (sum : ℕ) (t : ℕ × ℕ) (rest : Combination) where
       normal-step ((sum, t.1) ∷ t ∷ rest) rest ((sum + t.0) % P) t.1 (normal_from (t.1 + 1) rest behind) value-summed
       ∙ sym (with_term-front ((sum + t.0) % P) t.1 (normal rest))
       ∙ ap₂ (λ k x. with_term k t.1 [] ++ x) (let small : (sum + t.0) % P % P ≡ (sum + t.0) % P = omega arith in small) (sym (no_sum rest))
+
+-- one term
+pub normal_single : (terms : List (ℕ × ℕ)) (d e : ℕ × ℕ) → length terms ≡ 1
+    → with_term (get_or terms 0 e).1 (get_or terms 0 d).0 [] ≡ normal (combination_of terms)
+unfolding normal
+normal_single [] d e one = absurd (omega arith)
+normal_single (t ∷ []) d e one =
+    let same : 0 + t.1 ≡ t.1 = omega arith in
+    sym (sym (no_sum ((t.1, t.0) ∷ [])) ∙ sum_done 0 (t.1, t.0) [] tt ∙ with_term-front (0 + t.1) t.0 [] ∙ ap (λ k. with_term k t.0 []) same)
+normal_single (t ∷ u ∷ terms) d e one = absurd (omega arith)
 
 over_after : (least j : ℕ) (xs : Combination) → ((k : ℕ) (d : ℕ × ℕ) → j ≤ k → k < length xs → least ≤ (get_or xs k d).1) → Over (λ v. least ≤ v) (drop j xs)
 over_after least zero [] h = tt

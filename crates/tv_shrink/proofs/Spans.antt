@@ -4,11 +4,11 @@ use Rattle.std.proofs.Common.{length, get_or, take, drop}
 use Rattle.std.specs.Option.{option_map}
 use Rattle.std.specs.Prelude.{slice_range}
 use Rattle.tv_r1cs_write.specs.Bytes.{others}
-use Rattle.std.proofs.Math.Seq.{drop-append_seam, take-add, take-append_seam}
-use Rattle.std.proofs.lemmas.List.{append_assoc, drop-append-le, drop-drop, get_or-map, length-append, length-drop, length-map, length-take}
-use Rattle.std.proofs.lemmas.List.{map-append, take-append-le}
+use Rattle.std.proofs.Math.Seq.{drop-append_seam, take-append_seam}
+use Rattle.std.proofs.lemmas.List.{append_assoc, drop-append-le, drop-map, get_or-map, length-append, length-drop, length-map, length-take}
+use Rattle.std.proofs.lemmas.List.{take-append-le, take-map}
 use Rattle.tv_core.specs.Constraints.{Combination, Constraint}
-use Rattle.tv_shrink.specs.Renumbering.{moved, moved_in}
+use Rattle.tv_shrink.specs.Renumbering.{moved, moved_rows}
 use Rattle.tv_shrink.specs.Spans.{end_of, row_at, row_terms, span_of, AreInside}
 use Rattle.tv_shrink.specs.declared.arena.Span.{Span}
 
@@ -30,13 +30,18 @@ same_row a b c d e f p q r =
     let made : Combination → Combination → Combination → Constraint = λ x y z. record { a = x; b = y; c = z } in
     ap₂ (λ x y. made x y c) p q ∙ ap (made d e) r
 
+-- a constraint that lies alike in two lists
+pub row_by : (xs ys : Combination) (span : Span)
+    → ((i j : ℕ) → span.start ≤ i → i ≤ j → j ≤ end_of span → slice_range xs i j ≡ slice_range ys i j) → row_at xs span ≡ row_at ys span
+row_by xs ys span same =
+    same_row _ _ _ _ _ _
+    (same span.start (span.start + span.a) (omega arith) (omega arith) (omega arith))
+    (same (span.start + span.a) (span.start + span.a + span.b) (omega arith) (omega arith) (omega arith))
+    (same (span.start + span.a + span.b) (end_of span) (omega arith) (omega arith) (omega arith))
+
 -- a constraint's terms with more after them
 pub row_kept : (xs more : Combination) (span : Span) → end_of span ≤ length xs → row_at (xs ++ more) span ≡ row_at xs span
-row_kept xs more span inside =
-    same_row _ _ _ _ _ _
-    (part_kept xs more span.start (span.start + span.a) (omega arith) (omega arith))
-    (part_kept xs more (span.start + span.a) (span.start + span.a + span.b) (omega arith) (omega arith))
-    (part_kept xs more (span.start + span.a + span.b) (span.start + span.a + span.b + span.c) (omega arith) (omega arith))
+row_kept xs more span inside = row_by (xs ++ more) xs span (λ i j low le high. part_kept xs more i j le (omega arith))
 
 -- a constraint whose terms are appended
 pub row_appended : (xs : Combination) (row : Constraint) → row_at (xs ++ row_terms row) (span_of (length xs) row) ≡ row
@@ -76,27 +81,23 @@ row_found f spans rows i span is h at =
     let wide : i < length spans = omega (arith, length-map spans (option_map f), ap length is) in
     (wide, ap (λ xs. get_or xs i None) (sym is) ∙ get_or-map (option_map f) spans i span None wide ∙ ap (option_map f) (sym at))
 
--- a part in two
-part_split : (xs : Combination) (i j k : ℕ) → i ≤ j → j ≤ k → slice_range xs i k ≡ slice_range xs i j ++ slice_range xs j k
-part_split xs i j k below behind =
-    let whole : k - i ≡ (j - i) + (k - j) = omega arith in
-    let at : i + (j - i) ≡ j = omega arith in
-    ap (λ n. take n (drop i xs)) whole
-    ∙ take-add (j - i) (k - j) (drop i xs)
-    ∙ ap (λ ys. take (j - i) (drop i xs) ++ take (k - j) ys) (drop-drop (j - i) i xs ∙ ap (λ n. drop n xs) at)
-
--- the terms of a constraint, one combination after another
-pub terms_there : (xs : Combination) (span : Span) → slice_range xs span.start (end_of span) ≡ row_terms (row_at xs span)
-terms_there xs span =
-    part_split xs span.start (span.start + span.a) (end_of span) (omega arith) (omega arith)
-    ∙ ap (λ ys. slice_range xs span.start (span.start + span.a) ++ ys)
-    (part_split xs (span.start + span.a) (span.start + span.a + span.b) (end_of span) (omega arith) (omega arith))
-
--- the terms of a constraint whose wires are numbered anew
-pub terms_moved : (gone : List ℕ) (row : Constraint) → moved gone (row_terms row) ≡ row_terms (moved_in gone row)
-terms_moved gone row =
+-- constraints whose wires are numbered anew
+part_moved : (gone : List ℕ) (xs : Combination) (i j : ℕ) → slice_range (moved gone xs) i j ≡ moved gone (slice_range xs i j)
+part_moved gone xs i j =
     let f : ℕ × ℕ → ℕ × ℕ = λ t. (t.0, length (others t.1 gone)) in
-    map-append f row.a (row.b ++ row.c) ∙ ap (λ ys. map f row.a ++ ys) (map-append f row.b row.c)
+    ap (take (j - i)) (drop-map f i xs) ∙ take-map f (j - i) (drop i xs)
+
+pub rows_moved : (gone : List ℕ) (xs : Combination) (spans : List (Option Span))
+    → map (option_map (row_at (moved gone xs))) spans ≡ moved_rows gone (map (option_map (row_at xs)) spans)
+rows_moved gone xs [] = refl
+rows_moved gone xs (None ∷ spans) = ap (λ rows. None ∷ rows) (rows_moved gone xs spans)
+rows_moved gone xs (Some span ∷ spans) =
+    ap₂ (λ row rows. Some row ∷ rows)
+    (same_row _ _ _ _ _ _
+    (part_moved gone xs span.start (span.start + span.a))
+    (part_moved gone xs (span.start + span.a) (span.start + span.a + span.b))
+    (part_moved gone xs (span.start + span.a + span.b) (span.start + span.a + span.b + span.c)))
+    (rows_moved gone xs spans)
 
 -- where a constraint was appended, from what the calls gave
 pub span_is : (xs : Combination) (row : Constraint) (start a b c : ℕ) → start ≡ length xs → a ≡ length row.a → b ≡ length row.b → c ≡ length row.c
@@ -119,13 +120,3 @@ span_copied xs terms span start at inside =
     span_is xs (row_at terms span) start span.a span.b span.c at (part_size terms span.start span.a (omega arith))
     (part_size terms (span.start + span.a) span.b (omega arith))
     (part_size terms (span.start + span.a + span.b) span.c (omega arith))
-
--- where a constraint lies whose wires are numbered anew
-pub span_moved : (gone : List ℕ) (xs : Combination) (span : Span) → end_of span ≤ length xs → span ≡ span_of span.start (moved_in gone (row_at xs span))
-span_moved gone xs span inside =
-    let made : ℕ → ℕ → ℕ → Span = λ x y z. record { start = span.start; a = x; b = y; c = z } in
-    let size : (i n : ℕ) → i + n ≤ length xs → n ≡ length (moved gone (slice_range xs i (i + n))) =
-    λ i n h. part_size xs i n h ∙ sym (length-map {B = ℕ × ℕ} (slice_range xs i (i + n)) (λ (t : ℕ × ℕ). (t.0, length (others t.1 gone)))) in
-    ap₂ (λ x y. made x y span.c) (size span.start span.a (omega arith)) (size (span.start + span.a) span.b (omega arith))
-    ∙ ap (made (length (moved gone (slice_range xs span.start (span.start + span.a))))
-    (length (moved gone (slice_range xs (span.start + span.a) (span.start + span.a + span.b))))) (size (span.start + span.a + span.b) span.c (omega arith))

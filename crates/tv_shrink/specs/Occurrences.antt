@@ -3,11 +3,6 @@ use Rattle.std.specs.Prelude.{ℕ, suc, ◌≤◌, ◌<◌, ◌==◌, ◌%◌, L
 use Rattle.std.specs.List.{AllByRecursion}
 use Rattle.tv_shrink.specs.declared.occurrences.Entry.{Entry}
 
--- a row put before rows, unless it is the first of them
-abbrev pub with_row : ℕ → List ℕ → List ℕ
-with_row row [] = row ∷ []
-with_row row (first ∷ rows) = if first == row then first ∷ rows else row ∷ first ∷ rows
-
 -- the rows of the entry of this number, counted from 1, and of those that it leads to; the entries stand last first
 abbrev pub rows_from : List Entry → ℕ → List ℕ
 rows_from [] number = []

@@ -4,7 +4,7 @@ ghost use Rattle.std.specs.Prelude.{◌≡◌, ◌+◌, ◌≤◌, ◌<◌, ◌+
 ghost use Rattle.std.specs.Prelude.{OnOk, OnErr, IfOk, IfErr};
 ghost use Rattle.tv_r1cs_read.specs.Rows.{combination_of};
 ghost use Rattle.tv_shrink.specs.Answers.{wide, IsTooWide};
-ghost use Rattle.tv_shrink.specs.Renumbering.{moved, moved_in};
+ghost use Rattle.tv_shrink.specs.Renumbering.{moved};
 ghost use Rattle.tv_core.specs.Normal.{normal, IsNormalFrom, IsNormalConstraint};
 ghost use Rattle.tv_shrink.specs.Substitution.{fits, fits_in, replaced, replaced_in};
 ghost use Rattle.tv_shrink.specs.Spans.{end_of, laid, row_at, row_terms, span_of, IsFree};
@@ -43,13 +43,6 @@ impl Span {
             b: &terms[b..c],
             c: &terms[c..end],
         }
-    }
-
-    // How many terms lie there.
-    fn size(&self) -> usize
-        ensures { result ≡ self.now.a + self.now.b + self.now.c }
-    {
-        usize::from(self.a) + usize::from(self.b) + usize::from(self.c)
     }
 }
 
@@ -139,7 +132,8 @@ pub(crate) fn lay(
         (length new.now)) }
     ensures err { OnErr result (terms.new.items ≡ terms.old.items) }
 {
-    if new.len() <= span.size() {
+    let size = usize::from(span.a) + usize::from(span.b) + usize::from(span.c);
+    if new.len() <= size {
         let start = span.start as usize;
         terms[start..start + new.len()].copy_from_slice(new);
         return Ok(span.start);
@@ -160,21 +154,11 @@ pub(crate) fn append_terms(out: &mut Vec<(F, Wire)>, row: &Row<'_>) -> Result<()
     Ok(())
 }
 
-// Gives each wire its new number.
-fn renumber_terms(terms: &mut [(F, Wire)], numbers: &Numbers)
+/// Gives each wire its new number.
+pub(crate) fn renumber_terms(terms: &mut [(F, Wire)], numbers: &Numbers)
     ensures { terms.new ≡ moved numbers.now terms.old }
 {
     for term in terms.iter_mut() {
         term.1 = Wire(numbers.get(term.1));
     }
-}
-
-/// Gives each wire of the terms of a constraint its new number.
-pub(crate) fn renumber_span(terms: &mut Vec<(F, Wire)>, span: &Span, numbers: &Numbers)
-    requires { end_of span.now ≤ length terms.old.items }
-    ensures { terms.new.items ≡ laid span.now.start
-        (row_terms (moved_in numbers.now (row_at terms.old.items span.now))) terms.old.items }
-{
-    let start = span.start as usize;
-    renumber_terms(&mut terms[start..start + span.size()], numbers);
 }

@@ -1,7 +1,6 @@
 //! Adding multiples of normal combinations.
 
-ghost use Rattle.std.specs.Prelude.{◌≡◌, ◌≤◌, ◌<◌, ◌+◌, ◌*◌, ◌%◌, [], ◌++◌, length, OnOk, None};
-ghost use Rattle.std.specs.Prelude.{min};
+ghost use Rattle.std.specs.Prelude.{◌≡◌, ◌≤◌, ◌<◌, ◌*◌, ◌%◌, [], ◌++◌, length, OnOk, None};
 ghost use Rattle.tv_core.specs.Combinations.{scaled};
 ghost use Rattle.tv_core.specs.declared.field.TheConstants.{P};
 ghost use Rattle.tv_shrink.specs.Merge.{first_wire, head_at, leaving_out, unless_left, GoesPast};
@@ -34,18 +33,18 @@ impl<'a> Side<'a> {
 
     // The first wire that is ahead.
     #[inline(always)]
-    fn first(&self) -> Wire
+    fn first(&self) -> u32
         requires { 0 < length self.now.terms.now }
         ensures { result ≡ first_wire self.now.terms.now }
     {
         let (_, wire) = self.terms[0];
-        wire
+        wire.0
     }
 
     // Goes past a wire, if it is the first, and answers its coefficient, which is 0 where it is
     // left out.
     #[inline(always)]
-    fn take(&mut self, wire: Wire) -> F
+    fn take(&mut self, wire: u32) -> F
         ensures coefficient { result ≡ unless_left self.old.leaving wire
             (self.old.factor * head_at wire self.old.terms.now % P) }
         ensures past { GoesPast wire self.old self.new }
@@ -53,12 +52,12 @@ impl<'a> Side<'a> {
         let [(coefficient, first), rest @ ..] = self.terms else {
             return F::ZERO;
         };
-        if first.0 != wire.0 {
+        if first.0 != wire {
             return F::ZERO;
         }
         self.terms = rest;
         match self.leaving {
-            Some(left) if left.0 == wire.0 => F::ZERO,
+            Some(left) if left.0 == wire => F::ZERO,
             _ => self.factor * *coefficient,
         }
     }
@@ -72,7 +71,7 @@ impl<'a> Side<'a> {
     {
         while !self.terms.is_empty() {
             let wire = self.first();
-            push_term(out, self.take(wire), wire)?;
+            push_term(out, self.take(wire), Wire(wire))?;
         }
         Ok(())
     }
@@ -95,31 +94,6 @@ pub(crate) fn push_term(
     Ok(())
 }
 
-// Goes past the least wire that is ahead of both sides, and answers the sum of its coefficients
-// there, and the wire.
-#[inline(always)]
-fn take_least(left: &mut Side<'_>, right: &mut Side<'_>) -> (F, Wire)
-    requires left { 0 < length left.old.terms.now }
-    requires right { 0 < length right.old.terms.now }
-    ensures wire { result.1 ≡ min (first_wire left.old.terms.now)
-        (first_wire right.old.terms.now) }
-    ensures coefficient { result.0 ≡ (unless_left left.old.leaving result.1
-        (left.old.factor * head_at result.1 left.old.terms.now % P)
-        + unless_left right.old.leaving result.1
-        (right.old.factor * head_at result.1 right.old.terms.now % P)) % P }
-    ensures left { GoesPast result.1 left.old left.new }
-    ensures right { GoesPast result.1 right.old right.new }
-{
-    let (wire, other) = (left.first(), right.first());
-    if wire.0 < other.0 {
-        return (left.take(wire), wire);
-    }
-    if other.0 < wire.0 {
-        return (right.take(other), other);
-    }
-    (left.take(wire) + right.take(wire), wire)
-}
-
 /// Appends the sum of two sides, made normal, and uses them up. Inlined, it keeps them in
 /// registers.
 #[inline(always)]
@@ -136,8 +110,8 @@ pub(crate) fn merge(
         ++ scaled right.old.factor right.old.terms.now)) }
 {
     while !left.terms.is_empty() && !right.terms.is_empty() {
-        let (coefficient, wire) = take_least(left, right);
-        push_term(out, coefficient, wire)?;
+        let wire = left.first().min(right.first());
+        push_term(out, left.take(wire) + right.take(wire), Wire(wire))?;
     }
     left.append(out)?;
     right.append(out)

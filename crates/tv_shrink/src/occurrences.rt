@@ -1,13 +1,12 @@
 //! In which rows each wire may stand.
 
-ghost use Rattle.std.specs.Prelude.{◌≡◌, ◌==◌, ◌≤◌, ◌<◌, ◌∷◌, ℕ, true, length};
+ghost use Rattle.std.specs.Prelude.{◌≡◌, ◌==◌, ◌≤◌, ◌<◌, ℕ, true, length};
 ghost use Rattle.std.specs.Prelude.{reverse, slice_index_or, slice_set, OnOk};
 ghost use Rattle.std.specs.Prelude.{IfOk};
 ghost use Rattle.std.specs.Prelude.{◌^◌, false, None, Ok, IfSome};
-ghost use Rattle.std.specs.Prelude.{if◌then◌else◌};
 ghost use Rattle.std.specs.List.{list_any};
 ghost use Rattle.tv_shrink.specs.Pass.{row_fits};
-ghost use Rattle.tv_shrink.specs.Occurrences.{rows_from, rows_of, with_row, LeadBack};
+ghost use Rattle.tv_shrink.specs.Occurrences.{rows_from, rows_of, LeadBack};
 ghost use Rattle.tv_shrink.specs.Substitution.{has_wire};
 ghost use Rattle.tv_shrink.specs.Tidy.{row_has, RowsAreNormal, Covers};
 
@@ -29,9 +28,8 @@ struct Entry {
 fn begins_with(entries: &[Entry], number: u32, row: u32) -> bool
     requires inside { number ≤ length entries.now }
     requires back { LeadBack (reverse entries.now) }
-    ensures { with_row row (rows_from (reverse entries.now) number)
-        ≡ (if result then rows_from (reverse entries.now) number
-        else row ∷ rows_from (reverse entries.now) number) }
+    ensures { result ≡ true
+        → list_any (λ p. p == row) (rows_from (reverse entries.now) number) ≡ true }
 {
     if number == 0 {
         return false;
@@ -67,18 +65,6 @@ impl Model for Occurrences {
 }
 
 impl Occurrences {
-    // Lists without rows.
-    fn new(alloc: Global, lists: usize) -> Result<Occurrences, AllocError>
-        requires { 0 < lists }
-    {
-        Ok(Occurrences {
-            alloc,
-            heads: Vec::from_elem(alloc, 0, lists)?,
-            entries: Vec::new(alloc),
-            wanted: 0,
-        })
-    }
-
     /// Lists the rows that each private wire stands in, in this number of lists.
     pub(crate) fn of(
         alloc: Global,
@@ -90,7 +76,12 @@ impl Occurrences {
         requires few { length rows.now < 2 ^ 32 }
         ensures covers { IfOk result (λ lists. Covers publics rows.now lists) }
     {
-        let mut lists = Occurrences::new(alloc, lists)?;
+        let mut lists = Occurrences {
+            alloc,
+            heads: Vec::from_elem(alloc, 0, lists)?,
+            entries: Vec::new(alloc),
+            wanted: 0,
+        };
         for at in 0..rows.len() {
             lists.file_row(at as u32, &rows.get(at), publics)?;
         }
@@ -142,8 +133,7 @@ impl Occurrences {
 
     /// Files that a wire may stand in a row, which comes first in its list.
     pub(crate) fn add(&mut self, wire: u32, row: u32) -> Result<(), AllocError>
-        ensures adds { OnOk result (rows_of self.new wire
-            ≡ with_row row (rows_of self.old wire)) }
+        ensures has { OnOk result (list_any (λ p. p == row) (rows_of self.new wire) ≡ true) }
         ensures more { (w i : ℕ) → list_any (λ p. p == i) (rows_of self.old w) ≡ true
             → list_any (λ p. p == i) (rows_of self.new w) ≡ true }
     {

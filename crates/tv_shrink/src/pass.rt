@@ -1,15 +1,12 @@
 //! One pass over the constraints of a system, in which private wires are replaced.
 
-ghost use Rattle.std.specs.Prelude.{◌≡◌, ◌≤◌, ◌<◌, ◌^◌, false, length, replicate};
-ghost use Rattle.std.specs.Prelude.{IfOk, OnOk};
+ghost use Rattle.std.specs.Prelude.{◌≡◌, ◌≤◌, ◌<◌, false, length, OnOk};
 ghost use Rattle.std.specs.List.{fold, range_with_len};
 ghost use Rattle.tv_core.specs.Normal.{IsNormalFrom};
 ghost use Rattle.tv_shrink.specs.Pass.{attempted, dropped, turn};
 ghost use Rattle.tv_shrink.specs.Substitution.{has_wire};
-ghost use Rattle.tv_shrink.specs.Tidy.{RowsAreNormal};
 
 use crate::row::solve;
-use crate::rows::Rows;
 use crate::state::State;
 use crate::substitution::Substitution;
 use std::alloc::{AllocError, Global};
@@ -30,27 +27,17 @@ pub(crate) struct Pass {
 }
 
 impl Pass {
-    /// A pass over these constraints, none of which has had its turn.
-    pub(crate) fn begin(
-        alloc: Global,
-        rows: Rows,
-        publics: u32,
-        wires: u32,
-    ) -> Result<Pass, AllocError>
-        requires normal { RowsAreNormal rows }
-        requires few { length rows < 2 ^ 32 }
-        ensures { IfOk result (λ pass. pass.state ≡ record {
-          publics = publics;
-          pass = record { rows = rows; gone = replicate wires false };
-        }) }
+    /// A pass in this state.
+    pub(crate) fn new(alloc: Global, state: State) -> Pass
+        ensures { result.state ≡ state }
     {
-        Ok(Pass {
-            state: State::begin(alloc, rows, publics, wires)?,
+        Pass {
+            state,
             named: Vec::new(alloc),
             form: Vec::new(alloc),
             solved: Vec::new(alloc),
             scratch: Vec::new(alloc),
-        })
+        }
     }
 
     // Drops the constraint at a place and puts what the wire is in its place, if all others keep to

@@ -46,26 +46,8 @@ fn constant_in(terms: &[(F, Wire)]) -> Option<F>
     None
 }
 
-// The coefficient of a wire that stands in a combination. A wire that was made last is its last
-// term, or above that, and takes no search.
-#[inline(always)]
+// The coefficient of a wire that stands in a combination.
 fn coefficient_of(terms: &[(F, Wire)], wire: Wire) -> Option<F>
-    requires { IsNormalFrom 0 terms.now }
-    ensures { result ≡ (if has_wire wire terms.now then Some (coefficient wire terms.now)
-        else None) }
-{
-    let (coefficient, last) = *terms.last()?;
-    if last.0 < wire.0 {
-        return None;
-    }
-    if last == wire {
-        return Some(coefficient);
-    }
-    searched(terms, wire)
-}
-
-// The coefficient of a wire that stands in a combination, found by a search.
-fn searched(terms: &[(F, Wire)], wire: Wire) -> Option<F>
     requires { IsNormalFrom 0 terms.now }
     ensures { result ≡ (if has_wire wire terms.now then Some (coefficient wire terms.now)
         else None) }

@@ -5,7 +5,7 @@ ghost use Rattle.std.specs.Prelude.{slice_index_or, slice_set, OnOk, OnErr, IfOk
 ghost use Rattle.std.specs.Option.{option_map};
 ghost use Rattle.tv_r1cs_read.specs.Rows.{constraint_of};
 ghost use Rattle.tv_shrink.specs.Answers.{wide_in, IsTooWide};
-ghost use Rattle.tv_shrink.specs.Renumbering.{moved_in, moved_rows};
+ghost use Rattle.tv_shrink.specs.Renumbering.{moved_rows};
 ghost use Rattle.tv_core.specs.Normal.{normal_constraint};
 ghost use Rattle.tv_shrink.specs.Pass.{row_fits};
 ghost use Rattle.tv_shrink.specs.Substitution.{replaced_in};
@@ -13,7 +13,7 @@ ghost use Rattle.tv_shrink.specs.Spans.{row_at, IsInside};
 ghost use Rattle.tv_shrink.specs.Tidy.{RowsAreNormal, RowIsNormal};
 
 use crate::arena::{
-    Span, append_narrow, append_terms, lay, place_behind, put_replaced, renumber_span,
+    Span, append_narrow, append_terms, lay, place_behind, put_replaced, renumber_terms,
 };
 use crate::fault::ShrinkFault;
 use crate::numbers::Numbers;
@@ -209,24 +209,10 @@ impl Rows {
         Ok(())
     }
 
-    // Gives each wire of the constraint at a place, unless it was dropped, its new number.
-    fn renumber_row(&mut self, at: usize, numbers: &Numbers)
-        requires { at < length self.old }
-        ensures { self.new ≡ slice_set self.old at
-            (option_map (moved_in numbers.now) (slice_index_or self.old at None)) }
-    {
-        if let Some(span) = self.spans[at] {
-            renumber_span(&mut self.terms, &span, numbers);
-        }
-    }
-
-    /// Gives each wire of the constraints its new number. Costs no look at terms that no constraint
-    /// has any more.
+    /// Gives each wire of the constraints its new number.
     pub(crate) fn renumber(&mut self, numbers: &Numbers)
         ensures { self.new ≡ moved_rows numbers.now self.old }
     {
-        for at in 0..self.len() {
-            self.renumber_row(at, numbers);
-        }
+        renumber_terms(&mut self.terms, numbers);
     }
 }

@@ -8,6 +8,7 @@ use crate::normal_system::NormalSystem;
 use crate::numbers::Numbers;
 use crate::pass::Pass;
 use crate::rows::Rows;
+use crate::state::State;
 use std::alloc::{AllocError, Global};
 use std::marker::Model;
 use tv_core::Wire;
@@ -61,7 +62,8 @@ pub(crate) fn settle(alloc: Global, system: NormalSystem) -> Result<Shrunk, Allo
 {
     let NormalSystem { rows, counts } = system;
     let publics = 1 + counts.outputs + counts.inputs;
-    let mut pass = Pass::begin(alloc, rows, publics, counts.wires)?;
+    let state = State::begin(alloc, rows, publics, counts.wires)?;
+    let mut pass = Pass::new(alloc, state);
     pass.run()?;
     let (mut rows, gone) = pass.state.into_parts();
     let table = rows.terms().min(counts.wires as usize) as u32;

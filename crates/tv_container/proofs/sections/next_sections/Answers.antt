@@ -29,11 +29,7 @@ loop-preserved g c = record {
       (c.loop.invariant.piece file known piece) so_far.1.0 so_far.1.1 in
       let left : c.args.count - c.loop.counter ≡ c.args.count - (c.loop.counter + 1) + 1 = omega (arith, c.loop-test.true) in (
         section_at-fits _ _ _ _ _ read,
-        (
-          so_far.1.0 ++ c.in_ok-section.section ∷ [],
-          c.and-found.ensures.found so_far.1.0 so_far.1.1,
-          so_far.1.2 ∙ sections_from-next _ _ _ _ _ _ _ left read,
-        ),
+        (so_far.1.0 ++ c.in_ok-section.section ∷ [], c.and-found.ensures.found so_far.1.0 so_far.1.1, so_far.1.2 ∙ sections_from-next _ _ _ _ _ _ _ left read),
       );
 }
 

@@ -1,4 +1,4 @@
-use Rattle.std.proofs.Common.{◌≡◌, ◌⊎◌, ◌+◌, ◌*◌, ◌%◌, ◌≤◌, ◌++◌, None, [], arith, inl, inr, sym, ◌∙◌, ap, subst}
+use Rattle.std.proofs.Common.{◌≡◌, ◌⊎◌, ◌+◌, ◌*◌, ◌%◌, ◌≤◌, ◌++◌, None, [], arith, inl, inr, sym, ◌∙◌, ap, ap₂, subst}
 use Rattle.std.proofs.lemmas.Result.{on_ok_weaker}
 use Rattle.tv_core.specs.Combinations.{scaled}
 use Rattle.tv_core.specs.declared.field.TheConstants.{P}
@@ -11,31 +11,29 @@ use Rattle.tv_shrink.proofs.merge.merge.Goals.{then-loop-left-test+else-not-is_e
 -- the least wire of both sides is taken
 pub loop-left-preserved : goal.loop-left-preserved
 loop-left-preserved c =
-    let wire = c.take_least-coefficient.result.1 in
-    let h : c.take_least-coefficient.result.1 ≤ first_wire c.loop-left.left.terms.now = omega (arith, c.take_least-coefficient.ensures.wire) in
-    let g : c.take_least-coefficient.result.1 ≤ first_wire c.loop-left.right.terms.now = omega (arith, c.take_least-coefficient.ensures.wire) in
-    let is : c.take_least-coefficient.result.0
+    let wire = c.min-wire.result in
+    let h : wire ≤ first_wire c.loop-left.left.terms.now = omega (arith, c.first.ensures, c.min-wire.ensures) in
+    let g : wire ≤ first_wire c.loop-left.right.terms.now = omega (arith, c.first-in-loop-left.ensures, c.min-wire.ensures) in
+    let is : c.add.result
     ≡ (given c.loop-left.left.factor c.loop-left.left.leaving wire c.loop-left.left.terms.now + given c.loop-left.right.factor None wire
     c.loop-left.right.terms.now) % P =
-    c.take_least-coefficient.ensures.coefficient
-    ∙ ap (λ l. (given c.loop-left.left.factor c.loop-left.left.leaving wire c.loop-left.left.terms.now + unless_left l wire
-    (c.loop-left.right.factor * head_at wire c.loop-left.right.terms.now % P)) % P) c.loop-left.invariant.all in
+    c.add.ensures
+    ∙ ap₂ (λ m n. (m + n) % P) c.take.ensures.coefficient (c.take-in-loop-left.ensures.coefficient
+    ∙ ap (λ l. unless_left l wire (c.loop-left.right.factor * head_at wire c.loop-left.right.terms.now % P)) c.loop-left.invariant.all) in
     record {
-      left = subst (IsNormalFrom 0) (sym c.take_least-coefficient.ensures.left.terms)
-          (normal-rest wire c.loop-left.left.terms.now c.loop-left.invariant.left h);
-      right = subst (IsNormalFrom 0) (sym c.take_least-coefficient.ensures.right.terms)
-          (normal-rest wire c.loop-left.right.terms.now c.loop-left.invariant.right g);
-      all = c.take_least-coefficient.ensures.right.leaving ∙ c.loop-left.invariant.all;
+      left = subst (IsNormalFrom 0) (sym c.take.ensures.past.terms) (normal-rest wire c.loop-left.left.terms.now c.loop-left.invariant.left h);
+      right = subst (IsNormalFrom 0) (sym c.take-in-loop-left.ensures.past.terms) (normal-rest wire c.loop-left.right.terms.now c.loop-left.invariant.right g);
+      all = c.take-in-loop-left.ensures.past.leaving ∙ c.loop-left.invariant.all;
       whole =
           simp (
             c.in_ok-push_term.ensures.term,
-            c.take_least-coefficient.ensures.left.factor,
-            c.take_least-coefficient.ensures.left.leaving,
-            c.take_least-coefficient.ensures.left.terms,
-            c.take_least-coefficient.ensures.right.factor,
-            c.take_least-coefficient.ensures.right.terms,
+            c.take.ensures.past.factor,
+            c.take.ensures.past.leaving,
+            c.take.ensures.past.terms,
+            c.take-in-loop-left.ensures.past.factor,
+            c.take-in-loop-left.ensures.past.terms,
           )
-          (merge-turn c.loop-left.out.items _ c.loop-left.left.factor c.loop-left.right.factor wire c.take_least-coefficient.result.0 c.loop-left.left.leaving
+          (merge-turn c.loop-left.out.items _ c.loop-left.left.factor c.loop-left.right.factor wire c.add.result c.loop-left.left.leaving
           c.loop-left.left.terms.now c.loop-left.right.terms.now
           c.loop-left.invariant.left c.loop-left.invariant.right h g is c.loop-left.invariant.whole);
     }

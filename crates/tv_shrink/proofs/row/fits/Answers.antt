@@ -1,4 +1,4 @@
-use Rattle.std.proofs.Common.{◌≡◌, ◌++◌, arith, ap, not, sym, ◌∙◌, leb, length}
+use Rattle.std.proofs.Common.{◌≡◌, ◌++◌, arith, ap, sym, ◌∙◌, leb, length}
 use Rattle.tv_shrink.specs.Substitution.{replaced}
 use Rattle.tv_shrink.proofs.Linear.{fits-few, fits-lacking, fits-having}
 use Rattle.tv_shrink.proofs.row.fits.Goals as goal
@@ -13,8 +13,7 @@ returns-then-terms-by-le-TERMS c =
           (sym (fits-few c.by.inside.wire c.by.inside.replacement.now c.args.terms.now (omega (arith, w.if-terms-by-le-TERMS.true))))
       | then-terms-by-le-TERMS-via-else-terms-by-le-TERMS+then-not-has_wire w ↦
           rw (← c.by.view_is)
-          (sym (ap not w.if-not-has_wire.true)
-          ∙ fits-lacking c.by.inside.wire c.by.inside.replacement.now c.args.terms.now w.has_wire.result w.has_wire.ensures w.if-not-has_wire.true)
+          (sym (fits-lacking c.by.inside.wire c.by.inside.replacement.now c.args.terms.now (sym w.has_wire.ensures ∙ w.if-not-has_wire.true)))
     ]
 
 pub returns : goal.returns

@@ -18,8 +18,8 @@ publics_of c = 1 + c.args.system.counts.outputs + c.args.system.counts.inputs
 -- what the pass left
 runs : (c : After-into_gone) → pass_of c.into_parts-rows.result.0 c.run.new.self.state.pass.gone
     ≡ fold (turn (publics_of c)) (pass_of c.args.system.rows (replicate c.args.system.counts.wires false)) (range_with_len 0 (length c.args.system.rows))
-runs c = ran c.in_ok-pass.pass.state c.run.new.self.state c.into_parts-rows.result.0 c.run.new.self.state.pass.gone (publics_of c)
-    c.args.system.counts.wires c.args.system.rows c.in_ok-pass.ensures c.in_ok-run.ensures c.into_parts-rows.ensures.rows refl
+runs c = ran c.new-pass.result.state c.run.new.self.state c.into_parts-rows.result.0 c.run.new.self.state.pass.gone (publics_of c)
+    c.args.system.counts.wires c.args.system.rows (c.new-pass.ensures ∙ c.in_ok-state.ensures) c.in_ok-run.ensures c.into_parts-rows.ensures.rows refl
 
 -- the wires of the list are those that are gone
 listed : (c : After-into_gone) (w : ℕ) → w < c.args.system.counts.wires
@@ -48,8 +48,8 @@ invariant_of-result c = (
     arith,
     ap length c.renumber.ensures,
     length-map c.into_parts-rows.result.0 (option_map (moved_in c.in_ok-numbers.numbers)),
-    ran_length c.in_ok-pass.pass.state c.run.new.self.state c.into_parts-rows.result.0 c.run.new.self.state.pass.gone (publics_of c)
-        c.args.system.counts.wires c.args.system.rows c.in_ok-pass.ensures c.in_ok-run.ensures c.into_parts-rows.ensures.rows refl,
+    ran_length c.new-pass.result.state c.run.new.self.state c.into_parts-rows.result.0 c.run.new.self.state.pass.gone (publics_of c)
+        c.args.system.counts.wires c.args.system.rows (c.new-pass.ensures ∙ c.in_ok-state.ensures) c.in_ok-run.ensures c.into_parts-rows.ensures.rows refl,
     c.requires.few,
   ),
 )

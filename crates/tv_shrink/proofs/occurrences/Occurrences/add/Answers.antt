@@ -1,9 +1,10 @@
-use Rattle.std.proofs.Common.{◌≡◌, ◌≤◌, ◌<◌, ◌+◌, ◌%◌, ◌∷◌, ◌∙◌, refl, sym, ap, arith, cond, eqb, get_or, length, length-set, map, reverse, set, subst}
+use Rattle.std.proofs.Common.{◌≡◌, ◌≤◌, ◌<◌, ◌+◌, ◌%◌, ◌∙◌, refl, sym, ap, arith, eqb, eq-eqb, get_or, length, length-set, map, reverse, set, subst}
 use Rattle.std.specs.List.{list_any}
 use Rattle.std.specs.Prelude.{slice_index}
+use Rattle.std.proofs.lemmas.Bool.{or_left}
 use Rattle.std.proofs.lemmas.List.{length_push}
 use Rattle.std.proofs.lemmas.Nat.{mod_below}
-use Rattle.tv_shrink.specs.Occurrences.{rows_from, rows_of, with_row}
+use Rattle.tv_shrink.specs.Occurrences.{rows_from}
 use Rattle.tv_shrink.proofs.OccurrenceLaws.{head_inside, linked_push, linked_set, rows_of-more, rows_of-same, rows_of-there, rows_seen}
 use Rattle.tv_shrink.proofs.occurrences.Occurrences.add.Goals as goal
 use Rattle.tv_shrink.proofs.occurrences.Occurrences.add.Goals.{After-index-next, After-self-1}
@@ -16,6 +17,16 @@ head c =
     c.self.invariant (mod_below c.args.wire (length c.self.inside.heads.items) c.self.invariant.some)
     (subst (λ n. c.index-next.result.now ≡ get_or c.self.inside.heads.items (c.args.wire % n) c.index-next.result.now)
     (omega (arith, c.len.ensures)) c.index-next.ensures)
+
+pub returns-then-begins_with-clause-has : goal.returns-then-begins_with-clause-has
+returns-then-begins_with-clause-has c =
+    let entries = c.self.inside.entries.items in
+    let next = c.index-next.result.now in
+    ap (list_any (λ p. eqb p c.args.row))
+    (rows_seen entries c.self.inside.heads.items c.args.self.now c.args.wire c.self.view_is c.self.invariant.some
+    ∙ ap (rows_from (reverse entries)) (sym (head (goal.at.returns-then-begins_with-clause-has c).After-index-next).1)
+    ∙ ap (λ es. rows_from (reverse es) next) (sym c.deref.ensures.value))
+    ∙ c.begins_with.ensures c.if-begins_with.true
 
 pub invariant_of-self-in_default : goal.invariant_of-self-in_default
 invariant_of-self-in_default c =
@@ -57,24 +68,18 @@ last c =
 some : (c : After-self-1) → 0 < length (set c.self.inside.heads.items (c.args.wire % c.len.result) c.in-Ok.number)
 some c = omega (arith, c.self.invariant.some, length-set c.self.inside.heads.items (c.args.wire % c.len.result) c.in-Ok.number)
 
-pub returns-clause-adds : goal.returns-clause-adds
-returns-clause-adds c =
+pub returns-clause-has : goal.returns-clause-has
+returns-clause-has c =
     let entries = c.self.inside.entries.items in
     let more = c.push.new.self.items in
     let heads = c.self.inside.heads.items in
     let next = c.index-next.result.now in
     let place = c.args.wire % c.len.result in
-    let first = (head (goal.at.returns-clause-adds c).After-index-next).1 in
-    let lent : rows_of c.args.self.now c.args.wire ≡ rows_from (reverse c.deref.result.now) next =
-    rows_seen entries heads c.args.self.now c.args.wire c.self.view_is c.self.invariant.some ∙ ap (rows_from (reverse entries)) (sym first)
-    ∙ ap (λ es. rows_from (reverse es) next) (sym c.deref.ensures.value) in
-    rows_seen more (set heads place c.in-Ok.number) (map (rows_from (reverse more)) (set heads place c.in-Ok.number)) c.args.wire refl (some c)
+    ap (list_any (λ p. eqb p c.args.row))
+    (rows_seen more (set heads place c.in-Ok.number) (map (rows_from (reverse more)) (set heads place c.in-Ok.number)) c.args.wire refl (some c)
     ∙ rows_of-there entries more heads c.args.row next c.self.invariant c.in_ok-push.ensures.items place c.in-Ok.number (inside c) (last c) c.args.wire
-    (ap (λ n. c.args.wire % n) (sym (sized c)))
-    ∙ ap (λ es. c.args.row ∷ rows_from (reverse es) next) (sym c.deref.ensures.value)
-    ∙ sym (ap (with_row c.args.row) lent
-    ∙ c.begins_with.ensures
-    ∙ ap (λ b. cond b (rows_from (reverse c.deref.result.now) next) (c.args.row ∷ rows_from (reverse c.deref.result.now) next)) c.if-begins_with.false)
+    (ap (λ n. c.args.wire % n) (sym (sized c))))
+    ∙ or_left (eqb c.args.row c.args.row) (list_any (λ p. eqb p c.args.row) (rows_from (reverse entries) next)) (eq-eqb c.args.row c.args.row refl)
 
 pub returns-clause-more : goal.returns-clause-more
 returns-clause-more c = λ w i e.

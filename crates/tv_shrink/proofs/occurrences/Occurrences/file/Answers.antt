@@ -1,8 +1,7 @@
-use Rattle.std.proofs.Common.{◌≡◌, ℕ, true, eqb, take_all, sym, ◌∙◌, ap, subst, arith}
+use Rattle.std.proofs.Common.{◌≡◌, ℕ, true, eqb, take_all, sym, subst, arith}
 use Rattle.std.specs.List.{list_any}
 use Rattle.tv_shrink.specs.Occurrences.{rows_of}
 use Rattle.tv_shrink.specs.Substitution.{has_wire}
-use Rattle.tv_shrink.proofs.OccurrenceLaws.{with_row-has}
 use Rattle.tv_shrink.proofs.Passes.{filed-more, filed-none}
 use Rattle.tv_shrink.proofs.ReplacingLaws.{none_has}
 use Rattle.tv_shrink.proofs.occurrences.Occurrences.file.Goals as goal
@@ -25,7 +24,7 @@ loop-wire-preserved c =
                 c.loop-wire-test.true c.loop-wire-item.is c.loop-wire.invariant.added more
                 (subst (λ v. list_any (λ p. eqb p c.args.row) (rows_of c.if-wire-publics.self v) ≡ true) same
                 (subst (λ (lists : _). list_any (λ p. eqb p c.args.row) (rows_of lists c.wire.inside.0) ≡ true) (sym w.self-is)
-                (ap (list_any (λ p. eqb p c.args.row)) w.in_ok-add.ensures.adds ∙ with_row-has c.args.row (rows_of c.loop-wire.self c.wire.inside.0))));
+                w.in_ok-add.ensures.has));
           }
       | else-wire-publics w ↦ record {
         more = λ v i e. subst (λ (lists : _). list_any (λ p. eqb p i) (rows_of lists v) ≡ true) (sym w.self-is) (c.loop-wire.invariant.more v i e);

@@ -1,9 +1,10 @@
 use Rattle.std.proofs.Common.{◌≡◌, ◌<◌, ◌≤◌, ◌-◌, ◌∙◌, Some, None, true, false, ap, arith, get_or, length, subst, sym}
+use Rattle.std.proofs.lemmas.List.{nil_from_length}
 use Rattle.std.proofs.lemmas.Result.{on_ok_weaker}
 use Rattle.tv_core.specs.Normal.{coefficient, IsNormalFrom}
 use Rattle.tv_shrink.specs.Pass.{attempted, dropped, linear_row}
 use Rattle.tv_shrink.specs.Substitution.{has_wire, solved}
-use Rattle.tv_shrink.proofs.Passes.{form_is, form-normal, last_at, last-own, nil_of, solved-lacks, solved-normal, turn-empty}
+use Rattle.tv_shrink.proofs.Passes.{form_is, form-normal, last_at, last-own, solved-lacks, solved-normal, turn-empty}
 use Rattle.tv_shrink.proofs.Passes.{turn-private, turn-public, turn-unlinear}
 use Rattle.tv_shrink.proofs.States.{staged}
 use Rattle.tv_shrink.proofs.pass.Pass.turn.Goals as goal
@@ -49,7 +50,7 @@ returns-then-is_empty c =
     (sym c.in-Some.is ∙ c.get.ensures.row) c.in_ok-linear_form.ensures c.if-not-branch.false in
     c.remove.ensures
     ∙ ap (λ p. record { publics = c.args.self.now.state.publics; pass = p })
-    (sym (turn-empty c.args.self.now.state.publics c.args.at c.args.self.now.state.pass (form ∙ ap Some (nil_of c.linear_form.new.out.items none))))
+    (sym (turn-empty c.args.self.now.state.publics c.args.at c.args.self.now.state.pass (form ∙ ap Some (nil_from_length c.linear_form.new.out.items none))))
 
 pub returns-then-wire-publics : goal.returns-then-wire-publics
 returns-then-wire-publics c =

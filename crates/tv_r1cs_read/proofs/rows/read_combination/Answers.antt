@@ -3,7 +3,7 @@ use Rattle.std.proofs.lemmas.List.{length_push}
 use Rattle.std.proofs.lemmas.List.Elements.{All-nil, All-push}
 use Rattle.std.proofs.lemmas.Result.{err_from_is_err_and}
 use Rattle.tv_r1cs_read.proofs.Ahead.{begins, combination_at-counted, ends, goes_on, refused}
-use Rattle.tv_r1cs_read.proofs.rows.read_far.Goals as goal
+use Rattle.tv_r1cs_read.proofs.rows.read_combination.Goals as goal
 
 pub loop-init : goal.loop-init
 loop-init g c = record {
@@ -53,6 +53,6 @@ returns-clause-reads g c = record {
   gives = λ file known piece end.
       let seen = rw (← c.in_ok-count.ensures.reads.looks) at known in
       let here = c.in_ok-count.ensures.reads.piece file known piece in
-      rw (c.held_from.ensures.from, combination_at-counted file _ _ _ _ (c.in_ok-count.ensures.reads.gives file known piece end))
+      rw (combination_at-counted file _ _ _ _ (c.in_ok-count.ensures.reads.gives file known piece end))
       (ends _ _ file _ _ _ _ (c.loop.invariant.ahead file seen here end) (omega (arith, c.loop-test.false)));
 }

@@ -4,7 +4,7 @@ use Rattle.tv_container.specs.Places.{places}
 use Rattle.tv_container.specs.Reading.{InPiece, IsPiece}
 use Rattle.tv_r1cs_read.specs.R1cs.{terms_at}
 use Rattle.tv_r1cs_read.specs.Rows.{IsAhead}
-use Rattle.tv_r1cs_read.proofs.rows.read_far.Given as goal
+use Rattle.tv_r1cs_read.proofs.rows.read_combination.Given as goal
 
 abbrev pub invariant-loop : goal.invariant-loop
 invariant-loop g l = record {
