@@ -2,7 +2,7 @@
 use Rattle.std.proofs.Common.{◌≡◌, ℕ, ◌+◌, ◌-◌, ◌*◌, ◌/◌, ◌%◌, ◌^◌, ◌<◌, ◌≤◌, ◌==◌, Bool, true, false, ltb, leb, not, ◌&&◌, ◌||◌, cond, if◌then◌else◌, List}
 use Rattle.std.proofs.Common.{[], ◌∷◌, ◌++◌, length, drop, slice_index, codes, Option, Some, None, Result, Ok, Err, All, refl, ap, arith}
 use Rattle.std.specs.Prelude.{IfOk, nat_eq}
-use Rattle.std.proofs.lemmas.Bool.{and_parts, leb-true, ltb-true}
+use Rattle.std.proofs.lemmas.Bool.{and_parts, cond_both, leb-true, ltb-true}
 use Rattle.std.proofs.lemmas.List.{length-append}
 use Rattle.std.proofs.lemmas.List.Elements.{All-from_recursion}
 use Rattle.std.specs.List.{AllByRecursion, before_first, count_by, list_all, starts_with}
@@ -28,6 +28,7 @@ use Rattle.tv_asm.specs.Steps.{◌>>=◌, check}
 use Rattle.tv_asm.specs.Text.{lines}
 use Rattle.tv_asm.specs.declared.fault.AsmFault.TheVariants.{TooMany}
 use Rattle.tv_asm.specs.declared.fault.AsmWhy.{AsmWhy}
+use Rattle.tv_asm.specs.declared.operand.Operand.{Operand}
 use Rattle.tv_asm.specs.declared.fault.AsmWhy.TheVariants.{NotText, BadHeader, BadLabel, DoubledLabel, UnknownName, BadRegister, BadNumber, UnknownLabel}
 
 bind_if : {A B E : Type 0} (read : Result A E) (f : A → Result B E) (P : B → Type 0) → ((x : A) → read ≡ Ok x → IfOk (f x) P) → IfOk (read >>= f) P
@@ -43,10 +44,6 @@ known : {A E : Type 0} (read : Result A E) (P : A → Type 0) (x : A) → read �
 known (Ok y) P x is h = let same : y ≡ x = cc in rw (← same) h
 known (Err fault) P x is h = cc
 
-either : {A E : Type 0} (test : Bool) (r t : Result A E) (P : A → Type 0) → IfOk r P → IfOk t P → IfOk (if test then r else t) P
-either true r t P h k = h
-either false r t P h k = k
-
 some_if : {A E : Type 0} (found : Option A) (fault : E) (P : A → Type 0) → IfSome found P → IfOk (ok_or found fault) P
 some_if (Some x) fault P h = h
 some_if None fault P h = tt
@@ -54,10 +51,6 @@ some_if None fault P h = tt
 found_some : {A E : Type 0} (found : Option A) (fault : E) (x : A) → ok_or found fault ≡ Ok x → found ≡ Some x
 found_some (Some y) fault x is = let same : y ≡ x = cc in ap (λ z. Some z) same
 found_some None fault x is = cc
-
-where_true : {A : Type 0} (test : Bool) (x : A) (P : A → Type 0) → (test ≡ true → P x) → IfSome (if test then Some x else None) P
-where_true true x P h = h refl
-where_true false x P h = tt
 
 -- no more words than there may be
 line_fits : (w most : ℕ) (context : Context) (words line : List ℕ) → IfOk (with_line w most context words line) (λ next. length next ≤ most)
@@ -88,24 +81,22 @@ both w (x ∷ xs) ys h k = (h.0, both w xs ys h.1 k)
 
 numeral_small : (base bound : ℕ) (text : List ℕ) → IfSome (numeral base bound text) (λ n. n < bound)
 numeral_small base bound text =
-    where_true (is_numeral base text && ltb (positional base text) bound) (positional base text) (λ n. n < bound) (λ test.
-    ltb-true (positional base text) bound (and_parts (is_numeral base text) (ltb (positional base text) bound) test).1)
-
-some_either : {A : Type 0} (test : Bool) (r t : Option A) (P : A → Type 0) → IfSome r P → IfSome t P → IfSome (if test then r else t) P
-some_either true r t P h k = h
-some_either false r t P h k = k
+    cond_both (is_numeral base text && ltb (positional base text) bound) (Some (positional base text)) None (λ found. IfSome found (λ n. n < bound))
+    (λ test. ltb-true (positional base text) bound (and_parts (is_numeral base text) (ltb (positional base text) bound) test).1) (λ _. tt)
 
 number_small : (w : ℕ) (text : List ℕ) → IfOk (number w text) (λ n. n < 2 ^ w)
 unfolding number
 number_small w text =
     some_if (if starts_with nat_eq text (codes "0x") then numeral 16 (2 ^ w) (drop 2 text) else numeral 10 (2 ^ w) text) BadNumber (λ n. n < 2 ^ w)
-    (some_either (starts_with nat_eq text (codes "0x")) _ _ (λ n. n < 2 ^ w) (numeral_small 16 (2 ^ w) (drop 2 text)) (numeral_small 10 (2 ^ w) text))
+    (cond_both (starts_with nat_eq text (codes "0x")) _ _ (λ (found : Option ℕ). IfSome found (λ n. n < 2 ^ w)) (λ _. numeral_small 16 (2 ^ w) (drop 2 text))
+    (λ _. numeral_small 10 (2 ^ w) text))
 
 register_small : (text : List ℕ) → IfOk (register text) (λ r. r < 16)
 unfolding register
 register_small text =
-    either (slice_index text 0 == 114 && (length (drop 1 text) == 1 || not (slice_index (drop 1 text) 0 == 48))) _ _ (λ r. r < 16)
-    (some_if (numeral 10 16 (drop 1 text)) BadRegister (λ r. r < 16) (numeral_small 10 16 (drop 1 text))) tt
+    cond_both (slice_index text 0 == 114 && (length (drop 1 text) == 1 || not (slice_index (drop 1 text) 0 == 48))) _ _
+    (λ (read : Result ℕ AsmWhy). IfOk read (λ r. r < 16))
+    (λ _. some_if (numeral 10 16 (drop 1 text)) BadRegister (λ r. r < 16) (numeral_small 10 16 (drop 1 text))) (λ _. tt)
 
 -- addresses are words of w bits
 record HasSmall (w : ℕ) (address : List ℕ → Option ℕ) : Type 0 where
@@ -119,19 +110,19 @@ register_below = for_widths (λ w. (r : ℕ) → r < 16 → r < 2 ^ w) (λ r h. 
 
 address_small : (w : ℕ) → IsWidth w → (all : List (List ℕ)) → HasSmall w (address w all)
 address_small w width all = record {
-  each = λ name. where_true (is_defined all name) _ (λ a. a < 2 ^ w)
-      (λ _. below_power w width (2 * (w / 8) * count_by has_instruction (before_first (defines name) all)));
+  each = λ name. cond_both (is_defined all name) (Some _) None (λ found. IfSome found (λ a. a < 2 ^ w))
+      (λ _. below_power w width (2 * (w / 8) * count_by has_instruction (before_first (defines name) all))) (λ _. tt);
 }
 
 operand_small : (w : ℕ) → IsWidth w → (place : List ℕ → Option ℕ) → HasSmall w place → (text : List ℕ) → IfOk (operand w place text) (λ o. o.a < 2 ^ w)
 unfolding operand
 operand_small w width place small text =
-    either (slice_index text 0 == 114) _ _ (λ o. o.a < 2 ^ w)
-    (bind_if (register text) _ (λ o. o.a < 2 ^ w) (λ r is. register_below w width r (known (register text) (λ r. r < 16) r is (register_small text))))
-    (either (slice_index text 0 == 95) _ _ (λ o. o.a < 2 ^ w)
-    (bind_if (ok_or (place text) UnknownLabel) _ (λ o. o.a < 2 ^ w)
+    cond_both (slice_index text 0 == 114) _ _ (λ (read : Result Operand AsmWhy). IfOk read (λ o. o.a < 2 ^ w))
+    (λ _. bind_if (register text) _ (λ o. o.a < 2 ^ w) (λ r is. register_below w width r (known (register text) (λ r. r < 16) r is (register_small text))))
+    (λ _. cond_both (slice_index text 0 == 95) _ _ (λ (read : Result Operand AsmWhy). IfOk read (λ o. o.a < 2 ^ w))
+    (λ _. bind_if (ok_or (place text) UnknownLabel) _ (λ o. o.a < 2 ^ w)
     (λ a is. known (ok_or (place text) UnknownLabel) (λ a. a < 2 ^ w) a is (some_if (place text) UnknownLabel (λ a. a < 2 ^ w) (small.each text))))
-    (bind_if (number w text) _ (λ o. o.a < 2 ^ w) (λ n is. known (number w text) (λ n. n < 2 ^ w) n is (number_small w text))))
+    (λ _. bind_if (number w text) _ (λ o. o.a < 2 ^ w) (λ n is. known (number w text) (λ n. n < 2 ^ w) n is (number_small w text))))
 
 -- an instruction's fields, its second word of w bits
 record IsSmall (w : ℕ) (i : Instr) : Type 0 where
@@ -223,7 +214,8 @@ unfolding words_of
 words_small w width place small text =
     let name = name_of text in
     let operands = operands_in (drop (length name) text) in
-    either (bytes_eq name (codes ".raw")) _ _ (AreSmall w) (raw_small w operands) (table_small w width place small name operands)
+    cond_both (bytes_eq name (codes ".raw")) _ _ (λ (read : Result (List ℕ) AsmWhy). IfOk read (AreSmall w)) (λ _. raw_small w operands)
+    (λ _. table_small w width place small name operands)
 
 part_small : (w : ℕ) → IsWidth w → (place : List ℕ → Option ℕ) → HasSmall w place → (text : List ℕ) → IfOk (part_words w place text) (AreSmall w)
 part_small w width place small [] = tt

@@ -1,5 +1,6 @@
 -- Operands of an instruction, in text.
-use Rattle.std.specs.Prelude.{ℕ, ◌^◌, ◌==◌, nat_eq, true, false, not, ◌&&◌, ◌||◌, if◌then◌else◌, List, length, drop, slice_index, Option, Result, Ok, Err, codes}
+use Rattle.std.specs.Prelude.{ℕ, ◌^◌, ◌==◌, nat_eq, true, false, not, ◌&&◌, ◌||◌, if◌then◌else◌, List, length, drop, slice_index, Option, Result, Ok, Err}
+use Rattle.std.specs.Prelude.{codes}
 use Rattle.std.specs.List.{starts_with}
 use Rattle.std.specs.Option.{ok_or}
 use Rattle.tv_word.specs.Numeral.{numeral}

@@ -2,7 +2,7 @@
 ghost use Rattle.std.specs.Prelude.{◌≡◌, ◌<◌, ◌≤◌, ◌^◌, ◌⊎◌, ◌==◌, length, OnOk, IfOk};
 ghost use Rattle.std.specs.Prelude.{IfErr, Ok, Err};
 ghost use Rattle.std.specs.List.{All};
-ghost use Rattle.tv_asm.specs.Assembly.{assembled, line_words, part_words, with_line};
+ghost use Rattle.tv_asm.specs.Assembly.{assembled, line_words, with_line};
 ghost use Rattle.tv_asm.specs.Header.{width_of};
 ghost use Rattle.tv_asm.specs.Views.{address_in, context_in, is_earlier, words_said};
 ghost use Rattle.tv_word.specs.Widths.{IsWidth};
@@ -100,19 +100,8 @@ fn line_words<const W: u32>(
     {
         return Err(AsmWhy::DoubledLabel);
     }
-    part_words::<W>(statement.instruction, labels)
-}
-
-/// Returns the words of an instruction part: none where it is empty.
-fn part_words<const W: u32>(
-    instruction: &[u8],
-    labels: &Labels<'_>,
-) -> Result<Option<[u32; 2]>, AsmWhy>
-    requires { IsWidth W }
-    ensures { words_said result ≡ part_words W (address_in labels.now) instruction.now }
-{
-    if instruction.is_empty() {
+    if statement.instruction.is_empty() {
         return Ok(None);
     }
-    Ok(Some(words_of::<W>(instruction, labels)?))
+    Ok(Some(words_of::<W>(statement.instruction, labels)?))
 }

@@ -1,5 +1,5 @@
 //! The labels of a text, and their addresses.
-ghost use Rattle.std.specs.Prelude.{◌≡◌, ℕ, ◌+◌, ◌/◌, ◌%◌, ◌^◌, List, IfOk, OnOk, if◌then◌else◌};
+ghost use Rattle.std.specs.Prelude.{◌≡◌, ℕ, List, IfOk, OnOk, if◌then◌else◌};
 ghost use Rattle.std.specs.Option.{option_map, option_or};
 ghost use Rattle.std.specs.Str.{bytes_eq};
 ghost use Rattle.tv_asm.specs.Labels.{says_instruction, says_label};
@@ -45,7 +45,7 @@ impl<'a> Labels<'a> {
             let statement = Statement::of(code_of(line));
             labels.note(statement, place)?;
             if has_instruction(statement) {
-                place.address = next_address::<W>(place.address);
+                place.address = sum::<W>(place.address, W / 4);
             }
             rest = remaining;
         }
@@ -87,14 +87,6 @@ impl<'a> Labels<'a> {
     {
         self.places.get(name).is_some_and(|place| place.line < line)
     }
-}
-
-/// Returns the address after the two words of an instruction: modulo 2^W.
-fn next_address<const W: u32>(address: u32) -> u32
-    requires { IsWidth W }
-    ensures { result ≡ (address + W / 4) % 2 ^ W }
-{
-    sum::<W>(address, W / 4)
 }
 
 /// Returns whether a line has an instruction, good or bad.

@@ -119,10 +119,7 @@ pub operand_texts-words : (w : ℕ) → IsWidth w → (shape : Shape) (i : Instr
 operand_texts-words w width DestSourceA i h =
     record {
       some = omega arith;
-      words = (
-        register-word i.dest (omega (arith, h.dest)),
-        (register-word i.source (omega (arith, h.source)), (last-word w width i h.a i.imm refl, tt)),
-      );
+      words = (register-word i.dest (omega (arith, h.dest)), (register-word i.source (omega (arith, h.source)), (last-word w width i h.a i.imm refl, tt)));
     }
 operand_texts-words w width DestA i h =
     record { some = omega arith; words = (register-word i.dest (omega (arith, h.dest)), (last-word w width i h.a i.imm refl, tt)) }

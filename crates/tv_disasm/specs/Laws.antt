@@ -15,7 +15,8 @@ words_in w bytes = map little_endian (first_chunks (w / 8) (length bytes / (w / 
 -- the text of an image of whole instructions assembles to the words of the image, where that many words are allowed
 abbrev pub DisassemblyAssembles : Type 0
 DisassemblyAssembles =
-    (w : ℕ) → IsWidth w → (image : List ℕ) (most : ℕ) → All (λ b. b < 256) image → length image % (w / 4) ≡ 0 → length image ≤ w / 8 * most → assembled w most (disassembly_of w image) ≡ Ok (words_in w image)
+    (w : ℕ) → IsWidth w → (image : List ℕ) (most : ℕ) → All (λ b. b < 256) image → length image % (w / 4) ≡ 0 → length image ≤ w / 8 * most
+    → assembled w most (disassembly_of w image) ≡ Ok (words_in w image)
 
 -- the text of an image determines the width that it was made for
 abbrev pub DisassemblyFixesWidth : Type 0

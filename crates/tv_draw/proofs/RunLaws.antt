@@ -23,7 +23,7 @@ use Rattle.tv_isa.specs.declared.operation.Shape.TheVariants.{DestSourceA, DestA
 use Rattle.tv_mem.proofs.WordLaws.{others_after_byte, others_after_word}
 use Rattle.tv_mem.specs.Bytes.{word_in}
 use Rattle.tv_step.proofs.ImageLaws.{word_of_image}
-use Rattle.tv_step.proofs.RunLaws.{Ran, ran_none, ran_on, end_answered}
+use Rattle.tv_step.proofs.RunLaws.{Ran, either, ran_none, ran_on, end_stopped}
 use Rattle.tv_step.specs.Cells.{is_store}
 use Rattle.tv_step.specs.Machine.{next, fetched, executed, operand, reg, start}
 use Rattle.tv_step.specs.Ops.{op_of}
@@ -53,10 +53,6 @@ Follows st (Next.Gone after) = (after.pc ≡ following 32 st) × ((j : ℕ) → 
 Follows st (Next.Answered v) = ⊥
 Follows st (Next.Undefined op) = ⊥
 
-either : (st : State) (b : Bool) (u v : Next) → Follows st u → Follows st v → Follows st (cond b u v)
-either st true u v h k = h
-either st false u v h k = k
-
 taken : (st : State) (i : ℕ) (tape : List ℕ) (rest : List ℕ → State) → ((left : List ℕ) → (rest left).pc ≡ st.pc)
     → ((left : List ℕ) → (rest left).memory ≡ st.memory) → Follows st (takes 32 st i tape rest)
 taken st i [] rest pc memory = (refl, λ j h. refl)
@@ -69,7 +65,7 @@ row_follows ops.Cjmp st i d s a e far = cc
 row_follows ops.Cnjmp st i d s a e far = cc
 row_follows ops.Answer st i d s a e far = cc
 row_follows (ops.Unused op) st i d s a e far = cc
-row_follows ops.Cmov st i d s a e far = either st st.flag (moves 32 st i a) (goes_on 32 st) (refl, λ j h. refl) (refl, λ j h. refl)
+row_follows ops.Cmov st i d s a e far = either (Follows st) st.flag (moves 32 st i a) (goes_on 32 st) (refl, λ j h. refl) (refl, λ j h. refl)
 row_follows ops.StoreB st i d s a e far = (
   refl,
   λ j h. others_after_byte 32 width st.memory a (d % 256) j (λ same. let most = far refl in omega (arith, most, h, same)),
@@ -82,9 +78,9 @@ row_follows ops.Read st i d s a e far =
     let primary = takes 32 st i st.primary (λ left. record st { primary = left }) in
     let aux = takes 32 st i st.aux (λ left. record st { aux = left }) in
     let none = takes 32 st i [] (λ _. st) in
-    either st (a == 0) primary (cond (a == 1) aux none)
+    either (Follows st) (a == 0) primary (cond (a == 1) aux none)
     (taken st i st.primary (λ left. record st { primary = left }) (λ left. refl) (λ left. refl))
-    (either st (a == 1) aux none (taken st i st.aux (λ left. record st { aux = left }) (λ left. refl) (λ left. refl)) (refl, λ j h. refl))
+    (either (Follows st) (a == 1) aux none (taken st i st.aux (λ left. record st { aux = left }) (λ left. refl) (λ left. refl)) (refl, λ j h. refl))
 row_follows _ st i d s a e far = (refl, λ j h. refl)
 
 -- ---- a drawn instruction
@@ -280,7 +276,7 @@ module _ (seed : ℕ) where
             tape_count = length-each_below 2 (λ j. word_at seed (k + j) % 2 ^ 32);
             aux_words = words_small (k + 2) 8;
             aux_count = length-each_below 8 (λ j. word_at seed (k + 2 + j) % 2 ^ 32);
-            answers = end_answered 32 k first at.st at.ran (k + 1) (omega arith) 0 stops;
+            answers = end_stopped 32 k first at.st at.ran (k + 1) (omega arith) (Next.Answered 0) stops;
           }
 
 -- what is drawn from a seed, one after another, is such a program

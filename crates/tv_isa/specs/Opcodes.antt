@@ -1,6 +1,7 @@
 -- The opcodes: which are used, which of them do what, their order, and tables by opcode: for some opcodes what stands for them.
 use Rattle.std.specs.Prelude.{ℕ, ◌+◌, ◌-◌, ◌==◌, nat_lt, Bool, true, false, if◌then◌else◌, List, [], ◌∷◌, length}
-use Rattle.tv_isa.specs.declared.opcode.TheConstants.{AND, OR, XOR, NOT, ADD, SUB, MULL, UMULH, SMULH, UDIV, UMOD, SHL, SHR, CMPE, CMPA, CMPAE, CMPG, CMPGE, MOV, CMOV, JMP, CJMP, CNJMP, STORE_B, LOAD_B, STORE_W, LOAD_W, READ, ANSWER, UNUSED, USED}
+use Rattle.tv_isa.specs.declared.opcode.TheConstants.{AND, OR, XOR, NOT, ADD, SUB, MULL, UMULH, SMULH, UDIV, UMOD, SHL, SHR, CMPE, CMPA, CMPAE, CMPG, CMPGE}
+use Rattle.tv_isa.specs.declared.opcode.TheConstants.{MOV, CMOV, JMP, CJMP, CNJMP, STORE_B, LOAD_B, STORE_W, LOAD_W, READ, ANSWER, UNUSED, USED}
 
 -- whether an opcode is among these
 abbrev pub among : List ℕ → ℕ → Bool
@@ -57,4 +58,5 @@ keeper_ops = MOV ∷ CMOV ∷ JMP ∷ CJMP ∷ CNJMP ∷ STORE_B ∷ LOAD_B ∷ 
 
 -- those that go on to the next instruction in memory: all but the jumps and answer
 abbrev pub straight_ops : List ℕ
-straight_ops = AND ∷ OR ∷ XOR ∷ NOT ∷ ADD ∷ SUB ∷ MULL ∷ UMULH ∷ SMULH ∷ UDIV ∷ UMOD ∷ SHL ∷ SHR ∷ CMPE ∷ CMPA ∷ CMPAE ∷ CMPG ∷ CMPGE ∷ MOV ∷ CMOV ∷ STORE_B ∷ LOAD_B ∷ STORE_W ∷ LOAD_W ∷ READ ∷ []
+straight_ops = AND ∷ OR ∷ XOR ∷ NOT ∷ ADD ∷ SUB ∷ MULL ∷ UMULH ∷ SMULH ∷ UDIV ∷ UMOD ∷ SHL ∷ SHR ∷ CMPE ∷ CMPA ∷ CMPAE ∷ CMPG ∷ CMPGE ∷ MOV ∷ CMOV ∷ STORE_B
+    ∷ LOAD_B ∷ STORE_W ∷ LOAD_W ∷ READ ∷ []

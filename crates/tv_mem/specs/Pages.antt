@@ -1,5 +1,6 @@
 -- Memory in pages of 4,096 bytes: each address's byte, and the pages that are held.
-use Rattle.std.specs.Prelude.{◌≡◌, ◌≤◌, ℕ, ◌+◌, ◌/◌, ◌%◌, Bool, cond, nat_eq, is_some, List, ◌++◌, length, take, drop, replicate, Box, Option, Some, None, option_map, slice_get, slice_index, slice_index_or, Vec}
+use Rattle.std.specs.Prelude.{◌≡◌, ◌≤◌, ℕ, ◌+◌, ◌/◌, ◌%◌, Bool, cond, nat_eq, is_some, List, ◌++◌, length, take, drop, replicate, Box, Option, Some, None}
+use Rattle.std.specs.Prelude.{option_map, slice_get, slice_index, slice_index_or, Vec}
 use Rattle.std.specs.Box.{box_value}
 use Rattle.std.specs.Global.{Global}
 use Rattle.tv_mem.specs.Bytes.{Bytes}

@@ -11,8 +11,8 @@ use Rattle.tv_mem.proofs.WordLaws.{words_are_small, others_after_byte, others_af
 use Rattle.tv_mem.specs.Bytes.{word_in}
 use Rattle.tv_word.proofs.WidthLaws.{for_widths}
 use Rattle.tv_word.specs.Widths.{IsWidth}
-use Rattle.tv_step.proofs.LineLaws.{cell_is_low, came, memory_stays}
-use Rattle.tv_step.proofs.RangeLaws.{operand_in, keeps_on}
+use Rattle.tv_step.proofs.LineLaws.{cell_is_low, came, memory_stays, tape_same}
+use Rattle.tv_step.proofs.RangeLaws.{operand_is_word, run_keeps_range}
 use Rattle.tv_step.specs.Cells.{cell_word, cells_of, IsOn, IsLine, LinesInRange, OldsAreInCells, StepWritesItsLine}
 use Rattle.tv_step.specs.Machine.{fetched, operand, reg, state_after}
 use Rattle.tv_step.specs.Ops.{op_of}
@@ -65,7 +65,7 @@ module _ (w : ℕ) (width : IsWidth w) (n : ℕ) (short : n < 2 ^ 29) (st : Stat
       record {
         cell = omega arith;
         old = words_are_small w width st.memory range.bytes (a / (w / 8));
-        new = words_are_small w width (state_after w 1 st).memory (keeps_on w width st 1 range).bytes (a / (w / 8));
+        new = words_are_small w width (state_after w 1 st).memory (run_keeps_range w width st 1 range).bytes (a / (w / 8));
       }
 
   null_fits : IsLine w (tape_line n st None time)
@@ -96,7 +96,7 @@ lines_in_range w width n st time short range =
     let low = fetched_cells w width st.pc range.pc_fits range.pc_aligned in
     three (IsLine w) (looked_at j time (word_in w st.memory j)) (looked_at (j + 1) (time + 1) (word_in w st.memory (j + 1))) (data_line w n st (time + 2))
     (fetch_fits w width n short st range time j time low.0) (fetch_fits w width n short st range time (j + 1) (time + 1) low.1)
-    (line_fits w width n short st range (time + 2) (op_of (fetched w st).op) (operand st (fetched w st)) (operand_in w width st range))
+    (line_fits w width n short st range (time + 2) (op_of (fetched w st).op) (operand st (fetched w st)) (operand_is_word w width st range))
 
 -- ---- lines and cells
 module _ (w : ℕ) (width : IsWidth w) (x : List ℕ) (st : State) (on : IsOn w x st) (time : ℕ) where
@@ -121,10 +121,6 @@ module _ (w : ℕ) (width : IsWidth w) (x : List ℕ) (st : State) (on : IsOn w 
   old_holds Read a h = tape_holds st.memory (if a == 0 then slice_get st.primary 0 else None) (either_first (a == 0) st.primary)
   old_holds _ a h = null_holds st.memory
 
-  tape_same : (found : Option ℕ) → (tape_line (length x) st found time).new ≡ (tape_line (length x) st found time).old
-  tape_same None = refl
-  tape_same (Some v) = refl
-
   -- the new word of the line is what its cell then holds
   new_holds : (op : Op) (a : ℕ) → a < 2 ^ w
       → (touched_line w (length x) op st a time).new ≡ cells_of w x (state_after w 1 st) (touched_line w (length x) op st a time).cell
@@ -134,7 +130,7 @@ module _ (w : ℕ) (width : IsWidth w) (x : List ℕ) (st : State) (on : IsOn w 
   new_holds LoadW a h = sym (cell_of_memory w x (state_after w 1 st).memory (a / (w / 8)) (cell_is_low w width a h))
   new_holds Read a h =
       let found : Option ℕ = if a == 0 then slice_get st.primary 0 else None in
-      tape_same found ∙ tape_holds (state_after w 1 st).memory found (either_first (a == 0) st.primary)
+      tape_same (length x) st found time ∙ tape_holds (state_after w 1 st).memory found (either_first (a == 0) st.primary)
   new_holds _ a h = null_holds (state_after w 1 st).memory
 
   -- no other word of memory changes
@@ -151,7 +147,7 @@ module _ (w : ℕ) (width : IsWidth w) (x : List ℕ) (st : State) (on : IsOn w 
           → cells_of w x (state_after w 1 st) c ≡ written (cells_of w x st) (data_line w (length x) st time) c
       by_cell true here =
           ap (cells_of w x (state_after w 1 st)) (sym (eqb-true (data_line w (length x) st time).cell c here))
-          ∙ sym (new_holds (op_of (fetched w st).op) (operand st (fetched w st)) (operand_in w width st on.range))
+          ∙ sym (new_holds (op_of (fetched w st).op) (operand st (fetched w st)) (operand_is_word w width st on.range))
           ∙ sym (ap (λ b. cond b (data_line w (length x) st time).new (cells_of w x st c)) here)
       by_cell false there =
           let i = fetched w st in
@@ -167,7 +163,7 @@ olds_are_in_cells w width x st time on =
     three (λ l. l.old ≡ cells_of w x st l.cell) (looked_at j time (word_in w st.memory j)) (looked_at (j + 1) (time + 1) (word_in w st.memory (j + 1)))
     (data_line w (length x) st (time + 2))
     (sym (cell_of_memory w x st.memory j low.0)) (sym (cell_of_memory w x st.memory (j + 1) low.1))
-    (old_holds w width x st on (time + 2) (op_of (fetched w st).op) (operand st (fetched w st)) (operand_in w width st on.range))
+    (old_holds w width x st on (time + 2) (op_of (fetched w st).op) (operand st (fetched w st)) (operand_is_word w width st on.range))
 
 pub step_writes_its_line : StepWritesItsLine
 step_writes_its_line w width x st time on = writes w width x st on time

@@ -10,7 +10,7 @@ use Rattle.tv_core.specs.declared.limits.TheConstants.{TAPE_CELLS}
 use Rattle.tv_mem.specs.Bytes.{word_in}
 use Rattle.tv_step.proofs.CellLaws.{olds_are_in_cells, step_writes_its_line}
 use Rattle.tv_step.proofs.ImageLaws.{word_of_image}
-use Rattle.tv_step.proofs.RangeLaws.{start_in_range, keeps_on}
+use Rattle.tv_step.proofs.RangeLaws.{start_in_range, run_keeps_range}
 use Rattle.tv_step.proofs.ReadLaws.{primary_rest}
 use Rattle.tv_step.proofs.RunLaws.{state_next}
 use Rattle.tv_step.specs.Cells.{cell_word, cells_of, IsOn, boot_from, boot_lines, run_lines, IsInput, BootLeavesTheStart, LinesLeaveTheState, LinesAreHonest}
@@ -107,7 +107,7 @@ module _ (w : ℕ) (image x aux : List ℕ) (input : IsInput w image x aux) wher
   on_run : (t : ℕ) → IsOn w x (now t)
   on_run t = record {
     short = input.short;
-    range = keeps_on w input.width first t (start_in_range w input.width image x aux input.primary_words input.aux_words);
+    range = run_keeps_range w input.width first t (start_in_range w input.width image x aux input.primary_words input.aux_words);
     rest = primary_rest w first t;
   }
 

@@ -1,5 +1,5 @@
 -- The data line of a step.
-use Rattle.std.proofs.Common.{◌≡◌, ℕ, ◌+◌, ◌-◌, ◌/◌, ◌^◌, ◌<◌, ◌==◌, Bool, true, false, cond, nat_lt, List, [], ◌∷◌, length, Option, Some, None, refl, ap}
+use Rattle.std.proofs.Common.{◌≡◌, ℕ, ◌+◌, ◌-◌, ◌/◌, ◌^◌, ◌<◌, ◌==◌, false, cond, nat_lt, List, [], ◌∷◌, length, Option, Some, None, refl, ap}
 use Rattle.std.proofs.Common.{arith, true≢false}
 use Rattle.std.specs.Prelude.{if◌then◌else◌, slice_get}
 use Rattle.std.proofs.lemmas.Bool.{lt-ltb, le-ltb}
@@ -8,6 +8,7 @@ use Rattle.tv_core.specs.declared.limits.TheConstants.{TAPE_CELLS}
 use Rattle.tv_mem.specs.Bytes.{word_in}
 use Rattle.tv_word.proofs.WidthLaws.{for_widths}
 use Rattle.tv_word.specs.Widths.{IsWidth}
+use Rattle.tv_step.proofs.RunLaws.{either}
 use Rattle.tv_step.specs.Cells.{is_store, OnlyStoresWrite}
 use Rattle.tv_step.specs.Machine.{fetched, operand, reg, left_in, state_after}
 use Rattle.tv_step.specs.Ops.{op_of}
@@ -56,10 +57,6 @@ module _ (w : ℕ) (st : State) where
   abbrev Stays : Next → Type 0
   Stays n = (came n).memory ≡ st.memory
 
-  either : (b : Bool) (u v : Next) → Stays u → Stays v → Stays (cond b u v)
-  either true u v h k = h
-  either false u v h k = k
-
   taken : (i : ℕ) (tape : List ℕ) (rest : List ℕ → State) → ((left : List ℕ) → (rest left).memory ≡ st.memory) → Stays (takes w st i tape rest)
   taken i [] rest same = refl
   taken i (v ∷ left) rest same = same left
@@ -68,20 +65,20 @@ module _ (w : ℕ) (st : State) where
       → (came (row w op st (record { dest = i; held = d; source = s; operand = a }))).memory ≡ st.memory
   memory_stays StoreB i d s a e = absurd (true≢false e)
   memory_stays StoreW i d s a e = absurd (true≢false e)
-  memory_stays Cmov i d s a e = either st.flag (moves w st i a) (goes_on w st) refl refl
-  memory_stays Cjmp i d s a e = either st.flag (jumps w st a) (goes_on w st) refl refl
-  memory_stays Cnjmp i d s a e = either st.flag (goes_on w st) (jumps w st a) refl refl
+  memory_stays Cmov i d s a e = either Stays st.flag (moves w st i a) (goes_on w st) refl refl
+  memory_stays Cjmp i d s a e = either Stays st.flag (jumps w st a) (goes_on w st) refl refl
+  memory_stays Cnjmp i d s a e = either Stays st.flag (goes_on w st) (jumps w st a) refl refl
   memory_stays Read i d s a e =
       let primary = takes w st i st.primary (λ left. record st { primary = left }) in
       let aux = takes w st i st.aux (λ left. record st { aux = left }) in
       let none = takes w st i [] (λ _. st) in
-      either (a == 0) primary (cond (a == 1) aux none)
+      either Stays (a == 0) primary (cond (a == 1) aux none)
       (taken i st.primary (λ left. record st { primary = left }) (λ left. refl))
-      (either (a == 1) aux none (taken i st.aux (λ left. record st { aux = left }) (λ left. refl)) refl)
+      (either Stays (a == 1) aux none (taken i st.aux (λ left. record st { aux = left }) (λ left. refl)) refl)
   memory_stays _ i d s a e = refl
 
 -- ---- a line's new word where nothing is stored
-tape_same : (n : ℕ) (st : State) (found : Option ℕ) (time : ℕ) → (tape_line n st found time).new ≡ (tape_line n st found time).old
+pub tape_same : (n : ℕ) (st : State) (found : Option ℕ) (time : ℕ) → (tape_line n st found time).new ≡ (tape_line n st found time).old
 tape_same n st None time = refl
 tape_same n st (Some v) time = refl
 

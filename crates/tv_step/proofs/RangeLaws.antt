@@ -1,6 +1,6 @@
 -- A step keeps a state in range.
 use Rattle.std.proofs.Common.{◌≡◌, ℕ, zero, suc, ◌+◌, ◌-◌, ◌*◌, ◌/◌, ◌%◌, ◌^◌, ◌<◌, ◌≤◌, ◌⊎◌, inl, inr, ◌==◌, Bool, true, false, cond, nat_lt, List, [], ◌∷◌}
-use Rattle.std.proofs.Common.{length, refl, ap, subst, ◌∙◌, arith}
+use Rattle.std.proofs.Common.{length, refl, ap, subst, ◌∙◌, arith, rules}
 use Rattle.std.specs.Prelude.{ℤ, pos, negsuc, ◌*ℤ◌, slice_index}
 use Rattle.std.specs.Int.Bits.{and_lt}
 use Rattle.std.proofs.Math.Nat.{div-le_self, mod-lt, mod-le}
@@ -16,10 +16,10 @@ use Rattle.tv_word.specs.Twos.{twos}
 use Rattle.tv_word.specs.Widths.{IsWidth}
 use Rattle.tv_word.specs.Word.{signed}
 use Rattle.tv_word.proofs.ArithmeticLaws.{high_small}
-use Rattle.tv_step.proofs.RunLaws.{state_next}
+use Rattle.tv_step.proofs.RunLaws.{either, state_next}
 use Rattle.tv_step.specs.Machine.{next, fetched, operand, reg, left_in, state_after}
 use Rattle.tv_step.specs.Ops.{op_of}
-use Rattle.tv_step.specs.Range.{AreWords, StateInRange, StartInRange, StepKeepsRange, RunKeepsRange, AnswerIsWord, OperandIsWord}
+use Rattle.tv_step.specs.Range.{AreWords, StateInRange, StartInRange}
 use Rattle.tv_step.specs.Rows.{row, gives, tests, moves, goes_on, jumps, stores, takes}
 use Rattle.tv_step.specs.State.{State, Next}
 use Rattle.tv_step.specs.declared.op.Op.{Op}
@@ -38,10 +38,6 @@ module _ (w : ℕ) (width : IsWidth w) where
   NextIn (Next.Gone after) = StateInRange w after
   NextIn (Next.Answered v) = Word v
   NextIn (Next.Undefined op) = Unit {0}
-
-  either : (b : Bool) (x y : Next) → NextIn x → NextIn y → NextIn (cond b x y)
-  either true x y h k = h
-  either false x y h k = k
 
   some_words : 0 < 2 ^ w
   some_words = for_widths (λ w. 0 < 2 ^ w) (omega arith) (omega arith) w width
@@ -74,37 +70,13 @@ module _ (w : ℕ) (width : IsWidth w) where
     }
 
     tests_in : (f : Bool) → NextIn (tests w st f)
-    tests_in f = record {
-      pc_fits = mod-lt (st.pc + w / 4) some_words;
-      pc_aligned = next_aligned st.pc h.pc_aligned;
-      registers = h.registers;
-      words = h.words;
-      bytes = h.bytes;
-      primary = h.primary;
-      aux = h.aux;
-    }
+    tests_in f = let fits = mod-lt (st.pc + w / 4) some_words in let aligned = next_aligned st.pc h.pc_aligned in search rules
 
     jumps_in : (a : ℕ) → Word a → NextIn (jumps w st a)
-    jumps_in a small = record {
-      pc_fits = omega (arith, small);
-      pc_aligned = jump_aligned a;
-      registers = h.registers;
-      words = h.words;
-      bytes = h.bytes;
-      primary = h.primary;
-      aux = h.aux;
-    }
+    jumps_in a small = let aligned = jump_aligned a in search rules
 
     stores_in : (m : Bytes) → AreBytes m → NextIn (stores w st m)
-    stores_in m bytes = record {
-      pc_fits = mod-lt (st.pc + w / 4) some_words;
-      pc_aligned = next_aligned st.pc h.pc_aligned;
-      registers = h.registers;
-      words = h.words;
-      bytes = bytes;
-      primary = h.primary;
-      aux = h.aux;
-    }
+    stores_in m bytes = let fits = mod-lt (st.pc + w / 4) some_words in let aligned = next_aligned st.pc h.pc_aligned in search rules
 
   takes_in : (st : State) (i : ℕ) (tape : List ℕ) (rest : List ℕ → State) → StateInRange w st → AreWords w tape
       → ((left : List ℕ) → AreWords w left → StateInRange w (rest left)) → NextIn (takes w st i tape rest)
@@ -136,10 +108,10 @@ module _ (w : ℕ) (width : IsWidth w) where
   row_in Cmpg st i d s a h hd hs ha = tests_in st h _
   row_in Cmpge st i d s a h hd hs ha = tests_in st h _
   row_in Mov st i d s a h hd hs ha = gives_in st h i _ _ ha
-  row_in Cmov st i d s a h hd hs ha = either st.flag (moves w st i a) (goes_on w st) (gives_in st h i _ _ ha) (tests_in st h _)
+  row_in Cmov st i d s a h hd hs ha = either NextIn st.flag (moves w st i a) (goes_on w st) (gives_in st h i _ _ ha) (tests_in st h _)
   row_in Jmp st i d s a h hd hs ha = jumps_in st h a ha
-  row_in Cjmp st i d s a h hd hs ha = either st.flag (jumps w st a) (goes_on w st) (jumps_in st h a ha) (tests_in st h _)
-  row_in Cnjmp st i d s a h hd hs ha = either st.flag (goes_on w st) (jumps w st a) (tests_in st h _) (jumps_in st h a ha)
+  row_in Cjmp st i d s a h hd hs ha = either NextIn st.flag (jumps w st a) (goes_on w st) (jumps_in st h a ha) (tests_in st h _)
+  row_in Cnjmp st i d s a h hd hs ha = either NextIn st.flag (goes_on w st) (jumps w st a) (tests_in st h _) (jumps_in st h a ha)
   row_in StoreB st i d s a h hd hs ha = stores_in st h _ (bytes_after_byte st.memory a (d % 256) h.bytes (omega arith))
   row_in LoadB st i d s a h hd hs ha = gives_in st h i _ _ (byte_is_word (st.memory a) (h.bytes a))
   row_in StoreW st i d s a h hd hs ha = stores_in st h _ (bytes_after_word w st.memory (a / (w / 8)) d h.bytes)
@@ -148,28 +120,9 @@ module _ (w : ℕ) (width : IsWidth w) where
       let primary = takes w st i st.primary (λ left. record st { primary = left }) in
       let aux = takes w st i st.aux (λ left. record st { aux = left }) in
       let none = takes w st i [] (λ _. st) in
-      either (a == 0) primary (cond (a == 1) aux none)
-      (takes_in st i st.primary (λ left. record st { primary = left }) h h.primary
-      (λ left words. record {
-        pc_fits = h.pc_fits;
-        pc_aligned = h.pc_aligned;
-        registers = h.registers;
-        words = h.words;
-        bytes = h.bytes;
-        primary = words;
-        aux = h.aux;
-      }))
-      (either (a == 1) aux none
-      (takes_in st i st.aux (λ left. record st { aux = left }) h h.aux
-      (λ left words. record {
-        pc_fits = h.pc_fits;
-        pc_aligned = h.pc_aligned;
-        registers = h.registers;
-        words = h.words;
-        bytes = h.bytes;
-        primary = h.primary;
-        aux = words;
-      }))
+      either NextIn (a == 0) primary (cond (a == 1) aux none)
+      (takes_in st i st.primary (λ left. record st { primary = left }) h h.primary (λ left words. search rules))
+      (either NextIn (a == 1) aux none (takes_in st i st.aux (λ left. record st { aux = left }) h h.aux (λ left words. search rules))
       (gives_in st h i 0 true some_words))
   row_in Answer st i d s a h hd hs ha = ha
   row_in (Unused op) st i d s a h hd hs ha = tt
@@ -182,8 +135,8 @@ module _ (w : ℕ) (width : IsWidth w) where
       by_place (inl within) = all i 0 within
       by_place (inr past) = rw (get_or_past words i 0 past) some_words
 
-  pub operand_in : (st : State) → StateInRange w st → Word (operand st (fetched w st))
-  operand_in st h =
+  pub operand_is_word : (st : State) → StateInRange w st → Word (operand st (fetched w st))
+  operand_is_word st h =
       let i = fetched w st in
       cond_both i.imm i.a (reg st (i.a % 16)) Word (λ e. words_are_small w width st.memory h.bytes (st.pc / (w / 8) + 1))
       (λ e. word_at st.regs (i.a % 16) h.words)
@@ -192,23 +145,23 @@ module _ (w : ℕ) (width : IsWidth w) where
   next_in st h =
       let i = fetched w st in
       row_in (op_of i.op) st i.dest (reg st i.dest) (reg st i.source) (operand st i) h (word_at st.regs i.dest h.words) (word_at st.regs i.source h.words)
-      (operand_in st h)
+      (operand_is_word st h)
 
   left_in_range : (st : State) (came : Next) → StateInRange w st → NextIn came → StateInRange w (left_in (λ after. after) st came)
   left_in_range st (Next.Gone after) h k = k
   left_in_range st (Next.Answered v) h k = h
   left_in_range st (Next.Undefined op) h k = h
 
-  pub keeps : (st after : State) → StateInRange w st → next w st ≡ Next.Gone after → StateInRange w after
-  keeps st after h e = subst NextIn e (next_in st h)
+  pub step_keeps_range : (st after : State) → StateInRange w st → next w st ≡ Next.Gone after → StateInRange w after
+  step_keeps_range st after h e = subst NextIn e (next_in st h)
 
-  pub answers : (st : State) (v : ℕ) → StateInRange w st → next w st ≡ Next.Answered v → Word v
-  answers st v h e = subst NextIn e (next_in st h)
+  pub answer_is_word : (st : State) (v : ℕ) → StateInRange w st → next w st ≡ Next.Answered v → Word v
+  answer_is_word st v h e = subst NextIn e (next_in st h)
 
-  pub keeps_on : (st : State) (t : ℕ) → StateInRange w st → StateInRange w (state_after w t st)
-  keeps_on st zero h = h
-  keeps_on st (suc t) h =
-      let before = keeps_on st t h in
+  pub run_keeps_range : (st : State) (t : ℕ) → StateInRange w st → StateInRange w (state_after w t st)
+  run_keeps_range st zero h = h
+  run_keeps_range st (suc t) h =
+      let before = run_keeps_range st t h in
       let more : t + 1 ≡ suc t = omega arith in
       let last : state_after w 1 (state_after w t st) ≡ state_after w (suc t) st = state_next w t st ∙ ap (λ k. state_after w k st) more in
       subst (StateInRange w) last (left_in_range (state_after w t st) (next w (state_after w t st)) before (next_in (state_after w t st) before))
@@ -223,17 +176,5 @@ start_in_range w width image x aux x_words aux_words = record {
   primary = x_words;
   aux = aux_words;
 }
-
-pub step_keeps_range : StepKeepsRange
-step_keeps_range w width st after h e = keeps w width st after h e
-
-pub run_keeps_range : RunKeepsRange
-run_keeps_range w width st t h = keeps_on w width st t h
-
-pub answer_is_word : AnswerIsWord
-answer_is_word w width st v h e = answers w width st v h e
-
-pub operand_is_word : OperandIsWord
-operand_is_word w width st h = operand_in w width st h
 
 pub ruleset in_range = (start_in_range, step_keeps_range, run_keeps_range, answer_is_word, operand_is_word)

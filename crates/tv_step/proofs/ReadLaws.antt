@@ -1,12 +1,12 @@
 -- What steps take of the tapes.
-use Rattle.std.proofs.Common.{◌≡◌, ℕ, zero, suc, ◌+◌, ◌-◌, ◌≤◌, ◌==◌, ◌&&◌, ◌||◌, Bool, true, false, not, cond, nat_lt, List, [], ◌∷◌, ◌++◌, length, take}
+use Rattle.std.proofs.Common.{◌≡◌, ℕ, zero, suc, ◌+◌, ◌-◌, ◌≤◌, ◌==◌, ◌&&◌, ◌||◌, Bool, true, false, not, nat_lt, List, [], ◌∷◌, ◌++◌, length, take}
 use Rattle.std.proofs.Common.{drop, Some, None, refl, sym, ap, ◌∙◌, subst, arith, add-zero}
 use Rattle.std.specs.Prelude.{Option, if◌then◌else◌, is_some, slice_get, slice_index}
 use Rattle.std.proofs.lemmas.Bool.{eqb-true, ne_eqb, lt-ltb, le-ltb}
 use Rattle.std.proofs.Math.Seq.{take-append_seam}
 use Rattle.std.proofs.lemmas.List.{get_or-drop, drop-drop, length-append, append_assoc}
 use Rattle.tv_step.proofs.EndLaws.{end_answers}
-use Rattle.tv_step.proofs.RunLaws.{state_next}
+use Rattle.tv_step.proofs.RunLaws.{either, state_next}
 use Rattle.tv_step.specs.Machine.{next, fetched, operand, reg, left_in, state_after}
 use Rattle.tv_step.specs.Ops.{op_of}
 use Rattle.tv_step.specs.Reads.{is_read, reads_aux, word_taken, finds_end, ended_after, words_in, words_taken, IsRest, TapesAreLeft, TakenAreTheFront}
@@ -30,10 +30,6 @@ module _ (w : ℕ) (st : State) where
     first : (came n).primary ≡ (if primary then drop 1 st.primary else st.primary)
     second : (came n).aux ≡ (if aux then drop 1 st.aux else st.aux)
 
-  either : (p a c : Bool) (u v : Next) → Left p a u → Left p a v → Left p a (cond c u v)
-  either p a true u v h k = h
-  either p a false u v h k = k
-
   primary_taken : (i : ℕ) (tape : List ℕ) → st.primary ≡ tape → Left true false (takes w st i tape (λ left. record st { primary = left }))
   primary_taken i [] e = record { first = e ∙ sym (ap (drop 1) e); second = refl }
   primary_taken i (v ∷ left) e = record { first = sym (ap (drop 1) e); second = refl }
@@ -55,11 +51,11 @@ module _ (w : ℕ) (st : State) where
 
   row_left : (op : Op) (i d s a : ℕ)
       → Left (is_read op && (a == 0)) (is_read op && (a == 1)) (row w op st (record { dest = i; held = d; source = s; operand = a }))
-  row_left Cmov i d s a = either false false st.flag (moves w st i a) (goes_on w st) (record { first = refl; second = refl })
+  row_left Cmov i d s a = either (Left false false) st.flag (moves w st i a) (goes_on w st) (record { first = refl; second = refl })
       (record { first = refl; second = refl })
-  row_left Cjmp i d s a = either false false st.flag (jumps w st a) (goes_on w st) (record { first = refl; second = refl })
+  row_left Cjmp i d s a = either (Left false false) st.flag (jumps w st a) (goes_on w st) (record { first = refl; second = refl })
       (record { first = refl; second = refl })
-  row_left Cnjmp i d s a = either false false st.flag (goes_on w st) (jumps w st a) (record { first = refl; second = refl })
+  row_left Cnjmp i d s a = either (Left false false) st.flag (goes_on w st) (jumps w st a) (record { first = refl; second = refl })
       (record { first = refl; second = refl })
   row_left Read i d s a = reads_left i (a == 0) (a == 1) (zero_not_one a)
   row_left _ i d s a = record { first = refl; second = refl }

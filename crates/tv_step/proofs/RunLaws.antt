@@ -1,5 +1,5 @@
 -- Runs, from where some steps were taken.
-use Rattle.std.proofs.Common.{◌≡◌, ◌<◌, ℕ, zero, suc, ◌+◌, ◌-◌, ap, ◌∙◌, refl, arith}
+use Rattle.std.proofs.Common.{◌≡◌, ◌<◌, ℕ, zero, suc, ◌+◌, ◌-◌, Bool, true, false, cond, ap, ◌∙◌, refl, arith}
 use Rattle.tv_step.specs.Machine.{next, ended, end_from, end_of, left_in, state_after}
 use Rattle.tv_step.specs.State.{State, Next}
 use Rattle.tv_step.specs.declared.end.End.TheVariants as ends
@@ -31,22 +31,15 @@ module _ (w k : ℕ) (first st : State) (ran : Ran w k first st) where
   pub state_reached : state_after w k first ≡ st
   state_reached = let same : k ≡ k + 0 = omega arith in ap (λ m. state_after w m first) same ∙ ran.states 0
 
-  module _ (t : ℕ) (within : k < t) where
+  module _ (t : ℕ) (within : k < t) (came : Next) (stops : next w st ≡ came) where
     more : t ≡ k + suc (t - (k + 1))
     more = omega arith
 
-    pub end_answered : (v : ℕ) → next w st ≡ Next.Answered v → end_of w t first ≡ ends.Answer v (k + 1)
-    end_answered v stops = ap (λ m. end_of w m first) more ∙ ran.ends (suc (t - (k + 1))) ∙ ap (ended (λ a. end_from w (k + 1) (t - (k + 1)) a) (k + 1)) stops
+    pub end_stopped : end_of w t first ≡ ended (λ a. end_from w (k + 1) (t - (k + 1)) a) (k + 1) came
+    end_stopped = ap (λ m. end_of w m first) more ∙ ran.ends (suc (t - (k + 1))) ∙ ap (ended (λ a. end_from w (k + 1) (t - (k + 1)) a) (k + 1)) stops
 
-    pub state_answered : (v : ℕ) → next w st ≡ Next.Answered v → state_after w t first ≡ st
-    state_answered v stops = ap (λ m. state_after w m first) more ∙ ran.states (suc (t - (k + 1))) ∙ ap (left_in (λ a. state_after w (t - (k + 1)) a) st) stops
-
-    pub end_undefined : (op : ℕ) → next w st ≡ Next.Undefined op → end_of w t first ≡ ends.Undefined op (k + 1)
-    end_undefined op stops = ap (λ m. end_of w m first) more ∙ ran.ends (suc (t - (k + 1))) ∙ ap (ended (λ a. end_from w (k + 1) (t - (k + 1)) a) (k + 1)) stops
-
-    pub state_undefined : (op : ℕ) → next w st ≡ Next.Undefined op → state_after w t first ≡ st
-    state_undefined op stops = ap (λ m. state_after w m first) more ∙ ran.states (suc (t - (k + 1)))
-        ∙ ap (left_in (λ a. state_after w (t - (k + 1)) a) st) stops
+    pub state_stopped : state_after w t first ≡ left_in (λ a. state_after w (t - (k + 1)) a) st came
+    state_stopped = ap (λ m. state_after w m first) more ∙ ran.states (suc (t - (k + 1))) ∙ ap (left_in (λ a. state_after w (t - (k + 1)) a) st) stops
 
 -- the state after one more step
 one_more : (w k : ℕ) (st : State) → ((after : State) → state_after w 1 (state_after w k after) ≡ state_after w (k + 1) after) → (came : Next) → next w st ≡ came
@@ -61,4 +54,9 @@ state_next w (suc k) st =
     let more : suc (k + 1) ≡ suc k + 1 = omega arith in
     one_more w k st (state_next w k) (next w st) refl ∙ ap (λ n. state_after w n st) more
 
-pub ruleset run_laws = (end_silent, end_answered, end_undefined, state_answered, state_undefined, state_reached, ran_none, ran_on)
+-- what is so of two is so of the one that a test chooses
+pub either : {A : Type 0} (P : A → Type 0) (b : Bool) (u v : A) → P u → P v → P (cond b u v)
+either P true u v h k = h
+either P false u v h k = k
+
+pub ruleset run_laws = (end_silent, end_stopped, state_stopped, state_reached, ran_none, ran_on)

@@ -1,5 +1,6 @@
 -- Memory and the primary tape as one function from cell to word, and what the lines of a step are of it.
-use Rattle.std.specs.Prelude.{◌≡◌, ℕ, ◌+◌, ◌-◌, ◌*◌, ◌^◌, ◌<◌, ◌≤◌, Bool, true, false, nat_lt, if◌then◌else◌, List, [], ◌∷◌, ◌++◌, length, All, slice_index, slice_index_or}
+use Rattle.std.specs.Prelude.{◌≡◌, ℕ, ◌+◌, ◌-◌, ◌*◌, ◌^◌, ◌<◌, ◌≤◌, Bool, true, false, nat_lt, if◌then◌else◌, List, [], ◌∷◌, ◌++◌, length, All, slice_index}
+use Rattle.std.specs.Prelude.{slice_index_or}
 use Rattle.tv_core.specs.Lines.{Line, written, memory_after, Honest}
 use Rattle.tv_core.specs.declared.limits.TheConstants.{TAPE_CELLS}
 use Rattle.tv_mem.specs.Bytes.{word_in}
@@ -106,7 +107,8 @@ pub record IsInput (w : ℕ) (image x aux : List ℕ) : Type 0 where
 
 -- boot lines leave what the cells hold at the start, and all lines what they hold after the steps
 abbrev pub BootLeavesTheStart : Type 0
-BootLeavesTheStart = (w : ℕ) (image x aux : List ℕ) → IsInput w image x aux → (c : ℕ) → memory_after (boot_lines image x) c ≡ cells_of w x (start w image x aux) c
+BootLeavesTheStart = (w : ℕ) (image x aux : List ℕ) → IsInput w image x aux → (c : ℕ)
+    → memory_after (boot_lines image x) c ≡ cells_of w x (start w image x aux) c
 
 abbrev pub LinesLeaveTheState : Type 0
 LinesLeaveTheState = (w : ℕ) (image x aux : List ℕ) (t : ℕ) → IsInput w image x aux

@@ -1,8 +1,10 @@
 -- The instructions by their opcodes.
 use Rattle.std.specs.Prelude.{ℕ, ◌==◌, if◌then◌else◌, List, [], ◌∷◌}
-use Rattle.tv_isa.specs.declared.opcode.TheConstants.{AND, OR, XOR, NOT, ADD, SUB, MULL, UMULH, SMULH, UDIV, UMOD, SHL, SHR, CMPE, CMPA, CMPAE, CMPG, CMPGE, MOV, CMOV, JMP, CJMP, CNJMP, STORE_B, LOAD_B, STORE_W, LOAD_W, READ, ANSWER}
+use Rattle.tv_isa.specs.declared.opcode.TheConstants.{AND, OR, XOR, NOT, ADD, SUB, MULL, UMULH, SMULH, UDIV, UMOD, SHL, SHR, CMPE, CMPA, CMPAE, CMPG, CMPGE}
+use Rattle.tv_isa.specs.declared.opcode.TheConstants.{MOV, CMOV, JMP, CJMP, CNJMP, STORE_B, LOAD_B, STORE_W, LOAD_W, READ, ANSWER}
 use Rattle.tv_step.specs.declared.op.Op.{Op}
-use Rattle.tv_step.specs.declared.op.Op.TheVariants.{And, Or, Xor, Not, Add, Sub, Mull, Umulh, Smulh, Udiv, Umod, Shl, Shr, Cmpe, Cmpa, Cmpae, Cmpg, Cmpge, Mov, Cmov, Jmp, Cjmp, Cnjmp, StoreB, LoadB, StoreW, LoadW, Read, Answer, Unused}
+use Rattle.tv_step.specs.declared.op.Op.TheVariants.{And, Or, Xor, Not, Add, Sub, Mull, Umulh, Smulh, Udiv, Umod, Shl, Shr, Cmpe, Cmpa, Cmpae, Cmpg, Cmpge}
+use Rattle.tv_step.specs.declared.op.Op.TheVariants.{Mov, Cmov, Jmp, Cjmp, Cnjmp, StoreB, LoadB, StoreW, LoadW, Read, Answer, Unused}
 
 -- each instruction's opcode
 abbrev pub ops : List (ℕ × Op)

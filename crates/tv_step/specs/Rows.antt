@@ -1,11 +1,14 @@
 -- The 29 instructions, a row each: what comes of a step of word size w in a state st, on the instruction's operands.
 use Rattle.std.specs.Prelude.{ℕ, ◌+◌, ◌-◌, ◌/◌, ◌%◌, ◌^◌, Bool, true, false, ◌==◌, if◌then◌else◌, List, [], ◌∷◌, slice_set}
 use Rattle.tv_mem.specs.Bytes.{Bytes, with_byte, with_word, word_in}
-use Rattle.tv_word.specs.Operations.{and_result, or_result, xor_result, not_result, bitwise_flag, add_result, add_flag, sub_result, sub_flag, mull_result, umulh_result, product_flag, smulh_result, smulh_flag}
-use Rattle.tv_word.specs.Operations.{udiv_result, umod_result, division_flag, shl_result, shl_flag, shr_result, shr_flag, cmpe_flag, cmpa_flag, cmpae_flag, cmpg_flag, cmpge_flag}
+use Rattle.tv_word.specs.Operations.{and_result, or_result, xor_result, not_result, bitwise_flag, add_result, add_flag, sub_result, sub_flag, mull_result}
+use Rattle.tv_word.specs.Operations.{umulh_result, product_flag, smulh_result, smulh_flag}
+use Rattle.tv_word.specs.Operations.{udiv_result, umod_result, division_flag, shl_result, shl_flag, shr_result, shr_flag, cmpe_flag, cmpa_flag, cmpae_flag}
+use Rattle.tv_word.specs.Operations.{cmpg_flag, cmpge_flag}
 use Rattle.tv_step.specs.State.{State, Next}
 use Rattle.tv_step.specs.declared.op.Op.{Op}
-use Rattle.tv_step.specs.declared.op.Op.TheVariants.{And, Or, Xor, Not, Add, Sub, Mull, Umulh, Smulh, Udiv, Umod, Shl, Shr, Cmpe, Cmpa, Cmpae, Cmpg, Cmpge, Mov, Cmov, Jmp, Cjmp, Cnjmp, StoreB, LoadB, StoreW, LoadW, Read, Answer, Unused}
+use Rattle.tv_step.specs.declared.op.Op.TheVariants.{And, Or, Xor, Not, Add, Sub, Mull, Umulh, Smulh, Udiv, Umod, Shl, Shr, Cmpe, Cmpa, Cmpae, Cmpg, Cmpge}
+use Rattle.tv_step.specs.declared.op.Op.TheVariants.{Mov, Cmov, Jmp, Cjmp, Cnjmp, StoreB, LoadB, StoreW, LoadW, Read, Answer, Unused}
 
 -- how many bytes a word has, and an instruction, which is two words
 abbrev pub word_size : ℕ → ℕ

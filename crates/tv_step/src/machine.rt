@@ -2,9 +2,8 @@
 ghost use Rattle.std.specs.Prelude.{◌≡◌, ◌<◌, ◌≤◌, ◌+◌, ◌*◌, ◌/◌, ◌^◌, ℕ, length, slice_index, All};
 ghost use Rattle.std.specs.Prelude.{IfOk, OnOk, OnErr};
 ghost use Rattle.tv_word.specs.Widths.{IsWidth};
-ghost use Rattle.tv_isa.specs.Instruction.{IsInstruction};
 ghost use Rattle.tv_mem.specs.Bytes.{word_in};
-ghost use Rattle.tv_step.specs.Machine.{fetched, next, start, end_of, state_after};
+ghost use Rattle.tv_step.specs.Machine.{next, start, end_of, state_after};
 ghost use Rattle.tv_step.specs.Views.{state_of, CameTo};
 
 use crate::end::{End, Outcome};
@@ -13,7 +12,7 @@ use crate::pc::Counter;
 use crate::registers::Registers;
 use crate::state::Machine;
 use std::alloc::{AllocError, Global};
-use tv_isa::{Instr, decode};
+use tv_isa::decode;
 use tv_tape::Tape;
 use tv_word::Words;
 
@@ -101,17 +100,6 @@ impl<const W: u32> Machine<W> {
         self.memory.load_pair::<W>(self.pc.address())
     }
 
-    // The instruction at the program counter.
-    fn fetched(&self) -> Instr
-        requires width { IsWidth W }
-        ensures same { result ≡ fetched W (state_of self.now) }
-        ensures range { IsInstruction result }
-        ensures word { result.a < 2 ^ W }
-    {
-        let (h, a) = self.fetched_words();
-        decode::<W>(h, a)
-    }
-
     /// Takes one step. After an answer, after an opcode that isn't used, and where memory is
     /// refused, the state is as before.
     pub fn step(&mut self) -> Result<Outcome, AllocError>
@@ -120,8 +108,8 @@ impl<const W: u32> Machine<W> {
             (state_of self.old) (state_of self.new)) }
         ensures err { OnErr result (state_of self.new ≡ state_of self.old) }
     {
-        let instr = self.fetched();
-        self.executes(&instr)
+        let (h, a) = self.fetched_words();
+        self.executes(&decode::<W>(h, a))
     }
 
     /// Takes at most `t` steps, which count from 1, and stops at an answer or an opcode that isn't
@@ -135,20 +123,11 @@ impl<const W: u32> Machine<W> {
             × (state_of self.new ≡ state_after W n (state_of self.old))) }
     {
         for taken in 0..t {
+            let step = taken + 1;
             match self.step()? {
                 Outcome::Gone => {}
-                Outcome::Answered { value } => {
-                    return Ok(End::Answer {
-                        value,
-                        step: taken + 1,
-                    });
-                }
-                Outcome::Undefined { op } => {
-                    return Ok(End::Undefined {
-                        op,
-                        step: taken + 1,
-                    });
-                }
+                Outcome::Answered { value } => return Ok(End::Answer { value, step }),
+                Outcome::Undefined { op } => return Ok(End::Undefined { op, step }),
             }
         }
         Ok(End::Silent { steps: t })

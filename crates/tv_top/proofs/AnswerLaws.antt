@@ -1,28 +1,26 @@
 -- What a call promises, from what reading found, from writing and from saying a line.
-use Rattle.std.proofs.Common.{◌≡◌, ◌≢◌, ℕ, ◌⊎◌, Bool, false, List, [], ◌∷◌, ◌++◌, take, Option, Some, None, option_map, true, Result, Ok, Err, inl, inr}
+use Rattle.std.proofs.Common.{◌≡◌, ℕ, ◌⊎◌, Bool, false, List, [], ◌∷◌, ◌++◌, take, Option, Some, None, option_map, true, Result, Ok, Err, inl, inr}
 use Rattle.std.proofs.Common.{refl, sym, ap, ◌∙◌, arith, rules}
 use Rattle.std.specs.List.{list_any}
 use Rattle.std.specs.Prelude.{IfOk, IsErrAnd, MatchResult}
 use Rattle.std.proofs.lemmas.Bool.{or_parts}
-use Rattle.tv_top.proofs.Common.{Names, Outside, OnlyWrites, Rose, Amount, Bad, Ending, Refused, Stopped, Finished, Finish, Quantity, Refusal, Stop, Fault}
-use Rattle.tv_top.proofs.Common.{Memory, Contents, Size, What, Status, words_of, MayStop, quantities_of, IsOfWords, ChangedAt, IsSaid, Answers, Content}
+use Rattle.std.proofs.lemmas.Slice.Eq.{bytes_eq-Decides}
+use Rattle.tv_top.proofs.Common.{Names, Outside, OnlyWrites, Rose, Amount, Bad, Ending, Refused, Stopped, Finished, Finish, Refusal, Stop, Fault}
+use Rattle.tv_top.proofs.Common.{Memory, Contents, What, Status, words_of, MayStop, quantities_of, IsOfWords, ChangedAt, IsSaid, Answers, Content}
 use Rattle.tv_top.proofs.Common.{bytes_in, AreRead, files_with, IsCutAt, IsCutInWriting, Said, SaidPart, Ends, IsConcluded, Concludes, Writes, IsCut}
 use Rattle.tv_top.proofs.Common.{Completes, Does, ending_of, IsOneOf, IsFound, Finds, Leaves, IsQuiet, NoneFell, RanOut, SameCounts, Named, Look}
 use Rattle.tv_top.proofs.Common.{Outcome, Plan, Answer}
-use Rattle.tv_top.proofs.Common.{files_of, answer_of, ending_by, outcome_by, writes_by, MayEnd, quantity_what, size_what, bad_status, refusal_status}
+use Rattle.tv_top.proofs.Common.{files_of, answer_of, ending_by, outcome_by, writes_by, MayEnd, bad_status, refusal_status}
 use Rattle.tv_top.proofs.Common.{stop_status, finish_status, ending_status}
 use Rattle.tv_top.specs.declared.refusal.Bad.TheVariants as bad
 use Rattle.tv_top.specs.declared.refusal.Finish.TheVariants as finishes
-use Rattle.tv_top.specs.declared.refusal.Quantity.TheVariants as quantity
 use Rattle.tv_top.specs.declared.refusal.Refusal.TheVariants as refusal
-use Rattle.tv_top.specs.declared.refusal.Size.TheVariants as size
-use Rattle.tv_top.specs.Answers.{is_in_files, is_shared, plan_reading}
-use Rattle.tv_top.specs.declared.status.What.TheVariants.{Draws, Steps, TapeWords}
+use Rattle.tv_top.specs.Answers.{is_same, is_shared, plan_reading}
 use Rattle.tv_check.specs.declared.verdict.Verdict.TheVariants as verdict
 use Rattle.tv_top.specs.declared.status.Status.TheVariants as status
 use Rattle.tv_step.specs.declared.end.End.TheVariants as end
 use Rattle.tv_container.proofs.Buffers.{counts_stay, counts_then, ran_out_since}
-use Rattle.tv_top.specs.Codes.{says}
+use Rattle.tv_top.specs.Codes.{says, what_text}
 use Rattle.tv_top.proofs.LookLaws.{finds_comes, finds_without_memory}
 use Rattle.tv_top.specs.Finds.{reading}
 
@@ -32,13 +30,11 @@ use Rattle.tv_top.specs.Finds.{reading}
 abbrev of_words : Status → Option Refusal
 of_words status.Usage = Some refusal.Usage
 of_words (status.SameName first second) = Some (refusal.SameName first second)
-of_words (status.Limit Steps has most) = Some (refusal.Limit quantity.Steps has most)
-of_words (status.Limit TapeWords has most) = Some (refusal.Limit quantity.TapeWords has most)
-of_words (status.Limit Draws has most) = Some (refusal.Limit quantity.Draws has most)
+of_words (status.Limit what has most) = Some (refusal.Limit what has most)
 of_words _ = None
 
 words_is : (why : Refusal) → of_words (refusal_status why) ≡ Some why
-words_is (refusal.Limit quantity.Steps has most) = refl
+words_is (refusal.Limit what has most) = refl
 words_is _ = refl
 
 -- each refusal of words has a status of its own
@@ -66,9 +62,8 @@ stop_is (Contents b) = (bad_is b).0
 stop_is _ = refl
 
 -- a limit is answered to a file that passes it
-stop_limit : (stop : Stop) (what : What) → limit_in (stop_status stop) ≡ Some what → (size : Size) × (has most : ℕ)
-    × (stop ≡ Contents (bad.Limit size has most)) × (size_what size ≡ what)
-stop_limit (Contents (bad.Limit size has most)) what e = (size, has, most, refl, cc)
+stop_limit : (stop : Stop) (what : What) → limit_in (stop_status stop) ≡ Some what → (has most : ℕ) × (stop ≡ Contents (bad.Limit what has most))
+stop_limit (Contents (bad.Limit size has most)) what e = (has, most, cc)
 stop_limit _ what e = cc
 
 stop_faulty : (stop : Stop) (word : ℕ) → stop_status stop ≡ status.FileFault word → stop ≡ Fault word
@@ -143,31 +138,20 @@ ran_out_then old mid new result ran_out later (inr (inr memory)) e = let again =
 
 -- ---- a limit on a quantity among the words is of no file
 
--- a quantity in no file is answered as none of the files'
-no_size : (what : Quantity) (size : Size) → is_in_files what size ≡ false → quantity_what what ≢ size_what size
-no_size quantity.TapeWords size.TapeWords none = λ e. cc
-no_size quantity.Steps size.TapeWords none = λ e. cc
-no_size quantity.Draws size.TapeWords none = λ e. cc
-no_size _ _ none = λ e. cc
+none_of : {A : Type 0} (p : A → Bool) (x : A) (xs : List A) → list_any p xs ≡ false → IsOneOf x xs → p x ≡ false
+none_of p x [] none at = absurd at
+none_of p x (y ∷ ys) none (inl is) = rw is (or_parts (p y) (list_any p ys) none).0
+none_of p x (y ∷ ys) none (inr at) = none_of p x ys (or_parts (p y) (list_any p ys) none).1 at
 
-no_sizes : (what : Quantity) (sizes : List Size) (size : Size) → list_any (is_in_files what) sizes ≡ false → IsOneOf size sizes
-    → quantity_what what ≢ size_what size
-no_sizes what [] size none at = absurd at
-no_sizes what (first ∷ sizes) size none (inl is) = rw is (no_size what first (or_parts (is_in_files what first) (list_any (is_in_files what) sizes) none).0)
-no_sizes what (first ∷ sizes) size none (inr at) =
-    no_sizes what sizes size (or_parts (is_in_files what first) (list_any (is_in_files what) sizes) none).1 at
-
-apart_from : (amounts : List Amount) (sizes : List Size) (what : Quantity) (size : Size) → is_shared amounts sizes ≡ false
-    → IsOneOf what (quantities_of amounts) → IsOneOf size sizes → quantity_what what ≢ size_what size
-apart_from [] sizes what size apart known at = absurd known
-apart_from (amount ∷ amounts) sizes what size apart (inl is) at =
-    rw is (no_sizes amount.what sizes size (or_parts (list_any (is_in_files amount.what) sizes) (is_shared amounts sizes) apart).0 at)
-apart_from (amount ∷ amounts) sizes what size apart (inr known) at =
-    apart_from amounts sizes what size (or_parts (list_any (is_in_files amount.what) sizes) (is_shared amounts sizes) apart).1 known at
+apart_from : (amounts : List Amount) (sizes : List What) (what : What) → is_shared amounts sizes ≡ false → IsOneOf what (quantities_of amounts)
+    → IsOneOf what sizes → ⊥
+apart_from amounts sizes what apart known at =
+    let other = none_of (is_same what) what sizes (none_of (λ one. list_any (is_same one) sizes) what (quantities_of amounts) apart known) at in
+    let same = (bytes_eq-Decides (what_text what) (what_text what)).1 refl in cc
 
 -- a limit that looks were refused for is of one of these
-abbrev IsWithin : List Size → Result Outcome Stop → Type 0
-IsWithin sizes found = (what : Size) (has most : ℕ) → found ≡ Err (Contents (bad.Limit what has most)) → IsOneOf what sizes
+abbrev IsWithin : List What → Result Outcome Stop → Type 0
+IsWithin sizes found = (what : What) (has most : ℕ) → found ≡ Err (Contents (bad.Limit what has most)) → IsOneOf what sizes
 
 -- the answer to what was found
 abbrev found_answer : Plan → ℕ → Outcome → Answer
@@ -181,10 +165,10 @@ stop_refuses plan stop refusal.Usage apart limited known e = let none = stop_is 
 stop_refuses plan stop (refusal.SameName first second) apart limited known e = let none = stop_is stop in
     let some : is_plain (stop_status stop) ≡ true = ap is_plain e in cc
 stop_refuses plan stop (refusal.Limit quantity has most) apart limited known e =
-    let found = stop_limit stop (quantity_what quantity) (ap limit_in e) in
-    apart_from plan.amounts plan.sizes quantity found.0 apart known (limited found.0 found.1 found.2 (ap Err found.3)) (sym found.4)
+    let found = stop_limit stop quantity (ap limit_in e) in
+    apart_from plan.amounts plan.sizes quantity apart known (limited quantity found.0 found.1 (ap Err found.2))
 
-may_stop : (sizes : List Size) (stop : Stop) → IsWithin sizes (Err stop) → MayStop sizes stop
+may_stop : (sizes : List What) (stop : Stop) → IsWithin sizes (Err stop) → MayStop sizes stop
 may_stop sizes (Contents (bad.Limit what has most)) limited = limited what has most refl
 may_stop sizes _ limited = tt
 
@@ -485,8 +469,7 @@ answers_done plan (Err stop) words old after new result apart (inr (outcome, mid
       | inl writes ↦ answers_halted plan outcome stop words old mid after new result apart finds writes.only writes.ended concludes
       | inr wanting ↦ let is = wanting.0 in let memory : stop ≡ Memory = cc in
           answers_ended plan (Err Memory) words old mid mid new result apart tt
-          (finds_without_memory (λ (o : Outcome). o) (λ (o : Outcome). o) (words_of plan.reads) plan.sizes plan.leads_to outcome old mid
-          (Err Memory) refl finds)
+          (finds_without_memory (Err Memory) refl finds)
           (nothing_written mid)
           (rw (memory, wanting.1) at concludes)
     ]
@@ -501,7 +484,7 @@ pub does_stopped : {X A : Type 0} (plan : Plan) (view : X → A) (ends : A → O
     → Does plan old new result
 does_stopped plan view ends due stop old new (Ok finish) is finds same = absurd same
 does_stopped plan view ends due stop old new (Err other) is finds same = inl
-    (stop, ap Err same, rw is (finds_comes view ends (words_of plan.reads) plan.sizes due old new (Err stop) finds))
+    (stop, ap Err same, rw is (finds_comes ends (Err stop) finds))
 
 pub does_found : {X A : Type 0} (plan : Plan) (view : X → A) (ends : A → Outcome) (due : Names → Look A) (found : X) (old mid new : Outside)
     (result : Result Finish Stop) →
@@ -509,7 +492,7 @@ pub does_found : {X A : Type 0} (plan : Plan) (view : X → A) (ends : A → Out
     → Finds view (reading (words_of plan.reads) plan.sizes due) old mid (Ok found) → Completes plan.writes (ends (view found)) mid new result
     → Does plan old new result
 does_found plan view ends due found old mid new result is may finds completes = inr
-    (ends (view found), mid, may, rw is (finds_comes view ends (words_of plan.reads) plan.sizes due old mid (Ok found) finds), completes)
+    (ends (view found), mid, may, rw is (finds_comes ends (Ok found) finds), completes)
 
 -- ---- what was found is completed
 

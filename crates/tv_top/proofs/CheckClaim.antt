@@ -18,7 +18,7 @@ use Rattle.tv_r1cs_read.specs.R1cs.{r1cs_system}
 use Rattle.tv_r1cs_read.specs.Survey.{survey_of}
 use Rattle.tv_wtns.specs.Wtns.{Firsts, firsts_of, assignment_of}
 use Rattle.tv_wtns.proofs.ValueLaws.{assignments_below}
-use Rattle.tv_top.specs.declared.refusal.Size.TheVariants.{TapeWords}
+use Rattle.tv_top.specs.declared.refusal.What.TheVariants.{TapeWords}
 use Rattle.tv_top.specs.declared.refusal.Stop.{Stop}
 use Rattle.tv_top.specs.Check.{check_of, check_ends, check_plan, IsJudged, HasVerdict, OnCheck}
 use Rattle.tv_top.specs.Containers.{system_bad, witness_bad, system_in, witness_in, firsts_in_witness, counts_in, verdict_in}

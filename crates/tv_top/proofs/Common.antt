@@ -4,14 +4,12 @@ pub use Rattle.tv_word.specs.Counts.{Rose}
 pub use Rattle.tv_top.specs.declared.refusal.Bad.{Bad}
 pub use Rattle.tv_top.specs.declared.refusal.Ending.{Ending}
 pub use Rattle.tv_top.specs.declared.refusal.Finish.{Finish}
-pub use Rattle.tv_top.specs.declared.refusal.Quantity.{Quantity}
+pub use Rattle.tv_top.specs.declared.refusal.What.{What}
 pub use Rattle.tv_top.specs.declared.refusal.Refusal.{Refusal}
-pub use Rattle.tv_top.specs.declared.refusal.Size.{Size}
 pub use Rattle.tv_top.specs.declared.refusal.Stop.{Stop}
 pub use Rattle.tv_top.specs.declared.refusal.Stop.TheVariants.{Fault, Memory, Contents}
 pub use Rattle.tv_top.specs.declared.refusal.Ending.TheVariants.{Refused, Stopped, Finished}
 pub use Rattle.tv_top.specs.declared.status.Status.{Status}
-pub use Rattle.tv_top.specs.declared.status.What.{What}
 pub use Rattle.tv_top.specs.declared.inputs.Inputs.{Inputs}
 pub use Rattle.tv_top.specs.declared.programs.Program.{Program}
 pub use Rattle.tv_top.specs.declared.programs.Width.{Width}
@@ -27,5 +25,5 @@ pub use Rattle.tv_top.specs.Answers.{words_of, plan_reading, MayStop, MayEnd, qu
 pub use Rattle.tv_top.specs.Claims.{Call, Holds, Then, IsStopped, status_by, Answered, AnswersOrStops}
 pub use Rattle.tv_top.specs.Programs.{bits, program_in, program_sizes, image_words, image_bytes, program_result, HasImage, width_of_text, program_of}
 unfoldable pub use Rattle.tv_top.specs.Programs.{program_by, image_of}
-pub use Rattle.tv_top.specs.Status.{quantity_what, size_what, bad_status, refusal_status, stop_status, finish_status, ending_status}
+pub use Rattle.tv_top.specs.Status.{bad_status, refusal_status, stop_status, finish_status, ending_status}
 pub use Rattle.tv_top.specs.Contents.{Content, bytes_in, IsRead}

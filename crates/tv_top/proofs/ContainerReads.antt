@@ -1,7 +1,7 @@
 -- From what reading a container came to, by what its file holds, to what a look at the file found.
 use Rattle.std.proofs.Common.{◌≡◌, ℕ, ◌≤◌, List, [], ◌∷◌, Option, Some, None, Result, Ok, Err, inl, inr, refl, arith}
 use Rattle.std.specs.Prelude.{MatchResult}
-use Rattle.tv_top.proofs.Common.{Names, Outside, OnlyReads, MissesOnly, Rose, Bad, Size, Stop, MayStop, IsFound, Finds, Spares, Named, Look, input, held_at}
+use Rattle.tv_top.proofs.Common.{Names, Outside, OnlyReads, MissesOnly, Rose, Bad, What, Stop, MayStop, IsFound, Finds, Spares, Named, Look, input, held_at}
 use Rattle.tv_top.proofs.Common.{made_of, map_ok}
 use Rattle.tv_container.specs.Places.{Fault, ◌>>=◌}
 use Rattle.tv_container.specs.Reading as reading
@@ -10,12 +10,12 @@ use Rattle.tv_container.specs.declared.why.ReadRefusal.{ReadRefusal}
 use Rattle.tv_container.specs.declared.why.ReadRefusal.TheVariants as refusal
 use Rattle.tv_top.specs.declared.refusal.Bad.TheVariants.{Limit}
 use Rattle.tv_top.specs.declared.refusal.Stop.TheVariants as stop
-use Rattle.tv_top.specs.Containers.{container_result, refusal_stop, system_bad, witness_bad}
+use Rattle.tv_top.specs.Containers.{container_result, refusal_stop}
 use Rattle.tv_top.proofs.LookLaws.{finds_still}
 use Rattle.tv_top.specs.Finds.{reading, reading_of}
 
 -- what a refusal of a reader is: a fault of this word, where it is that of reading, or contents that may be refused so
-abbrev pub StopsBy : ℕ → List Size → Type 0 → Stop → Type 0
+abbrev pub StopsBy : ℕ → List What → Type 0 → Stop → Type 0
 StopsBy word sizes Faulty (stop.Fault at) = (at ≡ word) × Faulty
 StopsBy word sizes Faulty stop.Memory = Unit {0}
 StopsBy word sizes Faulty (stop.Contents bad) = MayStop sizes (stop.Contents bad)
@@ -25,7 +25,7 @@ abbrev pub came : {Y E : Type 0} → (E → Stop) → Result Y E → Result Y St
 came stop (Ok y) = Ok y
 came stop (Err why) = Err (stop why)
 
-module _ {Y E A : Type 0} (view : Y → A) (of : E → Stop) (fault : E) (word : ℕ) (sizes : List Size) (name : List ℕ) (due : Option (List ℕ) → Look A)
+module _ {Y E A : Type 0} (view : Y → A) (of : E → Stop) (fault : E) (word : ℕ) (sizes : List What) (name : List ℕ) (due : Option (List ℕ) → Look A)
     (old new : Outside) (Stands : E → Type 0) where
   known : (result : Result Y E) → of fault ≡ stop.Fault word → word ≤ (due None).at → Known old name (λ file. IsFound view (due (Some file)) (came of result))
       → (IsMissing old name → result ≡ Err fault) → (files : Names) → old.contents ≡ Some files →
@@ -55,14 +55,8 @@ module _ {Y E A : Type 0} (view : Y → A) (of : E → Stop) (fault : E) (word :
 -- ---- systems and assignments
 
 -- no fault of the contents is a limit
-abbrev pub NoLimit : (Fault → Bad) → Type 0
+abbrev NoLimit : (Fault → Bad) → Type 0
 NoLimit bad = (fault : Fault) → MayStop [] (stop.Contents (bad fault))
-
-pub system_limitless : NoLimit system_bad
-system_limitless fault = tt
-
-pub witness_limitless : NoLimit witness_bad
-witness_limitless fault = tt
 
 read_stops : (word : ℕ) (bad : Fault → Bad) → NoLimit bad → (why : ReadRefusal) → StopsBy word [] (why ≡ refusal.Fault) (refusal_stop word bad why)
 read_stops word bad none (refusal.Bad at what) = none (record { at = at; why = what })
@@ -86,15 +80,14 @@ read_found view word bad due (Err (refusal.Bad at what)) gives = rw (gives.bad a
 read_found view word bad due (Err refusal.Fault) gives = omega arith
 read_found view word bad due (Err refusal.Memory) gives = tt
 
--- what reading a container found
+-- what reading a container found, as its refusals are passed on
 pub finds_read : {Y A : Type 0} (view : Y → A) (place : Named) (bad : Fault → Bad) (read : List ℕ → Result A Fault) (old new : Outside)
-    (result : Result Y ReadRefusal) → NoLimit bad →
+    (result : Result Y ReadRefusal) (found : Result Y Stop) → found ≡ came (refusal_stop place.word bad) result → NoLimit bad →
     Known old place.name (λ file. ReadsAsBy result view (read file)) → Looks old new place.name result → (IsMissing old place.name
-    → result ≡ Err refusal.Fault) →
-    Finds view (reading_of place [] (λ file. container_result bad (read file))) old new (came (refusal_stop place.word bad) result)
+    → result ≡ Err refusal.Fault) → Finds view (reading_of place [] (λ file. container_result bad (read file))) old new found
 unfolding input
-finds_read view place bad read old new result none gives looks missing =
-    finds_file view (refusal_stop place.word bad) refusal.Fault place.word [] place.name
+finds_read view place bad read old new result found is none gives looks missing =
+    rw is (finds_file view (refusal_stop place.word bad) refusal.Fault place.word [] place.name
     (λ file. record { at = place.word; gives = held_at place.word (λ file. container_result bad (read file)) file }) old new
     (Stopped old new place.name) result refl (omega arith) refl
     (read_stops place.word bad none) (λ why stopped. (
@@ -102,7 +95,7 @@ finds_read view place bad read old new result none gives looks missing =
       stopped.there,
       read_spares place.word bad why old new stopped.leaves,
       read_caused why old new stopped.leaves,
-    )) (λ file there. read_found view place.word bad (read file) result (gives file there)) looks missing
+    )) (λ file there. read_found view place.word bad (read file) result (gives file there)) looks missing)
 
 -- what is found of a container that isn't refused
 pub read_of : {A : Type 0} (bad : Fault → Bad) (read : Result A Fault) (x : A) → container_result bad read ≡ Ok x → read ≡ Ok x

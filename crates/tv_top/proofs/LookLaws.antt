@@ -2,7 +2,7 @@
 use Rattle.std.proofs.Common.{◌≡◌, ℕ, ◌+◌, nat_le, List, [], ◌∷◌, ◌++◌, length, Option, Some, None, Result, Ok, Err, IsErrAnd, inl, inr, refl, ap, subst, ◌∙◌}
 use Rattle.std.proofs.Common.{◌≤◌, arith, rules}
 use Rattle.std.proofs.lemmas.Bool.{cond_both}
-use Rattle.tv_top.proofs.Common.{Names, Outside, OnlyReads, SameCounts, Bad, Size, Stop, Fault, Memory, Contents, IsOneOf, IsFound, Finds, Leaves, Makes}
+use Rattle.tv_top.proofs.Common.{Names, Outside, OnlyReads, SameCounts, Bad, What, Stop, Fault, Memory, Contents, IsOneOf, IsFound, Finds, Leaves, Makes}
 use Rattle.tv_top.proofs.Common.{Named, Look, ◌>>=◌, look_on, Outcome, outcome_by, map_ok, input, within, held_at, made_of}
 use Rattle.tv_top.specs.Finds.{reading, reading_of}
 use Rattle.tv_top.specs.declared.refusal.Bad.TheVariants as bad
@@ -45,7 +45,7 @@ found_short view to look f (Contents why) is = rw is refl
 found_short view to look f (Fault word) within = reaches look.at look.gives f word within
 found_short view to look f Memory any = tt
 
-finds_stop : {X A Y B : Type 0} (view : X → A) (to : Y → B) (some more : List ℕ) (few many : List Size) (due : Names → Look A) (f : Names → A → Look B)
+finds_stop : {X A Y B : Type 0} (view : X → A) (to : Y → B) (some more : List ℕ) (few many : List What) (due : Names → Look A) (f : Names → A → Look B)
     (old new : Outside) (stop : Stop) →
     Finds view (reading some few due) old new (Err stop) → Finds to (reading (some ++ more) (few ++ many) (λ files. due files >>= f files)) old new (Err stop)
 finds_stop view to some more few many due f old new stop one = record {
@@ -60,15 +60,15 @@ finds_stop view to some more few many due f old new stop one = record {
 -- ---- a look of several, each followed by `?`
 
 -- the first that is refused is what all of them find
-pub finds_short : {X A Y B : Type 0} {view : X → A} {to : Y → B} {some : List ℕ} {few : List Size} {due : Names → Look A} {old new : Outside} {stop : Stop}
-    (more : List ℕ) (many : List Size) (f : Names → A → Look B) (found : Result Y Stop) →
+pub finds_short : {X A Y B : Type 0} {view : X → A} {to : Y → B} {some : List ℕ} {few : List What} {due : Names → Look A} {old new : Outside} {stop : Stop}
+    (more : List ℕ) (many : List What) (f : Names → A → Look B) (found : Result Y Stop) →
     IsErrAnd found (λ e. e ≡ stop) → Finds view (reading some few due) old new (Err stop)
     → Finds to (reading (some ++ more) (few ++ many) (λ files. due files >>= f files)) old new found
 finds_short more many f (Ok y) same one = absurd same
 finds_short more many f (Err other) same one = rw same (finds_stop _ _ _ _ _ _ _ _ _ _ _ one)
 
 -- after one that finds something, what the others find
-pub finds_on : {X A Y B : Type 0} {view : X → A} {to : Y → B} {some more : List ℕ} {few many : List Size} {due : Names
+pub finds_on : {X A Y B : Type 0} {view : X → A} {to : Y → B} {some more : List ℕ} {few many : List What} {due : Names
     → Look A} {old mid new : Outside} {x : X} {found : Result Y Stop} (f : Names → A → Look B) →
     Finds view (reading some few due) old mid (Ok x) → Finds to (reading more many (λ files. f files (view x))) mid new found
     → Finds to (reading (some ++ more) (few ++ many) (λ files. due files >>= f files)) old new found
@@ -88,7 +88,7 @@ finds_on {view} {to} {some} {more} {few} {many} {due} {new} {x} {found} f one tw
 }
 
 -- what was found once all is as it was
-pub finds_still : {X A : Type 0} {view : X → A} {words : List ℕ} {sizes : List Size} {due : Names → Look A} {outside : Outside} {x : X}
+pub finds_still : {X A : Type 0} {view : X → A} {words : List ℕ} {sizes : List What} {due : Names → Look A} {outside : Outside} {x : X}
     → ((files : Names) → outside.contents ≡ Some files → (due files).gives ≡ Ok (view x)) →
     Finds view (reading words sizes due) outside outside (Ok x)
 finds_still is = record {
@@ -98,19 +98,6 @@ finds_still is = record {
   leaves = refl;
   caused = λ word e. cc;
   limits = λ what has most e. cc;
-}
-
--- a look that finds the same
-pub finds_as : {X A : Type 0} {view : X → A} {words : List ℕ} {sizes : List Size} {due other : Names → Look A} {old new : Outside} {found : Result X Stop}
-    → ((files : Names) → due files ≡ other files) →
-    Finds view (reading words sizes other) old new found → Finds view (reading words sizes due) old new found
-finds_as is finds = record {
-  known = λ files known. rw (is files) (finds.known files known);
-  absent = λ files known. rw (is files) (finds.absent files known);
-  only = finds.only;
-  leaves = finds.leaves;
-  caused = finds.caused;
-  limits = finds.limits;
 }
 
 -- ---- what was made of what was read
@@ -127,11 +114,11 @@ no_fault view held (Err (Fault at)) word makes e = makes
 no_fault view held _ word makes e = cc
 
 -- what is made of contents passes the limits of these quantities alone
-abbrev pub IsLimited : {A : Type 0} → Result A Bad → List Size → Type 0
-IsLimited held sizes = (what : Size) (has most : ℕ) → held ≡ Err (bad.Limit what has most) → IsOneOf what sizes
+abbrev pub IsLimited : {A : Type 0} → Result A Bad → List What → Type 0
+IsLimited held sizes = (what : What) (has most : ℕ) → held ≡ Err (bad.Limit what has most) → IsOneOf what sizes
 
-limits_made : {X A : Type 0} (view : X → A) (held : Result A Bad) (made : Result X Stop) (sizes : List Size) → Makes view held made → IsLimited held sizes →
-    (what : Size) (has most : ℕ) → made ≡ Err (Contents (bad.Limit what has most)) → IsOneOf what sizes
+limits_made : {X A : Type 0} (view : X → A) (held : Result A Bad) (made : Result X Stop) (sizes : List What) → Makes view held made → IsLimited held sizes →
+    (what : What) (has most : ℕ) → made ≡ Err (Contents (bad.Limit what has most)) → IsOneOf what sizes
 limits_made view held (Err (Contents why)) sizes makes limited what has most e = let same : why ≡ bad.Limit what has most = cc in
     limited what has most (makes ∙ ap Err same)
 limits_made view held _ sizes makes limited what has most e = cc
@@ -145,7 +132,7 @@ leaves_made view held (Err (Fault word)) old new makes same = tt
 leaves_made view held (Err Memory) old new makes same = inl same
 
 -- of a file that may have this many bytes, what is found of its bytes
-limited_is : {A : Type 0} (word : ℕ) (what : Size) (most : ℕ) (f : List ℕ → Result A Bad) (file : Option (List ℕ)) (bytes text : List ℕ) → text ≡ bytes
+limited_is : {A : Type 0} (word : ℕ) (what : What) (most : ℕ) (f : List ℕ → Result A Bad) (file : Option (List ℕ)) (bytes text : List ℕ) → text ≡ bytes
     → held_at word (within what most (λ bytes. Ok bytes)) file ≡ Ok bytes →
     held_at word (within what most f) file ≡ made_of (f text)
 limited_is word what most f None bytes text is e = cc
@@ -155,7 +142,7 @@ limited_is word what most f (Some held) bytes text is e =
     (λ fits e. let same : held ≡ text = cc in rw (fits, same) refl) (λ _ e. cc) e
 
 -- what was made of a file of this many bytes
-pub made_found : {X Y A : Type 0} (view : X → A) (of_read : Y → List ℕ) (place : Named) (what : Size) (sizes : List Size) (most : ℕ) (f : List ℕ → Result A Bad)
+pub made_found : {X Y A : Type 0} (view : X → A) (of_read : Y → List ℕ) (place : Named) (what : What) (sizes : List What) (most : ℕ) (f : List ℕ → Result A Bad)
     (read : Y) (text : List ℕ) (made : Result X Stop) (old new : Outside) →
     Finds of_read (reading_of place (what ∷ []) (within what most (λ bytes. Ok bytes))) old new (Ok read) → text ≡ of_read read
     → Makes view (f text) made → IsLimited (f text) sizes →
@@ -174,55 +161,6 @@ made_found view of_read place what sizes most f read text made old new finds is 
   limits = λ size has most e. inr (limits_made view (f text) made sizes makes limited size has most e);
 }
 
--- what was found, seen in another way
-pub finds_view : {X Y A : Type 0} (view : X → A) (other : Y → A) (words : List ℕ) (sizes : List Size) (due : Names → Look A) (found : X) (same : Y)
-    (old new : Outside) → view found ≡ other same →
-    Finds view (reading words sizes due) old new (Ok found) → Finds other (reading words sizes due) old new (Ok same)
-finds_view view other words sizes due found same old new is finds = record {
-  known = λ files known. finds.known files known
-      ∙ ap Ok is;
-  absent = finds.absent;
-  only = finds.only;
-  leaves = finds.leaves;
-  caused = λ word e. cc;
-  limits = λ what has most e. cc;
-}
-
--- what a look was refused for, which `?` passes on
-pub finds_passed : {X Y A : Type 0} (view : X → A) (other : Y → A) (words : List ℕ) (sizes : List Size) (due : Names → Look A) (stop : Stop) (old new : Outside)
-    (found : Result Y Stop) → IsErrAnd found (λ e. e ≡ stop) →
-    Finds view (reading words sizes due) old new (Err stop) → Finds other (reading words sizes due) old new found
-finds_passed view other words sizes due stop old new (Ok y) same finds = absurd same
-finds_passed view other words sizes due (Contents why) old new (Err e) same finds = rw same
-    (record {
-      known = finds.known;
-      absent = finds.absent;
-      only = finds.only;
-      leaves = finds.leaves;
-      caused = λ word e. cc;
-      limits = λ what has most e. finds.limits what has most (let is : Contents why ≡ Contents (bad.Limit what has most) = cc in ap Err is);
-    })
-finds_passed view other words sizes due (Fault word) old new (Err e) same finds = rw same
-    (record {
-      known = finds.known;
-      absent = finds.absent;
-      only = finds.only;
-      leaves = finds.leaves;
-      caused = λ at e. finds.caused at (let is : Fault word ≡ Fault at = cc in ap Err is);
-      limits = λ what has most e. cc;
-    })
-finds_passed view other words sizes due Memory old new (Err e) same finds = rw same
-    (record { known = finds.known; absent = finds.absent; only = finds.only; leaves = finds.leaves; caused = λ at e. cc; limits = λ what has most e. cc })
-
--- memory may be wanting for what follows on a look
-pub finds_without_memory : {X Y A : Type 0} (view : X → A) (other : Y → A) (words : List ℕ) (sizes : List Size) (due : Names → Look A) (found : X)
-    (old new : Outside)
-    (result : Result Y Stop) → IsErrAnd result (λ e. e ≡ Memory) →
-    Finds view (reading words sizes due) old new (Ok found) → Finds other (reading words sizes due) old new result
-finds_without_memory view other words sizes due found old new (Ok y) is finds = absurd is
-finds_without_memory view other words sizes due found old new (Err stop) is finds = rw is
-    (record { known = λ _ _. tt; absent = finds.absent; only = finds.only; leaves = inl finds.leaves; caused = λ word e. cc; limits = λ what has most e. cc })
-
 -- ---- how a command ends by what was found
 
 found_leads : {X A : Type 0} (view : X → A) (f : A → Outcome) (due : Look A) (found : Result X Stop) → IsFound view due found
@@ -236,19 +174,60 @@ leaves_comes : {X Y : Type 0} (f : X → Y) (found : Result X Stop) (old new : O
 leaves_comes f (Ok x) old new leaves = leaves
 leaves_comes f (Err stop) old new leaves = leaves
 
+-- ---- what was found, seen in another way
+
 pub same_err : {X Y E : Type 0} (f : X → Y) (found : Result X E) (why : E) → map_ok f found ≡ Err why → found ≡ Err why
 same_err f (Ok x) why e = cc
 same_err f (Err other) why e = cc
 
-pub finds_comes : {X A : Type 0} (view : X → A) (f : A → Outcome) (words : List ℕ) (sizes : List Size) (due : Names → Look A) (old new : Outside)
-    (found : Result X Stop) →
-    Finds view (reading words sizes due) old new found
-    → Finds (λ (o : Outcome). o) (reading words sizes (λ files. outcome_by f (due files))) old new (map_ok (λ x. f (view x)) found)
-finds_comes view f words sizes due old new found finds = record {
-  known = λ files known. found_leads view f (due files) found (finds.known files known);
-  absent = λ files known. elim (finds.absent files known) [ inl same ↦ inl same | inr missing ↦ inr (missing.0, ap (map_ok f) missing.1) ];
+finds_to : {X Y A B : Type 0} {view : X → A} {other : Y → B} {words : List ℕ} {sizes : List What} {due : Names → Look A} {next : Names → Look B}
+    {old new : Outside} (found : Result X Stop) (same : Result Y Stop) → ((files : Names) → IsFound view (due files) found → IsFound other (next files) same)
+    → ((files : Names) (word : ℕ) → (due files).gives ≡ Err (Fault word) → (next files).gives ≡ Err (Fault word)) → (Leaves found old new → Leaves same old new)
+    → ((word : ℕ) → same ≡ Err (Fault word) → found ≡ Err (Fault word)) → ((why : Bad) → same ≡ Err (Contents why) → found ≡ Err (Contents why))
+    → Finds view (reading words sizes due) old new found → Finds other (reading words sizes next) old new same
+finds_to found same to none leaves faults refused finds = record {
+  known = λ files known. to files (finds.known files known);
+  absent = λ files known. elim (finds.absent files known) [ inl kept ↦ inl kept | inr missing ↦ inr (missing.0, none files missing.0 missing.1) ];
   only = finds.only;
-  leaves = leaves_comes (λ x. f (view x)) found old new finds.leaves;
-  caused = λ word e. finds.caused word (same_err (λ x. f (view x)) found (Fault word) e);
-  limits = λ what has most e. finds.limits what has most (same_err (λ x. f (view x)) found (Contents (bad.Limit what has most)) e);
+  leaves = leaves finds.leaves;
+  caused = λ word e. finds.caused word (faults word e);
+  limits = λ what has most e. finds.limits what has most (refused (bad.Limit what has most) e);
 }
+
+-- a look that finds the same
+pub finds_as : {X A : Type 0} {view : X → A} {words : List ℕ} {sizes : List What} {due other : Names → Look A} {old new : Outside} {found : Result X Stop}
+    → ((files : Names) → due files ≡ other files) → Finds view (reading words sizes other) old new found → Finds view (reading words sizes due) old new found
+finds_as is = finds_to _ _ (λ files gives. rw (is files) gives) (λ files word missed. rw (is files) missed) (λ left. left) (λ word e. e) (λ why e. e)
+
+pub finds_view : {X Y A : Type 0} {view : X → A} {other : Y → A} {words : List ℕ} {sizes : List What} {due : Names → Look A} {found : X} {same : Y}
+    {old new : Outside} → view found ≡ other same → Finds view (reading words sizes due) old new (Ok found)
+    → Finds other (reading words sizes due) old new (Ok same)
+finds_view {found} {same} is = finds_to (Ok found) (Ok same) (λ files gives. gives ∙ ap Ok is) (λ files word missed. missed) (λ left. left) (λ word e. cc)
+    (λ why e. cc)
+
+-- what a look was refused for, which `?` passes on
+also_found : {X Y A : Type 0} (view : X → A) (other : Y → A) (due : Look A) (stop : Stop) → IsFound view due (Err stop) → IsFound other due (Err stop)
+also_found view other due (Contents why) is = is
+also_found view other due _ is = is
+
+pub finds_passed : {X Y A : Type 0} {view : X → A} {other : Y → A} {words : List ℕ} {sizes : List What} {due : Names → Look A} {stop : Stop}
+    {old new : Outside} (found : Result Y Stop) → IsErrAnd found (λ e. e ≡ stop) → Finds view (reading words sizes due) old new (Err stop)
+    → Finds other (reading words sizes due) old new found
+finds_passed (Ok y) same finds = absurd same
+finds_passed {view} {other} {due} {stop} (Err e) same finds = rw same
+    (finds_to (Err stop) (Err stop) (λ files. also_found view other (due files) stop) (λ files word missed. missed) (λ left. left)
+    (λ word e. let is : stop ≡ Fault word = cc in ap Err is) (λ why e. let is : stop ≡ Contents why = cc in ap Err is) finds)
+
+-- memory may be wanting for what follows on a look
+pub finds_without_memory : {X Y A : Type 0} {view : X → A} {other : Y → A} {words : List ℕ} {sizes : List What} {due : Names → Look A} {found : X}
+    {old new : Outside} (result : Result Y Stop) → IsErrAnd result (λ e. e ≡ Memory) → Finds view (reading words sizes due) old new (Ok found)
+    → Finds other (reading words sizes due) old new result
+finds_without_memory (Ok y) is finds = absurd is
+finds_without_memory {found} (Err stop) is finds = rw is
+    (finds_to (Ok found) (Err Memory) (λ files gives. tt) (λ files word missed. missed) (λ same. inl same) (λ word e. cc) (λ why e. cc) finds)
+
+pub finds_comes : {X A : Type 0} {view : X → A} {words : List ℕ} {sizes : List What} {due : Names → Look A} {old new : Outside} (f : A → Outcome)
+    (found : Result X Stop) → Finds view (reading words sizes due) old new found
+    → Finds (λ (o : Outcome). o) (reading words sizes (λ files. outcome_by f (due files))) old new (map_ok (λ x. f (view x)) found)
+finds_comes {view} {due} f found = finds_to found _ (λ files. found_leads view f (due files) found) (λ files word missed. ap (map_ok f) missed)
+    (leaves_comes (λ x. f (view x)) found _ _) (λ word. same_err (λ x. f (view x)) found (Fault word)) (λ why. same_err (λ x. f (view x)) found (Contents why))

@@ -16,17 +16,17 @@ use Rattle.tv_word.specs.Widths.{IsWidth}
 use Rattle.tv_top.specs.Inputs.{AreInputs, HasInputs}
 use Rattle.tv_top.specs.Finds.{made_by}
 use Rattle.tv_top.specs.Tapes.{tape_stop, numbers_of, numbers_in}
-use Rattle.tv_top.proofs.Common.{Names, Inputs, Program, Width, Bits16, Bits32, Bad, Size, Holds}
+use Rattle.tv_top.proofs.Common.{Names, Inputs, Program, Width, Bits16, Bits32, Bad, What, Holds}
 use Rattle.tv_top.proofs.Common.{within, HasImage, bits, image_words, width_of_text, program_result, program_by, program_of, program_in}
 use Rattle.tv_top.specs.declared.refusal.Bad.TheVariants as bad
-use Rattle.tv_top.specs.declared.refusal.Size.TheVariants.{TapeWords, AuxWords, TextBytes}
+use Rattle.tv_top.specs.declared.refusal.What.TheVariants.{TapeWords, AuxWords, TextBytes}
 
 pub is_width : (width : Width) → IsWidth (bits width)
 is_width Bits16 = inl refl
 is_width Bits32 = inr refl
 
 -- what is found of a file that may have this many bytes is found of its bytes
-pub within_ok : {A : Type 0} (what : Size) (most : ℕ) (read : List ℕ → Result A Bad) (bytes : List ℕ) (x : A) → within what most read bytes ≡ Ok x
+pub within_ok : {A : Type 0} (what : What) (most : ℕ) (read : List ℕ → Result A Bad) (bytes : List ℕ) (x : A) → within what most read bytes ≡ Ok x
     → read bytes ≡ Ok x
 within_ok what most read bytes x e =
     cond_both (nat_le (length bytes) most) (read bytes) (Err (bad.Limit what (most + 1) most)) (λ made. made ≡ Ok x → read bytes ≡ Ok x) (λ _ e. e)
@@ -67,13 +67,13 @@ within_limits program n t image few some most =
 
 -- ---- tapes that files hold
 
-tape_read : (word : ℕ) (what : Size) (read : Result (List ℕ) TapeFault) (numbers : List ℕ) → made_by what (tape_stop word what) read ≡ Ok numbers
+tape_read : (word : ℕ) (what : What) (read : Result (List ℕ) TapeFault) (numbers : List ℕ) → made_by what (tape_stop word what) read ≡ Ok numbers
     → read ≡ Ok numbers
 tape_read word what (Ok words) numbers e = cc
 tape_read word what (Err fault) numbers e = cc
 
 -- the words of a tape
-pub numbers_are : (word : ℕ) (what : Size) (w most : ℕ) (file : Option (List ℕ)) (numbers : List ℕ)
+pub numbers_are : (word : ℕ) (what : What) (w most : ℕ) (file : Option (List ℕ)) (numbers : List ℕ)
     → Holds (numbers_in word what (2 ^ w) most) file (Ok numbers) → AreWords w numbers × (length numbers ≤ most)
 unfolding numbers_of
 numbers_are word what w most file numbers holds =

@@ -11,7 +11,7 @@ use Rattle.tv_shrink.specs.declared.fault.ShrinkFault.{ShrinkFault}
 use Rattle.tv_shrink.specs.declared.fault.ShrinkFault.TheVariants as fault
 use Rattle.tv_top.specs.Containers.{system_in}
 use Rattle.tv_top.specs.Shrink.{shrink_sizes, shrink_stop, shrunk_of, shrunk_look}
-use Rattle.tv_top.proofs.Common.{Outside, Rose, Bad, IsFound, Finds, Spares, Named, Look, ◌>>=◌, look_on, held_at, input, made_of, settled}
+use Rattle.tv_top.proofs.Common.{Outside, Rose, Bad, Stop, IsFound, Finds, Spares, Named, Look, ◌>>=◌, look_on, held_at, input, made_of, settled}
 use Rattle.tv_top.proofs.ContainerReads.{StopsBy, came, finds_file}
 use Rattle.tv_top.specs.Finds.{reading}
 
@@ -51,14 +51,15 @@ shrink_found word (Err fault.Fault) file is = due_at word (system_in file)
 shrink_found word (Err fault.Memory) file is = tt
 
 -- what shrinking a system found
-pub finds_shrunk : (place : Named) (old new : Outside) (result : Result Shrunken ShrinkFault)
-    → Known old place.name (λ file. MatchResult result (λ shrunken. shrinking.Shrinks shrunken file) (λ fault. FaultMeans fault file))
+pub finds_shrunk : (place : Named) (old new : Outside) (result : Result Shrunken ShrinkFault) (found : Result Shrunken Stop)
+    → found ≡ came (shrink_stop place.word) result → Known old place.name
+    (λ file. MatchResult result (λ shrunken. shrinking.Shrinks shrunken file) (λ fault. FaultMeans fault file))
     → HaltsBy old new place.name result →
     (IsMissing old place.name → result ≡ Err fault.Fault)
-    → Finds (λ (s : Shrunken). s) (reading (place.word ∷ []) shrink_sizes (shrunk_look place)) old new (came (shrink_stop place.word) result)
+    → Finds (λ (s : Shrunken). s) (reading (place.word ∷ []) shrink_sizes (shrunk_look place)) old new found
 unfolding shrunk_look input
-finds_shrunk place old new result gives halts missing =
-    finds_file (λ (s : Shrunken). s) (shrink_stop place.word) fault.Fault place.word shrink_sizes place.name (shrunk_due place.word) old new
+finds_shrunk place old new result found is gives halts missing =
+    rw is (finds_file (λ (s : Shrunken). s) (shrink_stop place.word) fault.Fault place.word shrink_sizes place.name (shrunk_due place.word) old new
     (Halted old new place.name) result refl (omega arith) refl (shrink_stops place.word)
     (λ why halted. (halted.only, halted.there, shrink_spares place.word why old new halted.leaves, shrink_caused why old new halted.leaves))
-    (λ file there. shrink_found place.word result file (gives file there)) halts missing
+    (λ file there. shrink_found place.word result file (gives file there)) halts missing)

@@ -8,9 +8,9 @@ use Rattle.tv_disasm.specs.Disassembly.{disassembly_of}
 use Rattle.tv_tape.specs.Tape.{tape_of}
 use Rattle.tv_tape.specs.declared.items.TapeFault.{TapeFault}
 use Rattle.tv_tape.specs.declared.items.TapeFault.TheVariants as tape
-use Rattle.tv_top.proofs.Common.{Width, Size, bits, image_words, width_of_text, image_bytes, program_result, program_by, program_of, image_of}
+use Rattle.tv_top.proofs.Common.{Width, What, bits, image_words, width_of_text, image_bytes, program_result, program_by, program_of, image_of}
 use Rattle.tv_top.specs.declared.refusal.Bad.TheVariants.{Limit, Image}
-use Rattle.tv_top.specs.declared.refusal.Size.TheVariants.{ImageWords}
+use Rattle.tv_top.specs.declared.refusal.What.TheVariants.{ImageWords}
 use Rattle.tv_top.specs.Disasm.{text_of}
 use Rattle.tv_top.specs.Finds.{made_by}
 use Rattle.tv_top.specs.Tapes.{tape_stop, numbers_of}
@@ -36,13 +36,13 @@ text_limited w image what has most =
     cond_both (length image % (w / 4) == 0) (Ok (disassembly_of w image)) (Err (Image (length image))) (λ made. ¬ (made ≡ Err (Limit what has most)))
     (λ _ e. cc) (λ _ e. cc)
 
-tape_limited : (word : ℕ) (what : Size) (found : Result (List ℕ) TapeFault) → IsLimited (made_by what (tape_stop word what) found) (what ∷ [])
+tape_limited : (word : ℕ) (what : What) (found : Result (List ℕ) TapeFault) → IsLimited (made_by what (tape_stop word what) found) (what ∷ [])
 tape_limited word what (Ok words) other has most e = cc
 tape_limited word what (Err (tape.BadItem at)) other has most e = cc
 tape_limited word what (Err (tape.TooBig at)) other has most e = cc
 tape_limited word what (Err (tape.TooMany many)) other has most e = inl cc
 tape_limited word what (Err tape.Memory) other has most e = inl cc
 
-pub numbers_limited : (word : ℕ) (what : Size) (below most : ℕ) (text : List ℕ) → IsLimited (numbers_of word what below most text) (what ∷ [])
+pub numbers_limited : (word : ℕ) (what : What) (below most : ℕ) (text : List ℕ) → IsLimited (numbers_of word what below most text) (what ∷ [])
 unfolding numbers_of
 numbers_limited word what below most text = tape_limited word what (tape_of text below most)

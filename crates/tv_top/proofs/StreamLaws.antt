@@ -12,7 +12,7 @@ use Rattle.tv_files.proofs.Cases.{OnOk-map}
 use Rattle.tv_files.specs.Outside.{with_bytes}
 use Rattle.tv_top.proofs.Common.{Outside, Stop, Fault, Memory, Contents, AreRead, IsCut, IsCutAt, files_with, bytes_in, IsRead, Writes, sink_stop, streamed}
 use Rattle.tv_top.proofs.Common.{Write}
-use Rattle.tv_r1cs_write.specs.Streams.{IsSystemStreamed}
+use Rattle.tv_r1cs_write.specs.Streams.{IsSystemStreamed, labelled}
 use Rattle.tv_wtns.proofs.StreamLaws.{IsAssignmentStreamed}
 use Rattle.tv_top.specs.Contents.{Content, Content.{Constraints, Values}}
 
@@ -66,7 +66,7 @@ writes_first w ws old new stop one = record { ended = ended stop one.ended; quie
     ended (Contents bad) cut = absurd cut
 
 pub writes_system : (word : ℕ) (name : List ℕ) (system : System) (old new : Outside) (result : Result (Unit {0}) SinkFault)
-    → IsSystemStreamed old new name system system.wires (range_with_len 0 system.wires) result →
+    → IsSystemStreamed old new name (labelled system system.wires (range_with_len 0 system.wires)) result →
     Writes (record { word = word; name = name; content = Constraints system } ∷ []) old new (streamed word result)
 writes_system word name system old new result is = writes_streamed
     (record { word = word; name = name; content = Constraints system }) old new result is.file is.read

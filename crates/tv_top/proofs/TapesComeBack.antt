@@ -21,8 +21,8 @@ use Rattle.tv_step.specs.Machine.{start}
 use Rattle.tv_step.specs.Range.{AreWords}
 use Rattle.tv_tape.proofs.Texts.{comes_back}
 use Rattle.tv_tape.specs.Tape.{text_of}
-use Rattle.tv_top.proofs.Common.{Width, Bits16, Bits32, Size, bits}
-use Rattle.tv_top.specs.declared.refusal.Size.TheVariants.{TapeWords, AuxWords}
+use Rattle.tv_top.proofs.Common.{Width, Bits16, Bits32, What, bits}
+use Rattle.tv_top.specs.declared.refusal.What.TheVariants.{TapeWords, AuxWords}
 use Rattle.tv_top.specs.ComesBack.{TapeTextsFit, TapesComeBack, ExtractedAreTaken}
 use Rattle.tv_top.specs.Inputs.{primary_in, aux_in}
 use Rattle.tv_top.specs.Tapes.{numbers_of, numbers_in, publics_in}
@@ -50,7 +50,7 @@ pub tape_texts_fit : TapeTextsFit
 tape_texts_fit width words small few = omega (arith, lines_short words (words_small width words small))
 
 -- a text of numbers below a bound is read as them
-read_back : (word : ℕ) (what : Size) (below most : ℕ) (words : List ℕ) → below ≤ 2 ^ 64 → All (λ v. v < below) words → length words ≤ most
+read_back : (word : ℕ) (what : What) (below most : ℕ) (words : List ℕ) → below ≤ 2 ^ 64 → All (λ v. v < below) words → length words ≤ most
     → length (text_of words) ≤ TEXT_BYTES
     → numbers_in word what below most (text_of words) ≡ Ok words
 unfolding numbers_of

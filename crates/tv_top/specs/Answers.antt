@@ -1,24 +1,22 @@
 -- What every call of the command promises, by what its words ask for.
-use Rattle.std.specs.Prelude.{◌≡◌, ℕ, ◌⊎◌, Bool, true, false, List, [], ◌∷◌, map, Option, option_map, Result, Ok, Err}
+use Rattle.std.specs.Prelude.{◌≡◌, ℕ, ◌⊎◌, Bool, true, List, [], ◌∷◌, map, Option, option_map, Result, Ok, Err}
 use Rattle.std.specs.List.{list_any}
+use Rattle.std.specs.Str.{bytes_eq}
 use Rattle.tv_files.specs.Outside.{Names, Outside, WhereKnown, NoneFell, RanOut, with_bytes}
 use Rattle.tv_word.specs.Counts.{Rose}
 use Rattle.tv_top.specs.declared.refusal.Ending.{Ending}
 use Rattle.tv_top.specs.declared.refusal.Ending.TheVariants.{Refused, Stopped, Finished}
 use Rattle.tv_top.specs.declared.refusal.Finish.{Finish}
 use Rattle.tv_top.specs.declared.refusal.Bad.TheVariants as bad
-use Rattle.tv_top.specs.declared.refusal.Quantity.{Quantity}
-use Rattle.tv_top.specs.declared.refusal.Quantity.TheVariants as quantity
+use Rattle.tv_top.specs.declared.refusal.What.{What}
 use Rattle.tv_top.specs.declared.refusal.Refusal.{Refusal}
 use Rattle.tv_top.specs.declared.refusal.Refusal.TheVariants as refusal
-use Rattle.tv_top.specs.declared.refusal.Size.{Size}
-use Rattle.tv_top.specs.declared.refusal.Size.TheVariants as size
 use Rattle.tv_top.specs.declared.refusal.Stop.{Stop}
 use Rattle.tv_top.specs.declared.refusal.Stop.TheVariants.{Fault, Contents}
 use Rattle.tv_top.specs.declared.refusal.Stop.TheVariants as stop
 use Rattle.tv_top.specs.declared.status.Status.{Status}
 use Rattle.tv_top.specs.declared.status.Status.TheVariants.{FileFault, Memory}
-use Rattle.tv_top.specs.Codes.{says}
+use Rattle.tv_top.specs.Codes.{says, what_text}
 use Rattle.tv_top.specs.Ends.{Said, SaidPart, Completes, Ends, IsConcluded, IsQuiet, IsUntouched}
 use Rattle.tv_top.specs.Finds.{Finds, IsOneOf, reading, Reading}
 use Rattle.tv_top.specs.Plan.{Named, Amount, Outcome, Plan, answer_of}
@@ -37,7 +35,7 @@ writes_of (Ok plan) = plan.writes
 writes_of (Err why) = []
 
 -- a look at files may be refused so: where that is for a limit, it is on one of these quantities
-abbrev pub MayStop : List Size → Stop → Type 0
+abbrev pub MayStop : List What → Stop → Type 0
 MayStop sizes (Fault word) = Unit {0}
 MayStop sizes stop.Memory = Unit {0}
 MayStop sizes (Contents (bad.Program line why)) = Unit {0}
@@ -48,17 +46,16 @@ MayStop sizes (Contents (bad.Image len)) = Unit {0}
 MayStop sizes (Contents (bad.Limit what has most)) = IsOneOf what sizes
 
 -- the quantities among the words
-abbrev pub quantities_of : List Amount → List Quantity
+abbrev pub quantities_of : List Amount → List What
 quantities_of amounts = map (λ (a : Amount). a.what) amounts
 
--- a file may hold the quantity that a word is
-abbrev pub is_in_files : Quantity → Size → Bool
-is_in_files quantity.TapeWords size.TapeWords = true
-is_in_files _ _ = false
+-- two quantities are the same: they have one name
+abbrev pub is_same : What → What → Bool
+is_same one other = bytes_eq (what_text one) (what_text other)
 
 -- one of these quantities is among the words and in files
-abbrev pub is_shared : List Amount → List Size → Bool
-is_shared amounts sizes = list_any (λ (a : Amount). list_any (is_in_files a.what) sizes) amounts
+abbrev pub is_shared : List Amount → List What → Bool
+is_shared amounts sizes = list_any (λ one. list_any (is_same one) sizes) (quantities_of amounts)
 
 -- A refusal that comes of words alone: each, but where the words aren't refused a limit on a quantity that isn't among
 -- them, since a file may pass that one.

@@ -1,13 +1,13 @@
 -- `asm TEXT IMAGE`: the image of a program text.
-use Rattle.std.specs.Prelude.{◌≡◌, ◌≢◌, ℕ, codes, List, [], ◌∷◌, Result}
+use Rattle.std.specs.Prelude.{◌≡◌, ◌≢◌, ℕ, codes, List, [], ◌∷◌, Result, Option, None, Some}
 use Rattle.tv_files.specs.Outside.{Names, WhereKnown}
 use Rattle.tv_core.specs.declared.limits.TheConstants.{TEXT_BYTES}
 use Rattle.tv_top.specs.declared.asm.AsmArgs.{AsmArgs}
 use Rattle.tv_top.specs.declared.refusal.Bad.{Bad}
-use Rattle.tv_top.specs.declared.refusal.Size.TheVariants.{TextBytes}
+use Rattle.tv_top.specs.declared.refusal.What.TheVariants.{TextBytes}
 use Rattle.tv_top.specs.Claims.{Call, Holds, AnswersOrStops}
 use Rattle.tv_top.specs.Kinds.{is_quiet}
-use Rattle.tv_top.specs.Plan.{Named, Plan, named, within, input, outcome_by, one_name, writes_bytes}
+use Rattle.tv_top.specs.Plan.{Named, Plan, named, within, input, outcome_by, one_name, writes_bytes, name_at}
 use Rattle.tv_top.specs.Programs.{image_of, program_sizes}
 
 -- the file of a program text, which may have this many bytes: its image, in bytes
@@ -27,6 +27,11 @@ asm_plan text image = record {
 -- the plan that the command's words ask for
 abbrev pub asm_asks : AsmArgs → Plan
 asm_asks args = asm_plan (named args.text) (named args.image)
+
+-- the plan of the words after the command's name, where they have its form
+abbrev pub asm_form : List (List ℕ) → Option Plan
+asm_form (text ∷ image ∷ []) = Some (asm_plan (name_at 1 text) (name_at 2 image))
+asm_form _ = None
 
 -- What `asm` promises over files whose contents are known, the two names being different: TEXT holds a program text of
 -- this image, which IMAGE then holds, or it is refused for this.

@@ -15,11 +15,11 @@ use Rattle.tv_top.specs.declared.build.BuildArgs.{BuildArgs}
 use Rattle.tv_top.specs.declared.programs.Program.{Program}
 use Rattle.tv_top.specs.declared.refusal.Bad.{Bad}
 use Rattle.tv_top.specs.declared.refusal.Finish.TheVariants.{Quiet}
-use Rattle.tv_top.specs.declared.refusal.Quantity.TheVariants.{TapeWords, Steps}
+use Rattle.tv_top.specs.declared.refusal.What.TheVariants.{TapeWords, Steps}
 use Rattle.tv_top.specs.Claims.{Call, Holds, AnswersOrStops}
 use Rattle.tv_top.specs.Contents.{Content.{Constraints}}
 use Rattle.tv_top.specs.Kinds.{is_quiet}
-use Rattle.tv_top.specs.Plan.{Named, Amount, Plan, Outcome, name_at, named, input, outcome_by}
+use Rattle.tv_top.specs.Plan.{Named, Amount, Plan, Outcome, name_at, named, input, outcome_by, with_three}
 use Rattle.tv_top.specs.Programs.{bits, program_in, program_sizes}
 
 -- the network that the word after those of the command names: none is Benes' one, and `waksman` is Waksman's
@@ -63,6 +63,13 @@ build_plan given = record {
 -- the plan that the command's words ask for
 abbrev pub build_asks : BuildArgs → Plan
 build_asks args = build_plan (record { net = args.net; text = named args.text; n = args.n; t = args.t; system = named args.system })
+
+-- the plan of the words after the command's name, where they have its form
+abbrev pub build_form : List (List ℕ) → Option Plan
+build_form (text ∷ n ∷ t ∷ system ∷ last) =
+    with_three (λ net n t. build_plan (record { net = net; text = name_at 1 text; n = n; t = t; system = name_at 4 system }))
+    (net_word last) (numeral 10 (2 ^ 64) n) (numeral 10 (2 ^ 64) t)
+build_form _ = None
 
 -- The file of a program text holds a program, whose system reduces its runs and has combinations in normal form alone,
 -- or it is refused for this.

@@ -1,5 +1,5 @@
 -- `check SYSTEM WITNESS PUBLIC`: the verdict on a system, an assignment and public numbers.
-use Rattle.std.specs.Prelude.{◌≡◌, ◌↔◌, ℕ, codes, List, [], ◌∷◌, Result, Ok}
+use Rattle.std.specs.Prelude.{◌≡◌, ◌↔◌, ℕ, codes, List, [], ◌∷◌, Result, Ok, Option, None, Some}
 use Rattle.tv_check.specs.Meaning.{VerdictMeans}
 use Rattle.tv_check.specs.Verdict.{judge}
 use Rattle.tv_check.specs.declared.verdict.Verdict.{Verdict}
@@ -8,11 +8,11 @@ use Rattle.tv_files.specs.Outside.{Names, WhereKnown}
 use Rattle.tv_top.specs.declared.check.CheckArgs.{CheckArgs}
 use Rattle.tv_top.specs.declared.refusal.Bad.{Bad}
 use Rattle.tv_top.specs.declared.refusal.Finish.TheVariants as finishes
-use Rattle.tv_top.specs.declared.refusal.Size.TheVariants.{TapeWords}
+use Rattle.tv_top.specs.declared.refusal.What.TheVariants.{TapeWords}
 use Rattle.tv_top.specs.Claims.{Call, Holds, Then, AnswersOrStops}
 use Rattle.tv_top.specs.Containers.{system_in, witness_in}
 use Rattle.tv_top.specs.Kinds.{is_verdict}
-use Rattle.tv_top.specs.Plan.{Named, Plan, Outcome, Look, named, settled, ◌>>=◌, input, outcome_by}
+use Rattle.tv_top.specs.Plan.{Named, Plan, Outcome, Look, named, settled, ◌>>=◌, input, outcome_by, name_at}
 use Rattle.tv_top.specs.Tapes.{publics_in, tape_sizes}
 
 -- the system, the witness and the tape, each read to its end and judged before the next, and the verdict on them
@@ -39,6 +39,11 @@ check_plan system witness tape = record {
 -- the plan that the command's words ask for
 abbrev pub check_asks : CheckArgs → Plan
 check_asks args = check_plan (named args.system) (named args.witness) (named args.tape)
+
+-- the plan of the words after the command's name, where they have its form
+abbrev pub check_form : List (List ℕ) → Option Plan
+check_form (system ∷ witness ∷ tape ∷ []) = Some (check_plan (name_at 1 system) (name_at 2 witness) (name_at 3 tape))
+check_form _ = None
 
 -- the verdict on these is this, and what it says of them, and no other verdict, is so: yes, that the assignment
 -- satisfies the system and extends the public numbers

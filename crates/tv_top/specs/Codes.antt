@@ -1,11 +1,13 @@
 -- The lines that are said.
 use Rattle.std.specs.Prelude.{◌≡◌, ℕ, List, [], ◌∷◌, ◌++◌, Option, Some, None, option_map, codes, decimal}
 use Rattle.tv_asm.specs.declared.fault.AsmWhy.{AsmWhy}
-use Rattle.tv_asm.specs.declared.fault.AsmWhy.TheVariants.{NotText, BadHeader, BadLabel, DoubledLabel, UnknownName, Operands, BadRegister, BadNumber, UnknownLabel}
+use Rattle.tv_asm.specs.declared.fault.AsmWhy.TheVariants.{NotText, BadHeader, BadLabel, DoubledLabel, UnknownName, Operands, BadRegister, BadNumber}
+use Rattle.tv_asm.specs.declared.fault.AsmWhy.TheVariants.{UnknownLabel}
 use Rattle.tv_check.specs.declared.verdict.Verdict.{Verdict}
 use Rattle.tv_check.specs.declared.verdict.Verdict.TheVariants.{Yes, WireCount, NoPublic, NoConstraint}
 use Rattle.tv_container.specs.declared.why.ReadWhy.{ReadWhy}
-use Rattle.tv_container.specs.declared.why.ReadWhy.TheVariants.{BadMagic, BadVersion, Missing, Doubled, OtherPrime, BadCount, WireRange, NotCanonical, Truncated, TooWide, Trailing}
+use Rattle.tv_container.specs.declared.why.ReadWhy.TheVariants.{BadMagic, BadVersion, Missing, Doubled, OtherPrime, BadCount, WireRange, NotCanonical}
+use Rattle.tv_container.specs.declared.why.ReadWhy.TheVariants.{Truncated, TooWide, Trailing}
 use Rattle.tv_step.specs.declared.end.End.{End}
 use Rattle.tv_step.specs.declared.end.End.TheVariants as ends
 use Rattle.tv_top.specs.declared.refusal.Bad.{Bad}
@@ -20,9 +22,8 @@ use Rattle.tv_top.specs.declared.refusal.Stop.TheVariants as stop
 use Rattle.tv_top.specs.declared.refusal.Trial.{Trial}
 use Rattle.tv_extract.specs.declared.run.NotRun.{NotRun}
 use Rattle.tv_extract.specs.declared.run.NotRun.TheVariants as not_runs
-use Rattle.tv_top.specs.declared.status.What.{What}
-use Rattle.tv_top.specs.declared.status.What.TheVariants.{ImageWords, ImageBytes, TapeWords, AuxWords, TextBytes, SystemTerms, CombinationTerms, Steps, Draws}
-use Rattle.tv_top.specs.Status.{quantity_what, size_what}
+use Rattle.tv_top.specs.declared.refusal.What.{What}
+use Rattle.tv_top.specs.declared.refusal.What.TheVariants.{ImageWords, ImageBytes, TapeWords, AuxWords, TextBytes, SystemTerms, CombinationTerms, Steps, Draws}
 
 -- how a run ends
 abbrev pub end_text : End → List ℕ
@@ -83,7 +84,7 @@ limit_text what has most = codes "limit: " ++ what_text what ++ codes " " ++ dec
 abbrev pub refusal_text : Refusal → List ℕ
 refusal_text refusal.Usage = codes "usage: asm, disasm, run, build, witness, check, extract, trial, shrink, listing"
 refusal_text (refusal.SameName first second) = codes "same name: words " ++ decimal first ++ codes " and " ++ decimal second
-refusal_text (refusal.Limit what has most) = limit_text (quantity_what what) has most
+refusal_text (refusal.Limit what has most) = limit_text what has most
 
 -- what contents are refused for
 abbrev pub bad_text : Bad → List ℕ
@@ -92,7 +93,7 @@ bad_text (bad.Tape word at) = codes "bad tape: word " ++ decimal word ++ codes "
 bad_text (bad.System at why) = codes "bad system: byte " ++ decimal at ++ codes ": " ++ read_text why
 bad_text (bad.Witness at why) = codes "bad witness: byte " ++ decimal at ++ codes ": " ++ read_text why
 bad_text (bad.Image len) = codes "bad image: " ++ decimal len ++ codes " bytes"
-bad_text (bad.Limit what has most) = limit_text (size_what what) has most
+bad_text (bad.Limit what has most) = limit_text what has most
 
 -- why an assignment has no run
 abbrev pub not_run_text : NotRun → List ℕ

@@ -26,7 +26,8 @@ TapeTextsFit = (width : Width) (words : List ℕ) → AreWords (bits width) word
 
 -- the file of a tape that has that text, of at most this many words, is read as these words, whichever word names it
 abbrev pub TapesComeBack : (ℕ → Width → List ℕ → Result (List ℕ) Bad) → ℕ → Type 0
-TapesComeBack read most = (word : ℕ) (width : Width) (words : List ℕ) → AreWords (bits width) words → length words ≤ most → read word width (text_of words) ≡ Ok words
+TapesComeBack read most = (word : ℕ) (width : Width) (words : List ℕ) → AreWords (bits width) words → length words ≤ most
+    → read word width (text_of words) ≡ Ok words
 
 -- `run` and `witness` read the tapes of a run as they are, and `check` its answer with the primary tape
 pub record IsTaken (width : Width) (run : Run) : Type 0 where

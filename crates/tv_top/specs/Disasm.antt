@@ -1,5 +1,5 @@
 -- `disasm IMAGE TEXT` and `disasm IMAGE TEXT 16`: the program text of an image.
-use Rattle.std.specs.Prelude.{◌≡◌, ◌≢◌, ℕ, codes, Option, Some, None, ◌%◌, ◌/◌, ◌==◌, List, [], ◌∷◌, length, Result, Ok, Err, if◌then◌else◌}
+use Rattle.std.specs.Prelude.{◌≡◌, ◌≢◌, ℕ, codes, Option, Some, None, ◌%◌, ◌/◌, ◌==◌, List, [], ◌∷◌, length, Result, Ok, Err, if◌then◌else◌, option_map}
 use Rattle.std.specs.Str.{bytes_eq}
 use Rattle.tv_disasm.specs.Disassembly.{disassembly_of}
 use Rattle.tv_disasm.specs.declared.fault.DisFault.{DisFault}
@@ -10,13 +10,13 @@ use Rattle.tv_top.specs.declared.programs.Width.{Width}
 use Rattle.tv_top.specs.declared.programs.Width.TheVariants.{Bits16, Bits32}
 use Rattle.tv_top.specs.declared.refusal.Bad.{Bad}
 use Rattle.tv_top.specs.declared.refusal.Bad.TheVariants as bad
-use Rattle.tv_top.specs.declared.refusal.Size.TheVariants.{ImageBytes}
+use Rattle.tv_top.specs.declared.refusal.What.TheVariants.{ImageBytes}
 use Rattle.tv_top.specs.declared.refusal.Stop.{Stop}
 use Rattle.tv_top.specs.declared.refusal.Stop.TheVariants.{Contents, Memory}
 use Rattle.tv_top.specs.Claims.{Call, Holds, AnswersOrStops}
 use Rattle.tv_top.specs.Kinds.{is_quiet}
 use Rattle.tv_top.specs.Programs.{bits, image_bytes_most}
-use Rattle.tv_top.specs.Plan.{Named, Plan, named, within, input, outcome_by, one_name, writes_bytes}
+use Rattle.tv_top.specs.Plan.{Named, Plan, named, within, input, outcome_by, one_name, writes_bytes, name_at}
 
 -- what a fault of an image is
 abbrev pub dis_stop : DisFault → Stop
@@ -50,6 +50,11 @@ disasm_plan width image text = record {
 -- the plan that the command's words ask for
 abbrev pub disasm_asks : DisasmArgs → Plan
 disasm_asks args = disasm_plan args.width (named args.image) (named args.text)
+
+-- the plan of the words after the command's name, where they have its form
+abbrev pub disasm_form : List (List ℕ) → Option Plan
+disasm_form (image ∷ text ∷ last) = option_map (λ width. disasm_plan width (name_at 1 image) (name_at 2 text)) (width_word last)
+disasm_form _ = None
 
 -- What `disasm` promises over files whose contents are known, the two names being different: IMAGE holds an image of
 -- words of this width with this program text, which TEXT then holds, or it is refused for this.

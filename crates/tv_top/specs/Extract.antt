@@ -1,6 +1,6 @@
 -- `extract TEXT N T WITNESS TAPE AUX`, which may have one more word, `waksman`: the run that an assignment of a
 -- program's system has.
-use Rattle.std.specs.Prelude.{◌≡◌, ◌≢◌, ◌<◌, ◌≤◌, ◌^◌, ℕ, codes, List, [], ◌∷◌, Some}
+use Rattle.std.specs.Prelude.{◌≡◌, ◌≢◌, ◌<◌, ◌≤◌, ◌^◌, ℕ, codes, List, [], ◌∷◌, Some, Option, None}
 use Rattle.tv_benes.specs.declared.shape.Net.{Net}
 use Rattle.tv_core.specs.declared.limits.TheConstants.{TAPE_WORDS, STEPS}
 use Rattle.tv_extract.specs.declared.run.Run.{Run}
@@ -15,7 +15,7 @@ use Rattle.tv_top.specs.Build.{net_word, size_amounts}
 use Rattle.tv_top.specs.Claims.{Call, AnswersOrStops}
 use Rattle.tv_top.specs.Contents.{Content.{Bytes}}
 use Rattle.tv_top.specs.Kinds.{is_extract}
-use Rattle.tv_top.specs.Plan.{Named, Plan, Outcome, name_at, named, outcome_by}
+use Rattle.tv_top.specs.Plan.{Named, Plan, Outcome, name_at, named, outcome_by, with_three}
 use Rattle.tv_top.specs.Programs.{program_sizes}
 
 -- a run's two tapes' texts, and the answer with its step
@@ -56,6 +56,14 @@ extract_asks args = extract_plan (record {
   tape = named args.tape;
   aux = named args.aux;
 })
+
+-- the plan of the words after the command's name, where they have its form
+abbrev pub extract_form : List (List ℕ) → Option Plan
+extract_form (text ∷ n ∷ t ∷ witness ∷ tape ∷ aux ∷ last) =
+    with_three (λ net n t. extract_plan
+    (record { net = net; text = name_at 1 text; n = n; t = t; witness = name_at 4 witness; tape = name_at 5 tape; aux = name_at 6 aux }))
+    (net_word last) (numeral 10 (2 ^ 64) n) (numeral 10 (2 ^ 64) t)
+extract_form _ = None
 
 -- What `extract` promises over files whose contents are known, the names that are written being none of the others and
 -- N and T within their limits.

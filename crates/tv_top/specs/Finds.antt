@@ -4,19 +4,19 @@ use Rattle.tv_files.specs.Outside.{Names, Outside, WhereKnown, OnlyReads, RanOut
 use Rattle.tv_word.specs.Counts.{Rose}
 use Rattle.tv_top.specs.declared.refusal.Bad.{Bad}
 use Rattle.tv_top.specs.declared.refusal.Bad.TheVariants as bad
-use Rattle.tv_top.specs.declared.refusal.Size.{Size}
+use Rattle.tv_top.specs.declared.refusal.What.{What}
 use Rattle.tv_top.specs.declared.refusal.Stop.{Stop}
 use Rattle.tv_top.specs.declared.refusal.Stop.TheVariants.{Fault, Memory, Contents}
 use Rattle.tv_top.specs.Plan.{Named, Look, input}
 
 -- what contents are refused for of which something is made; a definition reads no file and never runs out of memory, so
 -- those cases stand for nothing
-abbrev pub stop_bad : Size → Stop → Bad
+abbrev pub stop_bad : What → Stop → Bad
 stop_bad what (Contents why) = why
 stop_bad what _ = bad.Limit what 0 0
 
 -- what is made of contents, by what a fault of them is
-abbrev pub made_by : {A E : Type 0} → Size → (E → Stop) → Result A E → Result A Bad
+abbrev pub made_by : {A E : Type 0} → What → (E → Stop) → Result A E → Result A Bad
 made_by what of (Ok x) = Ok x
 made_by what of (Err fault) = Err (stop_bad what (of fault))
 
@@ -46,14 +46,14 @@ Leaves found old new = MatchResult found (λ _. new ≡ old) (λ stop. Spares st
 -- what is due by their contents
 pub record Reading (A : Type 0) : Type 0 where
   pub words : List ℕ
-  pub sizes : List Size
+  pub sizes : List What
   pub due : Names → Look A
 
-abbrev pub reading : {A : Type 0} → List ℕ → List Size → (Names → Look A) → Reading A
+abbrev pub reading : {A : Type 0} → List ℕ → List What → (Names → Look A) → Reading A
 reading words sizes due = record { words = words; sizes = sizes; due = due }
 
 -- that of one file
-abbrev pub reading_of : {A : Type 0} → Named → List Size → (List ℕ → Result A Bad) → Reading A
+abbrev pub reading_of : {A : Type 0} → Named → List What → (List ℕ → Result A Bad) → Reading A
 reading_of place sizes read = reading (place.word ∷ []) sizes (input place read)
 
 -- Files were read, and this was found. What they hold may pass the limits of the reading's quantities alone, be their
@@ -64,7 +64,7 @@ pub record Finds {X A : Type 0} (view : X → A) (of : Reading A) (old new : Out
   pub only : OnlyReads old new
   pub leaves : Leaves found old new
   pub caused : (word : ℕ) → found ≡ Err (Fault word) → IsOneOf word of.words × Rose old.read_faults new.read_faults
-  pub limits : (what : Size) (has most : ℕ) → found ≡ Err (Contents (bad.Limit what has most)) → IsOneOf what of.sizes
+  pub limits : (what : What) (has most : ℕ) → found ≡ Err (Contents (bad.Limit what has most)) → IsOneOf what of.sizes
 
 -- what was made is what is due, or memory was wanting; no file is read
 abbrev pub Makes : {X A : Type 0} → (X → A) → Result A Bad → Result X Stop → Type 0

@@ -7,8 +7,8 @@ use Rattle.tv_step.specs.Range.{AreWords}
 use Rattle.tv_step.specs.declared.end.End.{End}
 use Rattle.tv_top.specs.declared.inputs.Inputs.{Inputs}
 use Rattle.tv_top.specs.declared.refusal.Bad.{Bad}
-use Rattle.tv_top.specs.declared.refusal.Size.{Size}
-use Rattle.tv_top.specs.declared.refusal.Size.TheVariants.{TapeWords, AuxWords}
+use Rattle.tv_top.specs.declared.refusal.What.{What}
+use Rattle.tv_top.specs.declared.refusal.What.TheVariants.{TapeWords, AuxWords}
 use Rattle.tv_top.specs.Claims.{Holds, Then}
 use Rattle.tv_top.specs.Plan.{Named, Look, ◌>>=◌, input, settled}
 use Rattle.tv_top.specs.Programs.{HasImage, bits, program_in, program_sizes}
@@ -30,7 +30,7 @@ inputs_of text tape aux files = do
   settled (Ok (record { program = program; tape = primary; aux = auxiliary }))
 
 -- the quantities of which the three files may hold too many
-abbrev pub input_sizes : List Size
+abbrev pub input_sizes : List What
 input_sizes = program_sizes ++ tape_sizes TapeWords ++ tape_sizes AuxWords
 
 -- words of the program's width, and no more of them than are allowed

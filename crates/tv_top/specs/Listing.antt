@@ -17,7 +17,7 @@ use Rattle.tv_top.specs.Build.{program_system, size_amounts, program_runs}
 use Rattle.tv_top.specs.Claims.{Call, AnswersOrStops}
 use Rattle.tv_top.specs.Assignment.{Assigned, assigned_of, assigned_run, run_ends, HasAssigned}
 use Rattle.tv_top.specs.Kinds.{is_listing}
-use Rattle.tv_top.specs.Plan.{Named, Plan, Outcome, name_at, named, outcome_by, writes_bytes}
+use Rattle.tv_top.specs.Plan.{Named, Plan, Outcome, name_at, named, outcome_by, writes_bytes, with_three}
 use Rattle.tv_top.specs.Programs.{program_sizes}
 
 -- the order that a word names
@@ -64,6 +64,14 @@ listing_asks args = listing_plan (record {
   witness = named args.witness;
   out = named args.out;
 })
+
+-- the plan of the words after the command's name, where they have its form
+abbrev pub listing_form : List (List ℕ) → Option Plan
+listing_form (text ∷ n ∷ t ∷ witness ∷ by ∷ out ∷ []) =
+    with_three (λ by n t. listing_plan
+    (record { by = by; text = name_at 1 text; n = n; t = t; witness = name_at 4 witness; out = name_at 6 out }))
+    (by_word by) (numeral 10 (2 ^ 64) n) (numeral 10 (2 ^ 64) t)
+listing_form _ = None
 
 -- The two files hold what those of `extract` do. And an assignment that satisfies the program's system has a run, of
 -- which its lines are: boot lines, and the lines of the machine's steps on the run's tapes. So its listing is, byte for

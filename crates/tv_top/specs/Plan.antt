@@ -1,5 +1,6 @@
 -- What a command's words mean: a plan, whose parts all clauses share.
-use Rattle.std.specs.Prelude.{ℕ, ◌+◌, max, Bool, List, [], ◌∷◌, length, Option, Some, None, option_map, find, Result, Ok, Err, nat_le, nat_lt, ◌||◌, if◌then◌else◌}
+use Rattle.std.specs.Prelude.{ℕ, ◌+◌, max, Bool, List, [], ◌∷◌, length, Option, Some, None, option_map, find, Result, Ok, Err, nat_le, nat_lt, ◌||◌}
+use Rattle.std.specs.Prelude.{if◌then◌else◌}
 use Rattle.std.specs.Option.{option_or}
 use Rattle.std.specs.Str.{bytes_eq}
 use Rattle.tv_files.specs.Outside.{Names}
@@ -10,10 +11,9 @@ use Rattle.tv_top.specs.declared.refusal.Ending.{Ending}
 use Rattle.tv_top.specs.declared.refusal.Ending.TheVariants.{Refused, Stopped, Finished}
 use Rattle.tv_top.specs.declared.refusal.Finish.{Finish}
 use Rattle.tv_top.specs.declared.refusal.Finish.TheVariants.{Quiet}
-use Rattle.tv_top.specs.declared.refusal.Quantity.{Quantity}
+use Rattle.tv_top.specs.declared.refusal.What.{What}
 use Rattle.tv_top.specs.declared.refusal.Refusal.{Refusal}
 use Rattle.tv_top.specs.declared.refusal.Refusal.TheVariants.{Usage, SameName, Limit}
-use Rattle.tv_top.specs.declared.refusal.Size.{Size}
 use Rattle.tv_top.specs.declared.refusal.Stop.{Stop}
 use Rattle.tv_top.specs.declared.refusal.Stop.TheVariants as stop
 use Rattle.tv_top.specs.Contents.{Content, Content.{Bytes}}
@@ -50,7 +50,7 @@ writes_bytes bytes = record { files = Bytes bytes ∷ []; finish = Quiet }
 
 -- a quantity that a word is: how many there are, and how many there may be
 pub record Amount : Type 0 where
-  pub what : Quantity
+  pub what : What
   pub has : ℕ
   pub least : ℕ
   pub most : ℕ
@@ -62,11 +62,20 @@ pub record Plan : Type 0 where
   pub reads : List Named
   pub writes : List Named
   pub amounts : List Amount
-  pub sizes : List Size
+  pub sizes : List What
   pub ends_by : Finish → Bool
   pub leads_to : Names → Look Outcome
 
 -- ---- words
+
+-- what two words mean together, where each means something, and what three do
+abbrev pub with_two : {A B C : Type 0} → (A → B → C) → Option A → Option B → Option C
+with_two f (Some a) (Some b) = Some (f a b)
+with_two f _ _ = None
+
+abbrev pub with_three : {A B C D : Type 0} → (A → B → C → D) → Option A → Option B → Option C → Option D
+with_three f (Some a) (Some b) (Some c) = Some (f a b c)
+with_three f _ _ _ = None
 
 -- the first name that is the same as this one
 abbrev pub same_in : Named → List Named → Option Refusal
@@ -112,7 +121,7 @@ abbrev pub ◌>>=◌ : {A B : Type 0} → Look A → (A → Look B) → Look B
 look >>= f = look_on look.at look.gives f
 
 -- what is found of a file that may have this many bytes of this quantity
-abbrev pub within : {A : Type 0} → Size → ℕ → (List ℕ → Result A Bad) → List ℕ → Result A Bad
+abbrev pub within : {A : Type 0} → What → ℕ → (List ℕ → Result A Bad) → List ℕ → Result A Bad
 within what most f bytes = if nat_le (length bytes) most then f bytes else Err (bad.Limit what (most + 1) most)
 
 -- what was made of contents

@@ -13,8 +13,8 @@ use Rattle.tv_top.specs.declared.programs.Width.{Width}
 use Rattle.tv_top.specs.declared.programs.Width.TheVariants.{Bits16, Bits32}
 use Rattle.tv_top.specs.declared.refusal.Bad.{Bad}
 use Rattle.tv_top.specs.declared.refusal.Bad.TheVariants as bad
-use Rattle.tv_top.specs.declared.refusal.Size.{Size}
-use Rattle.tv_top.specs.declared.refusal.Size.TheVariants.{ImageWords, TextBytes}
+use Rattle.tv_top.specs.declared.refusal.What.{What}
+use Rattle.tv_top.specs.declared.refusal.What.TheVariants.{ImageWords, TextBytes}
 use Rattle.tv_top.specs.declared.refusal.Stop.{Stop}
 use Rattle.tv_top.specs.declared.refusal.Stop.TheVariants.{Contents, Memory}
 use Rattle.tv_top.specs.Finds.{made_by}
@@ -70,7 +70,7 @@ unfoldable pub image_of : List ℕ → Result (List ℕ) Bad
 image_of text = map_ok image_bytes (program_of text)
 
 -- the quantities of which the file of a program text may hold too many
-abbrev pub program_sizes : List Size
+abbrev pub program_sizes : List What
 program_sizes = TextBytes ∷ ImageWords ∷ []
 
 -- the file of a program text, which may have this many bytes: its program

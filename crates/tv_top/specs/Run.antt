@@ -1,5 +1,5 @@
 -- `run TEXT TAPE AUX T`: the end of the machine's run on a program and two tapes.
-use Rattle.std.specs.Prelude.{◌≡◌, ◌<◌, ◌≤◌, ◌^◌, ℕ, codes, List, [], ◌∷◌, Some, Result, IfOk}
+use Rattle.std.specs.Prelude.{◌≡◌, ◌<◌, ◌≤◌, ◌^◌, ℕ, codes, List, [], ◌∷◌, Some, Result, IfOk, Option, None, option_map}
 use Rattle.tv_files.specs.Outside.{Names, WhereKnown}
 use Rattle.tv_step.specs.Machine.{Accepts}
 use Rattle.tv_step.specs.declared.end.End.TheVariants.{Answer}
@@ -8,12 +8,12 @@ use Rattle.tv_word.specs.Numeral.{numeral}
 use Rattle.tv_top.specs.declared.inputs.Inputs.{Inputs}
 use Rattle.tv_top.specs.declared.refusal.Bad.{Bad}
 use Rattle.tv_top.specs.declared.refusal.Finish.TheVariants.{Run}
-use Rattle.tv_top.specs.declared.refusal.Quantity.TheVariants.{Steps}
+use Rattle.tv_top.specs.declared.refusal.What.TheVariants.{Steps}
 use Rattle.tv_top.specs.declared.run.RunArgs.{RunArgs}
 use Rattle.tv_top.specs.Claims.{Call, AnswersOrStops}
 use Rattle.tv_top.specs.Kinds.{is_run}
 use Rattle.tv_top.specs.Inputs.{inputs_of, input_sizes, run_end, HasInputs}
-use Rattle.tv_top.specs.Plan.{Named, Plan, Outcome, named, outcome_by}
+use Rattle.tv_top.specs.Plan.{Named, Plan, Outcome, named, outcome_by, name_at}
 use Rattle.tv_top.specs.Programs.{bits}
 
 abbrev pub run_ends : ℕ → Inputs → Outcome
@@ -32,6 +32,11 @@ run_plan text tape aux steps = record {
 -- the plan that the command's words ask for
 abbrev pub run_asks : RunArgs → Plan
 run_asks args = run_plan (named args.text) (named args.tape) (named args.aux) args.t
+
+-- the plan of the words after the command's name, where they have its form
+abbrev pub run_form : List (List ℕ) → Option Plan
+run_form (text ∷ tape ∷ aux ∷ steps ∷ []) = option_map (run_plan (name_at 1 text) (name_at 2 tape) (name_at 3 aux)) (numeral 10 (2 ^ 64) steps)
+run_form _ = None
 
 -- the three files hold a program and two tapes, and where the run on them ends with an answer, the machine accepts
 -- by it; or the first of them that is refused is refused for this

@@ -10,8 +10,8 @@ use Rattle.tv_shrink.specs.declared.fault.ShrinkFault.TheVariants as fault
 use Rattle.tv_top.specs.declared.refusal.Bad.{Bad}
 use Rattle.tv_top.specs.declared.refusal.Bad.TheVariants as bad
 use Rattle.tv_top.specs.declared.refusal.Finish.TheVariants.{Quiet}
-use Rattle.tv_top.specs.declared.refusal.Size.{Size}
-use Rattle.tv_top.specs.declared.refusal.Size.TheVariants.{SystemTerms, CombinationTerms}
+use Rattle.tv_top.specs.declared.refusal.What.{What}
+use Rattle.tv_top.specs.declared.refusal.What.TheVariants.{SystemTerms, CombinationTerms}
 use Rattle.tv_top.specs.declared.refusal.Stop.{Stop}
 use Rattle.tv_top.specs.declared.refusal.Stop.TheVariants as stop
 use Rattle.tv_top.specs.declared.shrink.ShrinkArgs.{ShrinkArgs}
@@ -19,7 +19,7 @@ use Rattle.tv_top.specs.Claims.{Call, Holds, Then, AnswersOrStops}
 use Rattle.tv_top.specs.Containers.{system_in}
 use Rattle.tv_top.specs.Contents.{Content.{Rest}}
 use Rattle.tv_top.specs.Kinds.{is_quiet}
-use Rattle.tv_top.specs.Plan.{Named, Plan, Outcome, Look, ◌>>=◌, named, settled, input, outcome_by, one_name}
+use Rattle.tv_top.specs.Plan.{Named, Plan, Outcome, Look, ◌>>=◌, named, settled, input, outcome_by, one_name, name_at}
 
 -- the limits of a system's terms, and of the terms of one combination
 abbrev pub terms_bad : ℕ → Bad
@@ -55,7 +55,7 @@ shrunk_look place files = do
 abbrev pub shrink_ends : Shrunken → Outcome
 shrink_ends shrunken = record { files = Rest shrunken ∷ []; finish = Quiet }
 
-abbrev pub shrink_sizes : List Size
+abbrev pub shrink_sizes : List What
 shrink_sizes = SystemTerms ∷ CombinationTerms ∷ []
 
 abbrev pub shrink_plan : Named → Named → Plan
@@ -71,6 +71,11 @@ shrink_plan system out = record {
 -- the plan that the command's words ask for
 abbrev pub shrink_asks : ShrinkArgs → Plan
 shrink_asks args = shrink_plan (named args.system) (named args.out)
+
+-- the plan of the words after the command's name, where they have its form
+abbrev pub shrink_form : List (List ℕ) → Option Plan
+shrink_form (system ∷ out ∷ []) = Some (shrink_plan (name_at 1 system) (name_at 2 out))
+shrink_form _ = None
 
 -- The numbers that satisfy the shrunk system are those that some assignment which satisfies the system has at the kept
 -- wires, and no two such assignments have the same numbers there; wire 0 and all public wires keep their numbers.

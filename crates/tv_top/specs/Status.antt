@@ -10,19 +10,14 @@ use Rattle.tv_top.specs.declared.refusal.Ending.{Ending}
 use Rattle.tv_top.specs.declared.refusal.Ending.TheVariants.{Refused, Stopped, Finished}
 use Rattle.tv_top.specs.declared.refusal.Finish.{Finish}
 use Rattle.tv_top.specs.declared.refusal.Finish.TheVariants as finishes
-use Rattle.tv_top.specs.declared.refusal.Quantity.{Quantity}
-use Rattle.tv_top.specs.declared.refusal.Quantity.TheVariants as quantity
 use Rattle.tv_top.specs.declared.refusal.Refusal.{Refusal}
 use Rattle.tv_top.specs.declared.refusal.Refusal.TheVariants as refusal
-use Rattle.tv_top.specs.declared.refusal.Size.{Size}
-use Rattle.tv_top.specs.declared.refusal.Size.TheVariants as size
 use Rattle.tv_top.specs.declared.refusal.Stop.{Stop}
 use Rattle.tv_top.specs.declared.refusal.Stop.TheVariants as stop
 use Rattle.tv_top.specs.declared.status.NoWhy.TheVariants as no
 use Rattle.tv_top.specs.declared.status.Status.{Status}
-use Rattle.tv_top.specs.declared.status.Status.TheVariants.{Done, No, Usage, BadProgram, BadTape, BadSystem, BadWitness, Limit, FileFault, Memory, NoRun, NotARun, SameName, BadImage}
-use Rattle.tv_top.specs.declared.status.What.{What}
-use Rattle.tv_top.specs.declared.status.What.TheVariants.{ImageWords, ImageBytes, TapeWords, AuxWords, TextBytes, SystemTerms, CombinationTerms, Steps, Draws}
+use Rattle.tv_top.specs.declared.status.Status.TheVariants.{Done, No, Usage, BadProgram, BadTape, BadSystem, BadWitness, Limit, FileFault, Memory, NoRun}
+use Rattle.tv_top.specs.declared.status.Status.TheVariants.{NotARun, SameName, BadImage}
 
 -- the exit code
 abbrev pub code_of : Status → ℕ
@@ -41,27 +36,11 @@ code_of (NotARun _) = 11
 code_of (SameName _ _) = 12
 code_of (BadImage _) = 13
 
--- the quantity that a word is, among all that have a limit
-abbrev pub quantity_what : Quantity → What
-quantity_what quantity.TapeWords = TapeWords
-quantity_what quantity.Steps = Steps
-quantity_what quantity.Draws = Draws
-
--- the quantity that a file holds, among all that have a limit
-abbrev pub size_what : Size → What
-size_what size.ImageWords = ImageWords
-size_what size.ImageBytes = ImageBytes
-size_what size.TapeWords = TapeWords
-size_what size.AuxWords = AuxWords
-size_what size.TextBytes = TextBytes
-size_what size.SystemTerms = SystemTerms
-size_what size.CombinationTerms = CombinationTerms
-
 -- what refused words are answered
 abbrev pub refusal_status : Refusal → Status
 refusal_status refusal.Usage = Usage
 refusal_status (refusal.SameName first second) = SameName first second
-refusal_status (refusal.Limit what has most) = Limit (quantity_what what) has most
+refusal_status (refusal.Limit what has most) = Limit what has most
 
 -- what refused contents are answered
 abbrev pub bad_status : Bad → Status
@@ -70,7 +49,7 @@ bad_status (bad.Tape word at) = BadTape word at
 bad_status (bad.System at why) = BadSystem at why
 bad_status (bad.Witness at why) = BadWitness at why
 bad_status (bad.Image len) = BadImage len
-bad_status (bad.Limit what has most) = Limit (size_what what) has most
+bad_status (bad.Limit what has most) = Limit what has most
 
 -- what is answered where something kept the command from being done
 abbrev pub stop_status : Stop → Status

@@ -7,30 +7,30 @@ use Rattle.tv_tape.specs.declared.items.TapeFault.TheVariants as tape
 use Rattle.tv_core.specs.declared.limits.TheConstants.{TEXT_BYTES, CHECK_WORDS}
 use Rattle.tv_top.specs.declared.refusal.Bad.{Bad}
 use Rattle.tv_top.specs.declared.refusal.Bad.TheVariants as bad
-use Rattle.tv_top.specs.declared.refusal.Size.{Size}
-use Rattle.tv_top.specs.declared.refusal.Size.TheVariants.{TapeWords, TextBytes}
+use Rattle.tv_top.specs.declared.refusal.What.{What}
+use Rattle.tv_top.specs.declared.refusal.What.TheVariants.{TapeWords, TextBytes}
 use Rattle.tv_top.specs.declared.refusal.Stop.{Stop}
 use Rattle.tv_top.specs.declared.refusal.Stop.TheVariants.{Contents, Memory}
 use Rattle.tv_top.specs.Finds.{made_by}
 use Rattle.tv_top.specs.Plan.{within}
 
 -- what a fault of the tape at a word is; it is one item more that passes the limit
-abbrev pub tape_stop : ℕ → Size → TapeFault → Stop
+abbrev pub tape_stop : ℕ → What → TapeFault → Stop
 tape_stop word what (tape.BadItem at) = Contents (bad.Tape word at)
 tape_stop word what (tape.TooBig at) = Contents (bad.Tape word at)
 tape_stop word what (tape.TooMany most) = Contents (bad.Limit what (most + 1) most)
 tape_stop word what tape.Memory = Memory
 
 -- the numbers of the text of the tape at a word: below a bound each, and at most this many of this quantity
-unfoldable pub numbers_of : ℕ → Size → ℕ → ℕ → List ℕ → Result (List ℕ) Bad
+unfoldable pub numbers_of : ℕ → What → ℕ → ℕ → List ℕ → Result (List ℕ) Bad
 numbers_of word what below most text = made_by what (tape_stop word what) (tape_of text below most)
 
 -- the quantities of which the file of a tape may hold too many, the numbers being of this one
-abbrev pub tape_sizes : Size → List Size
+abbrev pub tape_sizes : What → List What
 tape_sizes what = TextBytes ∷ what ∷ []
 
 -- the file of the tape at a word, which may have this many bytes: its numbers
-abbrev pub numbers_in : ℕ → Size → ℕ → ℕ → List ℕ → Result (List ℕ) Bad
+abbrev pub numbers_in : ℕ → What → ℕ → ℕ → List ℕ → Result (List ℕ) Bad
 numbers_in word what below most = within TextBytes TEXT_BYTES (numbers_of word what below most)
 
 -- the file of the tape at a word that lists public numbers

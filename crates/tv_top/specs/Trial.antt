@@ -1,5 +1,5 @@
 -- `trial SEED K`: the system of a program drawn from a number, tested on the values of its run.
-use Rattle.std.specs.Prelude.{◌≡◌, ◌<◌, ◌≤◌, ◌^◌, ℕ, ◌+◌, ◌%◌, ◌⊎◌, codes, List, [], ◌∷◌, ◌++◌, length, Some, Ok, sum_by, count_by}
+use Rattle.std.specs.Prelude.{◌≡◌, ◌<◌, ◌≤◌, ◌^◌, ℕ, ◌+◌, ◌%◌, ◌⊎◌, codes, List, [], ◌∷◌, ◌++◌, length, Some, Ok, sum_by, count_by, Option, None}
 use Rattle.tv_benes.specs.declared.shape.Net.TheVariants.{Benes}
 use Rattle.tv_block.specs.Block.{block_of}
 use Rattle.tv_core.specs.Constraints.{System}
@@ -17,7 +17,7 @@ use Rattle.tv_step.specs.declared.end.End.TheVariants.{Answer}
 use Rattle.tv_word.specs.Counts.{Rose}
 use Rattle.tv_word.specs.Numeral.{numeral}
 use Rattle.tv_top.specs.declared.refusal.Finish.TheVariants as finishes
-use Rattle.tv_top.specs.declared.refusal.Quantity.TheVariants.{Draws}
+use Rattle.tv_top.specs.declared.refusal.What.TheVariants.{Draws}
 use Rattle.tv_top.specs.declared.refusal.Trial.{Trial}
 use Rattle.tv_top.specs.declared.status.Status.TheVariants.{Done, FileFault, Memory}
 use Rattle.tv_top.specs.declared.trial.TrialArgs.{TrialArgs}
@@ -25,7 +25,7 @@ use Rattle.tv_top.specs.Claims.{Call}
 use Rattle.tv_top.specs.Codes.{trial_text}
 use Rattle.tv_top.specs.Ends.{Added}
 use Rattle.tv_top.specs.Kinds.{is_trial}
-use Rattle.tv_top.specs.Plan.{Plan, Outcome, Look, outcome_by, settled}
+use Rattle.tv_top.specs.Plan.{Plan, Outcome, Look, outcome_by, settled, with_two}
 
 -- the system of k drawn instructions and `answer 0` after them, for as many steps, their run, and the values for it
 abbrev pub drawn_system : ℕ → ℕ → System
@@ -71,6 +71,11 @@ trial_plan seed k = record {
 -- the plan that the command's words ask for
 abbrev pub trial_asks : TrialArgs → Plan
 trial_asks args = trial_plan args.seed args.k
+
+-- the plan of the words after the command's name, where they have its form
+abbrev pub trial_form : List (List ℕ) → Option Plan
+trial_form (seed ∷ k ∷ []) = with_two trial_plan (numeral 10 (2 ^ 64) seed) (numeral 10 (2 ^ 64) k)
+trial_form _ = None
 
 -- The drawn program answers 0 at step k + 1, and no earlier, the values satisfy its system and extend 0 and the tape, and
 -- so all constraints hold.

@@ -1,6 +1,6 @@
 -- `witness TEXT TAPE AUX T WITNESS`, which may have one more word, `waksman`: the values of the wires of a program's
 -- system for a run that answers.
-use Rattle.std.specs.Prelude.{◌≡◌, ◌≢◌, ◌<◌, ◌≤◌, ◌^◌, ℕ, codes, List, [], ◌∷◌, Some, Result, IfOk}
+use Rattle.std.specs.Prelude.{◌≡◌, ◌≢◌, ◌<◌, ◌≤◌, ◌^◌, ℕ, codes, List, [], ◌∷◌, Some, Result, IfOk, Option, None}
 use Rattle.tv_benes.specs.declared.shape.Net.{Net}
 use Rattle.tv_block.specs.Block.{block_of}
 use Rattle.tv_core.specs.declared.limits.TheConstants.{STEPS}
@@ -15,14 +15,14 @@ use Rattle.tv_word.specs.Numeral.{numeral}
 use Rattle.tv_top.specs.declared.inputs.Inputs.{Inputs}
 use Rattle.tv_top.specs.declared.refusal.Bad.{Bad}
 use Rattle.tv_top.specs.declared.refusal.Finish.TheVariants.{Quiet, NoRun}
-use Rattle.tv_top.specs.declared.refusal.Quantity.TheVariants.{Steps}
+use Rattle.tv_top.specs.declared.refusal.What.TheVariants.{Steps}
 use Rattle.tv_top.specs.declared.witness.WitnessArgs.{WitnessArgs}
 use Rattle.tv_top.specs.Build.{net_word}
 use Rattle.tv_top.specs.Claims.{Call, AnswersOrStops}
 use Rattle.tv_top.specs.Contents.{Content.{Values}}
 use Rattle.tv_top.specs.Kinds.{is_witness}
 use Rattle.tv_top.specs.Inputs.{inputs_of, input_sizes, run_end, HasInputs}
-use Rattle.tv_top.specs.Plan.{Named, Plan, Outcome, name_at, named, outcome_by}
+use Rattle.tv_top.specs.Plan.{Named, Plan, Outcome, name_at, named, outcome_by, with_two}
 use Rattle.tv_top.specs.Programs.{bits}
 
 -- the values for a run that answers v
@@ -67,6 +67,14 @@ witness_asks args = witness_plan (record {
   t = args.t;
   witness = named args.witness;
 })
+
+-- the plan of the words after the command's name, where they have its form
+abbrev pub witness_form : List (List ℕ) → Option Plan
+witness_form (text ∷ tape ∷ aux ∷ t ∷ witness ∷ last) =
+    with_two (λ net t. witness_plan
+    (record { net = net; text = name_at 1 text; tape = name_at 2 tape; aux = name_at 3 aux; t = t; witness = name_at 5 witness }))
+    (net_word last) (numeral 10 (2 ^ 64) t)
+witness_form _ = None
 
 -- the machine accepts by v, and the values satisfy the system, extend v and the tape, and take the words that the run
 -- reads

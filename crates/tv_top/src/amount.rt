@@ -3,7 +3,7 @@ ghost use Rattle.std.specs.Prelude.{◌≡◌, ◌≤◌, true, false, MatchResu
 ghost use Rattle.tv_top.specs.declared.refusal.Refusal.TheVariants.{Limit};
 ghost use Rattle.tv_top.specs.Plan.{is_out};
 
-use crate::refusal::{Quantity, Refusal};
+use crate::refusal::{Refusal, What};
 use std::marker::Model;
 use tv_core::limits::{DRAWS, STEPS, TAPE_WORDS};
 
@@ -36,7 +36,7 @@ impl<const LEAST: u32, const MOST: u32> Model for Limited<LEAST, MOST> {
 
 impl<const LEAST: u32, const MOST: u32> Limited<LEAST, MOST> {
     /// The quantity that a word is, unless it passes its limit or doesn't reach the least.
-    pub(crate) fn of(what: Quantity, has: u64) -> Result<Limited<LEAST, MOST>, Refusal>
+    pub(crate) fn of(what: What, has: u64) -> Result<Limited<LEAST, MOST>, Refusal>
         ensures { let out = is_out
             (record { what = what; has = has; least = LEAST; most = MOST }) in
             MatchResult result (λ number. (number ≡ has) × (out ≡ false))

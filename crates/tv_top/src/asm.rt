@@ -1,6 +1,6 @@
 //! `asm TEXT IMAGE`: the image of a program text.
-ghost use Rattle.std.specs.Prelude.{◌≡◌, IfOk};
-ghost use Rattle.tv_top.specs.Asm.{image_in};
+ghost use Rattle.std.specs.Prelude.{◌≡◌, IfOk, refl};
+ghost use Rattle.tv_top.specs.Asm.{image_in, asm_asks, asm_form};
 ghost use Rattle.tv_top.specs.Finds.{Finds, Makes, reading_of};
 ghost use Rattle.tv_top.specs.Plan.{input, named};
 ghost use Rattle.tv_top.specs.Programs.{image_bytes, image_of, program_sizes};
@@ -10,7 +10,7 @@ use crate::job::Job;
 use crate::output::write_bytes;
 use crate::place::{Place, keep_apart};
 use crate::programs::{Program, program_of};
-use crate::refusal::{Finish, Refusal, Size, Stop};
+use crate::refusal::{Finish, Refusal, Stop, What};
 use std::alloc::{AllocError, Global};
 use tv_core::limits::TEXT_BYTES;
 use tv_files::Files;
@@ -24,10 +24,6 @@ pub(crate) struct AsmArgs<'a> {
 }
 
 impl<'a> Job<'a> for AsmArgs<'a> {
-    ghost use Rattle.std.specs.Prelude.{refl};
-    ghost use Rattle.tv_top.specs.Form.{asm_form};
-    ghost use Rattle.tv_top.specs.Asm.{asm_asks};
-
     ghost form = { asm_form };
 
     ghost asks = { asm_asks };
@@ -79,6 +75,6 @@ fn read_image<D: Files>(alloc: Global, files: &mut D, place: Place<'_>) -> Resul
     ensures { Finds (λ v. v.items) (reading_of (named place.entry) program_sizes image_in)
         (D.seen files.old) (D.seen files.new) result }
 {
-    let text = limited_bytes(alloc, files, place, Size::TextBytes, TEXT_BYTES)?;
+    let text = limited_bytes(alloc, files, place, What::TextBytes, TEXT_BYTES)?;
     image_of(alloc, &text)
 }

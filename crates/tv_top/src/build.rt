@@ -1,8 +1,9 @@
 //! `build TEXT N T SYSTEM`, which may have one more word, `waksman`: the system of a program's
 //! runs.
+ghost use Rattle.std.specs.Prelude.{refl};
 ghost use Rattle.tv_layout.specs.Places.{WithinLimits, runs_of};
 ghost use Rattle.tv_layout.specs.Systems.{system_of};
-ghost use Rattle.tv_top.specs.Build.{program_system};
+ghost use Rattle.tv_top.specs.Build.{program_system, build_asks, build_form};
 ghost use Rattle.tv_top.specs.Contents.{Content.{Constraints}};
 ghost use Rattle.tv_top.specs.Ends.{Writes, streamed};
 ghost use Rattle.tv_top.specs.Plan.{named, one_write};
@@ -14,7 +15,7 @@ use crate::network::net_word;
 use crate::output::streamed;
 use crate::place::{Place, keep_apart};
 use crate::programs::{Program, Width, read_program};
-use crate::refusal::{Finish, Quantity, Refusal, Stop};
+use crate::refusal::{Finish, Refusal, Stop, What};
 use std::alloc::Global;
 use tv_benes::Net;
 use tv_core::Put;
@@ -36,10 +37,6 @@ pub(crate) struct BuildArgs<'a> {
 }
 
 impl<'a> Job<'a> for BuildArgs<'a> {
-    ghost use Rattle.std.specs.Prelude.{refl};
-    ghost use Rattle.tv_top.specs.Form.{build_form};
-    ghost use Rattle.tv_top.specs.Build.{build_asks};
-
     ghost form = { build_form };
 
     ghost asks = { build_asks };
@@ -55,8 +52,8 @@ impl<'a> Job<'a> for BuildArgs<'a> {
         keep_apart(&[text], &[system])?;
         Ok(BuildArgs {
             text,
-            n: TapeWords::of(Quantity::TapeWords, n)?,
-            t: Steps::of(Quantity::Steps, t)?,
+            n: TapeWords::of(What::TapeWords, n)?,
+            t: Steps::of(What::Steps, t)?,
             system,
             net,
         })

@@ -4,7 +4,7 @@ ghost use Rattle.tv_top.specs.Finds.{Finds, reading_of};
 ghost use Rattle.tv_top.specs.Plan.{input, named, within};
 
 use crate::place::Place;
-use crate::refusal::{Bad, Size, Stop};
+use crate::refusal::{Bad, Stop, What};
 use std::alloc::Global;
 use tv_files::{Files, Slurp, slurp};
 
@@ -14,7 +14,7 @@ pub(crate) fn limited_bytes<D: Files>(
     alloc: Global,
     files: &mut D,
     place: Place<'_>,
-    what: Size,
+    what: What,
     most: u64,
 ) -> Result<Vec<u8>, Stop>
     requires { most + 1 < 2 ^ 64 }

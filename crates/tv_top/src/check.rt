@@ -1,8 +1,8 @@
 //! `check SYSTEM WITNESS PUBLIC`: the three files, each read to its end and judged before the next,
 //! and the verdict on them.
-ghost use Rattle.std.specs.Prelude.{[], ◌∷◌};
-ghost use Rattle.tv_top.specs.Check.{check_of};
-ghost use Rattle.tv_top.specs.declared.refusal.Size.TheVariants.{TapeWords};
+ghost use Rattle.std.specs.Prelude.{[], ◌∷◌, refl};
+ghost use Rattle.tv_top.specs.Check.{check_of, check_asks, check_form};
+ghost use Rattle.tv_top.specs.declared.refusal.What.TheVariants.{TapeWords};
 ghost use Rattle.tv_top.specs.Finds.{Finds, reading};
 ghost use Rattle.tv_top.specs.Plan.{named};
 ghost use Rattle.tv_top.specs.Tapes.{tape_sizes};
@@ -25,10 +25,6 @@ pub(crate) struct CheckArgs<'a> {
 }
 
 impl<'a> Job<'a> for CheckArgs<'a> {
-    ghost use Rattle.std.specs.Prelude.{refl};
-    ghost use Rattle.tv_top.specs.Form.{check_form};
-    ghost use Rattle.tv_top.specs.Check.{check_asks};
-
     ghost form = { check_form };
 
     ghost asks = { check_asks };

@@ -2,14 +2,14 @@
 ghost use Rattle.std.specs.Prelude.{◌≡◌, [], ◌∷◌};
 ghost use Rattle.tv_shrink.specs.Shrunk.{Shrunken};
 ghost use Rattle.tv_top.specs.Containers.{counts_in, firsts_in_witness, verdict_in};
-ghost use Rattle.tv_top.specs.Containers.{refusal_stop, system_bad, witness_bad};
+ghost use Rattle.tv_top.specs.Containers.{refusal_stop, system_bad};
 ghost use Rattle.tv_top.specs.Finds.{Finds, reading, reading_of};
 ghost use Rattle.tv_top.specs.Plan.{named};
-ghost use Rattle.tv_top.specs.Shrink.{shrink_sizes, shrink_stop, shrunk_look};
+ghost use Rattle.tv_top.specs.Shrink.{shrink_sizes, shrunk_look};
 ghost use Rattle.tv_wtns.specs.Wtns.{firsts_in};
 
 use crate::place::Place;
-use crate::refusal::{Bad, Size, Stop};
+use crate::refusal::{Bad, Stop, What};
 use std::alloc::Global;
 use tv_check::{Verdict, check};
 use tv_container::ReadRefusal;
@@ -25,17 +25,6 @@ fn system_stop(word: u32, why: ReadRefusal) -> Stop
 {
     match why {
         ReadRefusal::Bad { at, why } => Stop::Contents(Bad::System { at, why }),
-        ReadRefusal::Fault => Stop::Fault { word },
-        ReadRefusal::Memory => Stop::Memory,
-    }
-}
-
-/// What a refused reading stops of the assignment whose name stands at this word.
-fn witness_stop(word: u32, why: ReadRefusal) -> Stop
-    ensures { result ≡ refusal_stop word witness_bad why }
-{
-    match why {
-        ReadRefusal::Bad { at, why } => Stop::Contents(Bad::Witness { at, why }),
         ReadRefusal::Fault => Stop::Fault { word },
         ReadRefusal::Memory => Stop::Memory,
     }
@@ -63,7 +52,11 @@ pub(crate) fn read_first_witness<D: Files>(
     ensures { Finds firsts_in (reading_of (named place.entry) [] (firsts_in_witness most))
         (D.seen files.old) (D.seen files.new) result }
 {
-    read_first_values(alloc, files, place.name, most).map_err(|why| witness_stop(place.word, why))
+    read_first_values(alloc, files, place.name, most).map_err(|refusal| match refusal {
+        ReadRefusal::Bad { at, why } => Stop::Contents(Bad::Witness { at, why }),
+        ReadRefusal::Fault => Stop::Fault { word: place.word },
+        ReadRefusal::Memory => Stop::Memory,
+    })
 }
 
 /// The verdict by the system of this name on these values and public numbers.
@@ -81,27 +74,6 @@ pub(crate) fn judge_system<D: Files>(
     check(alloc, files, place.name, values, publics).map_err(|why| system_stop(place.word, why))
 }
 
-/// What a refusal is of shrinking the system whose name stands at this word.
-fn shrink_stop(word: u32, fault: ShrinkFault) -> Stop
-    ensures { result ≡ shrink_stop word fault }
-{
-    match fault {
-        ShrinkFault::Bad { at, why } => Stop::Contents(Bad::System { at, why }),
-        ShrinkFault::Terms { has } => Stop::Contents(Bad::Limit {
-            what: Size::SystemTerms,
-            has,
-            most: MOST_TERMS,
-        }),
-        ShrinkFault::Combination { has } => Stop::Contents(Bad::Limit {
-            what: Size::CombinationTerms,
-            has,
-            most: TERMS as u64,
-        }),
-        ShrinkFault::Fault => Stop::Fault { word },
-        ShrinkFault::Memory => Stop::Memory,
-    }
-}
-
 /// What is left of the system of this name.
 pub(crate) fn read_shrunk<D: Files>(
     alloc: Global,
@@ -112,5 +84,19 @@ pub(crate) fn read_shrunk<D: Files>(
         (reading (place.entry.word ∷ []) shrink_sizes (shrunk_look (named place.entry)))
         (D.seen files.old) (D.seen files.new) result }
 {
-    shrink(alloc, files, place.name).map_err(|fault| shrink_stop(place.word, fault))
+    shrink(alloc, files, place.name).map_err(|fault| match fault {
+        ShrinkFault::Bad { at, why } => Stop::Contents(Bad::System { at, why }),
+        ShrinkFault::Terms { has } => Stop::Contents(Bad::Limit {
+            what: What::SystemTerms,
+            has,
+            most: MOST_TERMS,
+        }),
+        ShrinkFault::Combination { has } => Stop::Contents(Bad::Limit {
+            what: What::CombinationTerms,
+            has,
+            most: TERMS as u64,
+        }),
+        ShrinkFault::Fault => Stop::Fault { word: place.word },
+        ShrinkFault::Memory => Stop::Memory,
+    })
 }

@@ -1,7 +1,7 @@
 //! `disasm IMAGE TEXT` and `disasm IMAGE TEXT 16`: the program text of an image.
-ghost use Rattle.std.specs.Prelude.{◌≡◌, [], ◌∷◌, map, string_bytes};
-ghost use Rattle.tv_top.specs.Disasm.{text_of, text_in, width_word};
-ghost use Rattle.tv_top.specs.declared.refusal.Size.TheVariants.{ImageBytes};
+ghost use Rattle.std.specs.Prelude.{◌≡◌, [], ◌∷◌, map, string_bytes, refl};
+ghost use Rattle.tv_top.specs.Disasm.{text_of, text_in, width_word, disasm_asks, disasm_form};
+ghost use Rattle.tv_top.specs.declared.refusal.What.TheVariants.{ImageBytes};
 ghost use Rattle.tv_top.specs.Finds.{Finds, Makes, reading_of};
 ghost use Rattle.tv_top.specs.Plan.{input, named};
 ghost use Rattle.tv_top.specs.Programs.{bits};
@@ -11,7 +11,7 @@ use crate::job::Job;
 use crate::output::write_bytes;
 use crate::place::{Place, keep_apart};
 use crate::programs::Width;
-use crate::refusal::{Finish, Refusal, Size, Stop};
+use crate::refusal::{Finish, Refusal, Stop, What};
 use std::alloc::Global;
 use tv_disasm::disassemble;
 use tv_files::Files;
@@ -25,10 +25,6 @@ pub(crate) struct DisasmArgs<'a> {
 }
 
 impl<'a> Job<'a> for DisasmArgs<'a> {
-    ghost use Rattle.std.specs.Prelude.{refl};
-    ghost use Rattle.tv_top.specs.Form.{disasm_form};
-    ghost use Rattle.tv_top.specs.Disasm.{disasm_asks};
-
     ghost form = { disasm_form };
 
     ghost asks = { disasm_asks };
@@ -76,7 +72,7 @@ fn read_text<D: Files>(
         (D.seen files.old) (D.seen files.new) result }
 {
     let most = width.image_bytes_most();
-    let image = limited_bytes(alloc, files, place, Size::ImageBytes, most)?;
+    let image = limited_bytes(alloc, files, place, What::ImageBytes, most)?;
     text_of(alloc, width, &image)
 }
 

@@ -1,8 +1,8 @@
 //! `extract TEXT N T WITNESS TAPE AUX`, which may have one more word, `waksman`: the run that an
 //! assignment of a program's system has.
-ghost use Rattle.std.specs.Prelude.{[], ◌∷◌};
+ghost use Rattle.std.specs.Prelude.{[], ◌∷◌, refl};
 ghost use Rattle.tv_top.specs.Ends.{Completes};
-ghost use Rattle.tv_top.specs.Extract.{run_written};
+ghost use Rattle.tv_top.specs.Extract.{run_written, extract_asks, extract_form};
 ghost use Rattle.tv_top.specs.Plan.{named};
 
 use crate::amount::{Steps, TapeWords};
@@ -11,7 +11,7 @@ use crate::job::Job;
 use crate::network::net_word;
 use crate::output::write_bytes;
 use crate::place::{Place, keep_apart};
-use crate::refusal::{Finish, Quantity, Refusal, Stop};
+use crate::refusal::{Finish, Refusal, Stop, What};
 use std::alloc::Global;
 use tv_benes::Net;
 use tv_extract::Run;
@@ -35,10 +35,6 @@ pub(crate) struct ExtractArgs<'a> {
 }
 
 impl<'a> Job<'a> for ExtractArgs<'a> {
-    ghost use Rattle.std.specs.Prelude.{refl};
-    ghost use Rattle.tv_top.specs.Form.{extract_form};
-    ghost use Rattle.tv_top.specs.Extract.{extract_asks};
-
     ghost form = { extract_form };
 
     ghost asks = { extract_asks };
@@ -55,8 +51,8 @@ impl<'a> Job<'a> for ExtractArgs<'a> {
         keep_apart(&[text, witness], &[tape, aux])?;
         Ok(ExtractArgs {
             text,
-            n: TapeWords::of(Quantity::TapeWords, n)?,
-            t: Steps::of(Quantity::Steps, t)?,
+            n: TapeWords::of(What::TapeWords, n)?,
+            t: Steps::of(What::Steps, t)?,
             witness,
             tape,
             aux,

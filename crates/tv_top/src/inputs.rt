@@ -6,7 +6,7 @@ ghost use Rattle.tv_top.specs.Plan.{named};
 
 use crate::place::Place;
 use crate::programs::{Program, read_program};
-use crate::refusal::{Size, Stop};
+use crate::refusal::{Stop, What};
 use crate::tapes::read_words;
 use std::alloc::Global;
 use tv_core::limits::{AUX_WORDS, TAPE_WORDS};
@@ -37,7 +37,7 @@ pub(crate) fn read_inputs<D: Files>(
 {
     let program = read_program(alloc, files, text)?;
     let below = program.width.word_bound();
-    let tape = read_words(alloc, files, tape, Size::TapeWords, below, TAPE_WORDS)?;
-    let aux = read_words(alloc, files, aux, Size::AuxWords, below, AUX_WORDS)?;
+    let tape = read_words(alloc, files, tape, What::TapeWords, below, TAPE_WORDS)?;
+    let aux = read_words(alloc, files, aux, What::AuxWords, below, AUX_WORDS)?;
     Ok(Inputs { program, tape, aux })
 }

@@ -1,7 +1,8 @@
 //! What a command's words ask for: how they are read, and how it is done.
-ghost use Rattle.std.specs.Prelude.{map, string_bytes};
-ghost use Rattle.tv_top.specs.Answers.{Answers};
-ghost use Rattle.tv_top.specs.Plan.{request_of};
+ghost use Rattle.std.specs.Prelude.{◌≡◌, ℕ, false, List, map, string_bytes, Option, Ok, Err};
+ghost use Rattle.std.specs.Prelude.{MatchResult};
+ghost use Rattle.tv_top.specs.Answers.{Answers, Does, is_shared};
+ghost use Rattle.tv_top.specs.Plan.{Plan, request_of};
 
 use crate::output::conclude;
 use crate::refusal::{Ending, Finish, Refusal, Stop};
@@ -11,11 +12,6 @@ use tv_files::Files;
 
 /// What the words after a command's name ask for.
 pub(crate) trait Job<'a> {
-    ghost use Rattle.std.specs.Prelude.{◌≡◌, ℕ, false, List, map, string_bytes, Option, Ok, Err};
-    ghost use Rattle.std.specs.Prelude.{MatchResult};
-    ghost use Rattle.tv_top.specs.Answers.{Does, is_shared};
-    ghost use Rattle.tv_top.specs.Plan.{Plan, request_of};
-
     ghost form: { List (List ℕ) → Option Plan };
 
     ghost asks: { Self → Plan };

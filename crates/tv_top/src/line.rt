@@ -1,13 +1,11 @@
 //! The lines that commands say.
-ghost use Rattle.std.specs.Prelude.{◌≡◌, ◌+◌, ◌<◌, ◌≤◌, ◌++◌, length, codes, decimal, IfSome};
+ghost use Rattle.std.specs.Prelude.{◌≡◌, ◌+◌, ◌<◌, ◌≤◌, [], ◌∷◌, ◌++◌, length, codes, decimal};
 ghost use Rattle.arrayvec.specs.ArrayString.{array_string_len};
-ghost use Rattle.tv_top.specs.Codes.{Reads, line, says, end_text, verdict_text, asm_text};
-ghost use Rattle.tv_top.specs.Codes.{not_run_text, read_text, limit_text, refusal_text, bad_text};
-ghost use Rattle.tv_top.specs.Codes.{trial_text, finish_text};
+ghost use Rattle.tv_top.specs.Codes.{Reads, says, end_text, verdict_text, asm_text, not_run_text};
+ghost use Rattle.tv_top.specs.Codes.{read_text, limit_text, refusal_text, bad_text, trial_text};
 
 use crate::reasons::{LINE_BYTES, Line, push_asm, push_number, push_read, what_name};
-use crate::refusal::{Bad, Ending, Finish, Refusal, Stop, Trial};
-use crate::status::What;
+use crate::refusal::{Bad, Ending, Finish, Refusal, Stop, Trial, What};
 use tv_asm::AsmWhy;
 use tv_check::Verdict;
 use tv_container::ReadWhy;
@@ -40,14 +38,17 @@ fn number_line(text: &str, number: u64, after: &str) -> Line
     line
 }
 
-/// A line of two numbers, each after a text.
-fn pair_line(text: &str, first: u64, between: &str, second: u64) -> Line
-    requires { length text.now + length between.now + 40 ≤ LINE_BYTES }
-    ensures text { result.bytes ≡ text.now ++ decimal first ++ between.now ++ decimal second }
-    ensures room { array_string_len result ≤ length text.now + length between.now + 40 }
+/// A line of two numbers, each after a text, and another text.
+fn pair_line(text: &str, first: u64, between: &str, second: u64, after: &str) -> Line
+    requires { length text.now + length between.now + length after.now + 40 ≤ LINE_BYTES }
+    ensures text { result.bytes ≡
+        text.now ++ decimal first ++ between.now ++ decimal second ++ after.now }
+    ensures room { array_string_len result ≤
+        length text.now + length between.now + length after.now + 40 }
 {
     let mut line = number_line(text, first, between);
     push_number(&mut line, second);
+    line.push_str(after);
     line
 }
 
@@ -57,9 +58,11 @@ fn end_line(end: End) -> Line
     ensures room { array_string_len result ≤ 80 }
 {
     match end {
-        End::Answer { value, step } => pair_line("answer ", u64::from(value), " at step ", step),
+        End::Answer { value, step } => {
+            pair_line("answer ", u64::from(value), " at step ", step, "")
+        }
         End::Undefined { op, step } => {
-            pair_line("undefined opcode ", u64::from(op), " at step ", step)
+            pair_line("undefined opcode ", u64::from(op), " at step ", step, "")
         }
         End::Silent { steps } => number_line("no answer in ", steps, " steps"),
     }
@@ -82,9 +85,7 @@ fn not_run_line(why: NotRun) -> Line
 {
     match why {
         NotRun::WireCount { has, wants } => {
-            let mut line = pair_line("not a run: ", has, " wires, ", wants);
-            line.push_str(" wanted");
-            line
+            pair_line("not a run: ", has, " wires, ", wants, " wanted")
         }
         NotRun::WideWire { at } => number_line("not a run: wire ", at, " is wide"),
         NotRun::NotARun { end } => {
@@ -102,11 +103,7 @@ fn verdict_line(verdict: Verdict) -> Line
 {
     match verdict {
         Verdict::Yes => text_line("yes"),
-        Verdict::WireCount { has, wants } => {
-            let mut line = pair_line("no: ", has, " wires, ", wants);
-            line.push_str(" wanted");
-            line
-        }
+        Verdict::WireCount { has, wants } => pair_line("no: ", has, " wires, ", wants, " wanted"),
         Verdict::NoPublic { at } => number_line("no: public wire ", at, ""),
         Verdict::NoConstraint { at } => number_line("no: constraint ", at, ""),
     }
@@ -160,8 +157,9 @@ fn refusal_line(why: Refusal) -> Line
             u64::from(first),
             " and ",
             u64::from(second),
+            "",
         ),
-        Refusal::Limit { what, has, most } => limit_line(What::from(what), has, most),
+        Refusal::Limit { what, has, most } => limit_line(what, has, most),
     }
 }
 
@@ -172,11 +170,11 @@ fn bad_line(bad: Bad) -> Line
 {
     match bad {
         Bad::Program { line, why } => program_line(line, why),
-        Bad::Tape { word, at } => pair_line("bad tape: word ", u64::from(word), ", item ", at),
+        Bad::Tape { word, at } => pair_line("bad tape: word ", u64::from(word), ", item ", at, ""),
         Bad::System { at, why } => container_line("bad system: byte ", at, why),
         Bad::Witness { at, why } => container_line("bad witness: byte ", at, why),
         Bad::Image { len } => number_line("bad image: ", len, " bytes"),
-        Bad::Limit { what, has, most } => limit_line(What::from(what), has, most),
+        Bad::Limit { what, has, most } => limit_line(what, has, most),
     }
 }
 
@@ -185,9 +183,8 @@ fn trial_line(trial: Trial) -> Line
     ensures text { result.bytes ≡ trial_text trial }
     ensures room { array_string_len result < LINE_BYTES }
 {
-    let steps = u64::from(trial.steps);
-    let mut line = pair_line("trial: steps ", steps, ", wires ", u64::from(trial.wires));
-    line.push_str(", constraints ");
+    let (steps, wires) = (u64::from(trial.steps), u64::from(trial.wires));
+    let mut line = pair_line("trial: steps ", steps, ", wires ", wires, ", constraints ");
     push_number(&mut line, u64::from(trial.constraints));
     line.push_str(", sum ");
     push_number(&mut line, trial.sum);
@@ -196,39 +193,27 @@ fn trial_line(trial: Trial) -> Line
     line
 }
 
-/// The line of a good end, without its own end.
-fn finish_line(finish: Finish) -> Option<Line>
-    ensures text { Reads (λ line. line.bytes) result (finish_text finish) }
-    ensures room { IfSome result (λ line. array_string_len line < LINE_BYTES) }
+/// A line with its line feed.
+fn ended(mut line: Line) -> Line
+    requires { array_string_len line < LINE_BYTES }
+    ensures { result.bytes ≡ line.bytes ++ 10 ∷ [] }
 {
-    match finish {
-        Finish::Quiet => None,
-        Finish::Run(end) => Some(end_line(end)),
-        Finish::NoRun(end) => Some(no_run_line(end)),
-        Finish::NotARun(why) => Some(not_run_line(why)),
-        Finish::Verdict(verdict) => Some(verdict_line(verdict)),
-        Finish::Trial(trial) => Some(trial_line(trial)),
-    }
-}
-
-/// The line of an end, without its own end.
-fn ending_line(ending: Ending) -> Option<Line>
-    ensures text { Reads (λ line. line.bytes) result (line ending) }
-    ensures room { IfSome result (λ line. array_string_len line < LINE_BYTES) }
-{
-    match ending {
-        Ending::Refused(why) => Some(refusal_line(why)),
-        Ending::Stopped(Stop::Contents(bad)) => Some(bad_line(bad)),
-        Ending::Stopped(_) => None,
-        Ending::Finished(finish) => finish_line(finish),
-    }
+    line.push('\n');
+    line
 }
 
 /// The line of an end and its line feed.
 pub(crate) fn printed_line(ending: Ending) -> Option<Line>
     ensures { Reads (λ line. line.bytes) result (says ending) }
 {
-    let mut line = ending_line(ending)?;
-    line.push('\n');
-    Some(line)
+    match ending {
+        Ending::Refused(why) => Some(ended(refusal_line(why))),
+        Ending::Stopped(Stop::Contents(bad)) => Some(ended(bad_line(bad))),
+        Ending::Stopped(_) | Ending::Finished(Finish::Quiet) => None,
+        Ending::Finished(Finish::Run(end)) => Some(ended(end_line(end))),
+        Ending::Finished(Finish::NoRun(end)) => Some(ended(no_run_line(end))),
+        Ending::Finished(Finish::NotARun(why)) => Some(ended(not_run_line(why))),
+        Ending::Finished(Finish::Verdict(verdict)) => Some(ended(verdict_line(verdict))),
+        Ending::Finished(Finish::Trial(trial)) => Some(ended(trial_line(trial))),
+    }
 }

@@ -1,9 +1,9 @@
 //! `listing TEXT N T WITNESS BY OUT`: the lines of memory and tapes that an assignment of a
 //! program's system has.
-ghost use Rattle.std.specs.Prelude.{◌≡◌, ◌≤◌, [], ◌∷◌, IfOk};
+ghost use Rattle.std.specs.Prelude.{◌≡◌, ◌≤◌, [], ◌∷◌, IfOk, refl};
 ghost use Rattle.tv_top.specs.Ends.{Completes};
 ghost use Rattle.tv_top.specs.Assignment.{assigned_in};
-ghost use Rattle.tv_top.specs.Listing.{assigned_text, by_word, lines_written};
+ghost use Rattle.tv_top.specs.Listing.{assigned_text, by_word, lines_written, listing_asks, listing_form};
 ghost use Rattle.tv_top.specs.Plan.{named};
 ghost use Rattle.tv_top.specs.Programs.{HasImage};
 
@@ -13,7 +13,7 @@ use crate::job::Job;
 use crate::output::write_bytes;
 use crate::place::{Place, keep_apart};
 use crate::programs::Width;
-use crate::refusal::{Finish, Quantity, Refusal, Stop};
+use crate::refusal::{Finish, Refusal, Stop, What};
 use std::alloc::{AllocError, Global};
 use tv_benes::Net;
 use tv_extract::Run;
@@ -35,10 +35,6 @@ pub(crate) struct ListingArgs<'a> {
 }
 
 impl<'a> Job<'a> for ListingArgs<'a> {
-    ghost use Rattle.std.specs.Prelude.{refl};
-    ghost use Rattle.tv_top.specs.Form.{listing_form};
-    ghost use Rattle.tv_top.specs.Listing.{listing_asks};
-
     ghost form = { listing_form };
 
     ghost asks = { listing_asks };
@@ -55,8 +51,8 @@ impl<'a> Job<'a> for ListingArgs<'a> {
         keep_apart(&[text, witness], &[out])?;
         Ok(ListingArgs {
             text,
-            n: TapeWords::of(Quantity::TapeWords, n)?,
-            t: Steps::of(Quantity::Steps, t)?,
+            n: TapeWords::of(What::TapeWords, n)?,
+            t: Steps::of(What::Steps, t)?,
             witness,
             by,
             out,

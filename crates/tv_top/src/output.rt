@@ -7,7 +7,7 @@ ghost use Rattle.tv_top.specs.Plan.{named, one_write};
 use crate::line::printed_line;
 use crate::place::Place;
 use crate::refusal::{Ending, Stop};
-use crate::status::Status;
+use crate::status::{Status, status_of};
 use tv_core::{Put, SinkFault};
 use tv_files::{FileRefusal, Files, write_file};
 
@@ -17,10 +17,10 @@ pub(crate) fn conclude<D: Files>(files: &mut D, word_count: usize, ending: Endin
     ensures { Concludes ending word_count (D.seen files.old) (D.seen files.new) result }
 {
     let Some(line) = printed_line(ending) else {
-        return Status::from(ending);
+        return status_of(ending);
     };
     match files.say(line.as_str().as_bytes()) {
-        Ok(()) => Status::from(ending),
+        Ok(()) => status_of(ending),
         Err(FileRefusal::Failed) => Status::FileFault {
             word: word_count as u64,
         },

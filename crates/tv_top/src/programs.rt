@@ -1,15 +1,13 @@
 //! The images of program texts, for words of the width that a text sets.
 ghost use Rattle.std.specs.Prelude.{◌≡◌, ◌≤◌, ◌/◌, ◌^◌, IfOk};
-ghost use Rattle.tv_asm.specs.Header.{width_of};
-ghost use Rattle.tv_top.specs.declared.programs.Width.TheVariants.{Bits16};
 ghost use Rattle.tv_top.specs.Finds.{Finds, Makes, reading_of};
 ghost use Rattle.tv_top.specs.Plan.{input, named};
-ghost use Rattle.tv_top.specs.Programs.{HasImage, bits, image_bytes_most, width_of_text};
+ghost use Rattle.tv_top.specs.Programs.{HasImage, bits, image_bytes_most};
 ghost use Rattle.tv_top.specs.Programs.{program_of, program_in, program_sizes};
 
 use crate::bytes::limited_bytes;
 use crate::place::Place;
-use crate::refusal::{Size, Stop};
+use crate::refusal::{Stop, What};
 use std::alloc::Global;
 use tv_asm::{assemble, width};
 use tv_core::limits::{IMAGE_WORDS, IMAGE_WORDS_16, TEXT_BYTES};
@@ -65,33 +63,22 @@ pub(crate) struct Program {
     pub(crate) words: Words,
 }
 
-/// The width of words that a text sets.
-fn width_of_text(text: &[u8]) -> Width
-    ensures width { result ≡ width_of_text text.now }
-    ensures short { result ≡ Bits16 → width_of text.now ≡ 16 }
-{
-    if width(text) == 16 {
-        Width::Bits16
-    } else {
-        Width::Bits32
-    }
-}
-
 /// The program of a text.
 #[tactic(auto, unfolding(crate::specs::Programs::program_by))]
 pub(crate) fn program_of(alloc: Global, text: &[u8]) -> Result<Program, Stop>
     ensures made { Makes (λ program. program) (program_of text.now) result }
     ensures fits { IfOk result (λ program. HasImage program) }
 {
-    match width_of_text(text) {
-        Width::Bits16 => Ok(Program {
+    if width(text) == 16 {
+        Ok(Program {
             width: Width::Bits16,
             words: assemble::<16>(alloc, text, IMAGE_WORDS_16)?,
-        }),
-        Width::Bits32 => Ok(Program {
+        })
+    } else {
+        Ok(Program {
             width: Width::Bits32,
             words: assemble::<32>(alloc, text, IMAGE_WORDS)?,
-        }),
+        })
     }
 }
 
@@ -107,6 +94,6 @@ pub(crate) fn read_program<D: Files>(
         (D.seen files.old) (D.seen files.new) result }
     ensures fits { IfOk result (λ program. HasImage program) }
 {
-    let text = limited_bytes(alloc, files, place, Size::TextBytes, TEXT_BYTES)?;
+    let text = limited_bytes(alloc, files, place, What::TextBytes, TEXT_BYTES)?;
     program_of(alloc, &text)
 }

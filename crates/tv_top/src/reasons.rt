@@ -3,7 +3,7 @@ ghost use Rattle.std.specs.Prelude.{◌≡◌, ◌+◌, ◌≤◌, ◌++◌, len
 ghost use Rattle.arrayvec.specs.ArrayString.{array_string_len};
 ghost use Rattle.tv_top.specs.Codes.{asm_text, read_text, what_text};
 
-use crate::status::What;
+use crate::refusal::What;
 use arrayvec::ArrayString;
 use itoa::Buffer;
 use tv_asm::AsmWhy;

@@ -1,5 +1,10 @@
 //! What refuses, stops and ends a command: refused words, refused contents, what keeps a command
 //! from being done, and the good ends.
+ghost use Rattle.std.specs.Prelude.{◌≡◌};
+ghost use Rattle.tv_top.specs.Answers.{ending_of};
+ghost use Rattle.tv_top.specs.Disasm.{dis_stop};
+ghost use Rattle.tv_top.specs.Programs.{asm_stop};
+ghost use Rattle.tv_top.specs.declared.refusal.Stop.TheVariants.{Memory};
 
 use std::alloc::AllocError;
 use tv_asm::{AsmFault, AsmWhy};
@@ -9,20 +14,9 @@ use tv_disasm::DisFault;
 use tv_extract::NotRun;
 use tv_step::End;
 
-/// The quantities among the words.
+/// The quantities that have a limit.
 #[derive(Clone, Copy, Debug, PartialEq, Eq)]
-pub enum Quantity {
-    /// The words of a primary tape.
-    TapeWords,
-    /// The steps of a run.
-    Steps,
-    /// The instructions that a trial draws.
-    Draws,
-}
-
-/// The quantities that files hold.
-#[derive(Clone, Copy)]
-pub(crate) enum Size {
+pub enum What {
     /// The words of the image that a program text has.
     ImageWords,
     /// The bytes of an image file.
@@ -37,17 +31,21 @@ pub(crate) enum Size {
     SystemTerms,
     /// The terms of one combination of a system, made normal.
     CombinationTerms,
+    /// The steps of a run.
+    Steps,
+    /// The instructions that a trial draws.
+    Draws,
 }
 
-/// What words are refused for, before any file is looked at.
-#[derive(Clone, Copy, Debug, PartialEq, Eq)]
+/// What words are refused for, before any file is looked at. Definitions alone cite it.
+#[derive(Clone, Copy)]
 pub enum Refusal {
     /// The words are no command's.
     Usage,
     /// Two words name one file, which is to be written.
     SameName { first: u32, second: u32 },
     /// There are `has` of a quantity of which there may be `most`, or 0 of one that begins at 1.
-    Limit { what: Quantity, has: u64, most: u64 },
+    Limit { what: What, has: u64, most: u64 },
 }
 
 /// What the contents of a file are refused for.
@@ -64,7 +62,7 @@ pub(crate) enum Bad {
     /// An image file of `len` bytes, which aren't whole instructions of two words.
     Image { len: u64 },
     /// There are `has` of a quantity of which there may be `most`.
-    Limit { what: Size, has: u64, most: u64 },
+    Limit { what: What, has: u64, most: u64 },
 }
 
 /// Why a command didn't find, make or write what it was to.
@@ -123,9 +121,6 @@ pub(crate) enum Ending {
 }
 
 impl From<AllocError> for Stop {
-    ghost use Rattle.std.specs.Prelude.{◌≡◌};
-    ghost use Rattle.tv_top.specs.declared.refusal.Stop.TheVariants.{Memory};
-
     ghost from_gives = { λ _ stop. stop ≡ Memory };
 
     fn from(_: AllocError) -> Stop {
@@ -134,16 +129,13 @@ impl From<AllocError> for Stop {
 }
 
 impl From<AsmFault> for Stop {
-    ghost use Rattle.std.specs.Prelude.{◌≡◌};
-    ghost use Rattle.tv_top.specs.Programs.{asm_stop};
-
     ghost from_gives = { λ fault stop. stop ≡ asm_stop fault };
 
     fn from(fault: AsmFault) -> Stop {
         match fault {
             AsmFault::Bad { line, why } => Stop::Contents(Bad::Program { line, why }),
             AsmFault::TooMany { most, .. } => Stop::Contents(Bad::Limit {
-                what: Size::ImageWords,
+                what: What::ImageWords,
                 has: u64::from(most) + 2,
                 most: u64::from(most),
             }),
@@ -153,9 +145,6 @@ impl From<AsmFault> for Stop {
 }
 
 impl From<DisFault> for Stop {
-    ghost use Rattle.std.specs.Prelude.{◌≡◌};
-    ghost use Rattle.tv_top.specs.Disasm.{dis_stop};
-
     ghost from_gives = { λ fault stop. stop ≡ dis_stop fault };
 
     fn from(fault: DisFault) -> Stop {
@@ -167,9 +156,6 @@ impl From<DisFault> for Stop {
 }
 
 impl From<Result<Finish, Stop>> for Ending {
-    ghost use Rattle.std.specs.Prelude.{◌≡◌};
-    ghost use Rattle.tv_top.specs.Answers.{ending_of};
-
     ghost from_gives = { λ done ending. ending ≡ ending_of done };
 
     fn from(done: Result<Finish, Stop>) -> Ending {

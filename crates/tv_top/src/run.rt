@@ -1,16 +1,17 @@
 //! `run TEXT TAPE AUX T`: the machine's run on a program and two tapes.
-ghost use Rattle.std.specs.Prelude.{◌≡◌, ◌*◌, ◌/◌, ◌≤◌, ◌^◌, length, IfOk};
+ghost use Rattle.std.specs.Prelude.{◌≡◌, ◌*◌, ◌/◌, ◌≤◌, ◌^◌, length, IfOk, refl};
 ghost use Rattle.tv_step.specs.Machine.{start, end_of};
 ghost use Rattle.tv_step.specs.Range.{AreWords};
 ghost use Rattle.tv_word.specs.Widths.{IsWidth};
 ghost use Rattle.tv_top.specs.Inputs.{AreInputs, run_end};
+ghost use Rattle.tv_top.specs.Run.{run_asks, run_form};
 
 use crate::amount::Steps;
 use crate::inputs::{Inputs, read_inputs};
 use crate::job::Job;
 use crate::place::Place;
 use crate::programs::Width;
-use crate::refusal::{Finish, Quantity, Refusal, Stop};
+use crate::refusal::{Finish, Refusal, Stop, What};
 use std::alloc::{AllocError, Global};
 use tv_files::Files;
 use tv_step::{End, Machine};
@@ -27,10 +28,6 @@ pub(crate) struct RunArgs<'a> {
 }
 
 impl<'a> Job<'a> for RunArgs<'a> {
-    ghost use Rattle.std.specs.Prelude.{refl};
-    ghost use Rattle.tv_top.specs.Form.{run_form};
-    ghost use Rattle.tv_top.specs.Run.{run_asks};
-
     ghost form = { run_form };
 
     ghost asks = { run_asks };
@@ -44,7 +41,7 @@ impl<'a> Job<'a> for RunArgs<'a> {
             text: Place::at(1, text.as_str()),
             tape: Place::at(2, tape.as_str()),
             aux: Place::at(3, aux.as_str()),
-            t: Steps::of(Quantity::Steps, t)?,
+            t: Steps::of(What::Steps, t)?,
         })
     }
 

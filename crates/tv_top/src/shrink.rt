@@ -1,7 +1,6 @@
 //! `shrink SYSTEM OUT`: a system with fewer private wires and the same solutions.
-ghost use Rattle.tv_top.specs.Contents.{Content.{Rest}};
-ghost use Rattle.tv_top.specs.Ends.{Writes};
-ghost use Rattle.tv_top.specs.Plan.{named, one_write};
+ghost use Rattle.std.specs.Prelude.{refl};
+ghost use Rattle.tv_top.specs.Shrink.{shrink_asks, shrink_form};
 
 use crate::containers::read_shrunk;
 use crate::job::Job;
@@ -10,7 +9,6 @@ use crate::place::{Place, keep_apart};
 use crate::refusal::{Finish, Refusal, Stop};
 use std::alloc::Global;
 use tv_files::Files;
-use tv_shrink::Shrunk;
 
 /// The words of `shrink`.
 #[derive(Clone, Copy)]
@@ -20,10 +18,6 @@ pub(crate) struct ShrinkArgs<'a> {
 }
 
 impl<'a> Job<'a> for ShrinkArgs<'a> {
-    ghost use Rattle.std.specs.Prelude.{refl};
-    ghost use Rattle.tv_top.specs.Form.{shrink_form};
-    ghost use Rattle.tv_top.specs.Shrink.{shrink_asks};
-
     ghost form = { shrink_form };
 
     ghost asks = { shrink_asks };
@@ -39,17 +33,9 @@ impl<'a> Job<'a> for ShrinkArgs<'a> {
 
     fn perform<D: Files>(self, alloc: Global, files: &mut D) -> Result<Finish, Stop> {
         let shrunk = read_shrunk(alloc, files, self.system)?;
-        write_shrunk(files, self.out, &shrunk)?;
+        streamed(self.out.word, shrunk.write(files, self.out.name))?;
         Ok(Finish::Quiet)
     }
 
     ghost apart = { λ _. refl };
-}
-
-/// Writes a shrunk system.
-fn write_shrunk<D: Files>(files: &mut D, place: Place<'_>, shrunk: &Shrunk) -> Result<(), Stop>
-    ensures { Writes (one_write (named place.entry) (Rest shrunk.now))
-        (D.seen files.old) (D.seen files.new) result }
-{
-    streamed(place.word, shrunk.write(files, place.name))
 }

@@ -1,8 +1,8 @@
 //! What a command answers.
 ghost use Rattle.std.specs.Prelude.{◌≡◌};
-ghost use Rattle.tv_top.specs.Status.{code_of};
+ghost use Rattle.tv_top.specs.Status.{bad_status, code_of, ending_status, verdict_status};
 
-use crate::refusal::{Bad, Ending, Finish, Quantity, Refusal, Size, Stop};
+use crate::refusal::{Bad, Ending, Finish, Refusal, Stop, What};
 use tv_asm::AsmWhy;
 use tv_check::Verdict;
 use tv_container::ReadWhy;
@@ -21,29 +21,6 @@ pub enum NoWhy {
     Wires { has: u64, wants: u64 },
     /// The run ends otherwise than by an answer.
     End { end: End },
-}
-
-/// The quantities that have a limit.
-#[derive(Clone, Copy, Debug, PartialEq, Eq)]
-pub enum What {
-    /// The words of the image that a program text has.
-    ImageWords,
-    /// The bytes of an image file.
-    ImageBytes,
-    /// The numbers of a tape.
-    TapeWords,
-    /// The words of an auxiliary tape.
-    AuxWords,
-    /// The bytes of a program text or of a tape.
-    TextBytes,
-    /// The terms of a system.
-    SystemTerms,
-    /// The terms of one combination of a system, made normal.
-    CombinationTerms,
-    /// The steps of a run.
-    Steps,
-    /// The instructions that a trial draws.
-    Draws,
 }
 
 /// How a command ended.
@@ -105,156 +82,54 @@ impl Status {
     }
 }
 
-impl From<Quantity> for What {
-    ghost use Rattle.tv_top.specs.Status.{quantity_what};
-
-    ghost from_gives = { λ quantity what. what ≡ quantity_what quantity };
-
-    fn from(quantity: Quantity) -> What {
-        match quantity {
-            Quantity::TapeWords => What::TapeWords,
-            Quantity::Steps => What::Steps,
-            Quantity::Draws => What::Draws,
-        }
+/// What refused contents are answered.
+fn bad_status(bad: Bad) -> Status
+    ensures { result ≡ bad_status bad }
+{
+    match bad {
+        Bad::Program { line, why } => Status::BadProgram { line, why },
+        Bad::Tape { word, at } => Status::BadTape { word, at },
+        Bad::System { at, why } => Status::BadSystem { at, why },
+        Bad::Witness { at, why } => Status::BadWitness { at, why },
+        Bad::Image { len } => Status::BadImage { len },
+        Bad::Limit { what, has, most } => Status::Limit { what, has, most },
     }
 }
 
-impl From<Size> for What {
-    ghost use Rattle.tv_top.specs.Status.{size_what};
-
-    ghost from_gives = { λ size what. what ≡ size_what size };
-
-    fn from(size: Size) -> What {
-        match size {
-            Size::ImageWords => What::ImageWords,
-            Size::ImageBytes => What::ImageBytes,
-            Size::TapeWords => What::TapeWords,
-            Size::AuxWords => What::AuxWords,
-            Size::TextBytes => What::TextBytes,
-            Size::SystemTerms => What::SystemTerms,
-            Size::CombinationTerms => What::CombinationTerms,
-        }
-    }
+/// What a verdict is answered.
+fn verdict_status(verdict: Verdict) -> Status
+    ensures { result ≡ verdict_status verdict }
+{
+    let no = match verdict {
+        Verdict::Yes => return Status::Done,
+        Verdict::WireCount { has, wants } => NoWhy::Wires { has, wants },
+        Verdict::NoPublic { at } => NoWhy::Public { at },
+        Verdict::NoConstraint { at } => NoWhy::Constraint { at },
+    };
+    Status::No { no }
 }
 
-impl From<Refusal> for Status {
-    ghost use Rattle.tv_top.specs.Status.{refusal_status};
-
-    ghost from_gives = { λ why status. status ≡ refusal_status why };
-
-    fn from(why: Refusal) -> Status {
-        match why {
-            Refusal::Usage => Status::Usage,
-            Refusal::SameName { first, second } => Status::SameName { first, second },
-            Refusal::Limit { what, has, most } => Status::Limit {
-                what: What::from(what),
-                has,
-                most,
-            },
+/// What an end is answered, once its line was said.
+pub(crate) fn status_of(ending: Ending) -> Status
+    ensures { result ≡ ending_status ending }
+{
+    match ending {
+        Ending::Refused(Refusal::Usage) => Status::Usage,
+        Ending::Refused(Refusal::SameName { first, second }) => Status::SameName { first, second },
+        Ending::Refused(Refusal::Limit { what, has, most }) => Status::Limit { what, has, most },
+        Ending::Stopped(Stop::Fault { word }) => Status::FileFault {
+            word: u64::from(word),
+        },
+        Ending::Stopped(Stop::Memory) => Status::Memory,
+        Ending::Stopped(Stop::Contents(bad)) => bad_status(bad),
+        Ending::Finished(Finish::Quiet | Finish::Trial(_) | Finish::Run(End::Answer { .. })) => {
+            Status::Done
         }
-    }
-}
-
-impl From<Bad> for Status {
-    ghost use Rattle.tv_top.specs.Status.{bad_status};
-
-    ghost from_gives = { λ bad status. status ≡ bad_status bad };
-
-    fn from(bad: Bad) -> Status {
-        match bad {
-            Bad::Program { line, why } => Status::BadProgram { line, why },
-            Bad::Tape { word, at } => Status::BadTape { word, at },
-            Bad::System { at, why } => Status::BadSystem { at, why },
-            Bad::Witness { at, why } => Status::BadWitness { at, why },
-            Bad::Image { len } => Status::BadImage { len },
-            Bad::Limit { what, has, most } => Status::Limit {
-                what: What::from(what),
-                has,
-                most,
-            },
-        }
-    }
-}
-
-impl From<Stop> for Status {
-    ghost use Rattle.tv_top.specs.Status.{stop_status};
-
-    ghost from_gives = { λ stop status. status ≡ stop_status stop };
-
-    fn from(stop: Stop) -> Status {
-        match stop {
-            Stop::Fault { word } => Status::FileFault {
-                word: u64::from(word),
-            },
-            Stop::Memory => Status::Memory,
-            Stop::Contents(bad) => Status::from(bad),
-        }
-    }
-}
-
-impl From<End> for Status {
-    ghost use Rattle.tv_top.specs.Status.{run_status};
-
-    ghost from_gives = { λ end status. status ≡ run_status end };
-
-    fn from(end: End) -> Status {
-        match end {
-            End::Answer { .. } => Status::Done,
-            End::Undefined { .. } | End::Silent { .. } => Status::No {
-                no: NoWhy::End { end },
-            },
-        }
-    }
-}
-
-impl From<Verdict> for Status {
-    ghost use Rattle.tv_top.specs.Status.{verdict_status};
-
-    ghost from_gives = { λ verdict status. status ≡ verdict_status verdict };
-
-    fn from(verdict: Verdict) -> Status {
-        match verdict {
-            Verdict::Yes => Status::Done,
-            Verdict::WireCount { has, wants } => Status::No {
-                no: NoWhy::Wires { has, wants },
-            },
-            Verdict::NoPublic { at } => Status::No {
-                no: NoWhy::Public { at },
-            },
-            Verdict::NoConstraint { at } => Status::No {
-                no: NoWhy::Constraint { at },
-            },
-        }
-    }
-}
-
-impl From<Finish> for Status {
-    ghost use Rattle.tv_top.specs.Status.{finish_status};
-
-    ghost from_gives = { λ finish status. status ≡ finish_status finish };
-
-    fn from(finish: Finish) -> Status {
-        match finish {
-            Finish::Quiet => Status::Done,
-            Finish::Run(end) => Status::from(end),
-            Finish::NoRun(end) => Status::NoRun { end },
-            Finish::NotARun(why) => Status::NotARun { why },
-            Finish::Verdict(verdict) => Status::from(verdict),
-            Finish::Trial(_) => Status::Done,
-        }
-    }
-}
-
-impl From<Ending> for Status {
-    ghost use Rattle.tv_top.specs.Status.{ending_status};
-
-    ghost from_gives = { λ ending status. status ≡ ending_status ending };
-
-    fn from(ending: Ending) -> Status {
-        match ending {
-            Ending::Refused(why) => Status::from(why),
-            Ending::Stopped(stop) => Status::from(stop),
-            Ending::Finished(finish) => Status::from(finish),
-        }
+        Ending::Finished(Finish::Run(end)) => Status::No {
+            no: NoWhy::End { end },
+        },
+        Ending::Finished(Finish::NoRun(end)) => Status::NoRun { end },
+        Ending::Finished(Finish::NotARun(why)) => Status::NotARun { why },
+        Ending::Finished(Finish::Verdict(verdict)) => verdict_status(verdict),
     }
 }

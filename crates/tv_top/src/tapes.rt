@@ -1,14 +1,14 @@
 //! The public numbers of a tape, and the words of a tape that the machine reads.
 ghost use Rattle.std.specs.Prelude.{◌≡◌, ◌%◌, ◌^◌, ◌<◌, ◌≤◌, All, length, map, IfOk};
 ghost use Rattle.tv_core.specs.declared.field.TheConstants.{P};
-ghost use Rattle.tv_top.specs.declared.refusal.Size.TheVariants as size;
+ghost use Rattle.tv_top.specs.declared.refusal.What.TheVariants as size;
 ghost use Rattle.tv_top.specs.Finds.{Finds, reading_of};
 ghost use Rattle.tv_top.specs.Plan.{input, named};
 ghost use Rattle.tv_top.specs.Tapes.{AreTold, tape_stop, numbers_in, publics_in, tape_sizes};
 
 use crate::bytes::limited_bytes;
 use crate::place::Place;
-use crate::refusal::{Bad, Size, Stop};
+use crate::refusal::{Bad, Stop, What};
 use std::alloc::{AllocError, Global};
 use tv_core::limits::{CHECK_WORDS, TEXT_BYTES};
 use tv_core::{F, P};
@@ -17,7 +17,7 @@ use tv_tape::{TapeFault, read_tape};
 use tv_word::Words;
 
 /// What a refused tape is, whose name stands at this word, and whose items are this quantity.
-fn tape_stop(word: u32, what: Size, fault: TapeFault) -> Stop
+fn tape_stop(word: u32, what: What, fault: TapeFault) -> Stop
     ensures { result ≡ tape_stop word what fault }
 {
     match fault {
@@ -40,7 +40,7 @@ fn read_numbers<D: Files>(
     alloc: Global,
     files: &mut D,
     place: Place<'_>,
-    what: Size,
+    what: What,
     below: u64,
     most: u32,
 ) -> Result<Vec<u64>, Stop>
@@ -49,7 +49,7 @@ fn read_numbers<D: Files>(
         (D.seen files.old) (D.seen files.new) result }
     ensures known { IfOk result (λ v. AreTold below most v.items) }
 {
-    let text = limited_bytes(alloc, files, place, Size::TextBytes, TEXT_BYTES)?;
+    let text = limited_bytes(alloc, files, place, What::TextBytes, TEXT_BYTES)?;
     read_tape(alloc, &text, below, most).map_err(|fault| tape_stop(place.word, what, fault))
 }
 
@@ -74,7 +74,7 @@ pub(crate) fn read_publics<D: Files>(
         (reading_of (named place.entry) (tape_sizes size.TapeWords) (publics_in place.entry.word))
         (D.seen files.old) (D.seen files.new) result }
 {
-    let numbers = read_numbers(alloc, files, place, Size::TapeWords, P, CHECK_WORDS)?;
+    let numbers = read_numbers(alloc, files, place, What::TapeWords, P, CHECK_WORDS)?;
     Ok(residues(alloc, &numbers)?)
 }
 
@@ -94,7 +94,7 @@ pub(crate) fn read_words<D: Files>(
     alloc: Global,
     files: &mut D,
     place: Place<'_>,
-    what: Size,
+    what: What,
     below: u64,
     most: u32,
 ) -> Result<Words, Stop>

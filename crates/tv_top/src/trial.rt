@@ -1,5 +1,5 @@
 //! `trial SEED K`: the system of a program drawn from a number, tested on the values of its run.
-ghost use Rattle.std.specs.Prelude.{◌≡◌, ◌^◌, ◌<◌, ◌≤◌, length, IfOk};
+ghost use Rattle.std.specs.Prelude.{◌≡◌, ◌^◌, ◌<◌, ◌≤◌, length, IfOk, refl};
 ghost use Rattle.tv_benes.specs.declared.shape.Net.TheVariants.{Benes};
 ghost use Rattle.tv_core.specs.declared.limits.TheConstants.{DRAWS};
 ghost use Rattle.tv_layout.specs.Places.{WithinLimits, runs_of, runs_like};
@@ -7,11 +7,11 @@ ghost use Rattle.tv_layout.specs.RunInputs.{run_on};
 ghost use Rattle.tv_layout.specs.Systems.{system_of, run_values};
 ghost use Rattle.tv_step.specs.Machine.{Accepts};
 ghost use Rattle.tv_step.specs.Range.{AreWords};
-ghost use Rattle.tv_top.specs.Trial.{tested, trial_of};
+ghost use Rattle.tv_top.specs.Trial.{tested, trial_of, trial_asks, trial_form};
 
 use crate::amount::Draws;
 use crate::job::Job;
-use crate::refusal::{Finish, Quantity, Refusal, Stop, Trial};
+use crate::refusal::{Finish, Refusal, Stop, Trial, What};
 use std::alloc::{AllocError, Global};
 use tv_benes::Net;
 use tv_core::{F, ListValues, TestSink};
@@ -30,10 +30,6 @@ pub(crate) struct TrialArgs {
 }
 
 impl<'a> Job<'a> for TrialArgs {
-    ghost use Rattle.std.specs.Prelude.{refl};
-    ghost use Rattle.tv_top.specs.Form.{trial_form};
-    ghost use Rattle.tv_top.specs.Trial.{trial_asks};
-
     ghost form = { trial_form };
 
     ghost asks = { trial_asks };
@@ -46,7 +42,7 @@ impl<'a> Job<'a> for TrialArgs {
         let k = decimal_of(k.as_bytes()).ok_or(Refusal::Usage)?;
         Ok(TrialArgs {
             seed,
-            k: Draws::of(Quantity::Draws, k)?,
+            k: Draws::of(What::Draws, k)?,
         })
     }
 

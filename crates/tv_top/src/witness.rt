@@ -1,12 +1,12 @@
 //! `witness TEXT TAPE AUX T WITNESS`, which may have one more word, `waksman`: the values of the
 //! wires of a program's system for a run that answers.
-ghost use Rattle.std.specs.Prelude.{◌≡◌, [], ◌∷◌};
+ghost use Rattle.std.specs.Prelude.{◌≡◌, [], ◌∷◌, refl};
 ghost use Rattle.tv_top.specs.Contents.{Content.{Values}};
 ghost use Rattle.tv_top.specs.Ends.{Completes, Writes, streamed};
 ghost use Rattle.tv_top.specs.Inputs.{AreInputs};
 ghost use Rattle.tv_top.specs.Plan.{named, one_write};
 ghost use Rattle.tv_top.specs.Programs.{bits};
-ghost use Rattle.tv_top.specs.Witness.{witness_ends};
+ghost use Rattle.tv_top.specs.Witness.{witness_ends, witness_asks, witness_form};
 
 use crate::amount::Steps;
 use crate::inputs::{Inputs, read_inputs};
@@ -15,7 +15,7 @@ use crate::network::net_word;
 use crate::output::streamed;
 use crate::place::{Place, keep_apart};
 use crate::programs::Width;
-use crate::refusal::{Finish, Quantity, Refusal, Stop};
+use crate::refusal::{Finish, Refusal, Stop, What};
 use std::alloc::Global;
 use tv_benes::Net;
 use tv_core::Put;
@@ -38,10 +38,6 @@ pub(crate) struct WitnessArgs<'a> {
 }
 
 impl<'a> Job<'a> for WitnessArgs<'a> {
-    ghost use Rattle.std.specs.Prelude.{refl};
-    ghost use Rattle.tv_top.specs.Form.{witness_form};
-    ghost use Rattle.tv_top.specs.Witness.{witness_asks};
-
     ghost form = { witness_form };
 
     ghost asks = { witness_asks };
@@ -59,7 +55,7 @@ impl<'a> Job<'a> for WitnessArgs<'a> {
             text,
             tape,
             aux,
-            t: Steps::of(Quantity::Steps, t)?,
+            t: Steps::of(What::Steps, t)?,
             witness,
             net,
         })

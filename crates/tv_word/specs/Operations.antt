@@ -1,7 +1,8 @@
 -- What the machine's operations make of words of w bits: s is the word in the source register and a the operand, both below
 -- 2 ^ w. An operation of the instruction `x` has the result `x_result` and the flag `x_flag`. They are those of the TinyRAM
 -- architecture specification, version 2.000; the flags, and divisions by 0 and shifts by w bits or more, as in docs/MACHINE.md.
-use Rattle.std.specs.Prelude.{ℕ, ◌+◌, ◌-◌, ◌*◌, ◌/◌, ◌%◌, ◌^◌, Bool, not, ◌==◌, nat_lt, nat_le, if◌then◌else◌, ℤ, ◌*ℤ◌, int_lt, int_le, bit_and, bit_or, bit_xor}
+use Rattle.std.specs.Prelude.{ℕ, ◌+◌, ◌-◌, ◌*◌, ◌/◌, ◌%◌, ◌^◌, Bool, not, ◌==◌, nat_lt, nat_le, if◌then◌else◌, ℤ, ◌*ℤ◌, int_lt, int_le, bit_and, bit_or}
+use Rattle.std.specs.Prelude.{bit_xor}
 use Rattle.tv_word.specs.Twos.{twos, fits}
 use Rattle.tv_word.specs.Word.{has_bit, signed}
 

@@ -12,6 +12,10 @@ returns-then-is_empty c =
 pub returns : goal.returns
 returns c =
     let some : 0 < length c.args.text.now = grind (arith, nat_tests) in (
-      rw (c.without_return.ensures, c.cut.ensures.before, c.cut.ensures.remaining) (lines_more c.args.text.now some),
+      rw (
+        c.without_return.ensures,
+        c.cut.ensures.before,
+        c.cut.ensures.remaining,
+      ) (lines_more c.args.text.now some),
       rw (c.cut.ensures.remaining, length-drop) (omega arith),
     )

@@ -7,18 +7,18 @@ use Rattle.tv_files.specs.declared.outcome.Slurp.{Slurp}
 use Rattle.tv_files.specs.declared.outcome.Slurp.TheVariants as slurp
 use Rattle.tv_top.specs.declared.refusal.Bad.TheVariants.{Limit}
 use Rattle.tv_top.specs.Plan.{named}
-use Rattle.tv_top.proofs.Common.{Outside, OnlyReads, Rose, Leaves, Size, Stop, Fault, Memory, Contents, IsFound, Named, input, within}
+use Rattle.tv_top.proofs.Common.{Outside, OnlyReads, Rose, Leaves, What, Stop, Fault, Memory, Contents, IsFound, Named, input, within}
 use Rattle.tv_top.proofs.ContainerReads.{came}
 use Rattle.tv_top.proofs.LookLaws.{same_outside}
 use Rattle.tv_top.proofs.bytes.limited_bytes.Goals as goal
 
 -- what a refusal of the file at a word stops
-abbrev stop_of : ℕ → Size → ℕ → Slurp → Stop
+abbrev stop_of : ℕ → What → ℕ → Slurp → Stop
 stop_of word what most slurp.Fault = Fault word
 stop_of word what most slurp.Memory = Memory
 stop_of word what most (slurp.TooLong limit) = Contents (Limit what (most + 1) most)
 
-module _ {V : Type 0} (view : V → List ℕ) (place : Named) (what : Size) (most : ℕ) where
+module _ {V : Type 0} (view : V → List ℕ) (place : Named) (what : What) (most : ℕ) where
   known : (old : Outside) (result : Result V Slurp) → IfOk result (λ v. WhereKnown old (λ held. held place.name ≡ Some (view v)))
       → IfOk result (λ v. length (view v) ≤ most) →
       ((limit : ℕ) → result ≡ Err (slurp.TooLong limit) → (limit ≡ most) × WhereKnown old (λ held. IsLonger most (held place.name))) →
@@ -50,7 +50,7 @@ module _ {V : Type 0} (view : V → List ℕ) (place : Named) (what : Size) (mos
   faulty (Err slurp.Memory) old new leaves is = cc
   faulty (Err (slurp.TooLong limit)) old new leaves is = cc
 
-  limited : (result : Result V Slurp) (size : Size) (has limit : ℕ) → came (stop_of place.word what most) result ≡ Err (Contents (Limit size has limit))
+  limited : (result : Result V Slurp) (size : What) (has limit : ℕ) → came (stop_of place.word what most) result ≡ Err (Contents (Limit size has limit))
       → size ≡ what
   limited (Err (slurp.TooLong _)) size has limit e = cc
   limited (Ok v) size has limit e = cc

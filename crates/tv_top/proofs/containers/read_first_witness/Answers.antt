@@ -1,14 +1,11 @@
-use Rattle.std.proofs.Common.{◌≡◌, rules}
+use Rattle.std.proofs.Common.{rules}
 use Rattle.tv_wtns.specs.Wtns.{assignment_of, firsts, firsts_in}
-use Rattle.tv_top.specs.Containers.{witness_bad, refusal_stop}
+use Rattle.tv_top.specs.Containers.{witness_bad}
 use Rattle.tv_top.specs.Plan.{named}
-use Rattle.tv_top.proofs.ContainerReads.{came, finds_read, witness_limitless}
+use Rattle.tv_top.proofs.ContainerReads.{finds_read}
 use Rattle.tv_top.proofs.containers.read_first_witness.Goals as goal
 
 pub returns : goal.returns
 returns g c =
-    let came : c.map_err.result ≡ came (refusal_stop c.args.place.word witness_bad) c.read_first_values.result = search rules in
-    rw came (finds_read firsts_in (named c.args.place) witness_bad
-    (λ file. firsts c.args.most
-    (assignment_of file)) _ _ c.read_first_values.result witness_limitless c.read_first_values.ensures.gives c.read_first_values.ensures.looks
-    c.read_first_values.ensures.missing)
+    finds_read firsts_in (named c.args.place) witness_bad (λ file. firsts c.args.most (assignment_of file)) _ _ c.read_first_values.result _ (search rules)
+    (λ _. tt) c.read_first_values.ensures.gives c.read_first_values.ensures.looks c.read_first_values.ensures.missing

@@ -4,14 +4,14 @@ use Rattle.tv_tape.specs.Tape.{tape_of}
 use Rattle.tv_tape.specs.declared.items.TapeFault.{TapeFault}
 use Rattle.tv_tape.specs.declared.items.TapeFault.TheVariants as tape
 use Rattle.tv_top.specs.Tapes.{numbers_of, tape_stop}
-use Rattle.tv_top.proofs.Common.{Makes, Size}
+use Rattle.tv_top.proofs.Common.{Makes, What}
 use Rattle.tv_top.proofs.ContainerReads.{came}
 use Rattle.tv_top.proofs.Sizes.{numbers_limited}
 use Rattle.tv_top.proofs.LookLaws.{made_found}
 use Rattle.tv_top.proofs.tapes.read_numbers.Goals as goal
 
 -- what reading a tape makes of a text
-made : {X : Type 0} (view : X → List ℕ) (word : ℕ) (what : Size) (below most : ℕ) (text : List ℕ) (read : Result X TapeFault)
+made : {X : Type 0} (view : X → List ℕ) (word : ℕ) (what : What) (below most : ℕ) (text : List ℕ) (read : Result X TapeFault)
     → IfOk read (λ v. tape_of text below most ≡ Ok (view v)) →
     IfErr read (λ fault. (tape_of text below most ≡ Err fault) ⊎ (fault ≡ tape.Memory))
     → Makes view (numbers_of word what below most text) (came (tape_stop word what) read)

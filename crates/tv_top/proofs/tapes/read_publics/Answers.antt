@@ -6,14 +6,14 @@ use Rattle.tv_top.proofs.LookLaws.{finds_passed, finds_view, finds_without_memor
 use Rattle.tv_top.proofs.tapes.read_publics.Goals as goal
 
 pub returns-in_err-numbers : goal.returns-in_err-numbers
-returns-in_err-numbers g c = finds_passed _ _ _ _ _ _ _ _ _ c.from_residual.ensures.1 c.in_err-numbers.ensures.found
+returns-in_err-numbers g c = finds_passed _ c.from_residual.ensures.1 c.in_err-numbers.ensures.found
 
 pub returns-in_err-residues : goal.returns-in_err-residues
-returns-in_err-residues g c = finds_without_memory _ _ _ _ _ _ _ _ _ c.from_residual-in_err-residues.ensures.1 c.in_ok-numbers.ensures.found
+returns-in_err-residues g c = finds_without_memory _ c.from_residual-in_err-residues.ensures.1 c.in_ok-numbers.ensures.found
 
 pub returns : goal.returns
 returns g c =
     let known = c.in_ok-numbers.ensures.known in
     let same = residues_same known.0 c.in_ok-numbers.numbers.items P CHECK_WORDS P (omega arith) known.1 in
     let residues = rw c.deref.ensures.value at c.in_ok-residues.ensures in
-    finds_view _ _ _ _ _ _ _ _ _ (sym (residues ∙ same)) c.in_ok-numbers.ensures.found
+    finds_view (sym (residues ∙ same)) c.in_ok-numbers.ensures.found

@@ -20,7 +20,7 @@ loop-line-preserved-then-has_instruction g c =
     c.in-Some.line.now true
     c.loop-line.invariant c.in-Some.ensures.0 c.in-Some.ensures.1
     (λ name. rw said_line at (c.in_ok-note.ensures name))
-    (ap says_instruction (sym said_line) ∙ sym c.has_instruction.ensures ∙ c.if-has_instruction.true) c.next_address.ensures
+    (ap says_instruction (sym said_line) ∙ sym c.has_instruction.ensures ∙ c.if-has_instruction.true) c.sum.ensures.word
 
 pub loop-line-preserved : goal.loop-line-preserved
 loop-line-preserved g c =
