@@ -11,6 +11,7 @@ use Rattle.tv_core.specs.declared.lines.LineLc.{LineLc}
 use Rattle.tv_lines.proofs.Neighbours.{each_below-at}
 use Rattle.tv_lines.specs.Placed.{no_line, line_in, IsLine, LinesFrom}
 use Rattle.tv_argument.specs.Memory.{IsMade}
+use Rattle.tv_route.specs.Permutations.{IsRoutable, Permutes}
 use Rattle.tv_core.specs.Below.{sum_below}
 use Rattle.tv_argument.specs.Checks.{AreShort, check_made, check_added}
 use Rattle.tv_argument_tests.specs.Wired.{line_at, eight_lines, kind_at, eight_checks}
@@ -67,3 +68,7 @@ checks_added = refl
 
 pub are_short : AreShort eight_checks 8
 are_short = record { count = omega arith; kinds = λ i h. search rules }
+
+-- a permutation of four places has settings
+pub routable : (p : List ℕ) → length p ≡ 4 → Permutes (length p) p → IsRoutable p
+routable p four is = record { k = 2; some = omega arith; few = omega arith; permutes = subst (λ n. Permutes n p) four is }

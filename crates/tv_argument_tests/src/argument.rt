@@ -8,14 +8,14 @@ use std::alloc::Global;
 use std::test::Fail;
 use tv_argument::{fill_argument, memory, predecessors};
 use tv_benes::Net;
-use tv_core::{CountSink, F, Line, ListValues, Put, Sink, TestSink};
+use tv_core::{F, Line, ListValues, Put, Sink, TestSink};
 use tv_route::{is_permutation, routing_settings};
 
 fn put<S: Sink>(s: &mut S, net: Net) -> Put<()>
     requires room { Room S.meaning s.old 400 400 }
     requires lines { 25 ≤ S.meaning.wires s.old }
 {
-    memory(s, net, 3, &Wired { first: 1 })
+    memory(s, net, 3, &Wired)
 }
 
 // 1, the lines, and the values for their predecessors, of which each is at its place.
@@ -44,11 +44,11 @@ fn assignment(
     Ok(values)
 }
 
-// How many constraints these values meet.
-fn held(z: &[F], net: Net) -> Put<u32> {
+// How many constraints there are, and how many of them these values meet.
+fn held(z: &[F], net: Net) -> Put<(u32, u32)> {
     let mut tests = TestSink::over(z, FIRST);
     put(&mut tests, net)?;
-    Ok(tests.held())
+    Ok((tests.tested(), tests.held()))
 }
 
 #[test]
@@ -58,32 +58,12 @@ fn a_sort_finds_the_predecessors(rt: HostRuntime) -> Result<(), Fail> {
     Ok(())
 }
 
-// How many values honest lines have, how many constraints these meet, and how many constraints and
-// terms there are.
-fn met_by_honest_lines(alloc: Global, net: Net) -> Result<(usize, u32, u32, u64), Fail> {
-    let values = assignment(alloc, net, &honest(), &PREDECESSORS)?;
-    let held = held(values.as_slice(), net)?;
-    let mut count = CountSink::new(FIRST);
-    put(&mut count, net)?;
-    Ok((
-        values.as_slice().len(),
-        held,
-        count.constraints(),
-        count.terms(),
-    ))
-}
-
-// By hand: in the first column 26 terms a switch, 3 of its bit, 10 of the cells and 13 of times and
-// words, but 12 of these in the first switch, where a time is 0; 22 for each of the 16 or 13 later
-// switches, and one more in Waksman's network; 2 for line 0, 2 for line 1, 25 for line 3, and 137
-// for each of four others.
 #[test]
 fn honest_lines_meet_it(rt: HostRuntime) -> Result<(), Fail> {
-    for (net, wanted) in [
-        (Net::Benes, (25 + 216, 228, 228, 1032)),
-        (Net::Waksman, (25 + 205, 217, 217, 967)),
-    ] {
-        assert!(rt; met_by_honest_lines(rt.alloc(), net)? == wanted, "{net:?}");
+    for (net, made, added) in [(Net::Benes, 216, 228), (Net::Waksman, 205, 217)] {
+        let values = assignment(rt.alloc(), net, &honest(), &PREDECESSORS)?;
+        let met = (values.as_slice().len(), held(values.as_slice(), net)?);
+        assert_eq!(rt; met, (25 + made, (added, added)));
     }
     Ok(())
 }
@@ -101,7 +81,7 @@ fn an_altered_value_fails(rt: HostRuntime) -> Result<(), Fail> {
     for i in 1..z.len() {
         let kept = z[i];
         z[i] = F::ONE - kept;
-        let fails = held(&z, Net::Waksman)? < 217;
+        let fails = held(&z, Net::Waksman)?.1 < 217;
         assert!(rt; fails != UNREAD.contains(&i), "{i}");
         z[i] = kept;
     }
@@ -118,7 +98,7 @@ fn held_with(alloc: Global, numbers: &(u32, u32, u32, u32)) -> Result<u32, Fail>
     }
     let before = predecessors(alloc, &items(alloc, &lines)?)?;
     let values = assignment(alloc, Net::Benes, &lines, &before)?;
-    Ok(held(values.as_slice(), Net::Benes)?)
+    Ok(held(values.as_slice(), Net::Benes)?.1)
 }
 
 // The numbers of false lines.

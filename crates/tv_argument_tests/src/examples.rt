@@ -26,6 +26,7 @@ pub fn networks_have_so_many_switches()
 
 /// How many wires they make, with a constraint for each: three a switch, and two more for one of a
 /// bound level, of which Benes' networks have k 2^(k - 1).
+#[tactic(auto, unfolding(tv_benes::specs::Levels::bound))]
 pub fn networks_make_so_many_wires()
     ensures benes_of_8 { network_wires Benes 2 ≡ 84 }
     ensures waksman_of_8 { network_wires Waksman 2 ≡ 73 }

@@ -39,8 +39,8 @@ fn an_item_is_packed_by_powers_of_two(rt: HostRuntime) {
     assert!(rt; is_packed && unpack_item(&item) == line(3, 5, 0, 9));
 }
 
-// The numbers of a pair over values of its wires.
-fn values_in(pair: &Pair, z: &[F]) -> PairNum {
+/// The numbers of a pair over values of its wires.
+pub fn values_in(pair: &Pair, z: &[F]) -> PairNum {
     PairNum {
         first: pair.first.value_in(z),
         second: pair.second.value_in(z),
@@ -64,22 +64,16 @@ fn an_item_is_written_in_place(rt: HostRuntime) {
     };
     let z = [1, 3, 5, 7].map(F::of);
     let mut pair = pack(&first.lc());
-    let PairNum {
-        first: a,
-        second: b,
-    } = values_in(&pair, &z);
+    let packed = values_in(&pair, &z);
     second.item(&mut pair);
-    let PairNum {
-        first: c,
-        second: d,
-    } = values_in(&pair, &z);
+    let item = values_in(&pair, &z);
     let wanted = [
         25_769_803_785,
         17_179_869_189,
         30_064_771_072,
         21_474_836_487,
     ];
-    assert!(rt; [a, b, c, d] == wanted.map(F::of));
+    assert!(rt; [packed.first, packed.second, item.first, item.second] == wanted.map(F::of));
 }
 
 // A pair at a wire and the one after it.

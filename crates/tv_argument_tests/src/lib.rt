@@ -1,6 +1,6 @@
 //! Tests of permutation networks and of their settings, and of lines, of the scan and of the memory
-//! argument, through their public calls: worked rows, every permutation of four places, a long one,
-//! sizes, and honest and altered lines. They stand in a crate of their own, since a crate with
+//! argument, through their public calls: worked rows, every permutation of four places, and
+//! honest and altered lines. They stand in a crate of their own, since a crate with
 //! tests is proved twice; nothing here is for callers.
 #![tactic(auto)]
 
@@ -9,8 +9,6 @@ mod argument;
 pub mod examples;
 #[cfg(test)]
 mod gadgets;
-#[cfg(test)]
-mod network_items;
 #[cfg(test)]
 mod networks;
 #[cfg(test)]

@@ -1,36 +1,14 @@
 //! A line against the item of its predecessor.
-ghost use Rattle.std.specs.Prelude.{◌≡◌, ◌≤◌};
-ghost use Rattle.tv_core.specs.Sinks.{Room};
+ghost use Rattle.std.specs.Prelude.{◌≤◌};
 
 use crate::rows::line;
 use std::alloc::Global;
 use std::test::Fail;
-use tv_core::{
-    CountSink, F, Lc, Line, ListValues, Pair, PairNum, Put, Scratch, Sink, TestSink, Values, Wire,
-};
+use tv_core::{F, Lc, Line, ListValues, Pair, PairNum, Scratch, TestSink, Wire, give_values};
 use tv_lines::{Cell, CompactLine, Word, fill_follows, follows};
 
-// Checks a line at a time whose cell and old word are wires 1 and 2, against an item of wires 3 and
-// 4.
-fn put<S: Sink>(s: &mut S, bits: u32, time: u32) -> Put<()>
-    requires short { bits ≤ 31 }
-    requires room { Room S.meaning s.old 32 34 }
-    requires wires { S.meaning.wires s.old ≡ 5 }
-{
-    let line = CompactLine {
-        cell: Cell::Multiple(F::ONE, Wire(1)),
-        time,
-        old: Word::Wired(Wire(2)),
-        new: Word::Nothing,
-    };
-    let item = Pair {
-        first: Lc::wire(Wire(3)),
-        second: Lc::wire(Wire(4)),
-    };
-    follows(s, &mut Scratch::new(), bits, &line, &item)
-}
-
-// How many of the constraints fail over the values for two lines.
+// How many of the constraints for a line after another fail over the values for both. The line's
+// cell and old word are wires 1 and 2, the item of the other one is wires 3 and 4.
 fn failing(alloc: Global, bits: u32, before: &Line, after: &Line) -> Result<u32, Fail>
     requires short { bits ≤ 31 }
 {
@@ -39,30 +17,22 @@ fn failing(alloc: Global, bits: u32, before: &Line, after: &Line) -> Result<u32,
         second: F::of((u64::from(before.time) << 32) + u64::from(before.new)),
     };
     let mut values = ListValues::new(alloc);
-    values.give(F::ONE)?;
-    values.give(F::from(after.cell))?;
-    values.give(F::from(after.old))?;
-    values.give(item.first)?;
-    values.give(item.second)?;
+    let (cell, old) = (F::from(after.cell), F::from(after.old));
+    give_values(&mut values, &[F::ONE, cell, old, item.first, item.second])?;
     fill_follows(&mut values, bits, &item, after)?;
+    let line = CompactLine {
+        cell: Cell::Multiple(F::ONE, Wire(1)),
+        time: after.time,
+        old: Word::Wired(Wire(2)),
+        new: Word::Nothing,
+    };
+    let wires = Pair {
+        first: Lc::wire(Wire(3)),
+        second: Lc::wire(Wire(4)),
+    };
     let mut tests = TestSink::over(values.as_slice(), 5);
-    put(&mut tests, bits, after.time)?;
+    follows(&mut tests, &mut Scratch::new(), bits, &line, &wires)?;
     Ok(tests.tested().saturating_sub(tests.held()))
-}
-
-// The wires, constraints and terms of a check within so many bits.
-fn sizes(bits: u32) -> Put<(u32, u32, u64)>
-    requires { bits ≤ 31 }
-{
-    let mut count = CountSink::new(5);
-    put(&mut count, bits, 7)?;
-    Ok((count.wires(), count.constraints(), count.terms()))
-}
-
-#[test]
-fn a_check_has_its_size(rt: HostRuntime) -> Result<(), Fail> {
-    assert_eq!(rt; [sizes(31)?, sizes(20)?], [(37, 34, 137), (26, 23, 93)]);
-    Ok(())
 }
 
 // A line's cell, time, old word and new word.

@@ -12,9 +12,7 @@ pub const FIRST: u32 = 25;
 
 /// Eight lines, three wires each.
 #[derive(Clone, Copy)]
-pub struct Wired {
-    pub first: u32,
-}
+pub struct Wired;
 
 /// The numbers of eight lines.
 #[derive(Clone, Copy)]

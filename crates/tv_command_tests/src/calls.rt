@@ -1,7 +1,6 @@
 //! Files in memory, and what commands return over them.
 
 use std::alloc::Global;
-use std::process::Abort;
 use std::test::*;
 use tv_files::MemFiles;
 use tv_top::{Status, command};
@@ -32,13 +31,4 @@ pub(crate) fn call(alloc: Global, files: &mut MemFiles, words: &str) -> Result<S
         all.push(String::from_str(alloc, word)?)?;
     }
     Ok(command(alloc, &all, files))
-}
-
-/// Files in which the system of `answer 0` for one step, and the values of its run, are written.
-pub(crate) fn filled(rt: &impl Abort, alloc: Global) -> Result<MemFiles, Fail> {
-    let mut files = files_of(alloc, "answer 0", "")?;
-    for words in ["build text 0 1 system", "witness text tape aux 1 witness"] {
-        assert_eq!(rt; call(alloc, &mut files, words)?, Status::Done);
-    }
-    Ok(files)
 }

@@ -11,5 +11,3 @@ pub mod examples;
 mod faults;
 #[cfg(test)]
 mod listings;
-#[cfg(test)]
-mod sample;

@@ -1,9 +1,10 @@
 //! What `listing` and `trace_text` return of the values of a run and of the run itself.
 
-use crate::calls::filled;
+use crate::calls::{call, files_of};
 use std::test::*;
 use tv_listing::{By, listing, trace_text};
 use tv_step::trace;
+use tv_top::Status;
 use tv_wtns::read_values;
 
 // The lines of `answer 0` in one step, in both orders.
@@ -21,7 +22,9 @@ const LINES: [(By, &str); 2] = [
 #[test]
 fn values_and_traces_are_listed(rt: HostRuntime) -> Result<(), Fail> {
     let alloc = rt.alloc();
-    let mut files = filled(&rt, alloc)?;
+    let mut files = files_of(alloc, "answer 0", "")?;
+    let filled = call(alloc, &mut files, "witness text tape aux 1 witness")?;
+    assert_eq!(rt; filled, Status::Done);
     let values = read_values(alloc, &mut files, "witness")?;
     let image = [0xfc00_0000, 0];
     let trace = trace::<32>(alloc, &image, &[], &[], 2)?;

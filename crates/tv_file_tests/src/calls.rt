@@ -12,42 +12,6 @@ pub fn files_of(alloc: Global, bytes: &[u8]) -> Result<MemFiles, AllocError> {
     Ok(files)
 }
 
-// One of each call, in order: `file` is made anew, added to, spoken of and read from place 2 on.
-fn one_of_each(files: &mut MemFiles, into: &mut [u8]) -> Option<usize> {
-    let _ = files.create("file");
-    let _ = files.append("file", b"abcdefg");
-    let _ = files.say(b"hello");
-    files.read("file", 2, into).ok()
-}
-
-// Which call fails, and what the file then has, what was said, and what was read.
-const FAILING: [(u64, &[u8], &[u8], Option<&[u8]>); 5] = [
-    (0, b"abcdefg", b"hello", Some(b"cdef")),
-    (1, b"oldabcdefg", b"hello", Some(b"dabc")),
-    (2, b"abc", b"hello", Some(b"c")),
-    (3, b"abcdefg", b"he", Some(b"cdef")),
-    (4, b"abcdefg", b"hello", None),
-];
-
-#[test]
-fn a_listed_call_fails_alone(rt: HostRuntime) -> Result<(), Fail> {
-    for (number, bytes, said, read) in FAILING {
-        let mut files = files_of(rt.alloc(), b"old")?;
-        files.set("other", b"kept")?;
-        files.fail_at(number)?;
-        let mut into = [0; 4];
-        let answer = one_of_each(&mut files, &mut into);
-        let found = answer.and_then(|count| into.get(..count));
-        let other = files.bytes_of("other") == Some(b"kept".as_slice());
-        let left = files.bytes_of("file") == Some(bytes) && files.said_bytes() == said;
-        assert!(rt;
-            found == read && other && left && files.calls() == 4,
-            "call {number}"
-        );
-    }
-    Ok(())
-}
-
 #[derive(Clone, Copy, Debug)]
 enum Call {
     Read,
@@ -71,14 +35,16 @@ const FAILED: Result<usize, FileRefusal> = Err(FileRefusal::Failed);
 
 // A call on a name, whether its number is listed, what it answers, and what the name then has and
 // what was said. Only `file` is there, and has `old`.
-const ANSWERS: [(
+type Row = (
     Call,
-    &str,
+    &'static str,
     bool,
     Result<usize, FileRefusal>,
-    Option<&[u8]>,
-    &[u8],
-); 14] = [
+    Option<&'static [u8]>,
+    &'static [u8],
+);
+
+const ROWS: [Row; 14] = [
     (Call::Read, "file", false, Ok(2), Some(b"old"), b""),
     (Call::Read, "file", true, FAILED, Some(b"old"), b""),
     (Call::Read, "none", false, FAILED, None, b""),
@@ -95,27 +61,14 @@ const ANSWERS: [(
     (Call::Say, "file", true, FAILED, Some(b"old"), b"he"),
 ];
 
-// Whether that call answers and leaves this.
-fn leaves(
-    alloc: Global,
-    call: Call,
-    name: &str,
-    listed: bool,
-    answered: Result<usize, FileRefusal>,
-    bytes: Option<&[u8]>,
-    said: &[u8],
-) -> Result<bool, AllocError> {
-    let mut files = files_of(alloc, b"old")?;
-    files.fail_at(if listed { 1 } else { 2 })?;
-    let found = answer(&mut files, call, name);
-    Ok(found == answered && files.bytes_of(name) == bytes && files.said_bytes() == said)
-}
-
 #[test]
 fn each_call_answers_for_itself(rt: HostRuntime) -> Result<(), Fail> {
-    for (call, name, listed, answered, bytes, said) in ANSWERS {
-        let left = leaves(rt.alloc(), call, name, listed, answered, bytes, said)?;
-        assert!(rt; left, "{call:?} {name} {listed}");
+    for (call, name, listed, answered, bytes, said) in ROWS {
+        let mut files = files_of(rt.alloc(), b"old")?;
+        files.fail_at(if listed { 1 } else { 2 })?;
+        let found = answer(&mut files, call, name);
+        let left = files.bytes_of(name) == bytes && files.said_bytes() == said;
+        assert!(rt; found == answered && left, "{call:?} {name} {listed}");
     }
     Ok(())
 }
@@ -131,20 +84,16 @@ const LENGTHS: [(usize, u64, u64); 5] = [
     (8192, 3, 6),
 ];
 
-// Whether bytes are written and read in these numbers of calls.
-fn come_and_go(alloc: Global, bytes: &[u8], writes: u64, calls: u64) -> Result<bool, Fail> {
-    let mut files = MemFiles::new(alloc);
-    write_file(&mut files, "file", bytes)?;
-    let written = files.calls();
-    let read = slurp(alloc, &mut files, "file", bytes.len() as u64)?;
-    Ok(written == writes && files.calls() == calls && read.as_slice() == bytes)
-}
-
 #[test]
 fn whole_files_come_and_go(rt: HostRuntime) -> Result<(), Fail> {
     for (len, writes, calls) in LENGTHS {
         let bytes = &BYTES[..len.min(8192)];
-        assert!(rt; come_and_go(rt.alloc(), bytes, writes, calls)?, "{len}");
+        let mut files = MemFiles::new(rt.alloc());
+        write_file(&mut files, "file", bytes)?;
+        let written = files.calls();
+        let read = slurp(rt.alloc(), &mut files, "file", 8192)?;
+        assert_eq!(rt; (written, files.calls()), (writes, calls));
+        assert!(rt; read.as_slice() == bytes, "{len}");
     }
     Ok(())
 }

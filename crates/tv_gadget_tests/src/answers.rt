@@ -2,6 +2,9 @@
 //! that other results fail.
 
 use crate::assignments::{add_one, at, failing, set};
+use crate::gadgets::Gadget::{
+    Add, Compare, Fields, Logic, Product, Quotient, Shift, SignedHigh, Sub,
+};
 use crate::gadgets::{Gadget, filled, put};
 use std::alloc::Global;
 use std::test::Fail;
@@ -50,45 +53,30 @@ type Row = (Gadget, u32, u32, [u64; 3]);
 
 static ANSWERS: [Row; 16] = [
     // the sum and the carry
-    (Gadget::Add, 0xffff_ffff, 1, [0, 1, 0]),
+    (Add, 0xffff_ffff, 1, [0, 1, 0]),
     // the difference and the borrow
-    (Gadget::Sub, 0, 1, [0xffff_ffff, 1, 0]),
+    (Sub, 0, 1, [0xffff_ffff, 1, 0]),
     // whether they are equal, and whether the first is above, unsigned and signed
-    (Gadget::Compare, 0xffff_ffff, 0, [0, 1, 0]),
+    (Compare, 0xffff_ffff, 0, [0, 1, 0]),
     // the and, whether it is 0, and the or
-    (Gadget::Logic, 1, 2, [0, 1, 3]),
+    (Logic, 1, 2, [0, 1, 3]),
     // the first word shifted left, and right
-    (Gadget::Shift, 0x8000_0001, 1, [2, 0x4000_0000, 0]),
-    (Gadget::Shift, 0x8000_0001, 32, [0, 0, 0]),
-    (Gadget::Shift, 0x8000_0001, 0xffff_ffff, [0, 0, 0]),
+    (Shift, 0x8000_0001, 1, [2, 0x4000_0000, 0]),
+    (Shift, 0x8000_0001, 32, [0, 0, 0]),
+    (Shift, 0x8000_0001, 0xffff_ffff, [0, 0, 0]),
     // the low and the high word, and whether the high one isn't 0
-    (Gadget::Product, 65_536, 65_536, [0, 1, 1]),
-    (
-        Gadget::Product,
-        0xffff_ffff,
-        0xffff_ffff,
-        [1, 0xffff_fffe, 1],
-    ),
+    (Product, 65_536, 65_536, [0, 1, 1]),
+    (Product, 0xffff_ffff, 0xffff_ffff, [1, 0xffff_fffe, 1]),
     // the high word, and whether the product is no signed word
-    (
-        Gadget::SignedHigh,
-        0x8000_0000,
-        0x8000_0000,
-        [0x4000_0000, 1, 0],
-    ),
-    (Gadget::SignedHigh, 0xffff_ffff, 1, [0xffff_ffff, 0, 0]),
-    (Gadget::SignedHigh, 0x8000_0000, 1, [0xffff_ffff, 0, 0]),
-    (Gadget::SignedHigh, 0x8000_0000, 0xffff_ffff, [0, 1, 0]),
+    (SignedHigh, 0x8000_0000, 0x8000_0000, [0x4000_0000, 1, 0]),
+    (SignedHigh, 0xffff_ffff, 1, [0xffff_ffff, 0, 0]),
+    (SignedHigh, 0x8000_0000, 1, [0xffff_ffff, 0, 0]),
+    (SignedHigh, 0x8000_0000, 0xffff_ffff, [0, 1, 0]),
     // the quotient, the remainder, and whether it is by 0
-    (Gadget::Quotient, 7, 0, [0, 0, 1]),
-    (Gadget::Quotient, 7, 2, [3, 1, 0]),
+    (Quotient, 7, 0, [0, 0, 1]),
+    (Quotient, 7, 2, [3, 1, 0]),
     // the opcode's row, the immediate bit, and the destination's row
-    (
-        Gadget::Fields,
-        0x9440_0000,
-        0xfc00_0000,
-        [1 << 18, 1, 1 << 1],
-    ),
+    (Fields, 0x9440_0000, 0xfc00_0000, [1 << 18, 1, 1 << 1]),
 ];
 
 // Whether the answers are known and an altered one fails.
@@ -121,14 +109,14 @@ fn known_answers_hold_and_an_altered_one_fails(rt: HostRuntime) -> Result<(), Fa
 // constraint alone fails: the parity's.
 #[test]
 fn the_product_0_is_not_the_prime(rt: HostRuntime) -> Result<(), Fail> {
-    let mut z = filled(rt.alloc(), Gadget::Product, 0, 0)?;
+    let mut z = filled(rt.alloc(), Product, 0, 0)?;
     set(&mut z, 65, F::ONE);
     for wire in 97..129 {
         set(&mut z, wire, F::ONE);
     }
-    let without = failing_put(&z, Gadget::Product)?;
+    let without = failing_put(&z, Product)?;
     set(&mut z, 129, F::ONE);
     set(&mut z, 130, F::of(18_446_744_065_119_617_025));
-    assert!(rt; without > 0 && failing_put(&z, Gadget::Product)? == 1);
+    assert!(rt; without > 0 && failing_put(&z, Product)? == 1);
     Ok(())
 }

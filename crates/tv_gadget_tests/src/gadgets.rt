@@ -31,24 +31,16 @@ pub enum Gadget {
     Fields,
 }
 
-// `n` wires from this one.
-fn row(first: Wire, n: u32) -> Bits
+/// `n` wires from this one on.
+pub fn bits(first: u32, n: u32) -> Bits
     ensures first { result.first ≡ first }
     ensures size { result.n ≡ n }
 {
-    Bits { first, n }
+    Bits {
+        first: Wire(first),
+        n,
+    }
 }
-
-// One wire.
-fn alone(wire: Wire) -> Bits {
-    row(wire, 1)
-}
-
-// No wire, which represents 0.
-const NONE: Bits = Bits {
-    first: Wire(0),
-    n: 0,
-};
 
 /// Puts a gadget over the two words, and answers three of the rows of wires, or the wires, that it
 /// does.
@@ -57,47 +49,43 @@ pub fn put<const W: u32, S: Sink>(s: &mut S, gadget: Gadget) -> Put<[Bits; 3]>
     requires room { Room S.meaning s.old 80 84 }
     requires inputs { 2 * W + 1 ≤ S.meaning.wires s.old }
 {
-    let (x, y) = (row(Wire(1), W), row(Wire(W + 1), W));
+    let (x, y) = (bits(1, W), bits(W + 1, W));
     match gadget {
         Gadget::Add => {
             let Split { low, high } = add::<W, S>(s, &x, &y)?;
-            Ok([low, high, NONE])
+            Ok([low, high, bits(0, 0)])
         }
         Gadget::Sub => {
             let Split { low, high } = sub::<W, S>(s, &x, &y)?;
-            Ok([low, high, NONE])
+            Ok([low, high, bits(0, 0)])
         }
         Gadget::Compare => {
             let made = compare::<W, S>(s, &x, &y)?;
-            Ok([alone(made.equal), alone(made.above), alone(made.greater)])
+            Ok([made.equal, made.above, made.greater].map(|wire| bits(wire.0, 1)))
         }
         Gadget::Logic => {
             let made = logic::<W, S>(s, &x, &y)?;
-            Ok([
-                alone(made.and_word),
-                alone(made.and_zero),
-                alone(made.or_word),
-            ])
+            Ok([made.and_word, made.and_zero, made.or_word].map(|wire| bits(wire.0, 1)))
         }
         Gadget::Shift => {
             let Shift { left, right } = shift::<W, S>(s, &x, &y)?;
-            Ok([alone(left), alone(right), NONE])
+            Ok([bits(left.0, 1), bits(right.0, 1), bits(0, 0)])
         }
         Gadget::Product => {
             let Product { low, high, over } = product::<W, S>(s, &x, &y)?;
-            Ok([low, high, alone(over)])
+            Ok([low, high, bits(over.0, 1)])
         }
         Gadget::SignedHigh => {
             let High { high, over } = signed_high::<W, S>(s, &x, &y)?;
-            Ok([high, alone(over), NONE])
+            Ok([high, bits(over.0, 1), bits(0, 0)])
         }
         Gadget::Quotient => {
             let Quot { quot, rem, by_zero } = quotient::<W, S>(s, &x, &y)?;
-            Ok([quot, rem, alone(by_zero)])
+            Ok([quot, rem, bits(by_zero.0, 1)])
         }
         Gadget::Fields => {
             let Fields { op, imm, dest, .. } = fields::<W, S>(s, &x, &y)?;
-            Ok([row(op, 32), alone(imm), row(dest, 16)])
+            Ok([bits(op.0, 32), bits(imm.0, 1), bits(dest.0, 16)])
         }
     }
 }

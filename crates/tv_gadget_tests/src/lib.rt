@@ -8,11 +8,11 @@
 mod answers;
 #[cfg(test)]
 mod assignments;
-#[cfg(test)]
-mod bit_rows;
 pub mod examples;
 #[cfg(test)]
 mod gadgets;
+#[cfg(test)]
+mod powers_and_signs;
 #[cfg(test)]
 mod rows;
 #[cfg(test)]

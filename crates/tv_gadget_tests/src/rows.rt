@@ -4,45 +4,37 @@ ghost use Rattle.std.specs.Prelude.{◌≤◌};
 ghost use Rattle.tv_core.specs.Sinks.{Room};
 
 use crate::assignments::failing;
+use crate::gadgets::bits;
+use crate::rows::Operation::{
+    Bitwise, Difference, Division, Product, RightShift, SignedProduct, Sum,
+};
 use std::alloc::Global;
 use std::test::Fail;
-use tv_bits::{Bits, SignedWord, double_row, fill_bits, fill_double_row, sign_of};
+use tv_bits::{SignedWord, double_row, fill_bits, fill_double_row, sign_of};
 use tv_core::{F, Lc, ListValues, Put, Scratch, Sink, TestSink, Wire, give_values};
-use tv_limb::{difference_halves, fill_row_difference, row_difference, row_sum};
+use tv_limb::{fill_row_difference, row_difference, row_sum};
+use tv_logic::bitwise;
 use tv_muldiv::{
     below_divisor, fill_row_division, fill_row_product, fill_row_signed_product, row_division,
-    row_product, row_signed_product, signed_product_halves,
+    row_product, row_signed_product,
 };
+use tv_shift::{fill_right_shift, right_shift};
 
 // What a row is to hold.
 #[derive(Clone, Copy, PartialEq, Eq, Debug)]
 enum Operation {
     Sum,
-    Difference,
-    Above,
-    SignedAtLeast,
-    SignedAbove,
+    // whether by sign, and whether strictly
+    Difference(bool, bool),
     Product,
     SignedProduct,
     Division,
-}
-
-impl Operation {
-    fn by_sign(self) -> bool {
-        matches!(self, Operation::SignedAtLeast | Operation::SignedAbove)
-    }
-
-    fn strict(self) -> bool {
-        matches!(self, Operation::Above | Operation::SignedAbove)
-    }
-
-    fn signed(self) -> bool {
-        matches!(self, Operation::SignedProduct)
-    }
+    Bitwise,
+    RightShift,
 }
 
 // The wires after wire 0: two words, their highest bits, the gate, whether the order is by sign and
-// strict, whether the row is signed, whether the divisor is 0, and 32 bits.
+// strict, whether the row is signed, whether the divisor is 0, and 32 bits for each of the words.
 const X: SignedWord = SignedWord {
     word: Wire(1),
     sign: Wire(3),
@@ -63,36 +55,31 @@ const SIGNED: Wire = Wire(8);
 
 const BY_ZERO: Wire = Wire(9);
 
-const BITS: Bits = Bits {
-    first: Wire(10),
-    n: 32,
-};
-
-const INPUTS: u32 = 42;
+const INPUTS: u32 = 74;
 
 // A row, and that it holds the operation on the words.
 fn put_row<S: Sink>(s: &mut S, operation: Operation) -> Put<()>
     requires room { Room S.meaning s.old 69 71 }
-    requires inputs { 42 ≤ S.meaning.wires s.old }
+    requires inputs { 74 ≤ S.meaning.wires s.old }
 {
     let mut scratch = Scratch::new();
     let row = double_row::<32, S>(s, &mut scratch, &[(F::ONE, SIGNED)])?;
     let gate = Lc::wire(GATE);
+    let (x, y) = (X.word, Y.word);
     match operation {
-        Operation::Sum => row_sum::<32, S>(s, &mut scratch, &gate, X.word, Y.word, &row),
-        Operation::Product => row_product::<32, S>(s, &mut scratch, &gate, X.word, Y.word, &row),
-        Operation::SignedProduct => {
-            row_signed_product::<32, S>(s, &mut scratch, &gate, &X, &Y, &row)
-        }
-        Operation::Division => {
-            row_division::<32, S>(s, &mut scratch, &gate, X.word, Y.word, BY_ZERO, &BITS, &row)?;
-            Ok(())
-        }
-        _ => {
-            let strict = [(F::ONE, STRICT)];
-            let by_sign = Lc::wire(BY_SIGN);
+        Sum => row_sum::<32, S>(s, &mut scratch, &gate, x, y, &row),
+        Difference(_, _) => {
+            let (by_sign, strict) = (Lc::wire(BY_SIGN), [(F::ONE, STRICT)]);
             row_difference::<32, S>(s, &mut scratch, &gate, &by_sign, &strict, &X, &Y, &row)
         }
+        Product => row_product::<32, S>(s, &mut scratch, &gate, x, y, &row),
+        SignedProduct => row_signed_product::<32, S>(s, &mut scratch, &gate, &X, &Y, &row),
+        Division => {
+            row_division::<32, S>(s, &mut scratch, &gate, x, y, BY_ZERO, &bits(10, 32), &row)?;
+            Ok(())
+        }
+        Bitwise => bitwise::<32, S>(s, &mut scratch, &gate, &bits(10, 32), &bits(42, 32), &row),
+        RightShift => right_shift::<32, S>(s, &mut scratch, &gate, x, y, &row),
     }
 }
 
@@ -105,36 +92,34 @@ fn filled(
     (low, high): (u32, u32),
 ) -> Result<Vec<F>, Fail> {
     let mut values = ListValues::new(alloc);
-    let inputs = [
-        F::ONE,
-        F::from(x),
-        F::from(y),
-        sign_of::<32>(x),
-        sign_of::<32>(y),
-        F::from(gate),
-        F::from(operation.by_sign()),
-        F::from(operation.strict()),
-        F::from(operation.signed()),
-        F::from(y == 0),
-    ];
-    give_values(&mut values, &inputs)?;
-    let divides = gate && operation == Operation::Division;
-    let bits = if divides {
+    let signs = [sign_of::<32>(x), sign_of::<32>(y)];
+    give_values(&mut values, &[F::ONE, F::from(x), F::from(y)])?;
+    give_values(&mut values, &signs)?;
+    let (by_sign, strict) = match operation {
+        Difference(by_sign, strict) => (by_sign, strict),
+        _ => (false, false),
+    };
+    let signed = operation == SignedProduct;
+    give_values(
+        &mut values,
+        &[gate, by_sign, strict, signed, y == 0].map(F::from),
+    )?;
+    let divides = gate && operation == Division;
+    let below = if divides {
         below_divisor::<32>(x, y)
     } else {
         x
     };
-    fill_bits(&mut values, F::from(bits), 32)?;
-    fill_double_row::<32, ListValues>(&mut values, low, high, operation.signed())?;
-    let by_sign = operation.by_sign();
+    fill_bits(&mut values, F::from(below), 32)?;
+    fill_bits(&mut values, F::from(y), 32)?;
+    fill_double_row::<32, ListValues>(&mut values, low, high, signed)?;
     let given = match operation {
-        Operation::Sum => Ok(()),
-        Operation::Product => fill_row_product(&mut values, x, y),
-        Operation::SignedProduct => {
-            fill_row_signed_product::<32, ListValues>(&mut values, x, bits, y)
-        }
-        Operation::Division => fill_row_division(&mut values, F::from(y == 0), x, high, y),
-        _ => fill_row_difference::<32, ListValues>(&mut values, by_sign, x, y),
+        Sum | Bitwise => Ok(()),
+        Difference(_, _) => fill_row_difference::<32, ListValues>(&mut values, by_sign, x, y),
+        Product => fill_row_product(&mut values, x, y),
+        SignedProduct => fill_row_signed_product::<32, ListValues>(&mut values, x, x, y),
+        Division => fill_row_division(&mut values, F::from(y == 0), x, high, y),
+        RightShift => fill_right_shift::<32, ListValues>(&mut values, low, high, y),
     };
     given?;
     Ok(values.as_slice().to_vec(alloc)?)
@@ -157,43 +142,46 @@ fn fails(
 // An operation, two words, and the low and the high half of their row.
 type Row = (Operation, (u32, u32), (u32, u32));
 
-static ROWS: [Row; 19] = [
-    (Operation::Sum, (0, 0), (0, 0)),
-    (Operation::Sum, (0xffff_ffff, 1), (0, 1)),
-    (Operation::Sum, (0xffff_ffff, 0xffff_ffff), (0xffff_fffe, 1)),
-    (Operation::Difference, (0, 1), (0xffff_ffff, 0)),
-    (Operation::Difference, (7, 7), (0, 1)),
-    (Operation::Above, (7, 7), (0xffff_ffff, 0)),
-    (Operation::Above, (8, 7), (0, 1)),
-    (Operation::SignedAtLeast, (0x8000_0000, 0x7fff_ffff), (1, 0)),
-    (Operation::SignedAtLeast, (0xffff_ffff, 0xffff_ffff), (0, 1)),
+static ROWS: [Row; 28] = [
+    (Sum, (0, 0), (0, 0)),
+    (Sum, (0xffff_ffff, 1), (0, 1)),
+    (Sum, (0xffff_ffff, 0xffff_ffff), (0xffff_fffe, 1)),
+    (Difference(false, false), (0, 1), (0xffff_ffff, 0)),
+    (Difference(false, false), (7, 7), (0, 1)),
+    (Difference(false, true), (7, 7), (0xffff_ffff, 0)),
+    (Difference(false, true), (8, 7), (0, 1)),
+    (Difference(true, false), (0x8000_0000, 0x7fff_ffff), (1, 0)),
+    (Difference(true, false), (0xffff_ffff, 0xffff_ffff), (0, 1)),
     (
-        Operation::SignedAbove,
+        Difference(true, true),
         (0x7fff_ffff, 0x8000_0000),
         (0xffff_fffe, 1),
     ),
-    (Operation::SignedAbove, (0xffff_ffff, 0), (0xffff_fffe, 0)),
-    (
-        Operation::Product,
-        (0xffff_ffff, 0xffff_ffff),
-        (1, 0xffff_fffe),
-    ),
-    (Operation::Product, (0, 0), (0, 0)),
-    (
-        Operation::SignedProduct,
-        (0x8000_0000, 0x8000_0000),
-        (0, 0x4000_0000),
-    ),
-    (
-        Operation::SignedProduct,
-        (0xffff_ffff, 1),
-        (0xffff_ffff, 0xffff_ffff),
-    ),
+    (Difference(true, true), (0xffff_ffff, 0), (0xffff_fffe, 0)),
+    (Product, (0xffff_ffff, 0xffff_ffff), (1, 0xffff_fffe)),
+    (Product, (0, 0), (0, 0)),
+    (Product, (0x1234_5678, 0x100), (0x3456_7800, 0x12)),
+    (SignedProduct, (0x8000_0000, 0x8000_0000), (0, 0x4000_0000)),
+    (SignedProduct, (0xffff_ffff, 1), (0xffff_ffff, 0xffff_ffff)),
     // the remainder and the quotient
-    (Operation::Division, (7, 2), (1, 3)),
-    (Operation::Division, (7, 0), (0, 0)),
-    (Operation::Division, (0xffff_ffff, 1), (0, 0xffff_ffff)),
-    (Operation::Division, (0xffff_ffff, 0xffff_ffff), (0, 1)),
+    (Division, (7, 2), (1, 3)),
+    (Division, (7, 0), (0, 0)),
+    (Division, (0xffff_ffff, 1), (0, 0xffff_ffff)),
+    (Division, (0xffff_ffff, 0xffff_ffff), (0, 1)),
+    // the and, and the exclusive or
+    (Bitwise, (1, 2), (0, 3)),
+    (Bitwise, (0xffff_ffff, 0xffff_ffff), (0xffff_ffff, 0)),
+    (Bitwise, (0x8000_0000, 0x7fff_ffff), (0, 0xffff_ffff)),
+    (
+        Bitwise,
+        (0x0f0f_0f0f, 0x00ff_00ff),
+        (0x000f_000f, 0x0ff0_0ff0),
+    ),
+    // by a power, what leaves the word below, and the word
+    (RightShift, (0xffff_ffff, 1), (0, 0xffff_ffff)),
+    (RightShift, (0x8000_0001, 2), (0x8000_0000, 0x4000_0000)),
+    (RightShift, (0x1234_5678, 0x100), (0x7800_0000, 0x12_3456)),
+    (RightShift, (0xffff_ffff, 0x8000_0000), (0xffff_fffe, 1)),
 ];
 
 // Whether a row holds and one with another low half fails. Without the gate it is any other.
@@ -215,15 +203,20 @@ fn known_rows_hold_and_altered_ones_fail(rt: HostRuntime) -> Result<(), Fail> {
     Ok(())
 }
 
-// Rows that hold modulo P, or in unsigned words, or without the tie of a division's bits.
-static FALSE_ROWS: [Row; 7] = [
-    (Operation::Sum, (0, 0), (1, 0xffff_ffff)),
-    (Operation::Product, (0, 0), (1, 0xffff_ffff)),
-    (Operation::Difference, (0, 1), (0xffff_ffff, 1)),
-    (Operation::SignedProduct, (0xffff_ffff, 1), (0xffff_ffff, 0)),
-    (Operation::Division, (7, 2), (3, 2)),
-    (Operation::Division, (7, 2), (7, 0)),
-    (Operation::Division, (7, 0), (0, 5)),
+// Rows that hold modulo P, or in unsigned words, or without the tie of a division's bits, or in
+// the sums of all digits by powers of 2, or of 3.
+static FALSE_ROWS: [Row; 11] = [
+    (Sum, (0, 0), (1, 0xffff_ffff)),
+    (Product, (0, 0), (1, 0xffff_ffff)),
+    (Difference(false, false), (0, 1), (0xffff_ffff, 1)),
+    (SignedProduct, (0xffff_ffff, 1), (0xffff_ffff, 0)),
+    (Division, (7, 2), (3, 2)),
+    (Division, (7, 2), (7, 0)),
+    (Division, (7, 0), (0, 5)),
+    (Bitwise, (1, 1), (0, 2)),
+    (Bitwise, (3, 3), (1, 5)),
+    (Bitwise, (0, 0), (0, 0xffff_0000)),
+    (Bitwise, (0x1_0000, 0), (1, 0)),
 ];
 
 #[test]
@@ -233,21 +226,4 @@ fn false_rows_fail(rt: HostRuntime) -> Result<(), Fail> {
         assert!(rt; fails > 0, "{operation:?}");
     }
     Ok(())
-}
-
-// The halves of a row, where they are computed, and else those of the row itself.
-fn halves_of(row: &Row) -> (u32, u32) {
-    let (operation, (x, y), halves) = *row;
-    match operation {
-        Operation::Sum | Operation::Product | Operation::Division => halves,
-        Operation::SignedProduct => signed_product_halves::<32>(x, y),
-        _ => difference_halves::<32>(operation.by_sign(), operation.strict(), x, y),
-    }
-}
-
-#[test]
-fn halves_are_those_of_known_rows(rt: HostRuntime) {
-    for row in &ROWS {
-        assert!(rt; halves_of(row) == row.2, "{row:?}");
-    }
 }

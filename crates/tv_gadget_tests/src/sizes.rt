@@ -1,15 +1,13 @@
-//! How many wires, constraints and terms each gadget over words makes, at both widths, and those
-//! that decode an instruction and that read and write registers, and a whole step.
+//! How many wires, constraints and terms each gadget over words makes, at both widths, those that
+//! read and write a register, and a whole step.
 ghost use Rattle.tv_word.specs.Widths.{IsWidth};
 
 use crate::gadgets::{Gadget, put};
-use crate::step_parts::{NAMES, STORES, WRITE};
 use crate::step_trials::{FIRST, state_wires};
 use std::test::Fail;
 use tv_block::block;
-use tv_core::{CountSink, Lc, Put, Scratch, Sink, Wire};
-use tv_decode::instruction;
-use tv_regs::{read_reg, read_triple, update_register, wires_from, write_reg};
+use tv_core::{CountSink, Lc, Put, Sink, Wire};
+use tv_regs::{read_reg, wires_from, write_reg};
 
 // Wires, constraints and terms.
 type Sizes = (u32, u32, u64);
@@ -52,64 +50,16 @@ fn gadgets_have_the_sizes_that_their_texts_say(rt: HostRuntime) -> Result<(), Fa
 }
 
 // Over 17 wires, of which 16 are the registers.
-fn reads() -> Put<Sizes> {
-    let mut count = CountSink::new(17);
-    read_reg(&mut count, Wire(1), &wires_from(Wire(1)))?;
-    Ok(counted(&count, 17))
-}
-
-fn writes() -> Put<Sizes> {
-    let (mut count, word) = (CountSink::new(17), Lc::wire(Wire(1)));
-    write_reg(&mut count, Wire(1), Wire(1), &word, &wires_from(Wire(1)))?;
-    Ok(counted(&count, 17))
-}
-
-fn instructions<const W: u32>() -> Put<Sizes>
-    requires width { IsWidth W }
-{
-    let mut count = CountSink::new(1);
-    instruction::<W, CountSink>(&mut count, &mut Scratch::new())?;
-    Ok(counted(&count, 1))
-}
-
-fn triples() -> Put<Sizes> {
-    let (mut count, stores) = (CountSink::new(30), Lc::wire(Wire(STORES)));
-    read_triple(
-        &mut count,
-        &mut Scratch::new(),
-        &stores,
-        &NAMES,
-        &wires_from(Wire(1)),
-    )?;
-    Ok(counted(&count, 30))
-}
-
-fn updates() -> Put<Sizes> {
-    let mut count = CountSink::new(21);
-    update_register(
-        &mut count,
-        &mut Scratch::new(),
-        &WRITE,
-        &wires_from(Wire(1)),
-    )?;
-    Ok(counted(&count, 21))
-}
-
 #[test]
 fn a_register_is_read_and_written_in_the_terms_that_their_texts_say(
     rt: HostRuntime,
 ) -> Result<(), Fail> {
-    let (read, written) = (reads()?, writes()?);
-    assert!(rt; (read.1, read.2, written.1, written.2) == (16, 48, 17, 147));
-    Ok(())
-}
-
-#[test]
-fn parts_of_a_step_have_the_sizes_that_their_texts_say(rt: HostRuntime) -> Result<(), Fail> {
-    let instruction = (instructions::<32>()?, instructions::<16>()?);
-    let is_so = instruction == ((90, 91, 386), (58, 59, 258));
-    let registers = (triples()?, updates()?);
-    assert!(rt; is_so && registers == ((31, 28, 211), (16, 17, 98)));
+    let (mut reads, mut writes) = (CountSink::new(17), CountSink::new(17));
+    read_reg(&mut reads, Wire(1), &wires_from(Wire(1)))?;
+    let word = Lc::wire(Wire(1));
+    write_reg(&mut writes, Wire(1), Wire(1), &word, &wires_from(Wire(1)))?;
+    let made = [counted(&reads, 17), counted(&writes, 17)];
+    assert_eq!(rt; made, [(1, 16, 48), (17, 17, 147)]);
     Ok(())
 }
 

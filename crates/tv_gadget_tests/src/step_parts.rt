@@ -3,10 +3,11 @@
 //! value that fails.
 ghost use Rattle.std.specs.Prelude.{◌≡◌, ◌<◌};
 
-use crate::assignments::{add_one, at, failing};
+use crate::assignments::{add_one, at, failing, set};
+use crate::gadgets::bits;
 use std::alloc::Global;
 use std::test::Fail;
-use tv_bits::{Bits, fill_bits};
+use tv_bits::fill_bits;
 use tv_core::{F, Lc, ListValues, Put, Scratch, TestSink, Values, Wire, give_words};
 use tv_decode::{fill_instruction, instruction};
 use tv_regs::{
@@ -15,22 +16,7 @@ use tv_regs::{
 
 // The words in the registers.
 const WORDS: [u32; 16] = [
-    0,
-    1,
-    0xffff_ffff,
-    0x8000_0000,
-    4,
-    55,
-    666,
-    7_777,
-    8,
-    99,
-    1_010,
-    0x7fff_ffff,
-    12,
-    13,
-    1_414,
-    15,
+    0, 1, 22, 333, 4, 55, 666, 7_777, 8, 99, 1_010, 11, 12, 13, 1_414, 15,
 ];
 
 // ---- an instruction, after wire 0
@@ -86,23 +72,6 @@ fn an_unused_opcode_has_no_wire(rt: HostRuntime) -> Result<(), Fail> {
 }
 
 // ---- three registers, whose wires follow wire 0; then a bit, and the bits of three numbers
-pub const STORES: u32 = 17;
-
-pub const NAMES: Names = Names {
-    dest: Bits {
-        first: Wire(18),
-        n: 4,
-    },
-    source: Bits {
-        first: Wire(22),
-        n: 4,
-    },
-    named: Bits {
-        first: Wire(26),
-        n: 4,
-    },
-};
-
 fn read(alloc: Global, store: bool, dest: u32, source: u32, named: u32) -> Result<Vec<F>, Fail>
     requires dest { dest < 16 }
     requires source { source < 16 }
@@ -121,15 +90,14 @@ fn read(alloc: Global, store: bool, dest: u32, source: u32, named: u32) -> Resul
 }
 
 fn unread(z: &[F]) -> Put<(u32, Triple)> {
-    let mut tests = TestSink::over(z, 30);
-    let stores = Lc::wire(Wire(STORES));
-    let triple = read_triple(
-        &mut tests,
-        &mut Scratch::new(),
-        &stores,
-        &NAMES,
-        &wires_from(Wire(1)),
-    )?;
+    let (mut tests, mut scratch) = (TestSink::over(z, 30), Scratch::new());
+    let (stores, registers) = (Lc::wire(Wire(17)), wires_from(Wire(1)));
+    let names = Names {
+        dest: bits(18, 4),
+        source: bits(22, 4),
+        named: bits(26, 4),
+    };
+    let triple = read_triple(&mut tests, &mut scratch, &stores, &names, &registers)?;
     Ok((failing(&tests), triple))
 }
 
@@ -138,30 +106,30 @@ fn unread(z: &[F]) -> Put<(u32, Triple)> {
 type Read = (bool, u32, u32, u32, [u32; 3]);
 
 static READS: [Read; 8] = [
-    (false, 5, 3, 11, [0x8000_0000, 0x7fff_ffff, 55]),
-    (true, 5, 3, 11, [55, 0x7fff_ffff, 55]),
-    (false, 0, 2, 2, [0xffff_ffff, 0xffff_ffff, 0]),
+    (false, 5, 3, 11, [333, 11, 55]),
+    (true, 5, 3, 11, [55, 11, 55]),
+    (false, 0, 2, 2, [22, 22, 0]),
     (false, 14, 14, 9, [1_414, 99, 1_414]),
     (false, 15, 7, 15, [7_777, 15, 15]),
     (false, 6, 6, 6, [666, 666, 666]),
     (true, 0, 15, 0, [0, 0, 0]),
-    (false, 2, 0, 1, [0, 1, 0xffff_ffff]),
+    (false, 2, 0, 1, [0, 1, 22]),
 ];
 
 // Whether the words are read, and each of them fails if it is altered.
 fn is_read(alloc: Global, row: &Read) -> Result<bool, Fail> {
     let (store, dest, source, named, words) = *row;
-    let z = read(alloc, store, dest % 16, source % 16, named % 16)?;
+    let mut z = read(alloc, store, dest % 16, source % 16, named % 16)?;
     let (failing, triple) = unread(&z)?;
     let wires = [triple.other_word.0, triple.named_word.0, triple.dest_word.0];
-    for i in 0..3 {
-        let mut false_one = z.to_vec(alloc)?;
-        add_one(&mut false_one, wires[i]);
-        if at(&z, wires[i]) != F::from(words[i]) || unread(&false_one)?.0 == 0 {
-            return Ok(false);
-        }
+    let seen = wires.map(|wire| at(&z, wire));
+    let mut is_so = failing == 0 && seen == words.map(F::from);
+    for (wire, word) in wires.iter().zip(words) {
+        add_one(&mut z, *wire);
+        is_so = is_so && unread(&z)?.0 > 0;
+        set(&mut z, *wire, F::from(word));
     }
-    Ok(failing == 0)
+    Ok(is_so)
 }
 
 #[test]
@@ -173,7 +141,7 @@ fn three_registers_are_read_whichever_numbers_are_equal(rt: HostRuntime) -> Resu
 }
 
 // ---- a register written: the registers follow wire 0, then the four wires of the write
-pub const WRITE: Write = Write {
+const WRITE: Write = Write {
     on: Wire(17),
     dest: Wire(18),
     word: Wire(19),
@@ -186,42 +154,25 @@ fn written(alloc: Global, on: bool, dest: u32, value: u32) -> Result<Vec<F>, Fai
     let mut values = ListValues::new(alloc);
     values.give(F::ONE)?;
     give_words(&mut values, &WORDS)?;
-    give_words(
-        &mut values,
-        &[u32::from(on), dest, WORDS[dest as usize], value],
-    )?;
+    let inputs = [u32::from(on), dest, WORDS[dest as usize], value];
+    give_words(&mut values, &inputs)?;
     fill_update(&mut values, dest, on, value, &WORDS)?;
     Ok(values.as_slice().to_vec(alloc)?)
 }
 
 fn unwritten(z: &[F]) -> Put<u32> {
-    let mut tests = TestSink::over(z, 21);
-    update_register(
-        &mut tests,
-        &mut Scratch::new(),
-        &WRITE,
-        &wires_from(Wire(1)),
-    )?;
+    let (mut tests, registers) = (TestSink::over(z, 21), wires_from(Wire(1)));
+    update_register(&mut tests, &mut Scratch::new(), &WRITE, &registers)?;
     Ok(failing(&tests))
 }
 
-// Whether each register after the write fails if it is altered.
-fn each_is_pinned(alloc: Global, z: &[F]) -> Result<bool, Fail> {
-    for wire in 21..37 {
-        let mut false_one = z.to_vec(alloc)?;
-        add_one(&mut false_one, wire);
-        if unwritten(&false_one)? == 0 {
-            return Ok(false);
-        }
-    }
-    Ok(true)
-}
-
-// Whether a write holds, and leaves a word in its register.
+// Whether a write holds, and leaves a word in its register; and whether another word in register 0
+// after it fails.
 fn is_written(alloc: Global, on: bool, dest: u32, value: u32, now: u32) -> Result<bool, Fail> {
-    let z = written(alloc, on, dest % 16, value)?;
-    let leaves = at(&z, 21 + dest % 16) == F::from(now);
-    Ok(leaves && unwritten(&z)? == 0 && each_is_pinned(alloc, &z)?)
+    let mut z = written(alloc, on, dest % 16, value)?;
+    let leaves = at(&z, 21 + dest % 16) == F::from(now) && unwritten(&z)? == 0;
+    add_one(&mut z, 21);
+    Ok(leaves && unwritten(&z)? > 0)
 }
 
 // Whether a word is written, to which register, the word, and the register's word after it.

@@ -1,12 +1,12 @@
 //! A state at the first wires, and a step after it.
 ghost use Rattle.std.specs.Prelude.{◌≡◌, ◌<◌, ◌^◌, true, false, slice_index, IfOk};
 ghost use Rattle.tv_block.specs.Values.{numbers_view};
-ghost use Rattle.tv_numbers.specs.Shown.{data_word_of};
 ghost use Rattle.tv_numbers.specs.Views.{ViewInRange};
 ghost use Rattle.tv_parts.specs.States.{StateUnder};
 ghost use Rattle.tv_step.specs.Range.{AreWords};
 ghost use Rattle.tv_word.specs.Widths.{IsWidth};
 
+use crate::assignments::at;
 use std::alloc::Global;
 use std::test::Fail;
 use tv_block::{StateNum, StateWires, block, fill_block};
@@ -29,14 +29,6 @@ pub fn state_wires() -> StateWires
         taken_of_primary: Wire(19),
         aux_ended: Wire(20),
     }
-}
-
-/// What a step is given: the old words of its three lines, and the word that it takes of the
-/// auxiliary tape.
-#[derive(Clone, Copy)]
-pub struct Given {
-    pub olds: [u32; 3],
-    pub aux: Option<u32>,
 }
 
 // The numbers of a state of a trace.
@@ -79,17 +71,6 @@ fn is_in_range<const W: u32>(n: u32, state: &StateNum) -> bool
         && state.taken_of_primary <= n
 }
 
-// Whether the data word is a word.
-fn has_data_word<const W: u32>(given: &Given) -> bool
-    requires width { IsWidth W }
-    ensures { result ≡ true → data_word_of (slice_index given.now.olds 2) given.now.aux < 2 ^ W }
-{
-    match given.aux {
-        Some(word) => is_word::<W>(word),
-        None => is_word::<W>(given.olds[2]),
-    }
-}
-
 // 1 and the numbers of a state.
 fn inputs(alloc: Global, state: &StateNum) -> Put<ListValues>
     ensures { IfOk result (λ values. values.broken ≡ false) }
@@ -102,60 +83,47 @@ fn inputs(alloc: Global, state: &StateNum) -> Put<ListValues>
     Ok(values)
 }
 
-/// What a step's constraints and values show.
-#[derive(Drop)]
-pub struct StepTrial {
-    /// How many constraints the step has.
-    pub tested: u32,
-    /// How many of them hold over its values.
-    pub held: u32,
-    /// Whether the wires of the state after the step hold the numbers that were expected.
-    pub reaches: bool,
-}
-
-// Whether a wire holds a number.
-fn has(values: &[F], wire: Wire, number: u32) -> bool {
-    match values.get(wire.0 as usize) {
-        Some(value) => *value == F::from(number),
-        None => false,
-    }
-}
-
 // Whether the wires of a state hold the numbers of one.
 fn holds(values: &[F], wires: &StateWires, state: &StateNum) -> bool {
-    for i in 0..16 {
-        if !has(values, wires.regs[i], state.regs[i]) {
+    let others = [
+        (wires.pc, state.pc),
+        (wires.flag, u32::from(state.flag)),
+        (wires.taken_of_primary, state.taken_of_primary),
+        (wires.aux_ended, u32::from(state.aux_ended)),
+    ];
+    for (wire, number) in wires.regs.iter().copied().zip(state.regs).chain(others) {
+        if at(values, wire.0) != F::from(number) {
             return false;
         }
     }
-    has(values, wires.pc, state.pc)
-        && has(values, wires.flag, u32::from(state.flag))
-        && has(values, wires.taken_of_primary, state.taken_of_primary)
-        && has(values, wires.aux_ended, u32::from(state.aux_ended))
+    true
 }
 
-/// Returns what a step from `before` shows, the primary tape having one word and `after` being the
-/// state that is expected after it; an error where it is given what is out of range.
+/// Returns, of a step from `before`, how many constraints it has, how many of them hold over its
+/// values, and whether the wires of the state after it hold the numbers of `after`. It is given the
+/// old words of its three lines, and the word that it takes of the auxiliary tape; the primary tape
+/// has one word. An error where what is given is out of range.
 pub fn trial<const W: u32>(
     alloc: Global,
     before: &TraceState,
-    given: &Given,
+    olds: &[u32; 3],
+    aux: Option<u32>,
     after: &TraceState,
-) -> Result<StepTrial, Fail>
+) -> Result<(u32, u32, bool), Fail>
     requires width { IsWidth W }
 {
     let state = numbers(before);
-    let fits = is_in_range::<W>(1, &state);
-    if !fits || !is_word::<W>(given.olds[1]) || !has_data_word::<W>(given) {
+    let data = match aux {
+        Some(word) => word,
+        None => olds[2],
+    };
+    if !is_in_range::<W>(1, &state) || !is_word::<W>(olds[1]) || !is_word::<W>(data) {
         return Err(Fail::from("out of range"));
     }
     let mut values = inputs(alloc, &state)?;
-    fill_block::<W, ListValues>(&mut values, &state, 1, 0, &given.olds, given.aux)?;
+    fill_block::<W, ListValues>(&mut values, &state, 1, 0, olds, aux)?;
     let mut tests = TestSink::over(values.as_slice(), FIRST.0);
     let made = block::<W, TestSink>(&mut tests, &state_wires(), 1, 0)?;
-    Ok(StepTrial {
-        tested: tests.tested(),
-        held: tests.held(),
-        reaches: holds(values.as_slice(), &made.next, &numbers(after)),
-    })
+    let reaches = holds(values.as_slice(), &made.next, &numbers(after));
+    Ok((tests.tested(), tests.held(), reaches))
 }

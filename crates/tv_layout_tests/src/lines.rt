@@ -1,6 +1,5 @@
 //! The lines of systems by their positions: of the program `answer 0` at 32 bits.
-ghost use Rattle.std.specs.Prelude.{◌≡◌, ◌^◌, ◌<◌};
-ghost use Rattle.tv_layout.specs.Places.{WithinLimits, line_count, log_of, runs_of};
+ghost use Rattle.std.specs.Prelude.{◌<◌};
 
 use tv_core::limits::{NULL_CELL, TAPE_CELLS};
 use tv_core::{F, Lc, LineLc, Wire};
@@ -8,21 +7,7 @@ use tv_layout::line;
 
 const IMAGE: [u32; 2] = [0xfc00_0000, 0];
 
-// How many lines of padding a system of 2^k lines has: lines of the null cell, at their own times,
-// that write nothing.
-fn padding(image: &[u32], n: u32, t: u32, all: u32) -> u32
-    requires fits { WithinLimits (runs_of 32 image.now n t) }
-    requires all { all ≡ 2 ^ log_of (line_count (runs_of 32 image.now n t)) }
-{
-    let mut count: u32 = 0;
-    for i in 0..all {
-        if is_padding(&line::<32>(image, n, t, i), i) {
-            count = count.saturating_add(1);
-        }
-    }
-    count
-}
-
+// Whether a line is one of padding: of the null cell, at its own time, and writing nothing.
 fn is_padding(made: &LineLc, i: u32) -> bool {
     is_constant(&made.cell, NULL_CELL)
         && is_constant(&made.time, i)
@@ -32,16 +17,6 @@ fn is_padding(made: &LineLc, i: u32) -> bool {
 
 fn is_constant(lc: &Lc, number: u32) -> bool {
     lc.terms() == [(F::from(number), Wire(0))].as_slice()
-}
-
-// Two steps, two steps with a word on the tape, and 65 steps.
-#[test]
-#[tactic(auto, unfolding(tv_layout::specs::Places::log_of))]
-fn lines_are_filled_up(rt: HostRuntime) {
-    let two_steps = padding(&IMAGE, 0, 2, 8);
-    let tape_word = padding(&IMAGE, 1, 2, 16);
-    let steps = padding(&IMAGE, 0, 65, 256);
-    assert_eq!(rt; [two_steps, tape_word, steps], [0, 7, 59]);
 }
 
 // Line i of the 16 of two steps on a tape of one word. The tape's word is wire 2, its bits are 3 to

@@ -15,6 +15,9 @@ const WIDE: [u32; 2] = [0xfc00_0000, 0];
 
 const NARROW: [u32; 2] = [0xfc00, 0];
 
+// Wires, constraints and terms.
+type Counts = (u32, u32, u64);
+
 /// A network, and how many wires, constraints and terms the systems over it have, with words of 32
 /// and of 16 bits. There are 2 + 3 lines, so k = 3; over Benes' network 20 switches, 12 of them
 /// bound, over Waksman's 17, 11 of them bound:
@@ -34,31 +37,21 @@ const NARROW: [u32; 2] = [0xfc00, 0];
 /// two the first numbers are the same. A check's terms are 2 of the second word's, whose cell
 /// before is 0, and 4 · 31 + 8 + 3 + 1 + 1, 4 · 3 + 8 + 2 + 2 + 1 and 4 · 31 + 8 + 3 + 1 + 1 of the
 /// step's lines; in the second of them 2^32 times the cell's constant cancels.
-const SIZES: [(Net, [u64; 3], [u64; 3]); 2] = [
-    (Net::Benes, [485, 505, 2542], [386, 406, 2054]),
-    (Net::Waksman, [474, 494, 2477], [375, 395, 1989]),
+const SIZES: [(Net, Counts, Counts); 2] = [
+    (Net::Benes, (485, 505, 2542), (386, 406, 2054)),
+    (Net::Waksman, (474, 494, 2477), (375, 395, 1989)),
 ];
 
 // What a system's sizes are said to be, and what a sink counts.
-fn sizes_of<const W: u32>(image: &[u32], net: Net) -> [[u64; 3]; 2]
+fn sizes_of<const W: u32>(image: &[u32], net: Net) -> [Counts; 2]
     requires width { IsWidth W }
     requires words { AreWords W image.now }
     requires short { length image.now ≤ 2 }
 {
     let said = sizes::<W>(image, 0, 1, net);
-    let counted = count_system::<W>(image, 0, 1, net);
-    [
-        [
-            u64::from(said.wires),
-            u64::from(said.constraints),
-            said.terms,
-        ],
-        [
-            u64::from(counted.wires()),
-            u64::from(counted.constraints()),
-            counted.terms(),
-        ],
-    ]
+    let sink = count_system::<W>(image, 0, 1, net);
+    let counted = (sink.wires(), sink.constraints(), sink.terms());
+    [(said.wires, said.constraints, said.terms), counted]
 }
 
 #[test]
@@ -70,7 +63,7 @@ fn systems_have_their_sizes(rt: HostRuntime) {
 }
 
 // How many wires and constraints the system has, and how many of these the run's values meet.
-fn trial<const W: u32>(alloc: Global, image: &[u32], net: Net) -> Result<[u64; 3], FillFault>
+fn trial<const W: u32>(alloc: Global, image: &[u32], net: Net) -> Result<(u32, u32, u32), FillFault>
     requires width { IsWidth W }
     requires words { AreWords W image.now }
     requires short { length image.now ≤ 2 }
@@ -80,11 +73,7 @@ fn trial<const W: u32>(alloc: Global, image: &[u32], net: Net) -> Result<[u64; 3
     let mut tests = TestSink::over(values.as_slice(), 2);
     emit_system::<W, TestSink>(image, 0, 1, net, &mut tests)?;
     let filling = prepare::<W>(alloc, image, &[], &[], 1, net)?;
-    Ok([
-        u64::from(filling.count()),
-        u64::from(tests.tested()),
-        u64::from(tests.held()),
-    ])
+    Ok((filling.count(), tests.tested(), tests.held()))
 }
 
 #[test]
@@ -94,10 +83,7 @@ fn the_values_of_answer_0_meet_its_system(rt: HostRuntime) -> Result<(), Fail> {
             trial::<32>(rt.alloc(), &WIDE, net)?,
             trial::<16>(rt.alloc(), &NARROW, net)?,
         ];
-        let wanted = [
-            [wide[0], wide[1], wide[1]],
-            [narrow[0], narrow[1], narrow[1]],
-        ];
+        let wanted = [wide, narrow].map(|(wires, added, _)| (wires, added, added));
         assert_eq!(rt; met, wanted, "{net:?}");
     }
     Ok(())

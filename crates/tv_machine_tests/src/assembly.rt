@@ -7,39 +7,8 @@ use tv_asm::{AsmFault, AsmWhy, assemble, width};
 
 const MOST: u32 = 16_384;
 
-/// A program whose lines have labels and comments.
-const SUM: &str = "; TinyRAM V=2.000 M=vn W=32 K=16
-; The sum of the primary tape, less 15.
-        mov r1, 0
-_next:  read r2, 0          ; the flag is 1 at the tape's end
-        cjmp _end
-        add r1, r1, r2
-        jmp _next
-_end:   sub r1, r1, 15
-        answer r1           ; 0 where the sum is 15
-";
-
 /// Texts and their images.
-static IMAGES: [(&str, &[u32]); 19] = [
-    (
-        SUM,
-        &[
-            0x9440_0000,
-            0,
-            0xf480_0000,
-            0,
-            0xac00_0000,
-            40,
-            0x2044_0000,
-            2,
-            0xa400_0000,
-            8,
-            0x2c44_0000,
-            15,
-            0xf800_0000,
-            1,
-        ],
-    ),
+static IMAGES: [(&str, &[u32]); 18] = [
     ("", &[]),
     ("; TinyRAM V=2.000 M=vn W=32 K=16\n", &[]),
     ("answer 0\n", &[0xfc00_0000, 0]),
@@ -76,7 +45,7 @@ static IMAGES: [(&str, &[u32]); 19] = [
 ];
 
 /// Texts that are refused: the first line at fault, and why.
-static FAULTS: [(&str, u64, AsmWhy); 51] = [
+static FAULTS: [(&str, u64, AsmWhy); 43] = [
     ("answer 0 \u{e9}", 1, AsmWhy::NotText),
     ("answer 0\u{7f}", 1, AsmWhy::NotText),
     ("answer 0\r\r\n", 1, AsmWhy::NotText),
@@ -86,36 +55,25 @@ static FAULTS: [(&str, u64, AsmWhy); 51] = [
     ("; TinyRAM K=17\nfoo", 1, AsmWhy::BadHeader),
     ("; TinyRAM W=8", 1, AsmWhy::BadHeader),
     ("; TinyRAM W=16 W=32", 1, AsmWhy::BadHeader),
-    ("; TinyRAM W=32 W=8", 1, AsmWhy::BadHeader),
     ("; TinyRAMW=032", 1, AsmWhy::BadHeader),
     ("; TinyRAM W=32\r\r", 1, AsmWhy::BadHeader),
     ("_", 1, AsmWhy::BadLabel),
-    ("_:", 1, AsmWhy::BadLabel),
     ("_a answer 0", 1, AsmWhy::BadLabel),
     ("_a;:", 1, AsmWhy::BadLabel),
     ("_a-b:", 1, AsmWhy::BadLabel),
     ("_a:\n_a:", 2, AsmWhy::DoubledLabel),
     ("_a: answer 0\n_a: foo", 2, AsmWhy::DoubledLabel),
     ("_a: foo\n_a: bar", 1, AsmWhy::UnknownName),
-    ("foo", 1, AsmWhy::UnknownName),
     ("Add r1, r2, 5", 1, AsmWhy::UnknownName),
     ("_a:_b: answer 0", 1, AsmWhy::UnknownName),
     ("answer,0", 1, AsmWhy::UnknownName),
-    (",", 1, AsmWhy::UnknownName),
-    ("_x: foo r1\njmp _y", 1, AsmWhy::UnknownName),
     ("add r1, r2", 1, AsmWhy::Operands { has: 2, wants: 3 }),
     ("answer", 1, AsmWhy::Operands { has: 0, wants: 1 }),
     ("answer ,", 1, AsmWhy::Operands { has: 2, wants: 1 }),
-    (
-        "mov r1, 2, 3, 4, 5",
-        1,
-        AsmWhy::Operands { has: 5, wants: 2 },
-    ),
     (".raw 1", 1, AsmWhy::Operands { has: 1, wants: 2 }),
     ("mov r16, 0", 1, AsmWhy::BadRegister),
     ("mov r01, 0", 1, AsmWhy::BadRegister),
     ("mov R1, 0", 1, AsmWhy::BadRegister),
-    ("mov r, 0", 1, AsmWhy::BadRegister),
     ("mov 1, 0", 1, AsmWhy::BadRegister),
     ("add r1,,5", 1, AsmWhy::BadRegister),
     ("answer reg", 1, AsmWhy::BadRegister),
@@ -129,7 +87,6 @@ static FAULTS: [(&str, u64, AsmWhy); 51] = [
     ("mov r1,", 1, AsmWhy::BadNumber),
     (".raw r1, 0", 1, AsmWhy::BadNumber),
     ("jmp _x\nfoo", 1, AsmWhy::UnknownLabel),
-    ("jmp _nowhere", 1, AsmWhy::UnknownLabel),
     ("jmp _", 1, AsmWhy::UnknownLabel),
     ("jmp _a:\n_a:", 1, AsmWhy::UnknownLabel),
 ];

@@ -54,7 +54,7 @@ static LINES: [(&str, [u32; 2]); 43] = [
 ];
 
 /// The same for words of 16 bits.
-static LINES_16: [(&str, [u16; 2]); 12] = [
+static LINES_16: [(&str, [u32; 2]); 12] = [
     ("add r1, r2, 5\n", [0x2448, 5]),
     ("answer 0\n", [0xfc00, 0]),
     ("answer 65535\n", [0xfc00, 0xffff]),
@@ -69,31 +69,31 @@ static LINES_16: [(&str, [u16; 2]); 12] = [
     (".raw 0xabcf, 65535\n", [0xabcf, 0xffff]),
 ];
 
-// Whether an image of W bits has a text of a header and a line, which is assembled to these words.
+// Whether the image of two words of W bits has a text of a header and a line, which is assembled to
+// these words.
 fn has_text<const W: u32>(
     alloc: Global,
-    image: &[u8],
     header: &str,
     line: &str,
     words: &[u32; 2],
 ) -> Result<bool, Fail>
     requires { IsWidth W }
 {
-    let text = disassemble::<W>(alloc, image)?;
+    let mut image = Vec::new(alloc);
+    for word in words {
+        image.extend_from_slice(&word.to_le_bytes()[..(W / 8) as usize])?;
+    }
+    let text = disassemble::<W>(alloc, &image)?;
     if width(&text) != W || text.strip_prefix(header.as_bytes()) != Some(line.as_bytes()) {
         return Ok(false);
     }
-    let back = assemble::<W>(alloc, &text, 2)?;
-    Ok(back.as_slice() == words.as_slice())
+    Ok(assemble::<W>(alloc, &text, 2)?.as_slice() == words.as_slice())
 }
 
 #[test]
 fn two_words_have_their_line_and_it_assembles_to_them(rt: HostRuntime) -> Result<(), Fail> {
     for (line, words) in &LINES {
-        let [h, a] = *words;
-        let image = [h.to_le_bytes(), a.to_le_bytes()];
-        let is_so = has_text::<32>(rt.alloc(), image.as_flattened(), "", line, words)?;
-        assert!(rt; is_so, "{line}");
+        assert!(rt; has_text::<32>(rt.alloc(), "", line, words)?, "{line}");
     }
     Ok(())
 }
@@ -102,11 +102,7 @@ fn two_words_have_their_line_and_it_assembles_to_them(rt: HostRuntime) -> Result
 fn two_words_of_16_bits_do_so_behind_a_header(rt: HostRuntime) -> Result<(), Fail> {
     let header = "; TinyRAM W=16 K=16\n";
     for (line, words) in &LINES_16 {
-        let [h, a] = *words;
-        let image = [h.to_le_bytes(), a.to_le_bytes()];
-        let words = [u32::from(h), u32::from(a)];
-        let is_so = has_text::<16>(rt.alloc(), image.as_flattened(), header, line, &words)?;
-        assert!(rt; is_so, "{line}");
+        assert!(rt; has_text::<16>(rt.alloc(), header, line, words)?, "{line}");
     }
     Ok(())
 }

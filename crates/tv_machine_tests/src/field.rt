@@ -10,19 +10,11 @@ static INVERSES: [(u64, Option<u64>); 4] = [
     (P - 1, Some(P - 1)),
 ];
 
-fn has_inverse(number: F, inverse: Option<u64>) -> bool {
-    match inverse {
-        Some(inverse) => {
-            let inverse = F::of(inverse);
-            number.inv() == Some(inverse) && number * inverse == F::ONE
-        }
-        None => number.inv().is_none(),
-    }
-}
-
 #[test]
 fn inverts_all_but_zero(rt: HostRuntime) {
     for (number, inverse) in &INVERSES {
-        assert!(rt; has_inverse(F::of(*number), *inverse), "{number}");
+        let (number, inverse) = (F::of(*number), inverse.map(F::of));
+        let product = inverse.map_or(F::ONE, |inverse| number * inverse);
+        assert!(rt; number.inv() == inverse && product == F::ONE, "{inverse:?}");
     }
 }

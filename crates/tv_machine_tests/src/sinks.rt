@@ -1,6 +1,5 @@
 //! One product, wire 1 times wire 2 is wire 3, over numbers and into a list.
 
-use std::alloc::Global;
 use std::test::Fail;
 use tv_core::{F, Lc, ListSink, ListValues, Put, Sink, TestSink, Values, Wire};
 
@@ -22,25 +21,17 @@ fn a_test_sink_finds_products_that_fail(rt: HostRuntime) -> Result<(), Fail> {
     Ok(())
 }
 
-// Whether a combination is a wire.
-fn is_wire(lc: &Lc, wire: u32) -> bool {
-    lc.terms() == [(F::ONE, Wire(wire))].as_slice()
-}
-
-// Whether the one row of a list is the product.
-fn has_its_row(alloc: Global) -> Put<bool> {
-    let mut sink = ListSink::new(alloc, 4);
-    sink.put(&Lc::wire(Wire(1)), &Lc::wire(Wire(2)), &Lc::wire(Wire(3)))?;
-    if sink.len() != 1 {
-        return Ok(false);
-    }
-    let (a, b, c) = sink.row(0);
-    Ok(is_wire(&a, 1) && is_wire(&b, 2) && is_wire(&c, 3))
-}
-
 #[test]
 fn a_list_sink_keeps_its_rows(rt: HostRuntime) -> Result<(), Fail> {
-    assert!(rt; has_its_row(rt.alloc())?);
+    let mut sink = ListSink::new(rt.alloc(), 4);
+    sink.put(&Lc::wire(Wire(1)), &Lc::wire(Wire(2)), &Lc::wire(Wire(3)))?;
+    if sink.len() != 1 {
+        return Err(Fail::from("not one row"));
+    }
+    let (a, b, c) = sink.row(0);
+    for (lc, wire) in [(a, 1), (b, 2), (c, 3)] {
+        assert!(rt; lc.terms() == [(F::ONE, Wire(wire))].as_slice());
+    }
     Ok(())
 }
 

@@ -1,0 +1,15 @@
+use Rattle.std.proofs.Common.{rules, ◌≡◌, length, true}
+use Rattle.tv_argument_tests.proofs.Made.{routable}
+use Rattle.tv_argument_tests.proofs.permutations.is_reached.Goals as goal
+
+pub routing_settings-requires : goal.routing_settings-requires
+routing_settings-requires c =
+    let yes : c.in_ok-is_permutation.field-0 ≡ true = search rules in
+    let four : length c.args.p.now ≡ 4 = search rules in
+    routable c.args.p.now four (c.in_ok-is_permutation.ensures.0 yes)
+
+pub routing_settings-requires-2 : goal.routing_settings-requires-2
+routing_settings-requires-2 c =
+    let yes : c.in_ok-is_permutation.field-0 ≡ true = search rules in
+    let four : length c.args.p.now ≡ 4 = search rules in
+    routable c.args.p.now four (c.in_ok-is_permutation.ensures.0 yes)
