@@ -8,6 +8,8 @@
 mod answers;
 #[cfg(test)]
 mod assignments;
+#[cfg(test)]
+mod callers_own;
 pub mod examples;
 #[cfg(test)]
 mod gadgets;
