@@ -8,7 +8,7 @@ use std::alloc::Global;
 use std::test::Fail;
 use tv_bits::{fill_bits, fill_zero_sign, zero_sign};
 use tv_core::{F, ListValues, Put, Scratch, TestSink, Values, Wire, give_values};
-use tv_shift::{fill_shift_power, shift_power};
+use tv_rows::{fill_shift_power, shift_power};
 
 // How many constraints of `shift_power` fail, and what its two wires hold. The bits of the distance
 // follow wire 0.

@@ -12,13 +12,13 @@ use std::alloc::Global;
 use std::test::Fail;
 use tv_bits::{SignedWord, double_row, fill_bits, fill_double_row, sign_of};
 use tv_core::{F, Lc, ListValues, Put, Scratch, Sink, TestSink, Wire, give_values};
-use tv_limb::{fill_row_difference, row_difference, row_sum};
-use tv_logic::bitwise;
-use tv_muldiv::{
+use tv_row_products::{
     below_divisor, fill_row_division, fill_row_product, fill_row_signed_product, row_division,
     row_product, row_signed_product,
 };
-use tv_shift::{fill_right_shift, right_shift};
+use tv_rows::{
+    bitwise, fill_right_shift, fill_row_difference, right_shift, row_difference, row_sum,
+};
 
 // What a row is to hold.
 #[derive(Clone, Copy, PartialEq, Eq, Debug)]

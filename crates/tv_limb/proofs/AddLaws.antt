@@ -14,7 +14,8 @@ use Rattle.tv_limb.proofs.SplitLaws.{split_sound, split_complete, split_answer, 
 use Rattle.tv_limb.specs.Split.{split_at}
 use Rattle.tv_word.proofs.WidthLaws.{width_short}
 use Rattle.tv_word.specs.Widths.{IsWidth}
-use Rattle.tv_limb.specs.Sum.{carry, sum_of_words, add_of, AddIsSound, AddIsComplete, AddSizes}
+use Rattle.tv_limb.specs.Sum.{sum_of_words, add_of, AddIsSound, AddIsComplete, AddSizes}
+use Rattle.tv_rows.specs.RowSum.{carry}
 
 -- what the circuit answers, and where it ends
 pub add_answer : (w : ℕ) (x y : Bits) (next : ℕ) → (add_of w x y next).answer ≡ split_at w (record { first = next; n = w + 1 })

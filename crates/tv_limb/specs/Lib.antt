@@ -1,7 +1,5 @@
 pub mod Difference
 pub mod Limbs
-pub mod RowDifference
-pub mod RowSum
 pub mod Split
 pub mod Sum
 pub use Rattle.tv_core.specs.Combinations

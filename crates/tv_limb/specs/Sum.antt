@@ -6,15 +6,11 @@ use Rattle.tv_core.specs.Circuits.{Circuit}
 use Rattle.tv_core.specs.Combinations.{scaled}
 use Rattle.tv_core.specs.Constraints.{Combination}
 use Rattle.tv_core.specs.Laws.{Assigns, Meets, HasFrom, Fills, InField}
-use Rattle.tv_word.specs.Operations.{add_result, add_flag}
+use Rattle.tv_rows.specs.RowSum.{carry}
+use Rattle.tv_word.specs.Operations.{add_result}
 use Rattle.tv_word.specs.Widths.{IsWidth}
-use Rattle.tv_word.specs.Word.{flag_of}
 use Rattle.tv_limb.specs.Split.{HasPartBits, split_at, split_of}
 use Rattle.tv_limb.specs.declared.parts.Split.{Split}
-
--- the carry of a sum, as a number
-abbrev pub carry : ℕ → ℕ → ℕ → ℕ
-carry w x y = flag_of (add_flag w x y)
 
 -- the sum of two words, as a combination
 abbrev pub sum_of_words : ℕ → Bits → Bits → Combination

@@ -2,24 +2,16 @@
 //! the difference of two words with carry and borrow. A word has `W` bits, 16 or 32. Contracts
 //! above cite `HasPartBits`, which says which numbers the two parts of an answer represent; what a
 //! gadget returns and how many wires it makes stand in `SplitSizes`, `AddSizes` and `SubSizes`.
-//! `row_sum` and `row_difference` hold a row of twice the width to the sum of two words, or to
-//! their difference and order, under a gate.
 #![tactic(auto)]
 
 mod differences;
 mod halves;
 mod parts;
-mod row_differences;
-mod row_sums;
 mod splits;
 mod sums;
 
 pub use differences::{fill_sub, sub, sub_laws};
 pub use halves::{limbs, limbs_are_sound};
 pub use parts::Split;
-pub use row_differences::{
-    difference_halves, fill_row_difference, row_difference, row_difference_laws,
-};
-pub use row_sums::{row_sum, row_sum_laws};
 pub use splits::{fill_split, split, split_laws};
 pub use sums::{add, add_laws, fill_add};

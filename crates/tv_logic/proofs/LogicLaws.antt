@@ -8,7 +8,7 @@ use Rattle.tv_core.proofs.MeetsLaws.{Meets-split, Meets-join, HasFrom-split}
 use Rattle.tv_core.specs.Circuits.{pure, ◌>>=◌}
 use Rattle.tv_core.specs.Laws.{HasFrom, Fills, InField}
 use Rattle.tv_core.specs.declared.field.TheConstants.{P}
-use Rattle.tv_logic.proofs.DigitNumbers.{or_sum}
+use Rattle.tv_rows.proofs.DigitNumbers.{or_sum}
 use Rattle.tv_logic.proofs.FlagLaws.{flags_sound, flags_complete, flags_answer, flags_next, flags_same}
 use Rattle.tv_core.proofs.FieldLaws.{InField-none, InField-cons, InField-append, InField-each_below}
 use Rattle.tv_logic.proofs.PairSums.{pair_in-small, and-below}

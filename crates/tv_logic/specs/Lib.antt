@@ -1,5 +1,4 @@
 pub mod Ands
-pub mod Digits
 pub mod Flags
 pub mod Logic
 pub mod Words

@@ -1,11 +1,5 @@
 pub mod HalvesLaws
-pub mod NormalLaws
 pub mod ProductLaws
 pub mod QuotientLaws
 pub mod QuotientNumbers
-pub mod RowDivisionLaws
-pub mod RowDivisionNumbers
-pub mod RowProductLaws
-pub mod RowSignedProductLaws
 pub mod SignedHighLaws
-pub mod SignedNumbers

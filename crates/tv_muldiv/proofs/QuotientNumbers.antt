@@ -14,6 +14,7 @@ use Rattle.tv_bits.specs.Order.{IsPrefixDifference}
 use Rattle.tv_bits.specs.Zero.{zero_flag}
 use Rattle.tv_word.specs.Operations.{udiv_result, umod_result}
 use Rattle.tv_word.specs.Widths.{IsWidth}
+use Rattle.tv_row_products.proofs.DivisionCases.{quotient-zero, quotient-other, remainder-zero, remainder-other, remainder-below}
 use Rattle.tv_muldiv.specs.Quotient.{gate_in, above_in}
 
 -- what the constraints say of numbers: of the words a and b of w bits, the quotient q, the remainder r, whether b is 0,
@@ -26,18 +27,6 @@ pub record Divides (w a b q r by_zero gate above : ℕ) : Type 0 where
   pub below : IsPrefixDifference (w / 4) 4 b r (((above + 1) % P + (P - by_zero)) % P)
 
 -- ---- the two cases of the definitions
-pub quotient-zero : (a b : ℕ) → b ≡ 0 → udiv_result a b ≡ 0
-quotient-zero a b none = rw none refl
-
-pub quotient-other : (a b : ℕ) → b ≢ 0 → udiv_result a b ≡ a / b
-quotient-other a b some = grind (arith, nat_tests)
-
-pub remainder-zero : (a b : ℕ) → b ≡ 0 → umod_result a b ≡ 0
-remainder-zero a b none = rw none refl
-
-pub remainder-other : (a b : ℕ) → b ≢ 0 → umod_result a b ≡ a % b
-remainder-other a b some = grind (arith, nat_tests)
-
 gate-zero : (a b : ℕ) → b ≡ 0 → gate_in a b ≡ a
 gate-zero a b none = rw none refl
 
@@ -49,9 +38,6 @@ quotient-small a b most h = let less = div-le_self a b in grind (arith, nat_test
 
 pub remainder-small : (a b most : ℕ) → b < most → umod_result a b < most
 remainder-small a b most h = grind (arith, nat_tests, mod-lt)
-
-pub remainder-below : (a b : ℕ) → b ≢ 0 → umod_result a b < b
-remainder-below a b some = let less : a % b < b = mod-lt a (omega arith) in omega (arith, remainder-other a b some)
 
 -- ---- by how much the divisor is above the remainder
 module _ (w : ℕ) (width : IsWidth w) (a b : ℕ) where

@@ -1,8 +1,5 @@
 pub mod Product
 pub mod Quotient
-pub mod RowDivision
-pub mod RowProduct
-pub mod RowSignedProduct
 pub mod SignedHigh
 pub mod Weighed
 pub use Rattle.tv_bits.specs.Bits

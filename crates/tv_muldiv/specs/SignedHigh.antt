@@ -8,6 +8,7 @@ use Rattle.tv_core.specs.Constraints.{Combination}
 use Rattle.tv_core.specs.Laws.{Assigns, Meets, HasFrom, Fills, InField}
 use Rattle.tv_core.specs.declared.field.TheConstants.{P}
 use Rattle.tv_bits.specs.Nonzero.{nonzero_of, nonzero_values}
+use Rattle.tv_row_products.specs.RowSignedProduct.{excess_in}
 use Rattle.tv_muldiv.specs.Weighed.{signed_combination, halves_values}
 use Rattle.tv_muldiv.specs.declared.records.High.{High}
 use Rattle.tv_word.specs.Operations.{signed_product, product_twos, smulh_result}
@@ -28,13 +29,9 @@ signed_bits_of w x y = do
   _ ← put (signed_combination x.first w) (signed_combination y.first w) (signed_combination made.first (2 * w))
   pure made
 
--- the high word less 2 ^ w - 1 times the highest bit of the low word, which is 0 exactly where the number
--- of 2 w bits from a first wire on is one of w bits; and the same for numbers
+-- the combination of `excess_in`, for the number of 2 w bits from a first wire on
 abbrev pub excess : ℕ → ℕ → Combination
 excess first w = bits_combination (first + w) w ++ (P - (2 ^ w - 1), first + (w - 1)) ∷ []
-
-abbrev pub excess_in : ℕ → ℕ → ℕ
-excess_in w v = (v / 2 ^ w + (P - (2 ^ w - 1)) * bit_at v (w - 1)) % P
 
 -- these bits, and a wire that is 1 where the product is no signed number of w bits, else 0
 unfoldable pub signed_high_of : ℕ → Bits → Bits → Circuit High

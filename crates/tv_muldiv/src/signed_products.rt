@@ -5,17 +5,18 @@ ghost use Rattle.tv_core.specs.Combinations.{top};
 ghost use Rattle.tv_core.specs.Values.{GivesIn};
 ghost use Rattle.tv_core.specs.Sinks.{PutsIn, Grows, Room};
 ghost use Rattle.tv_muldiv.specs.SignedHigh.{signed_bits_of, excess};
-ghost use Rattle.tv_muldiv.specs.SignedHigh.{excess_in, signed_high_of, signed_high_values};
+ghost use Rattle.tv_row_products.specs.RowSignedProduct.{excess_in};
+ghost use Rattle.tv_muldiv.specs.SignedHigh.{signed_high_of, signed_high_values};
 ghost use Rattle.tv_muldiv.specs.SignedHigh.{SignedHighIsSound, SignedHighIsComplete};
 ghost use Rattle.tv_muldiv.specs.SignedHigh.{SignedHighSizes};
-ghost use Rattle.tv_word.specs.Operations.{signed_product, product_twos};
+ghost use Rattle.tv_word.specs.Operations.{product_twos};
 ghost use Rattle.tv_word.specs.Widths.{IsWidth};
 
 use crate::numbers::{fill_halves, set_signed_number};
 use crate::records::High;
 use tv_bits::{Bits, fill_nonzero, new_bits_by, nonzero_by};
 use tv_core::{F, Lc, Put, Scratch, Sink, Values, Wire};
-use tv_word::arithmetic::signed_word;
+use tv_row_products::product_twos;
 
 /// Constrains new bits to the high word of the product of two words of `W` bits as signed numbers,
 /// and a wire to 1 exactly where that product lies outside -2^(`W - 1`) .. 2^(`W - 1`) - 1, else 0.
@@ -90,31 +91,6 @@ pub fn fill_signed_high<const W: u32, V: Values>(v: &mut V, x: u32, y: u32) -> P
     let product = product_twos::<W>(x, y);
     fill_halves::<W, V>(v, product)?;
     fill_nonzero(v, excess_in::<W>(product))
-}
-
-// The product of two words as signed numbers, in two's complement of `2 W` bits.
-#[tactic(auto, using(crate::proofs::SignedNumbers::product_cast))]
-pub(crate) fn product_twos<const W: u32>(x: u32, y: u32) -> u64
-    requires width { IsWidth W }
-    requires x_word { x < 2 ^ W }
-    requires y_word { y < 2 ^ W }
-    ensures { result ≡ product_twos W x y }
-{
-    let product = signed_product::<W>(x, y).cast_unsigned();
-    if W == 16 {
-        product % (1 << 32)
-    } else {
-        product
-    }
-}
-
-fn signed_product<const W: u32>(x: u32, y: u32) -> i64
-    requires width { IsWidth W }
-    requires x_word { x < 2 ^ W }
-    requires y_word { y < 2 ^ W }
-    ensures { result ≡ signed_product W x y }
-{
-    signed_word::<W>(x) * signed_word::<W>(y)
 }
 
 fn excess_in<const W: u32>(number: u64) -> F

@@ -13,22 +13,22 @@ use Rattle.tv_core.specs.Circuits.{pure, ◌>>=◌}
 use Rattle.tv_core.specs.Laws.{InField}
 use Rattle.tv_core.specs.declared.field.TheConstants.{P}
 use Rattle.tv_isa.specs.Opcodes.{among}
-use Rattle.tv_limb.proofs.RowDifferenceLaws.{row_difference_sizes, row_difference_cost_laws}
-use Rattle.tv_limb.proofs.RowSumLaws.{row_sum_sizes, row_sum_cost_laws}
-use Rattle.tv_limb.specs.RowDifference.{comparing, row_difference_of}
-use Rattle.tv_limb.specs.RowSum.{row_sum_of}
-use Rattle.tv_logic.proofs.DigitLaws.{bitwise_sizes, bitwise_cost_laws}
-use Rattle.tv_muldiv.proofs.RowDivisionLaws.{row_division_sizes, row_division_cost_laws}
-use Rattle.tv_muldiv.proofs.RowProductLaws.{row_product_sizes, row_product_cost_laws}
-use Rattle.tv_muldiv.proofs.RowSignedProductLaws.{row_signed_product_sizes, row_signed_product_cost_laws}
-use Rattle.tv_muldiv.specs.RowDivision.{dividing, row_division_of, row_division_values}
-use Rattle.tv_muldiv.specs.RowProduct.{row_product_of, row_product_values}
-use Rattle.tv_muldiv.specs.RowSignedProduct.{row_signed_product_values}
-use Rattle.tv_shift.proofs.PowerLaws.{shift_power_sizes, shift_power_cost_laws}
-use Rattle.tv_shift.proofs.RowShiftLaws.{right_shift_sizes, right_shift_cost_laws}
-use Rattle.tv_shift.specs.Power.{shift_power_of, shift_power_values}
-use Rattle.tv_shift.specs.RowShift.{right_shift_of, right_shift_values}
-use Rattle.tv_shift.specs.declared.powers.ShiftPower.{ShiftPower}
+use Rattle.tv_rows.proofs.RowDifferenceLaws.{row_difference_sizes, row_difference_cost_laws}
+use Rattle.tv_rows.proofs.RowSumLaws.{row_sum_sizes, row_sum_cost_laws}
+use Rattle.tv_rows.specs.RowDifference.{comparing, row_difference_of}
+use Rattle.tv_rows.specs.RowSum.{row_sum_of}
+use Rattle.tv_rows.proofs.DigitLaws.{bitwise_sizes, bitwise_cost_laws}
+use Rattle.tv_row_products.proofs.RowDivisionLaws.{row_division_sizes, row_division_cost_laws}
+use Rattle.tv_row_products.proofs.RowProductLaws.{row_product_sizes, row_product_cost_laws}
+use Rattle.tv_row_products.proofs.RowSignedProductLaws.{row_signed_product_sizes, row_signed_product_cost_laws}
+use Rattle.tv_row_products.specs.RowDivision.{dividing, row_division_of, row_division_values}
+use Rattle.tv_row_products.specs.RowProduct.{row_product_of, row_product_values}
+use Rattle.tv_row_products.specs.RowSignedProduct.{row_signed_product_values}
+use Rattle.tv_rows.proofs.PowerLaws.{shift_power_sizes, shift_power_cost_laws}
+use Rattle.tv_rows.proofs.RowShiftLaws.{right_shift_sizes, right_shift_cost_laws}
+use Rattle.tv_rows.specs.Power.{shift_power_of, shift_power_values}
+use Rattle.tv_rows.specs.RowShift.{right_shift_of, right_shift_values}
+use Rattle.tv_rows.specs.declared.powers.ShiftPower.{ShiftPower}
 use Rattle.tv_word.specs.Widths.{IsWidth}
 use Rattle.tv_parts.proofs.Sized.{Sized, sized_then, none_more, sized_pure, sized_as}
 use Rattle.tv_parts.specs.Arithmetic.{bitwise_ops, difference_ops, strict_ops, signed_ops, product_ops, division_ops, with_sign, rows_of, sums_of}

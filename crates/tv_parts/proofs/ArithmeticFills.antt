@@ -18,22 +18,22 @@ use Rattle.tv_core.specs.Constraints.{value}
 use Rattle.tv_core.specs.Laws.{Meets, HasFrom}
 use Rattle.tv_core.specs.declared.field.TheConstants.{P}
 use Rattle.tv_isa.specs.Opcodes.{among}
-use Rattle.tv_limb.proofs.RowDifferenceLaws.{row_difference_complete}
-use Rattle.tv_limb.proofs.RowSumLaws.{row_sum_complete, row_sum_sizes}
-use Rattle.tv_limb.specs.RowDifference.{comparing, IsRowDifference, row_difference_of, row_difference_values}
-use Rattle.tv_limb.specs.RowSum.{IsRowSum, row_sum_of}
-use Rattle.tv_logic.proofs.DigitLaws.{bitwise_complete}
-use Rattle.tv_logic.specs.Digits.{bitwise_of}
-use Rattle.tv_muldiv.proofs.RowDivisionLaws.{row_division_sound, row_division_complete, row_division_sizes}
-use Rattle.tv_muldiv.proofs.RowProductLaws.{row_product_complete, row_product_sizes}
-use Rattle.tv_muldiv.proofs.RowSignedProductLaws.{row_signed_product_complete}
-use Rattle.tv_muldiv.specs.RowDivision.{dividing, IsRowDivision, below_divisor, row_division_of, row_division_values}
-use Rattle.tv_muldiv.specs.RowProduct.{IsRowProduct, row_product_of, row_product_values}
-use Rattle.tv_muldiv.specs.RowSignedProduct.{signed_in, row_signed_product_of}
-use Rattle.tv_shift.proofs.PowerLaws.{shift_power_sound, shift_power_complete, shift_power_sizes}
-use Rattle.tv_shift.proofs.RowShiftLaws.{right_shift_complete}
-use Rattle.tv_shift.specs.Power.{shift_power_of, shift_power_values}
-use Rattle.tv_shift.specs.RowShift.{IsRightShift, right_shift_of, right_shift_values, shifted_word}
+use Rattle.tv_rows.proofs.RowDifferenceLaws.{row_difference_complete}
+use Rattle.tv_rows.proofs.RowSumLaws.{row_sum_complete, row_sum_sizes}
+use Rattle.tv_rows.specs.RowDifference.{comparing, IsRowDifference, row_difference_of, row_difference_values}
+use Rattle.tv_rows.specs.RowSum.{IsRowSum, row_sum_of}
+use Rattle.tv_rows.proofs.DigitLaws.{bitwise_complete}
+use Rattle.tv_rows.specs.Digits.{bitwise_of}
+use Rattle.tv_row_products.proofs.RowDivisionLaws.{row_division_sound, row_division_complete, row_division_sizes}
+use Rattle.tv_row_products.proofs.RowProductLaws.{row_product_complete, row_product_sizes}
+use Rattle.tv_row_products.proofs.RowSignedProductLaws.{row_signed_product_complete}
+use Rattle.tv_row_products.specs.RowDivision.{dividing, IsRowDivision, below_divisor, row_division_of, row_division_values}
+use Rattle.tv_row_products.specs.RowProduct.{IsRowProduct, row_product_of, row_product_values}
+use Rattle.tv_row_products.specs.RowSignedProduct.{signed_in, row_signed_product_of}
+use Rattle.tv_rows.proofs.PowerLaws.{shift_power_sound, shift_power_complete, shift_power_sizes}
+use Rattle.tv_rows.proofs.RowShiftLaws.{right_shift_complete}
+use Rattle.tv_rows.specs.Power.{shift_power_of, shift_power_values}
+use Rattle.tv_rows.specs.RowShift.{IsRightShift, right_shift_of, right_shift_values, shifted_word}
 use Rattle.tv_word.proofs.WidthLaws.{width_short}
 use Rattle.tv_word.specs.Widths.{IsWidth}
 use Rattle.tv_parts.proofs.ArithmeticCounts.{rows_sized, sums_sized, products_sized, rows_length, power_length}

@@ -17,21 +17,21 @@ use Rattle.tv_core.specs.Constraints.{value}
 use Rattle.tv_core.specs.Laws.{Meets}
 use Rattle.tv_core.specs.declared.field.TheConstants.{P}
 use Rattle.tv_isa.specs.Opcodes.{among}
-use Rattle.tv_limb.proofs.RowDifferenceLaws.{row_difference_sound}
-use Rattle.tv_limb.proofs.RowSumLaws.{row_sum_sound}
-use Rattle.tv_limb.specs.RowDifference.{comparing, IsRowDifference, row_difference_of}
-use Rattle.tv_limb.specs.RowSum.{IsRowSum, row_sum_of}
-use Rattle.tv_logic.proofs.DigitLaws.{bitwise_sound}
-use Rattle.tv_muldiv.proofs.RowDivisionLaws.{row_division_sound}
-use Rattle.tv_muldiv.proofs.RowProductLaws.{row_product_sound}
-use Rattle.tv_muldiv.proofs.RowSignedProductLaws.{row_signed_product_sound}
-use Rattle.tv_muldiv.specs.RowDivision.{dividing, IsRowDivision, row_division_of}
-use Rattle.tv_muldiv.specs.RowProduct.{IsRowProduct, row_product_of}
-use Rattle.tv_muldiv.specs.RowSignedProduct.{IsRowSignedProduct}
-use Rattle.tv_shift.proofs.PowerLaws.{shift_power_sound}
-use Rattle.tv_shift.proofs.RowShiftLaws.{right_shift_sound}
-use Rattle.tv_shift.specs.Power.{shift_power_of}
-use Rattle.tv_shift.specs.RowShift.{IsRightShift, right_shift_of, shifted_word}
+use Rattle.tv_rows.proofs.RowDifferenceLaws.{row_difference_sound}
+use Rattle.tv_rows.proofs.RowSumLaws.{row_sum_sound}
+use Rattle.tv_rows.specs.RowDifference.{comparing, IsRowDifference, row_difference_of}
+use Rattle.tv_rows.specs.RowSum.{IsRowSum, row_sum_of}
+use Rattle.tv_rows.proofs.DigitLaws.{bitwise_sound}
+use Rattle.tv_row_products.proofs.RowDivisionLaws.{row_division_sound}
+use Rattle.tv_row_products.proofs.RowProductLaws.{row_product_sound}
+use Rattle.tv_row_products.proofs.RowSignedProductLaws.{row_signed_product_sound}
+use Rattle.tv_row_products.specs.RowDivision.{dividing, IsRowDivision, row_division_of}
+use Rattle.tv_row_products.specs.RowProduct.{IsRowProduct, row_product_of}
+use Rattle.tv_row_products.specs.RowSignedProduct.{IsRowSignedProduct}
+use Rattle.tv_rows.proofs.PowerLaws.{shift_power_sound}
+use Rattle.tv_rows.proofs.RowShiftLaws.{right_shift_sound}
+use Rattle.tv_rows.specs.Power.{shift_power_of}
+use Rattle.tv_rows.specs.RowShift.{IsRightShift, right_shift_of, shifted_word}
 use Rattle.tv_word.proofs.FlagLaws.{flag_small}
 use Rattle.tv_word.proofs.WidthLaws.{width_short}
 use Rattle.tv_word.specs.Widths.{IsWidth}

@@ -8,21 +8,21 @@ use Rattle.std.proofs.lemmas.Bool.Decides.{nat_tests}
 use Rattle.tv_bits.specs.DoubleRow.{IsRow}
 use Rattle.tv_bits.specs.declared.double_rows.DoubleRow.{DoubleRow}
 use Rattle.tv_isa.specs.Opcodes.{among, chosen, unused_ops}
-use Rattle.tv_limb.proofs.RowDifferenceLaws.{row_difference_complete}
-use Rattle.tv_limb.proofs.RowSumLaws.{row_sum_complete}
-use Rattle.tv_limb.specs.RowDifference.{comparing, IsRowDifference}
-use Rattle.tv_limb.specs.RowSum.{IsRowSum}
-use Rattle.tv_limb.specs.Sum.{carry}
-use Rattle.tv_logic.proofs.DigitLaws.{bitwise_complete}
-use Rattle.tv_muldiv.proofs.RowDivisionLaws.{row_division_complete}
-use Rattle.tv_muldiv.proofs.RowProductLaws.{row_product_complete}
-use Rattle.tv_muldiv.proofs.RowSignedProductLaws.{row_signed_product_complete}
-use Rattle.tv_muldiv.specs.RowDivision.{IsRowDivision}
-use Rattle.tv_muldiv.specs.RowProduct.{IsRowProduct}
-use Rattle.tv_muldiv.specs.RowSignedProduct.{IsRowSignedProduct}
-use Rattle.tv_shift.proofs.AnyDistance.{any_distance}
-use Rattle.tv_shift.proofs.RowShiftLaws.{right_shift_complete}
-use Rattle.tv_shift.specs.RowShift.{IsRightShift, shifted_word}
+use Rattle.tv_rows.proofs.RowDifferenceLaws.{row_difference_complete}
+use Rattle.tv_rows.proofs.RowSumLaws.{row_sum_complete}
+use Rattle.tv_rows.specs.RowDifference.{comparing, IsRowDifference}
+use Rattle.tv_rows.specs.RowSum.{IsRowSum}
+use Rattle.tv_rows.specs.RowSum.{carry}
+use Rattle.tv_rows.proofs.DigitLaws.{bitwise_complete}
+use Rattle.tv_row_products.proofs.RowDivisionLaws.{row_division_complete}
+use Rattle.tv_row_products.proofs.RowProductLaws.{row_product_complete}
+use Rattle.tv_row_products.proofs.RowSignedProductLaws.{row_signed_product_complete}
+use Rattle.tv_row_products.specs.RowDivision.{IsRowDivision}
+use Rattle.tv_row_products.specs.RowProduct.{IsRowProduct}
+use Rattle.tv_row_products.specs.RowSignedProduct.{IsRowSignedProduct}
+use Rattle.tv_rows.proofs.AnyDistance.{any_distance}
+use Rattle.tv_rows.proofs.RowShiftLaws.{right_shift_complete}
+use Rattle.tv_rows.specs.RowShift.{IsRightShift, shifted_word}
 use Rattle.tv_word.proofs.WidthLaws.{width_short}
 use Rattle.tv_word.specs.Widths.{IsWidth}
 use Rattle.tv_numbers.proofs.Cases.{out, EachOf, each_of, word_ops, compare_ops, for_opcode}

@@ -10,8 +10,8 @@ use Rattle.tv_bits.specs.Bit.{IsBit}
 use Rattle.tv_bits.specs.Nonzero.{nonzero_flag}
 use Rattle.tv_core.specs.declared.field.TheConstants.{P}
 use Rattle.tv_isa.specs.Opcodes.{among, chosen, unused_ops, keeper_ops}
-use Rattle.tv_muldiv.proofs.SignedNumbers.{Stands-product, Stands-signed, signed_value, over_flag}
-use Rattle.tv_muldiv.specs.SignedHigh.{excess_in}
+use Rattle.tv_row_products.proofs.SignedNumbers.{Stands-product, Stands-signed, signed_value, over_flag}
+use Rattle.tv_row_products.specs.RowSignedProduct.{excess_in}
 use Rattle.tv_numbers.proofs.Cases.{for_opcode}
 use Rattle.tv_numbers.specs.Tables.{flags, results}
 use Rattle.tv_word.proofs.FlagLaws.{flag_small}

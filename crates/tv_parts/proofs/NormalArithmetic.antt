@@ -10,20 +10,20 @@ use Rattle.tv_core.specs.Circuits.{pure, ◌>>=◌}
 use Rattle.tv_core.specs.Combinations.{top}
 use Rattle.tv_core.specs.Normal.{IsNormal, IsNormalFrom, AreNormal}
 use Rattle.tv_isa.specs.declared.opcode.TheConstants.{ADD, SMULH, SHL, SHR}
-use Rattle.tv_limb.proofs.NormalLaws.{row_sum_normal, row_difference_normal}
-use Rattle.tv_limb.proofs.RowSumLaws.{row_sum_sizes}
-use Rattle.tv_limb.specs.RowDifference.{comparing, row_difference_of}
-use Rattle.tv_limb.specs.RowSum.{row_sum_of}
-use Rattle.tv_logic.proofs.NormalLaws.{bitwise_normal}
-use Rattle.tv_muldiv.proofs.NormalLaws.{row_product_normal, row_signed_product_normal, row_division_normal}
-use Rattle.tv_muldiv.proofs.RowDivisionLaws.{row_division_sizes}
-use Rattle.tv_muldiv.proofs.RowProductLaws.{row_product_sizes}
-use Rattle.tv_muldiv.specs.RowDivision.{dividing, row_division_of}
-use Rattle.tv_muldiv.specs.RowProduct.{row_product_of}
-use Rattle.tv_shift.proofs.NormalLaws.{shift_power_normal, right_shift_normal}
-use Rattle.tv_shift.proofs.PowerLaws.{shift_power_sizes}
-use Rattle.tv_shift.specs.Power.{shift_power_of}
-use Rattle.tv_shift.specs.RowShift.{right_shift_of}
+use Rattle.tv_rows.proofs.NormalSums.{row_sum_normal, row_difference_normal}
+use Rattle.tv_rows.proofs.RowSumLaws.{row_sum_sizes}
+use Rattle.tv_rows.specs.RowDifference.{comparing, row_difference_of}
+use Rattle.tv_rows.specs.RowSum.{row_sum_of}
+use Rattle.tv_rows.proofs.NormalDigits.{bitwise_normal}
+use Rattle.tv_row_products.proofs.NormalLaws.{row_product_normal, row_signed_product_normal, row_division_normal}
+use Rattle.tv_row_products.proofs.RowDivisionLaws.{row_division_sizes}
+use Rattle.tv_row_products.proofs.RowProductLaws.{row_product_sizes}
+use Rattle.tv_row_products.specs.RowDivision.{dividing, row_division_of}
+use Rattle.tv_row_products.specs.RowProduct.{row_product_of}
+use Rattle.tv_rows.proofs.NormalShifts.{shift_power_normal, right_shift_normal}
+use Rattle.tv_rows.proofs.PowerLaws.{shift_power_sizes}
+use Rattle.tv_rows.specs.Power.{shift_power_of}
+use Rattle.tv_rows.specs.RowShift.{right_shift_of}
 use Rattle.tv_word.specs.Widths.{IsWidth}
 use Rattle.tv_parts.proofs.ArithmeticCounts.{rows_sized, sums_sized, products_sized, rows_answer}
 use Rattle.tv_parts.proofs.NormalOpcodes.{rises_from, opcodes_normal, opcodes_top}

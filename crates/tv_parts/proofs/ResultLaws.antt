@@ -4,7 +4,7 @@ use Rattle.std.proofs.Common.{ap₂, subst, arith}
 use Rattle.std.specs.Int.{bit_at}
 use Rattle.tv_core.specs.declared.field.TheConstants.{P}
 use Rattle.tv_isa.specs.Opcodes.{among, chosen, writer_ops}
-use Rattle.tv_logic.proofs.DigitNumbers.{or_sum}
+use Rattle.tv_rows.proofs.DigitNumbers.{or_sum}
 use Rattle.tv_mem.specs.Bytes.{byte_of}
 use Rattle.tv_numbers.proofs.Cases.{EachOf, each_of}
 use Rattle.tv_numbers.specs.Tables.{results}

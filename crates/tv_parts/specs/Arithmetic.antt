@@ -12,15 +12,15 @@ use Rattle.tv_core.specs.Meanings.{terms_in}
 use Rattle.tv_core.specs.declared.field.TheConstants.{P}
 use Rattle.tv_isa.specs.Opcodes.{among, Entry, chosen}
 use Rattle.tv_isa.specs.declared.opcode.TheConstants.{AND, OR, XOR, ADD, SUB, MULL, UMULH, SMULH, UDIV, UMOD, SHL, SHR, CMPE, CMPA, CMPAE, CMPG, CMPGE}
-use Rattle.tv_limb.specs.RowDifference.{comparing, difference_low, difference_high, row_difference_of, row_difference_values}
-use Rattle.tv_limb.specs.RowSum.{row_sum_of}
-use Rattle.tv_limb.specs.Sum.{carry}
-use Rattle.tv_logic.specs.Digits.{bitwise_of}
-use Rattle.tv_muldiv.specs.RowDivision.{dividing, below_divisor, row_division_of, row_division_values}
-use Rattle.tv_muldiv.specs.RowProduct.{row_product_of, row_product_values}
-use Rattle.tv_muldiv.specs.RowSignedProduct.{row_signed_product_of, row_signed_product_values}
-use Rattle.tv_shift.specs.Power.{shift_power_of, shift_power_values}
-use Rattle.tv_shift.specs.RowShift.{right_low, right_high, right_shift_of, right_shift_values, shifted_word}
+use Rattle.tv_rows.specs.RowDifference.{comparing, difference_low, difference_high, row_difference_of, row_difference_values}
+use Rattle.tv_rows.specs.RowSum.{row_sum_of}
+use Rattle.tv_rows.specs.RowSum.{carry}
+use Rattle.tv_rows.specs.Digits.{bitwise_of}
+use Rattle.tv_row_products.specs.RowDivision.{dividing, below_divisor, row_division_of, row_division_values}
+use Rattle.tv_row_products.specs.RowProduct.{row_product_of, row_product_values}
+use Rattle.tv_row_products.specs.RowSignedProduct.{row_signed_product_of, row_signed_product_values}
+use Rattle.tv_rows.specs.Power.{shift_power_of, shift_power_values}
+use Rattle.tv_rows.specs.RowShift.{right_low, right_high, right_shift_of, right_shift_values, shifted_word}
 use Rattle.tv_word.specs.Operations.{and_result, xor_result, add_result, mull_result, umulh_result, smulh_result, product_twos, udiv_result, umod_result}
 use Rattle.tv_word.specs.Widths.{IsWidth}
 use Rattle.tv_parts.specs.Inputs.{OperationNumbers, operation_of}

@@ -14,7 +14,7 @@ ghost use Rattle.tv_parts.specs.Inputs.{operation_of};
 ghost use Rattle.tv_parts.specs.States.{OperandUnder, OperationUnder, RowUnder, ArithmeticUnder};
 ghost use Rattle.tv_isa.specs.Opcodes.{among};
 ghost use Rattle.tv_isa.specs.declared.opcode.TheConstants.{SMULH};
-ghost use Rattle.tv_shift.specs.RowShift.{right_low, right_high, shifted_word};
+ghost use Rattle.tv_rows.specs.RowShift.{right_low, right_high, shifted_word};
 ghost use Rattle.tv_word.specs.Operations.{mull_result, umulh_result};
 ghost use Rattle.tv_word.specs.Widths.{IsWidth};
 
@@ -26,13 +26,14 @@ use tv_isa::opcode::{
     ADD, AND, CMPA, CMPAE, CMPE, CMPG, CMPGE, MULL, OR, SHL, SHR, SMULH, SUB, UDIV, UMOD, UMULH,
     XOR,
 };
-use tv_limb::{difference_halves, fill_row_difference, row_difference, row_sum};
-use tv_logic::bitwise;
-use tv_muldiv::{
+use tv_row_products::{
     below_divisor, fill_row_division, fill_row_product, fill_row_signed_product, row_division,
     row_product, row_signed_product, signed_product_halves,
 };
-use tv_shift::{fill_right_shift, fill_shift_power, right_shift, shift_power};
+use tv_rows::{
+    bitwise, difference_halves, fill_right_shift, fill_row_difference, fill_shift_power,
+    right_shift, row_difference, row_sum, shift_power,
+};
 use tv_word::arithmetic::{
     both, carries, differing, high_product, low_product, power, quotient, remainder, shifted_right,
     sum,

@@ -1,13 +1,7 @@
-pub mod AnyDistance
 pub mod HalfLaws
 pub mod LevelValues
 pub mod MarkTerms
 pub mod MaskLaws
-pub mod NormalLaws
-pub mod PowerLaws
-pub mod PowerNumbers
-pub mod RowShiftLaws
-pub mod RowShiftNumbers
 pub mod ShiftLaws
 pub mod ShiftNumbers
 pub mod ShiftSizes

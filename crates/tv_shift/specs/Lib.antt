@@ -1,7 +1,5 @@
 pub mod Halves
 pub mod Masks
-pub mod Power
-pub mod RowShift
 pub mod Shift
 pub mod Thermometer
 pub use Rattle.tv_bits.specs.Bits

@@ -1,0 +1,75 @@
+-- The laws of a product in a row.
+use Rattle.std.proofs.Common.{◌≡◌, ℕ, ◌+◌, ◌-◌, ◌*◌, ◌%◌, ◌^◌, ◌<◌, ◌≤◌, List, length, arith}
+use Rattle.std.specs.Prelude.{slice_index}
+use Rattle.std.proofs.lemmas.Nat.{mul-le}
+use Rattle.tv_bits.proofs.DoubleRowLaws.{value-row_number}
+use Rattle.tv_bits.proofs.GateLaws.{gated_sound, gated_complete, gated_next, gated_constraints, gated_terms, terms-append}
+use Rattle.tv_bits.proofs.RowNumbers.{row_below, row_is, row_low, row_high, row_of, row_whole}
+use Rattle.tv_bits.proofs.TimesLaws.{times_sizes}
+use Rattle.tv_bits.proofs.WireProducts.{wires_sound, wires_complete}
+use Rattle.tv_bits.specs.DoubleRow.{row_number}
+use Rattle.tv_bits.specs.Times.{times_of}
+use Rattle.tv_bits.specs.declared.double_rows.DoubleRow.{DoubleRow}
+use Rattle.tv_core.proofs.CombinationLaws.{value-wire}
+use Rattle.tv_core.specs.Circuits.{fresh, put, pure, ◌>>=◌}
+use Rattle.tv_core.specs.Combinations.{wire}
+use Rattle.tv_core.specs.Constraints.{Combination, value}
+use Rattle.tv_core.specs.Laws.{Assigns}
+use Rattle.tv_core.specs.Meanings.{terms_in}
+use Rattle.tv_core.specs.declared.field.TheConstants.{P}
+use Rattle.tv_row_products.specs.RowProduct.{IsRowProduct, row_product_of, RowProductIsSound, RowProductIsComplete, RowProductSizes}
+use Rattle.tv_row_products.specs.RowProduct.{RowProductCosts}
+use Rattle.tv_word.specs.Widths.{IsWidth}
+
+-- the numbers
+product_small : (w : ℕ) → IsWidth w → (a b : ℕ) → a < 2 ^ w → b < 2 ^ w → a * b < P
+product_small w width a b h k = let most = mul-le a b (2 ^ w - 1) (2 ^ w - 1) (omega arith) (omega arith) in grind arith
+
+product_short : (w : ℕ) → IsWidth w → (a b : ℕ) → a < 2 ^ w → b < 2 ^ w → a * b ≤ 2 ^ w * (2 ^ w - 1)
+product_short w width a b h k = let most = mul-le a b (2 ^ w - 1) (2 ^ w - 1) (omega arith) (omega arith) in grind arith
+
+pub row_product_sound : RowProductIsSound
+unfolding row_product_of times_of fresh put pure ◌>>=◌
+row_product_sound w width z next gate x y row assigns one a_word b_word r meets =
+    search (arith, value-row_number, gated_sound, value-wire, wires_sound, row_is, row_below, product_small, row_low, row_high)
+
+row_product_on : (w : ℕ) (z : List ℕ) (next x y : ℕ) (row : DoubleRow) → Assigns z → IsRowProduct w z row (slice_index z x) (slice_index z y)
+    → slice_index z next ≡ slice_index z x * slice_index z y % P → value (row_number w row) z ≡ value (wire next) z
+row_product_on w z next x y row assigns is product = search (arith, row_whole, value-row_number, value-wire)
+
+pub row_product_complete : RowProductIsComplete
+unfolding row_product_of times_of fresh put pure ◌>>=◌
+row_product_complete = record {
+  row = λ w width a b h k. row_of w width (a * b) (product_short w width a b h k);
+  on = λ w z next gate x y row assigns is has. (
+    (wires_complete z next x y assigns has.0).0,
+    gated_complete.same z (next + 1) gate (row_number w row) (wire next)
+        (row_product_on w z next x y row assigns is has.0),
+  );
+  off = λ w z next gate x y row assigns none has.
+      ((wires_complete z next x y assigns has.0).0, gated_complete.off z (next + 1) gate (row_number w row) (wire next) none);
+}
+
+pub row_product_next : (w : ℕ) (gate : Combination) (x y : ℕ) (row : DoubleRow) (next : ℕ) → (row_product_of w gate x y row next).next ≡ next + 1
+unfolding row_product_of times_of fresh put pure ◌>>=◌
+row_product_next w gate x y row next = gated_next gate (row_number w row) (wire next) (next + 1)
+
+pub row_product_sizes : RowProductSizes
+row_product_sizes = record {
+  end = row_product_next;
+  fills = λ w gate x y row a b next. row_product_next w gate x y row next;
+  in_field = times_sizes.in_field;
+}
+
+row_product_constraints : (w : ℕ) (gate : Combination) (x y : ℕ) (row : DoubleRow) (next : ℕ) → length (row_product_of w gate x y row next).list ≡ 2
+unfolding row_product_of times_of fresh put pure ◌>>=◌
+row_product_constraints w gate x y row next = omega (arith, gated_constraints gate (row_number w row) (wire next) (next + 1))
+
+row_product_terms : (w : ℕ) (gate : Combination) (x y : ℕ) (row : DoubleRow) (next : ℕ) → terms_in (row_product_of w gate x y row next).list ≡ length gate + 6
+unfolding row_product_of times_of fresh put pure ◌>>=◌
+row_product_terms w gate x y row next = search (arith, terms-append, gated_terms)
+
+pub row_product_cost_laws : RowProductCosts
+row_product_cost_laws = record { constraints = row_product_constraints; terms = row_product_terms }
+
+pub ruleset row_product_laws = (row_product_sound, row_product_complete, row_product_sizes, row_product_cost_laws)

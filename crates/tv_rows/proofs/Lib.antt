@@ -1,0 +1,13 @@
+pub mod AnyDistance
+pub mod DigitLaws
+pub mod DigitNumbers
+pub mod NormalDigits
+pub mod NormalShifts
+pub mod NormalSums
+pub mod PowerLaws
+pub mod PowerNumbers
+pub mod RowDifferenceLaws
+pub mod RowDifferenceNumbers
+pub mod RowShiftLaws
+pub mod RowShiftNumbers
+pub mod RowSumLaws

@@ -1,0 +1,139 @@
+-- The laws of a difference in a row.
+use Rattle.std.proofs.Common.{◌≡◌, ℕ, ◌+◌, ◌-◌, ◌*◌, ◌%◌, ◌^◌, ◌<◌, List, [], ◌∷◌, ◌++◌, length, sym, ◌∙◌, ap, ap₂, arith}
+use Rattle.std.specs.Prelude.{slice_index}
+use Rattle.std.specs.Int.{bit_at}
+use Rattle.std.proofs.lemmas.List.{length-append}
+use Rattle.std.proofs.lemmas.Nat.{mul-mod_first}
+use Rattle.tv_bits.proofs.DoubleRowLaws.{value-row_number}
+use Rattle.tv_bits.proofs.GateLaws.{gated_sound, gated_complete, gated_next, gated_constraints, gated_terms, length-scaled, terms-append}
+use Rattle.tv_bits.proofs.TimesLaws.{times_sound, times_complete, times_sizes}
+use Rattle.tv_bits.specs.DoubleRow.{whole, row_number}
+use Rattle.tv_bits.specs.Gate.{gated_of}
+use Rattle.tv_bits.specs.Times.{times_of}
+use Rattle.tv_bits.specs.declared.double_rows.DoubleRow.{DoubleRow}
+use Rattle.tv_bits.specs.declared.signed_words.SignedWord.{SignedWord}
+use Rattle.tv_core.proofs.CombinationLaws.{value-append, value-cons, value-scaled, value-wire, value-empty}
+use Rattle.tv_core.specs.Circuits.{fresh, put, pure, ◌>>=◌}
+use Rattle.tv_core.specs.Combinations.{wire, scaled}
+use Rattle.tv_core.specs.Constraints.{Combination, value}
+use Rattle.tv_core.specs.Laws.{Assigns, Meets, HasFrom}
+use Rattle.tv_core.specs.Meanings.{terms_in}
+use Rattle.tv_core.specs.declared.field.TheConstants.{P}
+use Rattle.tv_rows.proofs.RowDifferenceNumbers.{difference_sound, difference_met, difference_row, bit_small}
+use Rattle.tv_rows.specs.RowDifference.{comparing, sign_difference, minuend, subtrahend, row_difference_of, row_difference_values, RowDifferenceIsSound}
+use Rattle.tv_rows.specs.RowDifference.{RowDifferenceIsComplete, RowDifferenceSizes, RowDifferenceCosts}
+
+-- ---- the combinations
+module _ (z : List ℕ) (assigns : Assigns z) where
+  value-signs : (x y : SignedWord) (s t : ℕ) → s < 2 → t < 2 → slice_index z x.sign ≡ s → slice_index z y.sign ≡ t
+      → value (sign_difference x y) z ≡ (s + (P - t)) % P
+  value-signs x y s t h k e f =
+      value-cons (P - 1) y.sign ((1, x.sign) ∷ []) z
+      ∙ ap₂ (λ m n. ((P - 1) * m + n) % P) f (value-cons 1 x.sign [] z ∙ ap₂ (λ m n. (1 * m + n) % P) e (value-empty z))
+      ∙ flat s t h k
+    where
+      flat : (s t : ℕ) → s < 2 → t < 2 → ((P - 1) * t + (1 * s + 0) % P) % P ≡ (s + (P - t)) % P
+      flat s t h k = omega arith
+
+  value-minuend : (w : ℕ) (strict : Combination) (x : ℕ) → value (minuend w strict x) z ≡ (2 ^ w + slice_index z x + (P - 1) * value strict z) % P
+  value-minuend w strict x =
+      let rest = value-append (scaled (P - 1) strict) (wire x) z ∙ ap₂ (λ m n. (m + n) % P) (value-scaled (P - 1) strict z) (value-wire assigns x) in
+      value-cons (2 ^ w % P) 0 (scaled (P - 1) strict ++ wire x) z
+      ∙ ap₂ (λ m n. (2 ^ w % P * m + n) % P) assigns.one rest
+      ∙ flat (2 ^ w) (slice_index z x) ((P - 1) * value strict z)
+    where
+      flat : (b x p : ℕ) → (b % P * 1 + (p % P + x) % P) % P ≡ (b + x + p) % P
+      flat b x p = omega arith
+
+  value-subtrahend : (w y : ℕ) (row : DoubleRow) (signs : ℕ)
+      → value (subtrahend w y row signs) z ≡ (slice_index z y + whole w (slice_index z row.low) (slice_index z row.high) + 2 ^ w * slice_index z signs) % P
+  value-subtrahend w y row signs =
+      let c = slice_index z signs in
+      let last : value ((2 ^ w % P, signs) ∷ []) z ≡ 2 ^ w * c % P
+      = value-cons (2 ^ w % P) signs [] z ∙ ap (λ n. (2 ^ w % P * c + n) % P) (value-empty z) ∙ once (2 ^ w % P * c) ∙ mul-mod_first (2 ^ w) c P in
+      let rest = value-append (row_number w row) ((2 ^ w % P, signs) ∷ []) z ∙ ap₂ (λ m n. (m + n) % P) (value-row_number w z row assigns) last in
+      value-append (wire y) (row_number w row ++ (2 ^ w % P, signs) ∷ []) z
+      ∙ ap₂ (λ m n. (m + n) % P) (value-wire assigns y) rest
+      ∙ flat (slice_index z y) (whole w (slice_index z row.low) (slice_index z row.high)) (2 ^ w * c)
+    where
+      once : (n : ℕ) → (n + 0) % P ≡ n % P
+      once n = omega arith
+
+      flat : (y n c : ℕ) → (y + (n % P + c % P) % P) % P ≡ (y + n + c) % P
+      flat y n c = omega arith
+
+pub row_difference_sound : RowDifferenceIsSound
+unfolding row_difference_of times_of fresh put pure ◌>>=◌
+row_difference_sound w width z next gate by_sign strict x y row a b assigns one sign_bit strict_bit p q r meets =
+    let signs = times_sound z next by_sign (sign_difference x y) assigns (meets.0, tt)
+    ∙ ap (λ n. value by_sign z * n % P) (value-signs z assigns x y (bit_at a (w - 1)) (bit_at b (w - 1)) (bit_small a (w - 1))
+    (bit_small b (w - 1)) p.sign q.sign) in
+    let same = gated_sound z (next + 1) gate (minuend w strict x.word) (subtrahend w y.word row next) one meets.1 in
+    let left = value-minuend z assigns w strict x.word ∙ ap (λ n. (2 ^ w + n + (P - 1) * value strict z) % P) p.word in
+    let right = value-subtrahend z assigns w y.word row next
+    ∙ ap (λ n. (n + whole w (slice_index z row.low) (slice_index z row.high) + 2 ^ w * slice_index z next) % P) q.word in
+    let halves = difference_sound w width (slice_index z row.low) (slice_index z row.high) a b (value strict z) (value by_sign z)
+    (slice_index z next) p.small q.small strict_bit sign_bit signs r (sym left ∙ same ∙ right) in
+    record { low = halves.0; high = halves.1 }
+
+-- the constraint of the signs
+signs_met : (w : ℕ) (z : List ℕ) (next : ℕ) (by_sign : Combination) (x y : SignedWord) (a b : ℕ) → Assigns z → slice_index z x.sign ≡ bit_at a (w - 1)
+    → slice_index z y.sign ≡ bit_at b (w - 1)
+    → HasFrom z next (row_difference_values w (value by_sign z) a b) → Meets z (times_of by_sign (sign_difference x y) next).list
+signs_met w z next by_sign x y a b assigns e f has =
+    times_complete z next by_sign (sign_difference x y) assigns (
+      has.0 ∙ ap (λ n. value by_sign z * n % P) (sym (value-signs z assigns x y (bit_at a (w - 1)) (bit_at b (w - 1)) (bit_small a (w - 1))
+          (bit_small b (w - 1)) e f)),
+      tt,
+    )
+
+pub row_difference_complete : RowDifferenceIsComplete
+unfolding row_difference_of times_of fresh put pure ◌>>=◌
+row_difference_complete = record {
+  row = difference_row;
+  on = λ w width z next gate by_sign strict x y row a b assigns sign_bit strict_bit p q is has.
+      let signs = signs_met w z next by_sign x y a b assigns p.sign q.sign has in
+      let left = value-minuend z assigns w strict x.word ∙ ap (λ n. (2 ^ w + n + (P - 1) * value strict z) % P) p.word in
+      let right = value-subtrahend z assigns w y.word row next
+      ∙ ap (λ n. (n + whole w (slice_index z row.low) (slice_index z row.high) + 2 ^ w * slice_index z next) % P) q.word in
+      let numbers = difference_met w width (slice_index z row.low) (slice_index z row.high) a b (value strict z) (value by_sign z)
+      (slice_index z next) p.small q.small strict_bit sign_bit has.0 is.low is.high in
+      (signs.0, gated_complete.same z (next + 1) gate (minuend w strict x.word) (subtrahend w y.word row next) (left ∙ numbers ∙ sym right));
+  off = λ w z next gate by_sign strict x y row a b assigns none e f has. (
+    (signs_met w z next by_sign x y a b assigns e f has).0,
+    gated_complete.off z (next + 1) gate (minuend w strict x.word)
+        (subtrahend w y.word row next) none,
+  );
+}
+
+pub row_difference_next : (w : ℕ) (gate by_sign strict : Combination) (x y : SignedWord) (row : DoubleRow) (next : ℕ)
+    → (row_difference_of w gate (comparing by_sign strict) x y row next).next ≡ next + 1
+unfolding row_difference_of times_of fresh put pure ◌>>=◌
+row_difference_next w gate by_sign strict x y row next = gated_next gate (minuend w strict x.word) (subtrahend w y.word row next) (next + 1)
+
+pub row_difference_sizes : RowDifferenceSizes
+row_difference_sizes = record {
+  end = row_difference_next;
+  fills = λ w gate by_sign strict x y row v a b next. row_difference_next w gate by_sign strict x y row next;
+  in_field = λ w v a b. times_sizes.in_field v ((bit_at a (w - 1) + (P - bit_at b (w - 1))) % P);
+}
+
+row_difference_constraints : (w : ℕ) (gate by_sign strict : Combination) (x y : SignedWord) (row : DoubleRow) (next : ℕ)
+    → length (row_difference_of w gate (comparing by_sign strict) x y row next).list ≡ 2
+unfolding row_difference_of times_of fresh put pure ◌>>=◌
+row_difference_constraints w gate by_sign strict x y row next = search (arith, gated_constraints)
+
+row_difference_terms : (w : ℕ) (gate by_sign strict : Combination) (x y : SignedWord) (row : DoubleRow) (next : ℕ)
+    → terms_in (row_difference_of w gate (comparing by_sign strict) x y row next).list ≡ length gate + length by_sign + length strict + 9
+unfolding row_difference_of times_of fresh put pure ◌>>=◌
+row_difference_terms w gate by_sign strict x y row next =
+    omega (
+      arith,
+      terms-append (times_of by_sign (sign_difference x y) next).list (gated_of gate (minuend w strict x.word) (subtrahend w y.word row next) (next + 1)).list,
+      gated_terms gate (minuend w strict x.word) (subtrahend w y.word row next) (next + 1),
+      length-append (scaled (P - 1) strict) (wire x.word),
+      length-scaled (P - 1) strict,
+    )
+
+pub row_difference_cost_laws : RowDifferenceCosts
+row_difference_cost_laws = record { constraints = row_difference_constraints; terms = row_difference_terms }

@@ -1,0 +1,15 @@
+use Rattle.std.proofs.Common.{◌≡◌, arith}
+use Rattle.tv_rows.specs.Power.{shift_power_of}
+use Rattle.tv_rows.proofs.powers.shift_power.Goals as goal
+
+pub returns-then-this-eq16-clause-puts : goal.returns-then-this-eq16-clause-puts
+unfolding shift_power_of
+returns-then-this-eq16-clause-puts g c =
+    let at_16 : g.row.W ≡ 16 = omega (arith, c.if-this-eq16.true) in
+    rw at_16 c.low_power.ensures.puts
+
+pub returns-else-this-eq16-clause-puts : goal.returns-else-this-eq16-clause-puts
+unfolding shift_power_of
+returns-else-this-eq16-clause-puts g c =
+    let at_32 : g.row.W ≡ 32 = omega (arith, c.requires.width, c.if-this-eq16.false) in
+    rw at_32 c.wide_power.ensures.puts

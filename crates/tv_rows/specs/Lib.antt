@@ -1,0 +1,9 @@
+pub mod Digits
+pub mod Power
+pub mod RowDifference
+pub mod RowShift
+pub mod RowSum
+pub use Rattle.tv_core.specs.Combinations
+pub use Rattle.tv_core.specs.Values
+pub use Rattle.tv_core.specs.Sinks
+pub use Rattle.tv_word.specs.Widths

@@ -1,5 +1,0 @@
-use Rattle.tv_shift.proofs.PowerLaws.{shift_power_sound, shift_power_complete, shift_power_sizes, shift_power_cost_laws}
-use Rattle.tv_shift.proofs.powers.shift_power_laws.Goals as goal
-
-pub returns : goal.returns
-returns c = record { sound = shift_power_sound; complete = shift_power_complete; sizes = shift_power_sizes; costs = shift_power_cost_laws }
