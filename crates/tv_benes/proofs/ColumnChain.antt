@@ -67,6 +67,14 @@ level_values-suc net form h k bit item level = ap (λ l. level_values net form l
 pub values_as : (form : Form) (b b' : Bool) (x x' y y' : PairNum) → b ≡ b' → x ≡ x' → y ≡ y' → switch_values form b x y ≡ switch_values form b' x' y'
 values_as form b b' x x' y y' p q r = ap (λ c. switch_values form c x y) p ∙ ap₂ (λ m n. switch_values form b' m n) q r
 
+-- values that are those of another list
+module _ {V : Type 0} {m : ValuesMeaning V} {old new : V} {xs ys : List ℕ} (same : xs ≡ ys) where
+  pub all_as : GivesAll m old new xs → GivesAll m old new ys
+  all_as p = subst (λ l. GivesAll m old new l) same p
+
+  pub some_as : {fault : SinkFault} → GivesSome m old new xs fault → GivesSome m old new ys fault
+  some_as {fault} p = subst (λ l. GivesSome m old new l fault) same p
+
 -- ---- a level, put together from its four parts
 module _ {V : Type 0} (m : ValuesMeaning V) (net : Net) (form : Form) (h k : ℕ) (bit : ℕ → Bool) (item : ℕ → PairNum) (level : h ≡ suc k) where
   pub column_refused : (old new : V) (fault : SinkFault) → GivesSome m old new (column_values form (2 ^ h) bit item) fault

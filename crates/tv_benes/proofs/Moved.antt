@@ -166,38 +166,49 @@ module _ {V : Type 0} (m : ValuesMeaning V) (net : Net) (form : Form) (bit : ℕ
   ]
 
 -- ---- the lowest level
-pub level_values-two : (net : Net) (form : Form) (h : ℕ) (bit : ℕ → Bool) (item : ℕ → PairNum) → h ≡ 0
-    → level_values net form h bit item ≡ switch_values (innermost net form) (bit 0) (item 0) (item 1)
+pub level_values-two : (net : Net) (form f : Form) (h : ℕ) (b : Bool) (bit : ℕ → Bool) (item : ℕ → PairNum) → h ≡ 0 → f ≡ innermost net form → b ≡ bit 0
+    → switch_values f b (item 0) (item 1) ≡ level_values net form h bit item
 unfolding level_values column_values
-level_values-two net form h bit item lowest = ap (λ l. level_values net form l bit item) lowest ∙ by
-  where
-    by : level_values net form 0 bit item ≡ switch_values (innermost net form) (bit 0) (item 0) (item 1)
-    by = refl
+level_values-two net form f h b bit item lowest is same =
+    ap₂ (λ f b. switch_values f b (item 0) (item 1)) is same ∙ ap (λ l. level_values net form l bit item) (sym lowest)
 
-pub through-two : (net : Net) (h : ℕ) (bit : ℕ → Bool) (item : ℕ → PairNum) → h ≡ 0
-    → places (2 ^ suc h) (through net h bit item) ≡ passed (bit 0) (item 0) (item 1) ∷ passed (bit 0) (item 1) (item 0) ∷ []
+pub through-two : (net : Net) (h : ℕ) (b : Bool) (bit : ℕ → Bool) (item : ℕ → PairNum) → h ≡ 0 → b ≡ bit 0
+    → passed b (item 0) (item 1) ∷ passed b (item 1) (item 0) ∷ [] ≡ places (2 ^ suc h) (through net h bit item)
 unfolding through places
-through-two net h bit item lowest = ap (λ l. places (2 ^ suc l) (through net l bit item)) lowest ∙ by
-  where
-    by : places (2 ^ 1) (through net 0 bit item) ≡ passed (bit 0) (item 0) (item 1) ∷ passed (bit 0) (item 1) (item 0) ∷ []
-    by = refl
+through-two net h b bit item lowest same =
+    ap (λ b. passed b (item 0) (item 1) ∷ passed b (item 1) (item 0) ∷ []) same ∙ ap (λ l. places (2 ^ suc l) (through net l bit item)) (sym lowest)
 
 -- ---- a level above it
--- what a network of level k does with a list, and with the items f that the list has below n
-pub record DoesSame (net : Net) (form : Form) (k n : ℕ) (bit : ℕ → Bool) (f : ℕ → PairNum) (xs : List PairNum) : Type 0 where
-  pub values : level_values net form k bit (pair_at xs) ≡ level_values net form k bit f
-  pub moved : (ys : List PairNum) → ys ≡ places (2 ^ suc k) (through net k bit (pair_at xs)) → ys ≡ places n (through net k bit f)
+-- what a network of level k does with a list by the bits b, and with the items f that the list has below n by the bits b'
+pub record DoesSame (net : Net) (g form : Form) (k n : ℕ) (b b' : ℕ → Bool) (f : ℕ → PairNum) (xs : List PairNum) : Type 0 where
+  pub values : level_values net g k b (pair_at xs) ≡ level_values net form k b' f
+  pub moved : (ys : List PairNum) → ys ≡ places (2 ^ suc k) (through net k b (pair_at xs)) → ys ≡ places n (through net k b' f)
 
-pub does_same : (net : Net) (form : Form) (k n : ℕ) → n ≡ 2 ^ suc k → (bit : ℕ → Bool) (f : ℕ → PairNum) (xs : List PairNum) → xs ≡ places n f
-    → DoesSame net form k n bit f xs
-does_same net form k n size bit f xs is =
-    let each : SameBelow (2 ^ suc k) (pair_at xs) f = λ j h. pair_at-places n f xs is j (omega arith) in
+pub does_same : (net : Net) (g form : Form) (k m n : ℕ) (b b' : ℕ → Bool) (f : ℕ → PairNum) (xs : List PairNum) → g ≡ form → m ≡ n → n ≡ 2 ^ suc k
+    → ◌≡◌ {A = ℕ → Bool} b b' → xs ≡ places m f → DoesSame net g form k n b b' f xs
+does_same net g form k m n b b' f xs same_form same_count size same is =
+    let each : SameBelow (2 ^ suc k) (pair_at xs) f = λ j h. pair_at-places m f xs is j (omega arith) in
     record {
-      values = level_values-same net form k bit (pair_at xs) f each;
+      values = ap₂ (λ g b. level_values net g k b (pair_at xs)) same_form same ∙ level_values-same net form k b' (pair_at xs) f each;
       moved = λ ys moved.
-          moved ∙ places-same (2 ^ suc k) (through net k bit (pair_at xs)) (through net k bit f)
-          (through-same net k bit bit (pair_at xs) f (λ j h. refl) each) ∙ ap (λ m. places m (through net k bit f)) (sym size);
+          moved ∙ places-same (2 ^ suc k) (through net k b (pair_at xs)) (through net k b' f)
+          (through-same net k b b' (pair_at xs) f (λ j h. ap (λ (b : ℕ → Bool). b j) same) each) ∙ ap (λ m. places m (through net k b' f)) (sym size);
     }
+
+-- the bits of a network's parts, taken one after another
+module _ (bit : ℕ → Bool) {n n' s s' : ℕ} (n_is : n' ≡ n) (s_is : s' ≡ s) {b b' : ℕ → Bool} (upper : ◌≡◌ {A = ℕ → Bool} b (from n' bit))
+    (lower : ◌≡◌ {A = ℕ → Bool} b' (from s' b)) where
+  pub second_bits : ◌≡◌ {A = ℕ → Bool} b' (from (n + s) bit)
+  second_bits = lower ∙ ap₂ from s_is (upper ∙ ap (λ n. from n bit) n_is) ∙ moved
+    where
+      moved : ◌≡◌ {A = ℕ → Bool} (from s (from n bit)) (from (n + s) bit)
+      moved = λ t j. ap bit (let same : n + (s + j) ≡ n + s + j = omega arith in same) t
+
+  pub third_bits : {last : ℕ → Bool} → ◌≡◌ {A = ℕ → Bool} last (from s' b') → ◌≡◌ {A = ℕ → Bool} last (from (n + 2 * s) bit)
+  third_bits e = e ∙ ap₂ from s_is second_bits ∙ moved
+    where
+      moved : ◌≡◌ {A = ℕ → Bool} (from s (from (n + s) bit)) (from (n + 2 * s) bit)
+      moved = λ t j. ap bit (let same : n + s + (s + j) ≡ n + 2 * s + j = omega arith in same) t
 
 -- a network of level h = k + 1: its last column, on the outputs of the two networks before it
 module _ (net : Net) (form : Form) (h k : ℕ) (level : h ≡ suc k) (bit : ℕ → Bool) (item : ℕ → PairNum) where
@@ -208,28 +219,27 @@ module _ (net : Net) (form : Form) (h k : ℕ) (level : h ≡ suc k) (bit : ℕ 
   abbrev pub lower_out : ℕ → ℕ → PairNum
   lower_out l = through net k (from (2 ^ l + switches net k) bit) (to_lower bit item)
 
-  module _ (us ls : List PairNum) (up : us ≡ places (2 ^ h) (upper_out h)) (low : ls ≡ places (2 ^ h) (lower_out h)) where
+  module _ (us ls : List PairNum) (up : us ≡ places (2 ^ h) (upper_out h)) (low : ls ≡ places (2 ^ h) (lower_out h)) (b : ℕ → Bool)
+      (same : ◌≡◌ {A = ℕ → Bool} b (from (2 ^ h + 2 * switches net k) bit)) where
     long : length us ≡ 2 ^ h
     long = ap length up ∙ places-length (2 ^ h) (upper_out h)
 
     last : ℕ → Bool
     last = from (2 ^ h + 2 * switches net k) bit
 
-    pub moved_values : column_values form (length us - missing net) (from (2 ^ h + 2 * switches net k) bit) (taken net (pair_at us) (pair_at ls))
-        ≡ last_column_values net form k bit item
+    pub moved_values : column_values form (length us - missing net) b (taken net (pair_at us) (pair_at ls)) ≡ last_column_values net form k bit item
     unfolding last
     moved_values =
-        ap (λ (m : ℕ). column_values form (m - missing net) last (taken net (pair_at us) (pair_at ls))) long
+        ap₂ (λ (m : ℕ) (b : ℕ → Bool). column_values form (m - missing net) b (taken net (pair_at us) (pair_at ls))) long same
         ∙ taken_values-same net form (2 ^ h) last (pair_at us) (upper_out h) (pair_at ls) (lower_out h) (pow_pos h)
         (pair_at-places (2 ^ h) (upper_out h) us up) (pair_at-places (2 ^ h) (lower_out h) ls low)
         ∙ ap (λ l. column_values form (2 ^ l - missing net) (from (2 ^ l + 2 * switches net k) bit) (taken net (upper_out l) (lower_out l))) level
 
-    pub moved_items : places (2 * length us) (joined (last_bit net (from (2 ^ h + 2 * switches net k) bit)) (pair_at us) (pair_at ls))
-        ≡ places (2 ^ suc h) (through net h bit item)
+    pub moved_items : places (2 * length us) (joined (last_bit net b) (pair_at us) (pair_at ls)) ≡ places (2 ^ suc h) (through net h bit item)
     unfolding last through
     moved_items =
         let two = twice h in
-        ap (λ (m : ℕ). places (2 * m) (joined (last_bit net last) (pair_at us) (pair_at ls))) long
+        ap₂ (λ (m : ℕ) (b : ℕ → Bool). places (2 * m) (joined (last_bit net b) (pair_at us) (pair_at ls))) long same
         ∙ places-same (2 * 2 ^ h) (joined (last_bit net last) (pair_at us) (pair_at ls)) (joined (last_bit net last) (upper_out h) (lower_out h)) (λ i within.
         joined-same (last_bit net last) (last_bit net last) (pair_at us) (upper_out h) (pair_at ls) (lower_out h) i refl
         (pair_at-places (2 ^ h) (upper_out h) us up (i / 2) (omega arith)) (pair_at-places (2 ^ h) (lower_out h) ls low (i / 2) (omega arith)))

@@ -63,31 +63,18 @@ fn route_level<V: Values>(
     if h == 0 {
         return route_two(v, form.innermost(net), items, bit(bits, 0));
     }
-    let n = long_power(h);
-    let s = level_switches(net, h - 1);
     let inner = form.other();
+    let below = h - 1;
+    let n = long_power(h);
+    let s = level_switches(net, below);
     let (upper, lower) = spare.split_at_mut(n as usize);
     first_column(v, form, items, upper, lower, bits)?;
     let (upper_spare, lower_spare) = items.split_at_mut(n as usize);
-    route_level(v, net, inner, h - 1, upper, upper_spare, bits_from(bits, n))?;
-    route_level(
-        v,
-        net,
-        inner,
-        h - 1,
-        lower,
-        lower_spare,
-        bits_from(bits, n + s),
-    )?;
-    last_column(
-        v,
-        net,
-        form,
-        upper,
-        lower,
-        items,
-        bits_from(bits, n + 2 * s),
-    )
+    let bits = bits_from(bits, n);
+    route_level(v, net, inner, below, upper, upper_spare, bits)?;
+    let bits = bits_from(bits, s);
+    route_level(v, net, inner, below, lower, lower_spare, bits)?;
+    last_column(v, net, form, upper, lower, items, bits_from(bits, s))
 }
 
 // The one switch of a network on two items, whose bit is `b`.

@@ -1,35 +1,37 @@
-use Rattle.std.proofs.Common.{◌≡◌, ℕ, Bool, suc, ◌+◌, ◌-◌, ◌*◌, ◌^◌, length, ap}
-use Rattle.std.proofs.Common.{◌∙◌, arith}
+use Rattle.std.proofs.Common.{◌≡◌, ℕ, Bool, List, suc, ◌+◌, ◌-◌, ◌*◌, ◌^◌, length, ap, ◌∙◌, subst, arith}
 use Rattle.std.proofs.lemmas.Result.{on_ok_weaker}
-use Rattle.tv_benes.proofs.ColumnChain.{column_refused, upper_refused, lower_refused, level_given}
-use Rattle.tv_benes.proofs.Moved.{does_same, moved_values, moved_items, level_values-two, through-two}
+use Rattle.tv_benes.proofs.ColumnChain.{all_as, some_as, column_refused, upper_refused, lower_refused, level_given}
+use Rattle.tv_benes.proofs.Moved.{does_same, second_bits, third_bits, moved_values, moved_items, level_values-two, through-two}
 use Rattle.tv_benes.proofs.ThroughLaws.{above}
 use Rattle.tv_benes.specs.Items.{bit_at, pair_at}
 use Rattle.tv_benes.specs.Levels.{other}
-use Rattle.tv_benes.specs.Through.{switches, from, to_upper, to_lower, places}
+use Rattle.tv_benes.specs.Network.{column_values}
+use Rattle.tv_benes.specs.Through.{switches, from, to_upper, to_lower}
 use Rattle.tv_core.proofs.ValuesChain.{gives_refused}
+use Rattle.tv_core.specs.Values.{GivesIn}
 use Rattle.tv_benes.proofs.routing.+route_level.Goals as goal
 
 -- ---- the lowest level
 pub returns-then-h-eq0-clause-gives : goal.returns-then-h-eq0-clause-gives
 returns-then-h-eq0-clause-gives g t c =
-    let two = level_values-two c.args.net c.args.form c.args.h (bit_at c.args.bits.now) (pair_at c.args.items.now) c.if-h-eq0.true in
-    rw two (rw (c.innermost.ensures, c.bit.ensures) at c.route_two.ensures.gives)
+    subst (λ (l : List ℕ). GivesIn g.V.Values.giving c.args.v.now c.route_two.new.v l c.route_two.result)
+    (level_values-two c.args.net c.args.form c.innermost.result c.args.h c.bit.result (bit_at c.args.bits.now) (pair_at c.args.items.now) c.if-h-eq0.true
+    c.innermost.ensures c.bit.ensures) c.route_two.ensures.gives
 
 pub returns-then-h-eq0-clause-moved : goal.returns-then-h-eq0-clause-moved
 returns-then-h-eq0-clause-moved g t c =
-    rw (through-two c.args.net c.args.h (bit_at c.args.bits.now) (pair_at c.args.items.now) c.if-h-eq0.true)
-    (rw c.bit.ensures at c.route_two.ensures.moved)
+    on_ok_weaker c.route_two.result (λ moved. moved ∙ through-two c.args.net c.args.h c.bit.result (bit_at c.args.bits.now) (pair_at c.args.items.now)
+    c.if-h-eq0.true c.bit.ensures) c.route_two.ensures.moved
 
 -- ---- the first column
 pub returns-in_err-first_column-clause-gives : goal.returns-in_err-first_column-clause-gives
 returns-in_err-first_column-clause-gives g t c =
-    let m = g.V.Values.giving in
-    let long : length c.split_at_mut-upper.result.0.now ≡ 2 ^ c.args.h = c.split_at_mut-upper.ensures.front_len ∙ c.long_power-n.ensures.is in
-    let column = rw long at c.in_err-first_column.ensures.gives in
+    let bit = bit_at c.args.bits.now in
+    let item = pair_at c.args.items.now in
+    let long = c.split_at_mut-upper.ensures.front_len ∙ c.long_power-n.ensures.is in
     gives_refused _ _ _ _ _ c.from_residual.ensures.1
-    (column_refused m c.args.net c.args.form c.args.h (c.args.h - 1) (bit_at c.args.bits.now) (pair_at c.args.items.now)
-    (above c.args.net c.args.h c.if-h-eq0.false).level _ _ _ column)
+    (column_refused g.V.Values.giving c.args.net c.args.form c.args.h (c.args.h - 1) bit item (above c.args.net c.args.h c.if-h-eq0.false).level _ _ _
+    (some_as (ap (λ n. column_values c.args.form n bit item) long) c.in_err-first_column.ensures.gives))
 
 -- ---- the two networks
 pub route_level-requires : goal.route_level-requires
@@ -57,12 +59,15 @@ returns-in_err-route_level-clause-gives g t c =
     let below = above c.args.net c.args.h c.if-h-eq0.false in
     let bit : ℕ → Bool = bit_at c.args.bits.now in
     let item = pair_at c.args.items.now in
-    let long : length c.split_at_mut-upper.result.0.now ≡ 2 ^ c.args.h = c.split_at_mut-upper.ensures.front_len ∙ c.long_power-n.ensures.is in
+    let net = c.args.net in
+    let n_is = c.long_power-n.ensures.is in
+    let long = c.split_at_mut-upper.ensures.front_len ∙ n_is in
     let size = ap (λ j. 2 ^ j) below.level in
-    let up = does_same c.args.net (other c.args.form) (c.args.h - 1) (2 ^ c.args.h) size (from (2 ^ c.args.h) bit) (to_upper bit item) c.first_column.new.upper
-    (c.in_ok-first_column.ensures.upper ∙ ap (λ n. places n (to_upper bit item)) long) in
-    let column = rw long at c.in_ok-first_column.ensures.gives in
-    let upper = rw (c.other-inner.ensures, c.bits_from.ensures, c.long_power-n.ensures.is, up.values) at c.in_err-route_level.ensures.gives in
+    let up = does_same net c.other-inner.result (other c.args.form) (c.args.h - 1) _ (2 ^ c.args.h) (bit_at c.bits_from-bits.result.now) (from (2 ^ c.args.h) bit)
+    (to_upper bit item) c.first_column.new.upper c.other-inner.ensures long size (c.bits_from-bits.ensures ∙ ap (λ n. from n bit) n_is)
+    c.in_ok-first_column.ensures.upper in
+    let column = all_as (ap (λ n. column_values c.args.form n bit item) long) c.in_ok-first_column.ensures.gives in
+    let upper = some_as up.values c.in_err-route_level.ensures.gives in
     gives_refused _ _ _ _ _ c.from_residual-in_err-route_level.ensures.1
     (upper_refused g.V.Values.giving c.args.net c.args.form c.args.h (c.args.h - 1) bit item below.level _ _ column _ _ upper)
 
@@ -71,16 +76,20 @@ returns-in_err-route_level-2-clause-gives g t c =
     let below = above c.args.net c.args.h c.if-h-eq0.false in
     let bit : ℕ → Bool = bit_at c.args.bits.now in
     let item = pair_at c.args.items.now in
-    let long : length c.split_at_mut-upper.result.0.now ≡ 2 ^ c.args.h = c.split_at_mut-upper.ensures.front_len ∙ c.long_power-n.ensures.is in
+    let net = c.args.net in
+    let n_is = c.long_power-n.ensures.is in
+    let s_is = c.level_switches-s.ensures.is in
+    let long = c.split_at_mut-upper.ensures.front_len ∙ n_is in
     let size = ap (λ j. 2 ^ j) below.level in
-    let up = does_same c.args.net (other c.args.form) (c.args.h - 1) (2 ^ c.args.h) size (from (2 ^ c.args.h) bit) (to_upper bit item) c.first_column.new.upper
-    (c.in_ok-first_column.ensures.upper ∙ ap (λ n. places n (to_upper bit item)) long) in
-    let low = does_same c.args.net (other c.args.form) (c.args.h - 1) (2 ^ c.args.h) size (from (2 ^ c.args.h + switches c.args.net (c.args.h - 1)) bit)
-    (to_lower bit item) c.first_column.new.lower (c.in_ok-first_column.ensures.lower ∙ ap (λ n. places n (to_lower bit item)) long) in
-    let column = rw long at c.in_ok-first_column.ensures.gives in
-    let upper = rw (c.other-inner.ensures, c.bits_from.ensures, c.long_power-n.ensures.is, up.values) at c.in_ok-route_level.ensures.gives in
-    let lower = rw (c.other-inner.ensures, c.bits_from-2.ensures, c.long_power-n.ensures.is, c.level_switches-s.ensures.is, low.values)
-    at c.in_err-route_level-2.ensures.gives in
+    let up = does_same net c.other-inner.result (other c.args.form) (c.args.h - 1) _ (2 ^ c.args.h) (bit_at c.bits_from-bits.result.now) (from (2 ^ c.args.h) bit)
+    (to_upper bit item) c.first_column.new.upper c.other-inner.ensures long size (c.bits_from-bits.ensures ∙ ap (λ n. from n bit) n_is)
+    c.in_ok-first_column.ensures.upper in
+    let low = does_same net c.other-inner.result (other c.args.form) (c.args.h - 1) _ (2 ^ c.args.h) (bit_at c.bits_from-bits-2.result.now)
+    (from (2 ^ c.args.h + switches net (c.args.h - 1)) bit) (to_lower bit item) c.first_column.new.lower c.other-inner.ensures long size
+    (second_bits bit n_is s_is c.bits_from-bits.ensures c.bits_from-bits-2.ensures) c.in_ok-first_column.ensures.lower in
+    let column = all_as (ap (λ n. column_values c.args.form n bit item) long) c.in_ok-first_column.ensures.gives in
+    let upper = all_as up.values c.in_ok-route_level.ensures.gives in
+    let lower = some_as low.values c.in_err-route_level-2.ensures.gives in
     gives_refused _ _ _ _ _ c.from_residual-in_err-route_level-2.ensures.1
     (lower_refused g.V.Values.giving c.args.net c.args.form c.args.h (c.args.h - 1) bit item below.level _ _ column _ upper _ _ lower)
 
@@ -90,26 +99,26 @@ returns-clause-gives g t c =
     let below = above c.args.net c.args.h c.if-h-eq0.false in
     let bit : ℕ → Bool = bit_at c.args.bits.now in
     let item = pair_at c.args.items.now in
-    let long : length c.split_at_mut-upper.result.0.now ≡ 2 ^ c.args.h = c.split_at_mut-upper.ensures.front_len ∙ c.long_power-n.ensures.is in
+    let net = c.args.net in
+    let n_is = c.long_power-n.ensures.is in
+    let s_is = c.level_switches-s.ensures.is in
+    let long = c.split_at_mut-upper.ensures.front_len ∙ n_is in
     let size = ap (λ j. 2 ^ j) below.level in
-    let up = does_same c.args.net (other c.args.form) (c.args.h - 1) (2 ^ c.args.h) size (from (2 ^ c.args.h) bit) (to_upper bit item) c.first_column.new.upper
-    (c.in_ok-first_column.ensures.upper ∙ ap (λ n. places n (to_upper bit item)) long) in
-    let low = does_same c.args.net (other c.args.form) (c.args.h - 1) (2 ^ c.args.h) size (from (2 ^ c.args.h + switches c.args.net (c.args.h - 1)) bit)
-    (to_lower bit item) c.first_column.new.lower (c.in_ok-first_column.ensures.lower ∙ ap (λ n. places n (to_lower bit item)) long) in
-    let column = rw long at c.in_ok-first_column.ensures.gives in
-    let upper = rw (c.other-inner.ensures, c.bits_from.ensures, c.long_power-n.ensures.is, up.values) at c.in_ok-route_level.ensures.gives in
-    let lower = rw (c.other-inner.ensures, c.bits_from-2.ensures, c.long_power-n.ensures.is, c.level_switches-s.ensures.is, low.values)
-    at c.in_ok-route_level-2.ensures.gives in
-    let to_u = up.moved c.route_level.new.items (rw (c.bits_from.ensures, c.long_power-n.ensures.is) at c.in_ok-route_level.ensures.moved) in
-    let to_l = low.moved c.route_level-2.new.items
-    (rw (c.bits_from-2.ensures, c.long_power-n.ensures.is, c.level_switches-s.ensures.is) at c.in_ok-route_level-2.ensures.moved) in
-    let last = rw (
-      c.bits_from-3.ensures,
-      c.long_power-n.ensures.is,
-      c.level_switches-s.ensures.is,
-      moved_values c.args.net c.args.form c.args.h (c.args.h - 1)
-          below.level bit item c.route_level.new.items c.route_level-2.new.items to_u to_l,
-    ) at c.last_column.ensures.gives in
+    let up = does_same net c.other-inner.result (other c.args.form) (c.args.h - 1) _ (2 ^ c.args.h) (bit_at c.bits_from-bits.result.now) (from (2 ^ c.args.h) bit)
+    (to_upper bit item) c.first_column.new.upper c.other-inner.ensures long size (c.bits_from-bits.ensures ∙ ap (λ n. from n bit) n_is)
+    c.in_ok-first_column.ensures.upper in
+    let low = does_same net c.other-inner.result (other c.args.form) (c.args.h - 1) _ (2 ^ c.args.h) (bit_at c.bits_from-bits-2.result.now)
+    (from (2 ^ c.args.h + switches net (c.args.h - 1)) bit) (to_lower bit item) c.first_column.new.lower c.other-inner.ensures long size
+    (second_bits bit n_is s_is c.bits_from-bits.ensures c.bits_from-bits-2.ensures) c.in_ok-first_column.ensures.lower in
+    let column = all_as (ap (λ n. column_values c.args.form n bit item) long) c.in_ok-first_column.ensures.gives in
+    let upper = all_as up.values c.in_ok-route_level.ensures.gives in
+    let lower = all_as low.values c.in_ok-route_level-2.ensures.gives in
+    let to_u = up.moved c.route_level.new.items c.in_ok-route_level.ensures.moved in
+    let to_l = low.moved c.route_level-2.new.items c.in_ok-route_level-2.ensures.moved in
+    let same = third_bits bit n_is s_is c.bits_from-bits.ensures c.bits_from-bits-2.ensures c.bits_from.ensures in
+    let last = subst (λ (l : List ℕ). GivesIn g.V.Values.giving c.route_level-2.new.v c.last_column.new.v l c.last_column.result)
+    (moved_values net c.args.form c.args.h (c.args.h - 1) below.level bit item c.route_level.new.items c.route_level-2.new.items to_u to_l
+    (bit_at c.bits_from.result.now) same) c.last_column.ensures.gives in
     level_given g.V.Values.giving c.args.net c.args.form c.args.h (c.args.h - 1) bit item below.level _ _ column _ upper _ _ c.last_column.result lower last
 
 pub returns-clause-moved : goal.returns-clause-moved
@@ -117,15 +126,20 @@ returns-clause-moved g t c =
     let below = above c.args.net c.args.h c.if-h-eq0.false in
     let bit : ℕ → Bool = bit_at c.args.bits.now in
     let item = pair_at c.args.items.now in
-    let long : length c.split_at_mut-upper.result.0.now ≡ 2 ^ c.args.h = c.split_at_mut-upper.ensures.front_len ∙ c.long_power-n.ensures.is in
+    let net = c.args.net in
+    let n_is = c.long_power-n.ensures.is in
+    let s_is = c.level_switches-s.ensures.is in
+    let long = c.split_at_mut-upper.ensures.front_len ∙ n_is in
     let size = ap (λ j. 2 ^ j) below.level in
-    let up = does_same c.args.net (other c.args.form) (c.args.h - 1) (2 ^ c.args.h) size (from (2 ^ c.args.h) bit) (to_upper bit item) c.first_column.new.upper
-    (c.in_ok-first_column.ensures.upper ∙ ap (λ n. places n (to_upper bit item)) long) in
-    let low = does_same c.args.net (other c.args.form) (c.args.h - 1) (2 ^ c.args.h) size (from (2 ^ c.args.h + switches c.args.net (c.args.h - 1)) bit)
-    (to_lower bit item) c.first_column.new.lower (c.in_ok-first_column.ensures.lower ∙ ap (λ n. places n (to_lower bit item)) long) in
-    let to_u = up.moved c.route_level.new.items (rw (c.bits_from.ensures, c.long_power-n.ensures.is) at c.in_ok-route_level.ensures.moved) in
-    let to_l = low.moved c.route_level-2.new.items
-    (rw (c.bits_from-2.ensures, c.long_power-n.ensures.is, c.level_switches-s.ensures.is) at c.in_ok-route_level-2.ensures.moved) in
-    let last = moved_items c.args.net c.args.form c.args.h (c.args.h - 1) below.level bit item c.route_level.new.items c.route_level-2.new.items to_u to_l in
-    let joined = rw (c.bits_from-3.ensures, c.long_power-n.ensures.is, c.level_switches-s.ensures.is) at c.last_column.ensures.joined in
-    on_ok_weaker c.last_column.result (λ joined. joined ∙ last) joined
+    let up = does_same net c.other-inner.result (other c.args.form) (c.args.h - 1) _ (2 ^ c.args.h) (bit_at c.bits_from-bits.result.now) (from (2 ^ c.args.h) bit)
+    (to_upper bit item) c.first_column.new.upper c.other-inner.ensures long size (c.bits_from-bits.ensures ∙ ap (λ n. from n bit) n_is)
+    c.in_ok-first_column.ensures.upper in
+    let low = does_same net c.other-inner.result (other c.args.form) (c.args.h - 1) _ (2 ^ c.args.h) (bit_at c.bits_from-bits-2.result.now)
+    (from (2 ^ c.args.h + switches net (c.args.h - 1)) bit) (to_lower bit item) c.first_column.new.lower c.other-inner.ensures long size
+    (second_bits bit n_is s_is c.bits_from-bits.ensures c.bits_from-bits-2.ensures) c.in_ok-first_column.ensures.lower in
+    let to_u = up.moved c.route_level.new.items c.in_ok-route_level.ensures.moved in
+    let to_l = low.moved c.route_level-2.new.items c.in_ok-route_level-2.ensures.moved in
+    let same = third_bits bit n_is s_is c.bits_from-bits.ensures c.bits_from-bits-2.ensures c.bits_from.ensures in
+    let last = moved_items net c.args.form c.args.h (c.args.h - 1) below.level bit item c.route_level.new.items c.route_level-2.new.items to_u to_l
+    (bit_at c.bits_from.result.now) same in
+    on_ok_weaker c.last_column.result (λ joined. joined ∙ last) c.last_column.ensures.joined
