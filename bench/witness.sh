@@ -25,7 +25,7 @@ split() {
         $3 ~ /^tv_(bits|limb|cmp|logic|shift|muldiv|decode|regs|block|numbers)::/ { part = "steps" }
         $3 ~ /^tv_(benes|waksman)::/ { part = "network" }
         $3 ~ /^tv_(argument::values|lines|scan)|fill_prefix/ { part = "lines" }
-        $3 ~ /^(tv_top|tv_wtns|tv_container|tinyr1cs)::|write/ { part = "writing" }
+        $3 ~ /^(tv_plan|tv_top|tv_wtns|tv_container|tinyr1cs)::|write/ { part = "writing" }
         $2 == "[k]" { part = "system" }
         { shares[part] += $1 }
         END {

@@ -1,8 +1,8 @@
 -- What the program says on standard error.
 use Rattle.std.specs.Prelude.{ℕ, ◌/◌, ◌%◌, cond, List, [], ◌∷◌, ◌++◌, flat_map, encode_utf8, Option, Some, None, unwrap_or, slice_get, codes}
 use Rattle.std.specs.Char.{is_ascii_control, digit_char}
-use Rattle.tv_top.specs.declared.status.Status.{Status}
-use Rattle.tv_top.specs.declared.status.Status.TheVariants.{FileFault, Memory}
+use Rattle.tv_plan.specs.declared.status.Status.{Status}
+use Rattle.tv_plan.specs.declared.status.Status.TheVariants.{FileFault, Memory}
 use Rattle.tinyr1cs.specs.declared.complaint.Complaint.{Complaint}
 use Rattle.tinyr1cs.specs.declared.complaint.Complaint.TheVariants as complaint
 

@@ -7,7 +7,7 @@
 
 ghost use Rattle.std.specs.Prelude.{◌≡◌};
 ghost use Rattle.std.specs.Process.{exit_status};
-ghost use Rattle.tv_top.specs.Status.{code_of};
+ghost use Rattle.tv_plan.specs.Status.{code_of};
 
 mod complaint;
 mod escaped;

@@ -2,8 +2,8 @@
 use Rattle.std.specs.Prelude.{◌≡◌, ℕ, [], drop, length}
 use Rattle.tv_files.specs.MemFiles.{said_of}
 use Rattle.tv_top.specs.Commands.{Commands}
-use Rattle.tv_top.specs.Status.{code_of}
-use Rattle.tv_top.specs.declared.status.Status.{Status}
+use Rattle.tv_plan.specs.Status.{code_of}
+use Rattle.tv_plan.specs.declared.status.Status.{Status}
 use Rattle.tinyr1cs_c.specs.declared.session.Session.{Session}
 use Rattle.tinyr1cs_c.specs.Session.{outside, words, line}
 

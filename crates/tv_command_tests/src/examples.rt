@@ -4,11 +4,11 @@
 ghost use Rattle.std.specs.Prelude.{◌≡◌, [], ◌∷◌, codes, Some, None};
 ghost use Rattle.tv_benes.specs.declared.shape.Net.TheVariants.{Benes, Waksman};
 ghost use Rattle.tv_top.specs.Build.{net_word};
-ghost use Rattle.tv_top.specs.Disasm.{width_word};
-ghost use Rattle.tv_top.specs.Plan.{name_at, refusal_of};
+ghost use Rattle.tv_plan.specs.Disasm.{width_word};
+ghost use Rattle.tv_plan.specs.Plan.{name_at, refusal_of};
 ghost use Rattle.tv_top.specs.Shrink.{shrink_plan};
-ghost use Rattle.tv_top.specs.declared.programs.Width.TheVariants.{Bits16, Bits32};
-ghost use Rattle.tv_top.specs.declared.refusal.Refusal.TheVariants.{SameName};
+ghost use Rattle.tv_plan.specs.declared.programs.Width.TheVariants.{Bits16, Bits32};
+ghost use Rattle.tv_plan.specs.declared.refusal.Refusal.TheVariants.{SameName};
 
 /// No further word means Benes' network, `waksman` Waksman's, and another word none.
 pub fn a_word_names_the_network()

@@ -21,7 +21,7 @@ use Rattle.tv_layout.specs.Places.{tape_at, runs_of}
 use Rattle.tv_layout.specs.Systems.{system_of}
 use Rattle.tv_extract.specs.Extraction.{◌>>=◌, word_at, words_at, answering, run_in}
 use Rattle.tv_extract.specs.Runs.{IsRunOf, ExtractedIsRun, SatisfyingHaveRuns}
-use Rattle.tv_extract.specs.declared.run.NotRun.{NotRun}
+use Rattle.tv_step.specs.declared.not_run.NotRun.{NotRun}
 use Rattle.tv_extract.specs.declared.run.Run.{Run}
 
 -- ---- chains of answers

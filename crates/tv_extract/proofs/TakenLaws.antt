@@ -11,7 +11,7 @@ use Rattle.tv_layout.specs.Layout.{block_at, taken_wire, taken_wires}
 use Rattle.tv_layout.specs.Places.{boot_count, zero_wires_at, first_at, runs_of}
 use Rattle.tv_extract.proofs.WordLaws.{words_then, words_refused}
 use Rattle.tv_extract.specs.Extraction.{word_at, words_at}
-use Rattle.tv_extract.specs.declared.run.NotRun.{NotRun}
+use Rattle.tv_step.specs.declared.not_run.NotRun.{NotRun}
 
 -- joined lists up to n begin with those up to i
 data Begins (f : ℕ → List ℕ) (i n : ℕ) : Type 0 where

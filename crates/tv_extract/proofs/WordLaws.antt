@@ -3,7 +3,7 @@ use Rattle.std.proofs.Common.{◌≡◌, ℕ, suc, ◌+◌, ◌-◌, ◌<◌, Li
 use Rattle.std.specs.List.{range_with_len}
 use Rattle.tv_core.proofs.BelowLaws.{range-more, range-append}
 use Rattle.tv_extract.specs.Extraction.{word_at, words_at}
-use Rattle.tv_extract.specs.declared.run.NotRun.{NotRun}
+use Rattle.tv_step.specs.declared.not_run.NotRun.{NotRun}
 
 -- what is known of the rest of a list
 abbrev Then : ℕ → List ℕ → List ℕ → List ℕ → List ℕ → Type 0

@@ -11,8 +11,8 @@ use Rattle.tv_layout.specs.Places.{tape_at, ProgramRuns}
 use Rattle.tv_layout.specs.Systems.{system_of}
 use Rattle.tv_extract.specs.declared.run.ExtractFault.{ExtractFault}
 use Rattle.tv_extract.specs.declared.run.ExtractFault.TheVariants.{NoRun, Memory}
-use Rattle.tv_extract.specs.declared.run.NotRun.{NotRun}
-use Rattle.tv_extract.specs.declared.run.NotRun.TheVariants.{WireCount, WideWire, NotARun}
+use Rattle.tv_step.specs.declared.not_run.NotRun.{NotRun}
+use Rattle.tv_step.specs.declared.not_run.NotRun.TheVariants.{WireCount, WideWire, NotARun}
 use Rattle.tv_extract.specs.declared.run.Run.{Run}
 
 infixl 10 ◌>>=◌

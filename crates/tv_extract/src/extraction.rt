@@ -8,12 +8,12 @@ ghost use Rattle.tv_layout.specs.Places.{WithinLimits, tape_at, runs_of};
 ghost use Rattle.tv_word.specs.Widths.{IsWidth};
 ghost use Rattle.tv_extract.specs.Extraction.{word_at, words_at, run_in, answering, IsFaultOf};
 
-use crate::run::{ExtractFault, NotRun, Run};
+use crate::run::{ExtractFault, Run};
 use std::alloc::Global;
 use tv_benes::Net;
 use tv_core::{F, Wire};
 use tv_layout::{ANSWER, spot, tape_wire, wires};
-use tv_step::{End, Machine};
+use tv_step::{End, Machine, NotRun};
 use tv_word::Words;
 
 /// Returns the run that an assignment has of the system of an image, a tape of `n` words and `t`

@@ -10,4 +10,5 @@ mod run;
 
 pub use extraction::extract;
 pub use laws::{extracted_are_runs, satisfying_have_runs};
-pub use run::{ExtractFault, NotRun, Run};
+pub use run::{ExtractFault, Run};
+pub use tv_step::NotRun;

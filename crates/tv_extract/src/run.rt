@@ -1,10 +1,10 @@
-//! Runs that answer, and why an assignment has none.
+//! Runs that answer, and why none was extracted.
 ghost use Rattle.std.specs.Prelude.{◌≡◌};
 ghost use Rattle.tv_extract.specs.declared.run.ExtractFault.TheVariants.{NoRun, Memory};
 
 use std::alloc::AllocError;
 use thiserror::Error;
-use tv_step::End;
+use tv_step::NotRun;
 use tv_word::Words;
 
 /// A run of the machine that answers.
@@ -19,20 +19,6 @@ pub struct Run {
     pub aux: Words,
     /// The step that answers, counted from 1.
     pub step: u64,
-}
-
-/// Why an assignment has no run.
-#[derive(Clone, Copy, PartialEq, Eq, Debug, Error)]
-pub enum NotRun {
-    /// It has `has` values, where the system has `wants` wires.
-    #[error("{has} wires, {wants} wanted")]
-    WireCount { has: u64, wants: u64 },
-    /// The number at this wire, which is public or that of a word taken, is no word.
-    #[error("wire {at} is wide")]
-    WideWire { at: u64 },
-    /// The run on its tapes doesn't answer the word at wire 1; this is how it ends.
-    #[error("no run")]
-    NotARun { end: End },
 }
 
 /// Why no run was extracted.

@@ -14,7 +14,8 @@ use Rattle.tv_shrink.specs.declared.shrinker.TheConstants.{MOST_TERMS}
 use Rattle.tv_core.specs.declared.lines.Counts.{Counts}
 use Rattle.tv_core.specs.Normal.{normal, normal_constraint}
 use Rattle.tv_shrink.specs.Tidy.{RowsAreNormal, AreWithin}
-use Rattle.tv_shrink.specs.Shrunk.{Shrunken, shrink}
+use Rattle.tv_r1cs_write.specs.Shrunken.{Shrunken}
+use Rattle.tv_shrink.specs.Shrunk.{shrink}
 use Rattle.tv_word.specs.Counts.{Rose}
 
 -- a refusal of reading, as one of shrinking

@@ -10,3 +10,4 @@ pub mod Shrunk
 pub mod Spans
 pub mod Tidy
 pub mod Output
+pub use Rattle.tv_r1cs_write.specs.Shrunken

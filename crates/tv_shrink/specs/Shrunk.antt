@@ -3,13 +3,8 @@ use Rattle.std.specs.Prelude.{ℕ, ◌==◌, not, Bool, false, List, map, length
 use Rattle.std.specs.List.{filter, filter_map, position_or_len, range_with_len}
 use Rattle.std.specs.Option.{option_map}
 use Rattle.tv_core.specs.Constraints.{Combination, Constraint, System}
+use Rattle.tv_r1cs_write.specs.Shrunken.{Shrunken}
 use Rattle.tv_shrink.specs.Pass.{passed}
-
--- a shrunk system: each wire's label is the number that it had in the old one, which had this many wires
-pub record Shrunken : Type 0 where
-  pub system : System
-  pub labels : List ℕ
-  pub wires : ℕ
 
 -- the wires that are not gone, in order
 unfoldable pub kept : ℕ → List Bool → List ℕ

@@ -33,7 +33,7 @@ impl Model for Shrunk {
     ghost use Rattle.std.specs.List.{filter_map};
     ghost use Rattle.std.specs.List.Sorted.{IsStrictlyIncreasing};
     ghost use Rattle.tv_r1cs_write.specs.Bytes.{others};
-    ghost use Rattle.tv_shrink.specs.Shrunk.{Shrunken};
+    ghost use Rattle.tv_r1cs_write.specs.Shrunken.{Shrunken};
     ghost use Rattle.tv_shrink.specs.Tidy.{AreWithin};
 
     ghost Value = { Shrunken };

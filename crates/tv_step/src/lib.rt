@@ -9,6 +9,7 @@ mod image;
 mod laws;
 mod lines;
 mod machine;
+mod not_run;
 mod op;
 mod pc;
 mod recorder;
@@ -22,6 +23,7 @@ pub use laws::{
     steps_follow, tapes_are_taken_in_order, traces_are_by_place,
 };
 pub use lines::{Lines, States, Trace, TraceState};
+pub use not_run::NotRun;
 pub use run_trace::{TraceFault, trace};
 pub use state::Machine;
 pub use tv_core::Line;

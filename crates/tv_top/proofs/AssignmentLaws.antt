@@ -8,21 +8,22 @@ use Rattle.tv_extract.proofs.ExtractLaws.{extracted_is_run, run_miscounted, sati
 use Rattle.tv_extract.specs.Extraction.{run_in, IsFaultOf}
 use Rattle.tv_extract.specs.declared.run.ExtractFault.{ExtractFault}
 use Rattle.tv_extract.specs.declared.run.ExtractFault.TheVariants as faults
-use Rattle.tv_extract.specs.declared.run.NotRun.{NotRun}
-use Rattle.tv_extract.specs.declared.run.NotRun.TheVariants.{WireCount}
+use Rattle.tv_step.specs.declared.not_run.NotRun.{NotRun}
+use Rattle.tv_step.specs.declared.not_run.NotRun.TheVariants.{WireCount}
 use Rattle.tv_extract.specs.declared.run.Run.{Run}
 use Rattle.tv_wtns.specs.Wtns.{Firsts, firsts_of, assignment_of}
-use Rattle.tv_top.proofs.Common.{Names, Outside, Bad, Finish, Stop, Memory, Holds, Then, Completes, Named, name_at, Look, Outcome, ◌>>=◌, outcome_by, held_at}
-use Rattle.tv_top.proofs.Common.{input, look_on, map_ok, settled, Program, bits, program_in}
+use Rattle.tv_plan.proofs.Common.{Names, Outside, Bad, Finish, Stop, Memory, Holds, Then, Completes, Named, name_at, Look, Outcome, ◌>>=◌, outcome_by, held_at}
+use Rattle.tv_plan.proofs.Common.{input, look_on, map_ok, settled, Program, bits, program_in}
 use Rattle.tv_layout.specs.Places.{WithinLimits}
-use Rattle.tv_top.specs.declared.refusal.Finish.TheVariants.{NotARun}
+use Rattle.tv_plan.specs.declared.refusal.Finish.TheVariants.{NotARun}
 use Rattle.tv_top.specs.Build.{program_system, program_runs}
-use Rattle.tv_top.specs.Containers.{firsts_in_witness, witness_bad, witness_in}
+use Rattle.tv_plan.specs.Containers.{firsts_in_witness, witness_bad, witness_in}
 use Rattle.tv_top.specs.Assignment.{Assigned, Kept, assigned_by, assigned_of, assigned_run, kept_of, kept_run, not_run, run_ends, HasAssigned}
-use Rattle.tv_top.proofs.AnswerLaws.{completes_nothing}
-use Rattle.tv_top.proofs.ContainerReads.{part_held}
-use Rattle.tv_top.proofs.ClaimLaws.{IsHeld, if_ok, shows_input, shows_then, shows_made, shows_more}
-use Rattle.tv_top.proofs.ProgramLaws.{has_image, within_limits}
+use Rattle.tv_plan.proofs.AnswerLaws.{completes_nothing}
+use Rattle.tv_plan.proofs.ContainerReads.{part_held}
+use Rattle.tv_plan.proofs.ClaimLaws.{IsHeld, if_ok, shows_input, shows_then, shows_made, shows_more}
+use Rattle.tv_plan.proofs.ProgramLaws.{has_image}
+use Rattle.tv_top.proofs.SystemLimits.{within_limits}
 
 -- it ends as a run does, or says that there is none
 pub ends_in : (kind : Finish → Bool) (run : Run → Outcome) → ((one : Run) → kind (run one).finish ≡ true) → ((why : NotRun) → kind (NotARun why) ≡ true)

@@ -6,14 +6,14 @@ use Rattle.tv_container.specs.Reading.{Known, IsMissing}
 use Rattle.tv_core.specs.Constraints.{System}
 use Rattle.tv_shrink.specs.Answers.{most, all_terms, FaultMeans, Halted, HaltsBy}
 use Rattle.tv_shrink.specs.Answers as shrinking
-use Rattle.tv_shrink.specs.Shrunk.{Shrunken}
+use Rattle.tv_r1cs_write.specs.Shrunken.{Shrunken}
 use Rattle.tv_shrink.specs.declared.fault.ShrinkFault.{ShrinkFault}
 use Rattle.tv_shrink.specs.declared.fault.ShrinkFault.TheVariants as fault
-use Rattle.tv_top.specs.Containers.{system_in}
+use Rattle.tv_plan.specs.Containers.{system_in}
 use Rattle.tv_top.specs.Shrink.{shrink_sizes, shrink_stop, shrunk_of, shrunk_look}
-use Rattle.tv_top.proofs.Common.{Outside, Rose, Bad, Stop, IsFound, Finds, Spares, Named, Look, ◌>>=◌, look_on, held_at, input, made_of, settled}
-use Rattle.tv_top.proofs.ContainerReads.{StopsBy, came, finds_file}
-use Rattle.tv_top.specs.Finds.{reading}
+use Rattle.tv_plan.proofs.Common.{Outside, Rose, Bad, Stop, IsFound, Finds, Spares, Named, Look, ◌>>=◌, look_on, held_at, input, made_of, settled}
+use Rattle.tv_plan.proofs.ContainerReads.{StopsBy, came, finds_file}
+use Rattle.tv_plan.specs.Finds.{reading}
 
 shrink_stops : (word : ℕ) (why : ShrinkFault) → StopsBy word shrink_sizes (why ≡ fault.Fault) (shrink_stop word why)
 shrink_stops word (fault.Terms has) = inl refl

@@ -1,5 +1,5 @@
 -- `trial`: what it promises.
-use Rattle.std.proofs.Common.{◌≡◌, ℕ, ◌+◌, ◌*◌, ◌≤◌, true, List, [], ◌∷◌, length, All, if◌then◌else◌, count_by, Ok, inl, inr, refl, ap, ◌∙◌, arith}
+use Rattle.std.proofs.Common.{◌≡◌, ℕ, codes, ◌+◌, ◌*◌, ◌≤◌, true, List, [], ◌∷◌, length, All, if◌then◌else◌, count_by, Ok, inl, inr, refl, ap, ◌∙◌, arith}
 use Rattle.std.proofs.lemmas.Bool.{eq-eqb}
 use Rattle.std.proofs.lemmas.List.Elements.{All-head, All-tail}
 use Rattle.std.proofs.lemmas.List.Sums.{sum_by-cons}
@@ -9,15 +9,14 @@ use Rattle.tv_core.specs.Meanings.{holds, product_in}
 use Rattle.tv_core.specs.declared.limits.TheConstants.{DRAWS}
 use Rattle.tv_draw.proofs.RunLaws.{drawn_is}
 use Rattle.tv_draw.specs.Program.{image_drawn, tape_drawn, aux_drawn, IsDrawn}
-use Rattle.tv_top.proofs.Common.{Call, Answers, IsStopped, request_of}
+use Rattle.tv_plan.proofs.Common.{Call, Answers, IsStopped, request_of}
 use Rattle.tv_layout.proofs.Systems.{system_complete}
 use Rattle.tv_layout.specs.Places.{WithinLimits, runs_like}
 use Rattle.tv_step.specs.Machine.{Accepts}
 use Rattle.tv_step.specs.Range.{AreWords}
-use Rattle.tv_top.specs.declared.status.Status.TheVariants.{FileFault}
-use Rattle.tv_top.specs.Form.{form}
-use Rattle.tv_top.specs.Trial.{trial_of, trial_plan, IsTrial, Tries, OnTrial, drawn_run}
-use Rattle.tv_top.proofs.ClaimLaws.{due_or_stopped, granted}
+use Rattle.tv_plan.specs.declared.status.Status.TheVariants.{FileFault}
+use Rattle.tv_top.specs.Trial.{trial_of, trial_form, trial_plan, IsTrial, Tries, OnTrial, drawn_run}
+use Rattle.tv_plan.proofs.ClaimLaws.{Form, FormOf, due_or_stopped, granted}
 
 all_hold : (z : List ℕ) (list : List Constraint) → All (λ constraint. Holds constraint z) list → count_by (holds z) list ≡ length list
 all_hold z [] each = refl
@@ -60,10 +59,10 @@ stopped words seed k call answers (inl fault) = elim (answers.caused fault.0 fau
 ]
 stopped words seed k call answers (inr memory) = inr (inr memory)
 
-pub trials : (words : List (List ℕ)) (count : ℕ) (call : Call) → Answers (request_of (form words)) count call.before call.after call.status
-    → OnTrial words count call
-trials words count call asked first second seed k are is_seed is_k some most files known =
-    let answers = granted (trial_plan seed k) words count call (rw (are, is_seed, is_k) refl) tt (omega arith, most, tt) asked in
+pub trials : (form : Form) → FormOf form (codes "trial") trial_form → (words : List (List ℕ)) (count : ℕ) (call : Call) →
+    Answers (request_of (form words)) count call.before call.after call.status → OnTrial words count call
+trials form named words count call asked first second seed k are is_seed is_k some most files known =
+    let answers = granted (trial_plan seed k) (form words) count call (rw (are, named (first ∷ second ∷ []), is_seed, is_k) refl) tt (omega arith, most, tt) asked in
     record {
       ended = elim (due_or_stopped (trial_plan seed k) count files call answers (answers.ends files known)) [
         | inl answered ↦ inl (answered.status, answered.said)

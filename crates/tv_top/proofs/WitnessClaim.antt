@@ -1,5 +1,5 @@
 -- `witness`: what it promises.
-use Rattle.std.proofs.Common.{◌≡◌, ◌≤◌, ℕ, true, List, [], ◌∷◌, length, Ok, refl, sym, arith}
+use Rattle.std.proofs.Common.{◌≡◌, ◌≤◌, ℕ, codes, true, List, [], ◌∷◌, length, Ok, refl, sym, arith}
 use Rattle.tv_benes.specs.declared.shape.Net.{Net}
 use Rattle.tv_core.specs.declared.limits.TheConstants.{STEPS}
 use Rattle.tv_layout.proofs.Systems.{system_complete}
@@ -9,18 +9,19 @@ use Rattle.tv_step.specs.RunTrace.{IsRefused}
 use Rattle.tv_step.specs.declared.end.End.{End}
 use Rattle.tv_step.specs.declared.end.End.TheVariants.{Answer, Silent}
 use Rattle.tv_step.specs.declared.run_trace.TraceFault.TheVariants as traces
-use Rattle.tv_top.proofs.Common.{Outside, Named, name_at, Completes, Inputs, bits}
-use Rattle.tv_top.proofs.AnswerLaws.{completes_nothing}
-use Rattle.tv_top.specs.declared.refusal.Finish.TheVariants.{Quiet, NoRun}
-use Rattle.tv_top.specs.Contents.{Content.{Values}}
+use Rattle.tv_plan.proofs.Common.{Outside, Named, name_at, Completes, Inputs, bits}
+use Rattle.tv_plan.proofs.AnswerLaws.{completes_nothing}
+use Rattle.tv_plan.specs.declared.refusal.Finish.TheVariants.{Quiet, NoRun}
+use Rattle.tv_plan.specs.Contents.{Content.{Values}}
 use Rattle.tv_fill.specs.Filled.{Filled, IsFilling}
-use Rattle.tv_top.specs.Kinds.{is_witness}
-use Rattle.tv_top.specs.Inputs.{inputs_of, AreInputs}
-use Rattle.tv_top.specs.Witness.{WitnessWords, program_values, witness_by, witness_ends, witness_plan, IsWitness, HasWitness, OnWitness}
-use Rattle.tv_top.proofs.ClaimLaws.{Promises, leads_to, if_ok, shows_more}
-use Rattle.tv_top.proofs.InputLaws.{inputs_shown}
-use Rattle.tv_top.proofs.ProgramLaws.{within_limits, inputs_are}
-use Rattle.tv_top.proofs.RunClaim.{accepted}
+use Rattle.tv_plan.specs.Kinds.{is_witness}
+use Rattle.tv_plan.specs.Inputs.{inputs_of, AreInputs}
+use Rattle.tv_top.specs.Witness.{WitnessWords, program_values, witness_by, witness_ends, witness_form, witness_plan, IsWitness, HasWitness, OnWitness}
+use Rattle.tv_plan.proofs.ClaimLaws.{Form, FormOf, Promises, leads_to, if_ok, shows_more}
+use Rattle.tv_plan.proofs.InputLaws.{inputs_shown}
+use Rattle.tv_plan.proofs.ProgramLaws.{inputs_are}
+use Rattle.tv_top.proofs.SystemLimits.{within_limits}
+use Rattle.tv_plan.proofs.RunClaim.{accepted}
 
 -- it says nothing, or that there is no run
 pub may_end : (net : Net) (t : ℕ) (inputs : Inputs) (end : End) → is_witness (witness_by net t inputs end).finish ≡ true
@@ -52,13 +53,13 @@ unfilled w net t inputs (Answer v step) places outside width is = let none = rw 
 unfilled w net t inputs end places outside width is = let none = rw width at is in
     rw (← none.0) (completes_nothing places (witness_by net t inputs end) (Ok (NoRun end)) outside refl)
 
-pub witnesses : Promises OnWitness
-witnesses words count call answers text tape aux number name last net t are is_net is first second third some most files known =
+pub witnesses : (form : Form) → FormOf form (codes "witness") witness_form → Promises form OnWitness
+witnesses form named words count call answers text tape aux number name last net t are is_net is first second third some most files known =
     let given : WitnessWords =
     record { net = net; text = name_at 1 text; tape = name_at 2 tape; aux = name_at 3 aux; t = t; witness = name_at 5 name } in
     leads_to (witness_plan given) (witness_ends net t) (inputs_of (name_at 1 text) (name_at 2 tape) (name_at 3 aux)) (HasWitness given files)
-    words count files call
-    (rw (are, is_net, is) refl) ((first, tt), ((second, tt), ((third, tt), (tt, tt)))) (omega arith, most, tt) refl known answers
+    (form words) count files call
+    (rw (are, named (text ∷ tape ∷ aux ∷ number ∷ name ∷ last), is_net, is) refl) ((first, tt), ((second, tt), ((third, tt), (tt, tt)))) (omega arith, most, tt) refl known answers
     (shows_more _ _ _ (inputs_shown text tape aux files) (λ held has. record {
       inputs = has;
       witness = if_ok held _ (λ inputs is v step end. witness_is net t inputs v (inputs_are text tape aux files inputs (rw is at has)) (omega arith) most

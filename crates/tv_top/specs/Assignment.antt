@@ -6,23 +6,23 @@ use Rattle.tv_extract.specs.Extraction.{run_in}
 use Rattle.tv_extract.specs.Runs.{IsRunOf, HasRunIn}
 use Rattle.tv_extract.specs.declared.run.ExtractFault.{ExtractFault}
 use Rattle.tv_extract.specs.declared.run.ExtractFault.TheVariants as faults
-use Rattle.tv_extract.specs.declared.run.NotRun.{NotRun}
-use Rattle.tv_extract.specs.declared.run.NotRun.TheVariants.{WireCount}
+use Rattle.tv_step.specs.declared.not_run.NotRun.{NotRun}
+use Rattle.tv_step.specs.declared.not_run.NotRun.TheVariants.{WireCount}
 use Rattle.tv_extract.specs.declared.run.Run.{Run}
 use Rattle.tv_files.specs.Outside.{Names}
 use Rattle.tv_wtns.specs.Wtns.{Firsts, firsts_in}
 use Rattle.tv_top.specs.declared.assignment.Assignment.{Assignment}
-use Rattle.tv_top.specs.declared.programs.Program.{Program}
-use Rattle.tv_top.specs.declared.refusal.Bad.{Bad}
-use Rattle.tv_top.specs.declared.refusal.Finish.{Finish}
-use Rattle.tv_top.specs.declared.refusal.Finish.TheVariants as finishes
-use Rattle.tv_top.specs.declared.refusal.Stop.{Stop}
-use Rattle.tv_top.specs.declared.refusal.Stop.TheVariants.{Memory}
+use Rattle.tv_plan.specs.declared.programs.Program.{Program}
+use Rattle.tv_plan.specs.declared.refusal.Bad.{Bad}
+use Rattle.tv_plan.specs.declared.refusal.Finish.{Finish}
+use Rattle.tv_plan.specs.declared.refusal.Finish.TheVariants as finishes
+use Rattle.tv_plan.specs.declared.refusal.Stop.{Stop}
+use Rattle.tv_plan.specs.declared.refusal.Stop.TheVariants.{Memory}
 use Rattle.tv_top.specs.Build.{program_system, program_runs}
-use Rattle.tv_top.specs.Claims.{Holds, Then}
-use Rattle.tv_top.specs.Containers.{firsts_in_witness, witness_in}
-use Rattle.tv_top.specs.Plan.{Named, Outcome, Look, ◌>>=◌, settled, input}
-use Rattle.tv_top.specs.Programs.{program_in}
+use Rattle.tv_plan.specs.Claims.{Holds, Then}
+use Rattle.tv_plan.specs.Containers.{firsts_in_witness, witness_in}
+use Rattle.tv_plan.specs.Plan.{Named, Outcome, Look, ◌>>=◌, settled, input}
+use Rattle.tv_plan.specs.Programs.{program_in}
 
 -- a program, and an assignment of its system
 pub record Assigned : Type 0 where

@@ -12,15 +12,15 @@ use Rattle.tv_layout.specs.Systems.{system_of}
 use Rattle.tv_layout.specs.Places.{ProgramRuns, runs_of}
 use Rattle.tv_word.specs.Numeral.{numeral}
 use Rattle.tv_top.specs.declared.build.BuildArgs.{BuildArgs}
-use Rattle.tv_top.specs.declared.programs.Program.{Program}
-use Rattle.tv_top.specs.declared.refusal.Bad.{Bad}
-use Rattle.tv_top.specs.declared.refusal.Finish.TheVariants.{Quiet}
-use Rattle.tv_top.specs.declared.refusal.What.TheVariants.{TapeWords, Steps}
-use Rattle.tv_top.specs.Claims.{Call, Holds, AnswersOrStops}
-use Rattle.tv_top.specs.Contents.{Content.{Constraints}}
-use Rattle.tv_top.specs.Kinds.{is_quiet}
-use Rattle.tv_top.specs.Plan.{Named, Amount, Plan, Outcome, name_at, named, input, outcome_by, with_three}
-use Rattle.tv_top.specs.Programs.{bits, program_in, program_sizes}
+use Rattle.tv_plan.specs.declared.programs.Program.{Program}
+use Rattle.tv_plan.specs.declared.refusal.Bad.{Bad}
+use Rattle.tv_plan.specs.declared.refusal.Finish.TheVariants.{Quiet}
+use Rattle.tv_plan.specs.declared.refusal.What.TheVariants.{TapeWords, Steps}
+use Rattle.tv_plan.specs.Claims.{Call, Holds, AnswersOrStops}
+use Rattle.tv_plan.specs.Contents.{Content.{Constraints}}
+use Rattle.tv_plan.specs.Kinds.{is_quiet}
+use Rattle.tv_plan.specs.Plan.{Named, Amount, Plan, Outcome, name_at, named, input, outcome_by, with_three}
+use Rattle.tv_plan.specs.Programs.{bits, program_in, program_sizes}
 
 -- the network that the word after those of the command names: none is Benes' one, and `waksman` is Waksman's
 abbrev pub net_word : List (List ℕ) → Option Net

@@ -1,16 +1,16 @@
 -- What `command` promises.
 use Rattle.std.specs.Prelude.{ℕ, List}
-use Rattle.tv_top.specs.Answers.{Answers}
-use Rattle.tv_top.specs.Asm.{OnAsm}
+use Rattle.tv_plan.specs.Answers.{Answers}
+use Rattle.tv_plan.specs.Asm.{OnAsm}
 use Rattle.tv_top.specs.Build.{OnBuild}
-use Rattle.tv_top.specs.Check.{OnCheck}
-use Rattle.tv_top.specs.Claims.{Call}
-use Rattle.tv_top.specs.Disasm.{OnDisasm}
+use Rattle.tv_plan.specs.Check.{OnCheck}
+use Rattle.tv_plan.specs.Claims.{Call}
+use Rattle.tv_plan.specs.Disasm.{OnDisasm}
 use Rattle.tv_top.specs.Extract.{OnExtract}
 use Rattle.tv_top.specs.Form.{form}
 use Rattle.tv_top.specs.Listing.{OnListing}
-use Rattle.tv_top.specs.Plan.{request_of}
-use Rattle.tv_top.specs.Run.{OnRun}
+use Rattle.tv_plan.specs.Plan.{request_of}
+use Rattle.tv_plan.specs.Run.{OnRun}
 use Rattle.tv_top.specs.Shrink.{OnShrink}
 use Rattle.tv_top.specs.Trial.{OnTrial}
 use Rattle.tv_top.specs.Witness.{OnWitness}

@@ -1,14 +1,14 @@
 -- The forms of words.
 use Rattle.std.specs.Prelude.{ℕ, List, [], ◌∷◌, Option, None, codes, if◌then◌else◌}
 use Rattle.std.specs.Str.{bytes_eq}
-use Rattle.tv_top.specs.Asm.{asm_form}
+use Rattle.tv_plan.specs.Asm.{asm_form}
 use Rattle.tv_top.specs.Build.{build_form}
-use Rattle.tv_top.specs.Check.{check_form}
-use Rattle.tv_top.specs.Disasm.{disasm_form}
+use Rattle.tv_plan.specs.Check.{check_form}
+use Rattle.tv_plan.specs.Disasm.{disasm_form}
 use Rattle.tv_top.specs.Extract.{extract_form}
 use Rattle.tv_top.specs.Listing.{listing_form}
-use Rattle.tv_top.specs.Plan.{Plan}
-use Rattle.tv_top.specs.Run.{run_form}
+use Rattle.tv_plan.specs.Plan.{Plan}
+use Rattle.tv_plan.specs.Run.{run_form}
 use Rattle.tv_top.specs.Shrink.{shrink_form}
 use Rattle.tv_top.specs.Trial.{trial_form}
 use Rattle.tv_top.specs.Witness.{witness_form}

@@ -4,8 +4,8 @@ use Rattle.tv_core.specs.declared.combination.TheConstants.{TERMS}
 use Rattle.tv_core.specs.declared.limits.TheConstants.{STEPS, IMAGE_WORDS, IMAGE_WORDS_16, TAPE_WORDS, AUX_WORDS, CHECK_WORDS}
 use Rattle.tv_core.specs.declared.limits.TheConstants.{TEXT_BYTES, DRAWS, TIME_BITS, CELL_BITS, TAPE_CELLS, NULL_CELL}
 use Rattle.tv_shrink.specs.Answers.{most}
-use Rattle.tv_top.specs.declared.programs.Width.TheVariants.{Bits16, Bits32}
-use Rattle.tv_top.specs.Programs.{image_bytes_most}
+use Rattle.tv_plan.specs.declared.programs.Width.TheVariants.{Bits16, Bits32}
+use Rattle.tv_plan.specs.Programs.{image_bytes_most}
 
 -- of steps, images, tapes, texts and drawn instructions, and of the terms of what is shrunk
 pub record LimitsAre : Type 0 where

@@ -12,13 +12,13 @@ use Rattle.tv_listing.specs.declared.row.By.{By}
 use Rattle.tv_listing.specs.declared.row.By.TheVariants.{Time, Cell}
 use Rattle.tv_word.specs.Numeral.{numeral}
 use Rattle.tv_top.specs.declared.listing.ListingArgs.{ListingArgs}
-use Rattle.tv_top.specs.declared.refusal.Bad.{Bad}
+use Rattle.tv_plan.specs.declared.refusal.Bad.{Bad}
 use Rattle.tv_top.specs.Build.{program_system, size_amounts, program_runs}
-use Rattle.tv_top.specs.Claims.{Call, AnswersOrStops}
+use Rattle.tv_plan.specs.Claims.{Call, AnswersOrStops}
 use Rattle.tv_top.specs.Assignment.{Assigned, assigned_of, assigned_run, run_ends, HasAssigned}
-use Rattle.tv_top.specs.Kinds.{is_listing}
-use Rattle.tv_top.specs.Plan.{Named, Plan, Outcome, name_at, named, outcome_by, writes_bytes, with_three}
-use Rattle.tv_top.specs.Programs.{program_sizes}
+use Rattle.tv_plan.specs.Kinds.{is_listing}
+use Rattle.tv_plan.specs.Plan.{Named, Plan, Outcome, name_at, named, outcome_by, writes_bytes, with_three}
+use Rattle.tv_plan.specs.Programs.{program_sizes}
 
 -- the order that a word names
 abbrev pub by_word : List ℕ → Option By

@@ -4,22 +4,23 @@ use Rattle.std.specs.List.{range_with_len}
 use Rattle.tv_core.specs.Constraints.{System, Sat}
 use Rattle.tv_files.specs.Outside.{Names, WhereKnown}
 use Rattle.tv_shrink.specs.Answers.{most, all_terms, first_wide}
-use Rattle.tv_shrink.specs.Shrunk.{Shrunken, shrink, at_wires}
+use Rattle.tv_r1cs_write.specs.Shrunken.{Shrunken}
+use Rattle.tv_shrink.specs.Shrunk.{shrink, at_wires}
 use Rattle.tv_shrink.specs.declared.fault.ShrinkFault.{ShrinkFault}
 use Rattle.tv_shrink.specs.declared.fault.ShrinkFault.TheVariants as fault
-use Rattle.tv_top.specs.declared.refusal.Bad.{Bad}
-use Rattle.tv_top.specs.declared.refusal.Bad.TheVariants as bad
-use Rattle.tv_top.specs.declared.refusal.Finish.TheVariants.{Quiet}
-use Rattle.tv_top.specs.declared.refusal.What.{What}
-use Rattle.tv_top.specs.declared.refusal.What.TheVariants.{SystemTerms, CombinationTerms}
-use Rattle.tv_top.specs.declared.refusal.Stop.{Stop}
-use Rattle.tv_top.specs.declared.refusal.Stop.TheVariants as stop
+use Rattle.tv_plan.specs.declared.refusal.Bad.{Bad}
+use Rattle.tv_plan.specs.declared.refusal.Bad.TheVariants as bad
+use Rattle.tv_plan.specs.declared.refusal.Finish.TheVariants.{Quiet}
+use Rattle.tv_plan.specs.declared.refusal.What.{What}
+use Rattle.tv_plan.specs.declared.refusal.What.TheVariants.{SystemTerms, CombinationTerms}
+use Rattle.tv_plan.specs.declared.refusal.Stop.{Stop}
+use Rattle.tv_plan.specs.declared.refusal.Stop.TheVariants as stop
 use Rattle.tv_top.specs.declared.shrink.ShrinkArgs.{ShrinkArgs}
-use Rattle.tv_top.specs.Claims.{Call, Holds, Then, AnswersOrStops}
-use Rattle.tv_top.specs.Containers.{system_in}
-use Rattle.tv_top.specs.Contents.{Content.{Rest}}
-use Rattle.tv_top.specs.Kinds.{is_quiet}
-use Rattle.tv_top.specs.Plan.{Named, Plan, Outcome, Look, ◌>>=◌, named, settled, input, outcome_by, one_name, name_at}
+use Rattle.tv_plan.specs.Claims.{Call, Holds, Then, AnswersOrStops}
+use Rattle.tv_plan.specs.Containers.{system_in}
+use Rattle.tv_plan.specs.Contents.{Content.{Rest}}
+use Rattle.tv_plan.specs.Kinds.{is_quiet}
+use Rattle.tv_plan.specs.Plan.{Named, Plan, Outcome, Look, ◌>>=◌, named, settled, input, outcome_by, one_name, name_at}
 
 -- the limits of a system's terms, and of the terms of one combination
 abbrev pub terms_bad : ℕ → Bad

@@ -16,16 +16,16 @@ use Rattle.tv_step.specs.Machine.{start, end_of}
 use Rattle.tv_step.specs.declared.end.End.TheVariants.{Answer}
 use Rattle.tv_word.specs.Counts.{Rose}
 use Rattle.tv_word.specs.Numeral.{numeral}
-use Rattle.tv_top.specs.declared.refusal.Finish.TheVariants as finishes
-use Rattle.tv_top.specs.declared.refusal.What.TheVariants.{Draws}
-use Rattle.tv_top.specs.declared.refusal.Trial.{Trial}
-use Rattle.tv_top.specs.declared.status.Status.TheVariants.{Done, FileFault, Memory}
+use Rattle.tv_plan.specs.declared.refusal.Finish.TheVariants as finishes
+use Rattle.tv_plan.specs.declared.refusal.What.TheVariants.{Draws}
+use Rattle.tv_plan.specs.declared.refusal.Trial.{Trial}
+use Rattle.tv_plan.specs.declared.status.Status.TheVariants.{Done, FileFault, Memory}
 use Rattle.tv_top.specs.declared.trial.TrialArgs.{TrialArgs}
-use Rattle.tv_top.specs.Claims.{Call}
-use Rattle.tv_top.specs.Codes.{trial_text}
-use Rattle.tv_top.specs.Ends.{Added}
-use Rattle.tv_top.specs.Kinds.{is_trial}
-use Rattle.tv_top.specs.Plan.{Plan, Outcome, Look, outcome_by, settled, with_two}
+use Rattle.tv_plan.specs.Claims.{Call}
+use Rattle.tv_plan.specs.Codes.{trial_text}
+use Rattle.tv_plan.specs.Ends.{Added}
+use Rattle.tv_plan.specs.Kinds.{is_trial}
+use Rattle.tv_plan.specs.Plan.{Plan, Outcome, Look, outcome_by, settled, with_two}
 
 -- the system of k drawn instructions and `answer 0` after them, for as many steps, their run, and the values for it
 abbrev pub drawn_system : ℕ → ℕ → System

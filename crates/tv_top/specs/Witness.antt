@@ -12,18 +12,18 @@ use Rattle.tv_step.specs.Machine.{Accepts}
 use Rattle.tv_step.specs.declared.end.End.{End}
 use Rattle.tv_step.specs.declared.end.End.TheVariants.{Answer, Undefined, Silent}
 use Rattle.tv_word.specs.Numeral.{numeral}
-use Rattle.tv_top.specs.declared.inputs.Inputs.{Inputs}
-use Rattle.tv_top.specs.declared.refusal.Bad.{Bad}
-use Rattle.tv_top.specs.declared.refusal.Finish.TheVariants.{Quiet, NoRun}
-use Rattle.tv_top.specs.declared.refusal.What.TheVariants.{Steps}
+use Rattle.tv_plan.specs.declared.inputs.Inputs.{Inputs}
+use Rattle.tv_plan.specs.declared.refusal.Bad.{Bad}
+use Rattle.tv_plan.specs.declared.refusal.Finish.TheVariants.{Quiet, NoRun}
+use Rattle.tv_plan.specs.declared.refusal.What.TheVariants.{Steps}
 use Rattle.tv_top.specs.declared.witness.WitnessArgs.{WitnessArgs}
 use Rattle.tv_top.specs.Build.{net_word}
-use Rattle.tv_top.specs.Claims.{Call, AnswersOrStops}
-use Rattle.tv_top.specs.Contents.{Content.{Values}}
-use Rattle.tv_top.specs.Kinds.{is_witness}
-use Rattle.tv_top.specs.Inputs.{inputs_of, input_sizes, run_end, HasInputs}
-use Rattle.tv_top.specs.Plan.{Named, Plan, Outcome, name_at, named, outcome_by, with_two}
-use Rattle.tv_top.specs.Programs.{bits}
+use Rattle.tv_plan.specs.Claims.{Call, AnswersOrStops}
+use Rattle.tv_plan.specs.Contents.{Content.{Values}}
+use Rattle.tv_plan.specs.Kinds.{is_witness}
+use Rattle.tv_plan.specs.Inputs.{inputs_of, input_sizes, run_end, HasInputs}
+use Rattle.tv_plan.specs.Plan.{Named, Plan, Outcome, name_at, named, outcome_by, with_two}
+use Rattle.tv_plan.specs.Programs.{bits}
 
 -- the values for a run that answers v
 unfoldable pub program_values : Net → ℕ → Inputs → ℕ → List ℕ

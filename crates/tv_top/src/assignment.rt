@@ -2,22 +2,20 @@
 //! that the assignment has.
 ghost use Rattle.std.specs.Prelude.{◌≡◌, [], ◌∷◌, Ok, IfOk, IfErr};
 ghost use Rattle.tv_extract.specs.Extraction.{IsFaultOf};
+ghost use Rattle.tv_plan.specs.Finds.{Finds, reading};
+ghost use Rattle.tv_plan.specs.Plan.{named};
+ghost use Rattle.tv_plan.specs.Programs.{HasImage, program_sizes};
 ghost use Rattle.tv_top.specs.Assignment.{kept_in, kept_of, kept_run, not_run};
 ghost use Rattle.tv_top.specs.Build.{program_system};
-ghost use Rattle.tv_top.specs.Finds.{Finds, reading};
-ghost use Rattle.tv_top.specs.Plan.{named};
-ghost use Rattle.tv_top.specs.Programs.{HasImage, program_sizes};
 
-use crate::amount::{Steps, TapeWords};
-use crate::containers::read_first_witness;
-use crate::place::Place;
-use crate::programs::{Program, Width, read_program};
-use crate::refusal::{Finish, Stop};
 use std::alloc::Global;
 use tv_benes::Net;
 use tv_extract::{ExtractFault, NotRun, Run, extract};
 use tv_files::Files;
 use tv_layout::wires;
+use tv_plan::{
+    Finish, Place, Program, Steps, Stop, TapeWords, Width, read_first_witness, read_program,
+};
 use tv_wtns::FirstValues;
 
 /// A program, and of an assignment as many values as the program's system has wires.

@@ -3,24 +3,22 @@
 ghost use Rattle.std.specs.Prelude.{refl};
 ghost use Rattle.tv_layout.specs.Places.{WithinLimits, runs_of};
 ghost use Rattle.tv_layout.specs.Systems.{system_of};
+ghost use Rattle.tv_plan.specs.Contents.{Content.{Constraints}};
+ghost use Rattle.tv_plan.specs.Ends.{Writes, streamed};
+ghost use Rattle.tv_plan.specs.Plan.{named, one_write};
+ghost use Rattle.tv_plan.specs.Programs.{HasImage};
 ghost use Rattle.tv_top.specs.Build.{program_system, build_asks, build_form};
-ghost use Rattle.tv_top.specs.Contents.{Content.{Constraints}};
-ghost use Rattle.tv_top.specs.Ends.{Writes, streamed};
-ghost use Rattle.tv_top.specs.Plan.{named, one_write};
-ghost use Rattle.tv_top.specs.Programs.{HasImage};
 
-use crate::amount::{Steps, TapeWords};
-use crate::job::Job;
 use crate::network::net_word;
-use crate::output::streamed;
-use crate::place::{Place, keep_apart};
-use crate::programs::{Program, Width, read_program};
-use crate::refusal::{Finish, Refusal, Stop, What};
 use std::alloc::Global;
 use tv_benes::Net;
 use tv_core::Put;
 use tv_files::Files;
 use tv_layout::{emit_system, sizes};
+use tv_plan::{
+    Finish, Job, Place, Program, Refusal, Steps, Stop, TapeWords, What, Width, keep_apart,
+    read_program, streamed,
+};
 use tv_r1cs_write::StreamSink;
 use tv_word::decimal_of;
 

@@ -1,26 +1,21 @@
 //! The top call: what the words ask for is done, and one line is said.
 ghost use Rattle.std.specs.Prelude.{length, map, string_bytes};
-ghost use Rattle.tv_top.specs.Answers.{Answers};
+ghost use Rattle.tv_plan.specs.Answers.{Answers};
+ghost use Rattle.tv_plan.specs.Plan.{request_of};
 ghost use Rattle.tv_top.specs.Commands.{Commands};
 ghost use Rattle.tv_top.specs.Form.{form};
-ghost use Rattle.tv_top.specs.Plan.{request_of};
 
-use crate::asm::AsmArgs;
 use crate::build::BuildArgs;
-use crate::check::CheckArgs;
-use crate::disasm::DisasmArgs;
 use crate::extract::ExtractArgs;
-use crate::job::carry_out;
 use crate::listing::ListingArgs;
-use crate::output::conclude;
-use crate::refusal::{Ending, Refusal};
-use crate::run::RunArgs;
 use crate::shrink::ShrinkArgs;
-use crate::status::Status;
 use crate::trial::TrialArgs;
 use crate::witness::WitnessArgs;
 use std::alloc::Global;
 use tv_files::Files;
+use tv_plan::{
+    AsmArgs, CheckArgs, DisasmArgs, Ending, Refusal, RunArgs, Status, carry_out, conclude,
+};
 
 /// Does what the words ask for and says the line of its end, by the general contract of all
 /// commands.

@@ -1,21 +1,17 @@
 //! `extract TEXT N T WITNESS TAPE AUX`, which may have one more word, `waksman`: the run that an
 //! assignment of a program's system has.
 ghost use Rattle.std.specs.Prelude.{[], ◌∷◌, refl};
-ghost use Rattle.tv_top.specs.Ends.{Completes};
+ghost use Rattle.tv_plan.specs.Ends.{Completes};
+ghost use Rattle.tv_plan.specs.Plan.{named};
 ghost use Rattle.tv_top.specs.Extract.{run_written, extract_asks, extract_form};
-ghost use Rattle.tv_top.specs.Plan.{named};
 
-use crate::amount::{Steps, TapeWords};
 use crate::assignment::{not_run, read_assigned, run_of};
-use crate::job::Job;
 use crate::network::net_word;
-use crate::output::write_bytes;
-use crate::place::{Place, keep_apart};
-use crate::refusal::{Finish, Refusal, Stop, What};
 use std::alloc::Global;
 use tv_benes::Net;
 use tv_extract::Run;
 use tv_files::Files;
+use tv_plan::{Finish, Job, Place, Refusal, Steps, Stop, TapeWords, What, keep_apart, write_bytes};
 use tv_step::End;
 use tv_tape::tape_text;
 use tv_word::decimal_of;

@@ -1,19 +1,14 @@
-//! The numbers of the limits, that what one command writes another one takes, and that what files
-//! hold never leads to an allocation failure.
-ghost use Rattle.std.specs.Prelude.{◌≡◌, ◌≢◌, ◌≤◌, ◌+◌, ◌-◌, ◌^◌, ℕ, List, Err};
-ghost use Rattle.tv_asm.specs.Assembly.{assembled};
-ghost use Rattle.tv_asm.specs.declared.fault.AsmFault.TheVariants as asm;
+//! The numbers of the limits, and that the tapes that `extract` writes are read again.
+ghost use Rattle.std.specs.Prelude.{◌≡◌, ◌≤◌, ◌+◌, ◌-◌, ◌^◌};
 ghost use Rattle.tv_core.specs.declared.field.TheConstants.{P};
 ghost use Rattle.tv_core.specs.declared.limits.TheConstants.{STEPS};
 ghost use Rattle.tv_core.specs.declared.limits.TheConstants.{TAPE_WORDS, AUX_WORDS, CHECK_WORDS};
-ghost use Rattle.tv_tape.specs.Tape.{tape_of};
-ghost use Rattle.tv_tape.specs.declared.items.TapeFault.TheVariants as tape;
-ghost use Rattle.tv_top.specs.ComesBack.{ImageComesBack, TapeTextsFit, TapesComeBack};
-ghost use Rattle.tv_top.specs.ComesBack.{ExtractedAreTaken};
-ghost use Rattle.tv_top.specs.Inputs.{primary_in, aux_in};
+ghost use Rattle.tv_plan.specs.ComesBack.{TapeTextsFit, TapesComeBack};
+ghost use Rattle.tv_plan.specs.Inputs.{primary_in, aux_in};
+ghost use Rattle.tv_plan.specs.Programs.{bits};
+ghost use Rattle.tv_plan.specs.Tapes.{publics_in};
+ghost use Rattle.tv_top.specs.Taken.{ExtractedAreTaken};
 ghost use Rattle.tv_top.specs.Limits.{LimitsAre, LinesAre};
-ghost use Rattle.tv_top.specs.Programs.{bits};
-ghost use Rattle.tv_top.specs.Tapes.{publics_in};
 
 /// The numbers of the limits: the most steps, words of an image and bytes of its file, with words
 /// of 32 and of 16 bits, words of a primary, of an auxiliary and of a checked tape, bytes of a
@@ -24,12 +19,6 @@ pub fn limits_are_these()
     ensures limits { LimitsAre }
     ensures lines { LinesAre }
     ensures prime { P ≡ 2 ^ 64 - 2 ^ 32 + 1 }
-{}
-
-/// The program text that `disasm` writes of an image is within the limits of `asm`, which makes
-/// that image of it again, byte for byte.
-pub fn image_comes_back()
-    ensures { ImageComesBack }
 {}
 
 /// The text that `extract` writes of a tape is within the limit of texts, and `run` and `witness`
@@ -44,13 +33,4 @@ pub fn tapes_come_back()
     ensures extracted { ExtractedAreTaken }
     ensures steps { STEPS ≤ AUX_WORDS + 1 }
     ensures answer { TAPE_WORDS + 1 ≤ CHECK_WORDS }
-{}
-
-/// What is found of a program text and of a tape's text is never an allocation failure: that is of
-/// the calls alone. So the definition that turns their faults into refusals never reaches the cases
-/// that stand for nothing.
-pub fn definitions_want_no_memory()
-    ensures texts { (w most : ℕ) (text : List ℕ) → assembled w most text ≢ Err asm.Memory }
-    ensures tapes { (below most : ℕ) (text : List ℕ) →
-        tape_of text below most ≢ Err tape.Memory }
 {}

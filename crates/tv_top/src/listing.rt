@@ -1,24 +1,22 @@
 //! `listing TEXT N T WITNESS BY OUT`: the lines of memory and tapes that an assignment of a
 //! program's system has.
 ghost use Rattle.std.specs.Prelude.{◌≡◌, ◌≤◌, [], ◌∷◌, IfOk, refl};
-ghost use Rattle.tv_top.specs.Ends.{Completes};
+ghost use Rattle.tv_plan.specs.Ends.{Completes};
+ghost use Rattle.tv_plan.specs.Plan.{named};
+ghost use Rattle.tv_plan.specs.Programs.{HasImage};
 ghost use Rattle.tv_top.specs.Assignment.{assigned_in};
-ghost use Rattle.tv_top.specs.Listing.{assigned_text, by_word, lines_written, listing_asks, listing_form};
-ghost use Rattle.tv_top.specs.Plan.{named};
-ghost use Rattle.tv_top.specs.Programs.{HasImage};
+ghost use Rattle.tv_top.specs.Listing.{assigned_text, by_word, lines_written};
+ghost use Rattle.tv_top.specs.Listing.{listing_asks, listing_form};
 
-use crate::amount::{Steps, TapeWords};
 use crate::assignment::{Assignment, not_run, read_assigned, run_of};
-use crate::job::Job;
-use crate::output::write_bytes;
-use crate::place::{Place, keep_apart};
-use crate::programs::Width;
-use crate::refusal::{Finish, Refusal, Stop, What};
 use std::alloc::{AllocError, Global};
 use tv_benes::Net;
 use tv_extract::Run;
 use tv_files::Files;
 use tv_listing::{By, listing};
+use tv_plan::{
+    Finish, Job, Place, Refusal, Steps, Stop, TapeWords, What, Width, keep_apart, write_bytes,
+};
 use tv_word::decimal_of;
 
 /// The words of `listing`.

@@ -9,9 +9,6 @@ ghost use Rattle.tv_step.specs.Machine.{Accepts};
 ghost use Rattle.tv_step.specs.Range.{AreWords};
 ghost use Rattle.tv_top.specs.Trial.{tested, trial_of, trial_asks, trial_form};
 
-use crate::amount::Draws;
-use crate::job::Job;
-use crate::refusal::{Finish, Refusal, Stop, Trial, What};
 use std::alloc::{AllocError, Global};
 use tv_benes::Net;
 use tv_core::{F, ListValues, TestSink};
@@ -19,6 +16,7 @@ use tv_draw::draw;
 use tv_files::Files;
 use tv_fill::{FillFault, fill_system};
 use tv_layout::{emit_system, public_wires, sizes};
+use tv_plan::{Draws, Finish, Job, Refusal, Stop, Trial, What};
 use tv_word::decimal_of;
 
 /// The words of `trial`.

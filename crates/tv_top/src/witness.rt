@@ -1,26 +1,23 @@
 //! `witness TEXT TAPE AUX T WITNESS`, which may have one more word, `waksman`: the values of the
 //! wires of a program's system for a run that answers.
 ghost use Rattle.std.specs.Prelude.{◌≡◌, [], ◌∷◌, refl};
-ghost use Rattle.tv_top.specs.Contents.{Content.{Values}};
-ghost use Rattle.tv_top.specs.Ends.{Completes, Writes, streamed};
-ghost use Rattle.tv_top.specs.Inputs.{AreInputs};
-ghost use Rattle.tv_top.specs.Plan.{named, one_write};
-ghost use Rattle.tv_top.specs.Programs.{bits};
+ghost use Rattle.tv_plan.specs.Contents.{Content.{Values}};
+ghost use Rattle.tv_plan.specs.Ends.{Completes, Writes, streamed};
+ghost use Rattle.tv_plan.specs.Inputs.{AreInputs};
+ghost use Rattle.tv_plan.specs.Plan.{named, one_write};
+ghost use Rattle.tv_plan.specs.Programs.{bits};
 ghost use Rattle.tv_top.specs.Witness.{witness_ends, witness_asks, witness_form};
 
-use crate::amount::Steps;
-use crate::inputs::{Inputs, read_inputs};
-use crate::job::Job;
 use crate::network::net_word;
-use crate::output::streamed;
-use crate::place::{Place, keep_apart};
-use crate::programs::Width;
-use crate::refusal::{Finish, Refusal, Stop, What};
 use std::alloc::Global;
 use tv_benes::Net;
 use tv_core::Put;
 use tv_files::Files;
 use tv_fill::{Filling, prepare};
+use tv_plan::{
+    Finish, Inputs, Job, Place, Refusal, Steps, Stop, What, Width, keep_apart, read_inputs,
+    streamed,
+};
 use tv_step::TraceFault;
 use tv_word::decimal_of;
 use tv_wtns::FileValues;

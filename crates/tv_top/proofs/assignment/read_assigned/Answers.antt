@@ -1,6 +1,6 @@
 use Rattle.std.proofs.Common.{refl}
 use Rattle.tv_top.specs.Assignment.{kept_of}
-use Rattle.tv_top.proofs.LookLaws.{finds_on, finds_short, finds_still}
+use Rattle.tv_plan.proofs.LookLaws.{finds_on, finds_short, finds_still}
 use Rattle.tv_top.proofs.assignment.read_assigned.Goals as goal
 
 pub returns-in_err-program-clause-found : goal.returns-in_err-program-clause-found

@@ -11,8 +11,8 @@ use Rattle.tv_r1cs_write.proofs.StreamLaws.{IsBegun, streamed_some, streamed_all
 use Rattle.tv_r1cs_write.specs.Streams as streams
 use Rattle.tv_r1cs_write.specs.Streams.{stream}
 use Rattle.tv_r1cs_write.specs.declared.stream.StreamSink.{StreamSink}
-use Rattle.tv_top.specs.Contents.{Content.{Constraints}}
-use Rattle.tv_top.proofs.StreamLaws.{writes_nothing, writes_system}
+use Rattle.tv_plan.specs.Contents.{Content.{Constraints}}
+use Rattle.tv_plan.proofs.StreamLaws.{writes_nothing, writes_system}
 use Rattle.tv_top.proofs.build.put_layout.Given as given
 use Rattle.tv_top.proofs.build.put_layout.Goals as goal
 use Rattle.tv_top.proofs.build.put_layout.Goals.{In-Ok}

@@ -1,8 +1,8 @@
 use Rattle.std.proofs.Common.{◌≡◌, ℕ, ◌<◌, List, [], ◌∷◌, length, map, string_bytes, Err, refl, arith, rules}
 use Rattle.tv_top.specs.Form.{form}
-use Rattle.tv_top.specs.Plan.{request_of}
-use Rattle.tv_top.specs.declared.refusal.Refusal.TheVariants.{Usage}
-use Rattle.tv_top.proofs.AnswerLaws.{answers_refused}
+use Rattle.tv_plan.specs.Plan.{request_of}
+use Rattle.tv_plan.specs.declared.refusal.Refusal.TheVariants.{Usage}
+use Rattle.tv_plan.proofs.AnswerLaws.{answers_refused}
 use Rattle.tv_top.proofs.commands.answer.Goals as goal
 
 none_asked : {A : Type 0} (f : A → List ℕ) (xs : List A) → length xs < 1 → request_of (form (map f xs)) ≡ Err Usage

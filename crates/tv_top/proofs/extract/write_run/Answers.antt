@@ -1,6 +1,6 @@
 use Rattle.std.proofs.Common.{refl}
-use Rattle.tv_top.proofs.AnswerLaws.{completes_whole, completes_cut, completes_without_memory}
-use Rattle.tv_top.proofs.StreamLaws.{writes_first, writes_next}
+use Rattle.tv_plan.proofs.AnswerLaws.{completes_whole, completes_cut, completes_without_memory}
+use Rattle.tv_plan.proofs.StreamLaws.{writes_first, writes_next}
 use Rattle.tv_top.proofs.extract.write_run.Goals as goal
 
 pub returns-in_err-tape : goal.returns-in_err-tape

@@ -1,5 +1,5 @@
 use Rattle.std.proofs.Common.{refl}
-use Rattle.tv_top.proofs.AnswerLaws.{completes_whole, completes_cut, completes_without_memory}
+use Rattle.tv_plan.proofs.AnswerLaws.{completes_whole, completes_cut, completes_without_memory}
 use Rattle.tv_top.proofs.listing.write_lines.Goals as goal
 
 pub returns-in_err-text : goal.returns-in_err-text

@@ -3,8 +3,8 @@ use Rattle.std.proofs.lemmas.Result.{err_from_is_err_and}
 use Rattle.tv_wtns.proofs.StreamLaws.{IsBegun, streamed_some, streamed_all}
 use Rattle.tv_wtns.specs.Takers.{ValuesProgress, taker_of}
 use Rattle.tv_wtns.specs.declared.file_values.FileValues.{FileValues}
-use Rattle.tv_top.specs.Contents.{Content.{Values}}
-use Rattle.tv_top.proofs.StreamLaws.{writes_nothing, writes_values}
+use Rattle.tv_plan.specs.Contents.{Content.{Values}}
+use Rattle.tv_plan.proofs.StreamLaws.{writes_nothing, writes_values}
 use Rattle.tv_top.proofs.witness.put_values.Given as given
 use Rattle.tv_top.proofs.witness.put_values.Goals as goal
 use Rattle.tv_top.proofs.witness.put_values.Goals.{In-Ok}

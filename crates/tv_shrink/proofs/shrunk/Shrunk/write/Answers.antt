@@ -11,7 +11,7 @@ use Rattle.tv_r1cs_write.proofs.StreamLaws.{IsBegun, streamed_all, streamed_some
 use Rattle.tv_r1cs_write.specs.Streams.{begun, stream, stream_meaning, SystemProgress}
 use Rattle.tv_r1cs_write.specs.declared.stream.StreamSink.{StreamSink}
 use Rattle.tv_shrink.specs.Emission.{rows_circuit, wires_circuit}
-use Rattle.tv_shrink.specs.Output.{shrunken_bytes}
+use Rattle.tv_r1cs_write.specs.Shrunken.{shrunken_bytes}
 use Rattle.tv_shrink.proofs.Puts.{circuit_of, circuit_list, circuit_next}
 use Rattle.tv_shrink.proofs.shrunk.Shrunk.write.Given as given
 use Rattle.tv_shrink.proofs.shrunk.Shrunk.write.Goals as goal

@@ -1,8 +1,8 @@
 use Rattle.std.proofs.Common.{refl, ap}
 use Rattle.tv_top.specs.Assignment.{run_ends}
 use Rattle.tv_top.specs.Extract.{extract_asks, run_written}
-use Rattle.tv_top.specs.Kinds.{is_extract}
-use Rattle.tv_top.proofs.AnswerLaws.{does_stopped, does_found, completes_as}
+use Rattle.tv_plan.specs.Kinds.{is_extract}
+use Rattle.tv_plan.proofs.AnswerLaws.{does_stopped, does_found, completes_as}
 use Rattle.tv_top.proofs.AssignmentLaws.{completes_none, comes_kept, ends_in}
 use Rattle.tv_top.proofs.extract.ExtractArgsJob.perform.Goals as goal
 

@@ -2,9 +2,9 @@ use Rattle.std.proofs.Common.{refl, ap}
 use Rattle.tv_benes.specs.declared.shape.Net.TheVariants.{Benes}
 use Rattle.tv_extract.proofs.ExtractLaws.{extracted_is_run}
 use Rattle.tv_top.specs.Assignment.{assigned_in, assigned_run, kept_in, run_ends}
-use Rattle.tv_top.specs.Kinds.{is_listing}
+use Rattle.tv_plan.specs.Kinds.{is_listing}
 use Rattle.tv_top.specs.Listing.{listing_asks, lines_written}
-use Rattle.tv_top.proofs.AnswerLaws.{does_stopped, does_found, completes_as}
+use Rattle.tv_plan.proofs.AnswerLaws.{does_stopped, does_found, completes_as}
 use Rattle.tv_top.proofs.AssignmentLaws.{completes_none, comes_kept, ends_in, kept_ran}
 use Rattle.tv_top.specs.Build.{program_runs}
 use Rattle.tv_top.proofs.listing.ListingArgsJob.perform.Goals as goal

@@ -1,9 +1,9 @@
 use Rattle.std.proofs.Common.{refl}
-use Rattle.tv_top.specs.Contents.{Content.{Rest}}
+use Rattle.tv_plan.specs.Contents.{Content.{Rest}}
 use Rattle.tv_top.specs.Shrink.{shrink_asks}
-use Rattle.tv_top.proofs.AnswerLaws.{does_stopped, does_found, completes_whole, completes_cut}
-use Rattle.tv_top.proofs.Common.{Write}
-use Rattle.tv_top.proofs.StreamLaws.{writes_streamed}
+use Rattle.tv_plan.proofs.AnswerLaws.{does_stopped, does_found, completes_whole, completes_cut}
+use Rattle.tv_plan.proofs.Common.{Write}
+use Rattle.tv_plan.proofs.StreamLaws.{writes_streamed}
 use Rattle.tv_top.proofs.shrink.ShrinkArgsJob.perform.Goals as goal
 
 pub returns-in_err-shrunk : goal.returns-in_err-shrunk

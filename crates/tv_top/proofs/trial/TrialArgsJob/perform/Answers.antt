@@ -1,7 +1,7 @@
 use Rattle.std.proofs.Common.{Ok, refl}
 use Rattle.tv_top.specs.Trial.{trial_asks, no_look, trial_ends}
-use Rattle.tv_top.proofs.AnswerLaws.{does_found, completes_nothing, completes_without_memory}
-use Rattle.tv_top.proofs.LookLaws.{finds_still}
+use Rattle.tv_plan.proofs.AnswerLaws.{does_found, completes_nothing, completes_without_memory}
+use Rattle.tv_plan.proofs.LookLaws.{finds_still}
 use Rattle.tv_top.proofs.trial.TrialArgsJob.perform.Goals as goal
 
 pub returns-in_err-trial : goal.returns-in_err-trial

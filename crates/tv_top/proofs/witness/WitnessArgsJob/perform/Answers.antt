@@ -1,7 +1,7 @@
 use Rattle.std.proofs.Common.{refl}
-use Rattle.tv_top.specs.Inputs.{run_end}
+use Rattle.tv_plan.specs.Inputs.{run_end}
 use Rattle.tv_top.specs.Witness.{witness_asks}
-use Rattle.tv_top.proofs.AnswerLaws.{does_stopped, does_found}
+use Rattle.tv_plan.proofs.AnswerLaws.{does_stopped, does_found}
 use Rattle.tv_top.proofs.WitnessClaim.{may_end}
 use Rattle.tv_top.proofs.witness.WitnessArgsJob.perform.Goals as goal
 

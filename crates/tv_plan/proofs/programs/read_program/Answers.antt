@@ -1,0 +1,7 @@
+use Rattle.tv_plan.specs.Programs.{program_of}
+use Rattle.tv_plan.proofs.Sizes.{program_limited}
+use Rattle.tv_plan.proofs.LookLaws.{made_found}
+use Rattle.tv_plan.proofs.programs.read_program.Goals as goal
+
+pub returns-clause-found : goal.returns-clause-found
+returns-clause-found g c = made_found _ _ _ _ _ _ program_of _ _ _ _ _ c.in_ok-text.ensures c.deref.ensures.value c.program_of.ensures.made (program_limited _)

@@ -1,8 +1,0 @@
-use Rattle.std.proofs.Common.{rules}
-use Rattle.tv_top.specs.Plan.{named}
-use Rattle.tv_top.proofs.ShrunkReads.{finds_shrunk}
-use Rattle.tv_top.proofs.containers.read_shrunk.Goals as goal
-
-pub returns : goal.returns
-returns g c =
-    finds_shrunk (named c.args.place) _ _ c.shrink.result _ (search rules) c.shrink.ensures.gives c.shrink.ensures.looks c.shrink.ensures.missing

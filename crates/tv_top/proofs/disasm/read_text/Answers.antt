@@ -1,9 +1,0 @@
-use Rattle.tv_top.specs.Disasm.{text_of}
-use Rattle.tv_top.specs.Programs.{bits}
-use Rattle.tv_top.proofs.Sizes.{text_limited}
-use Rattle.tv_top.proofs.LookLaws.{made_found}
-use Rattle.tv_top.proofs.disasm.read_text.Goals as goal
-
-pub returns : goal.returns
-returns g c = made_found _ _ _ _ _ _ (text_of (bits c.args.width)) _ _ _ _ _
-    (rw c.image_bytes_most-most.ensures at c.in_ok-image.ensures) c.deref.ensures.value c.text_of.ensures (text_limited (bits c.args.width) _)

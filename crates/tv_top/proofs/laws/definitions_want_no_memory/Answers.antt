@@ -1,6 +1,0 @@
-use Rattle.tv_top.proofs.TapeFaults.{tape_wants}
-use Rattle.tv_top.proofs.TextFaults.{text_wants}
-use Rattle.tv_top.proofs.laws.definitions_want_no_memory.Goals as goal
-
-pub returns : goal.returns
-returns c = record { texts = text_wants; tapes = tape_wants }

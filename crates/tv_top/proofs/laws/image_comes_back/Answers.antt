@@ -1,5 +1,0 @@
-use Rattle.tv_top.proofs.ComesBack.{image_comes_back}
-use Rattle.tv_top.proofs.laws.image_comes_back.Goals as goal
-
-pub returns : goal.returns
-returns c = image_comes_back

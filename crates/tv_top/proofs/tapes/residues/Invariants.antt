@@ -1,6 +1,0 @@
-use Rattle.std.proofs.Common.{◌≡◌, ◌%◌, map, take}
-use Rattle.tv_core.specs.declared.field.TheConstants.{P}
-use Rattle.tv_top.proofs.tapes.residues.Given as goal
-
-abbrev pub invariant-loop-number : goal.invariant-loop-number
-invariant-loop-number l = l.residues.items ≡ map (λ n. n % P) (take l.number-index l.numbers)

@@ -1,5 +1,0 @@
-use Rattle.std.proofs.Common.{◌≡◌, ◌%◌, ◌^◌, map, take}
-use Rattle.tv_top.proofs.tapes.words_from.Given as goal
-
-abbrev pub invariant-loop-number : goal.invariant-loop-number
-invariant-loop-number l = l.words ≡ map (λ n. n % 2 ^ 32) (take l.number-index l.numbers)
