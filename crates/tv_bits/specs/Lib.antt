@@ -12,6 +12,7 @@ pub mod Ratio
 pub mod Select
 pub mod SignedWords
 pub mod Times
+pub mod Wires
 pub mod Zero
 pub mod ZeroSign
 pub use Rattle.tv_core.specs.Combinations

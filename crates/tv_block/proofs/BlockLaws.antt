@@ -34,32 +34,33 @@ use Rattle.tv_numbers.specs.Views.{View, ViewInRange}
 use Rattle.tv_step.specs.Rows.{word_size}
 use Rattle.tv_word.proofs.WidthLaws.{for_widths}
 use Rattle.tv_word.specs.Widths.{IsWidth}
-use Rattle.tv_parts.proofs.ArithmeticLaws.{arithmetic_sound}
+use Rattle.tv_results.proofs.ArithmeticLaws.{arithmetic_sound}
 use Rattle.tv_parts.proofs.FlagFills.{flag_sound}
 use Rattle.tv_parts.proofs.MemoryFills.{memory_sound}
-use Rattle.tv_parts.proofs.OpcodeLaws.{opcode_wire_is}
-use Rattle.tv_parts.proofs.OperandLaws.{operand_sound}
+use Rattle.tv_inputs.proofs.OpcodeLaws.{opcode_wire_is}
+use Rattle.tv_inputs.proofs.OperandLaws.{operand_sound}
 use Rattle.tv_parts.proofs.PcFills.{pc_sound}
-use Rattle.tv_parts.proofs.ResultFills.{results_sound}
-use Rattle.tv_parts.proofs.ShiftTests.{shift_test_sound}
-use Rattle.tv_parts.proofs.TapeFills.{flag_test}
-use Rattle.tv_parts.proofs.TapeLaws.{tapes_sound}
-use Rattle.tv_parts.specs.Arithmetic.{shift_ops, division_ops, arithmetic_of, IsArithmetic}
+use Rattle.tv_results.proofs.ResultFills.{results_sound}
+use Rattle.tv_results.proofs.ShiftTests.{shift_test_sound}
+use Rattle.tv_inputs.proofs.TapeFills.{flag_test}
+use Rattle.tv_inputs.proofs.TapeLaws.{tapes_sound}
+use Rattle.tv_results.specs.Arithmetic.{shift_ops, division_ops, arithmetic_of, IsArithmetic}
 use Rattle.tv_parts.specs.Flag.{sign_at, next_flag_of, HasFlag}
-use Rattle.tv_parts.specs.Inputs.{StepInput, input_of, operation_of}
+use Rattle.tv_inputs.specs.Inputs.{StepInput, input_of, operation_of}
 use Rattle.tv_parts.specs.Memory.{memory_of, AreStored}
-use Rattle.tv_parts.specs.OpcodeSums.{IsOpcode}
-use Rattle.tv_parts.specs.Operand.{operand_of, IsOperand, HasOperand}
+use Rattle.tv_inputs.specs.OpcodeSums.{IsOpcode}
+use Rattle.tv_inputs.specs.Operand.{operand_of, IsOperand, HasOperand}
 use Rattle.tv_parts.specs.Pc.{pc_of, HasPc}
-use Rattle.tv_parts.specs.Results.{sign_of, results_of, zero_ops, HasSources, AreResults}
-use Rattle.tv_parts.specs.States.{state_in}
-use Rattle.tv_parts.specs.Tapes.{tapes_of, took, HasTapes, AreTapes}
+use Rattle.tv_results.specs.Results.{sign_of, results_of, HasSources, AreResults}
+use Rattle.tv_inputs.specs.TestNumbers.{zero_ops}
+use Rattle.tv_inputs.specs.States.{state_in}
+use Rattle.tv_inputs.specs.Tapes.{tapes_of, took, HasTapes, AreTapes}
 use Rattle.tv_parts.specs.Written.{written_of}
-use Rattle.tv_parts.specs.declared.records.ArithmeticWires.{ArithmeticWires}
-use Rattle.tv_parts.specs.declared.records.OperandWires.{OperandWires}
-use Rattle.tv_parts.specs.declared.records.ResultWires.{ResultWires}
-use Rattle.tv_parts.specs.declared.records.StateWires.{StateWires}
-use Rattle.tv_parts.specs.declared.records.TapeWires.{TapeWires}
+use Rattle.tv_inputs.specs.declared.records.ArithmeticWires.{ArithmeticWires}
+use Rattle.tv_inputs.specs.declared.records.OperandWires.{OperandWires}
+use Rattle.tv_inputs.specs.declared.records.ResultWires.{ResultWires}
+use Rattle.tv_inputs.specs.declared.records.StateWires.{StateWires}
+use Rattle.tv_inputs.specs.declared.records.TapeWires.{TapeWires}
 use Rattle.tv_block.proofs.PartLaws.{opcode_of_row, op_below, dest_below, source_below, among_each, registers_sound, written_sound, sign_value}
 use Rattle.tv_block.proofs.PartLaws.{sign_shift, sign_division}
 use Rattle.tv_block.specs.Block.{registers_of, data_of, sources_of, computed_of, effects_of, block_of, word_inverse, cell_of, BlockIsStep, BlockIsSound}

@@ -6,14 +6,14 @@ use Rattle.tv_isa.specs.Instruction.{decode}
 use Rattle.tv_isa.specs.declared.instr.Instr.{Instr}
 use Rattle.tv_numbers.specs.Numbers.{operand_word, other_word, found, step_words}
 use Rattle.tv_numbers.specs.Views.{View}
-use Rattle.tv_parts.specs.Arithmetic.{arithmetic_values}
+use Rattle.tv_results.specs.Arithmetic.{arithmetic_values}
 use Rattle.tv_parts.specs.Flag.{sign_at}
-use Rattle.tv_parts.specs.Inputs.{input_of, operation_of}
-use Rattle.tv_parts.specs.Operand.{operand_values}
-use Rattle.tv_parts.specs.Results.{result_number, tested_number}
-use Rattle.tv_parts.specs.Tapes.{tapes_values}
-use Rattle.tv_parts.specs.Traced.{AreNumbers}
-use Rattle.tv_parts.specs.declared.step_numbers.StepNumbers.{StepNumbers}
+use Rattle.tv_inputs.specs.Inputs.{input_of, operation_of}
+use Rattle.tv_inputs.specs.Operand.{operand_values}
+use Rattle.tv_results.specs.Results.{result_number, tested_number}
+use Rattle.tv_inputs.specs.Tapes.{tapes_values}
+use Rattle.tv_inputs.specs.Traced.{AreNumbers}
+use Rattle.tv_inputs.specs.declared.step_numbers.StepNumbers.{StepNumbers}
 use Rattle.tv_regs.specs.Triple.{triple_values}
 use Rattle.tv_block.specs.Values.{row_low, row_high, other_register, effects_values, block_values}
 

@@ -22,9 +22,9 @@ use Rattle.tv_step.specs.Range.{AreWords}
 use Rattle.tv_step.specs.Reads.{reads_aux, word_taken}
 use Rattle.tv_step.specs.State.{State}
 use Rattle.tv_step.specs.Trace.{data_line as traced_line}
-use Rattle.tv_parts.specs.Arithmetic.{low_number}
-use Rattle.tv_parts.specs.States.{state_in}
-use Rattle.tv_parts.specs.declared.records.StateWires.{StateWires}
+use Rattle.tv_results.specs.Arithmetic.{low_number}
+use Rattle.tv_inputs.specs.States.{state_in}
+use Rattle.tv_inputs.specs.declared.records.StateWires.{StateWires}
 use Rattle.tv_block.proofs.BlockFills.{block_complete}
 use Rattle.tv_block.proofs.PartLaws.{among_each}
 use Rattle.tv_block.proofs.SizeFills.{block_sizes}

@@ -25,25 +25,25 @@ use Rattle.tv_numbers.specs.Numbers.{other_word, result_in, stepped}
 use Rattle.tv_numbers.specs.Views.{View}
 use Rattle.tv_regs.proofs.TripleLaws.{triple_sound}
 use Rattle.tv_regs.proofs.UpdateLaws.{update_sound}
-use Rattle.tv_regs.specs.Reads.{words_at}
+use Rattle.tv_bits.specs.Wires.{words_at}
 use Rattle.tv_regs.specs.Triple.{AreNumbers}
 use Rattle.tv_regs.specs.Writes.{written_regs}
 use Rattle.tv_regs.specs.declared.triple.Triple.{Triple}
 use Rattle.tv_word.proofs.FlagLaws.{flag_small}
 use Rattle.tv_word.specs.Widths.{IsWidth}
-use Rattle.tv_parts.proofs.AccumulationLaws.{accumulated_sound}
-use Rattle.tv_parts.proofs.OpcodeLaws.{opcode_terms_sound, opcode_sum_sound}
-use Rattle.tv_parts.proofs.TapeFills.{flag_test}
-use Rattle.tv_parts.proofs.TapeLaws.{among_one}
+use Rattle.tv_inputs.proofs.AccumulationLaws.{accumulated_sound}
+use Rattle.tv_inputs.proofs.OpcodeLaws.{opcode_terms_sound, opcode_sum_sound}
+use Rattle.tv_inputs.proofs.TapeFills.{flag_test}
+use Rattle.tv_inputs.proofs.TapeLaws.{among_one}
 use Rattle.tv_parts.proofs.WrittenFills.{on_number, writes_among, regs_where, none_of}
-use Rattle.tv_parts.specs.Accumulation.{accumulated_of}
-use Rattle.tv_parts.specs.Arithmetic.{shift_ops, division_ops}
+use Rattle.tv_inputs.specs.Accumulation.{accumulated_of}
+use Rattle.tv_results.specs.Arithmetic.{shift_ops, division_ops}
 use Rattle.tv_parts.specs.Flag.{sign_at}
-use Rattle.tv_parts.specs.OpcodeSums.{opcode_sum, opcode_terms, distinct, IsOpcode}
-use Rattle.tv_parts.specs.Results.{sign_of}
-use Rattle.tv_parts.specs.States.{state_in}
+use Rattle.tv_inputs.specs.OpcodeSums.{opcode_sum, opcode_terms, distinct, IsOpcode}
+use Rattle.tv_results.specs.Results.{sign_of}
+use Rattle.tv_inputs.specs.States.{state_in}
 use Rattle.tv_parts.specs.Written.{written_of}
-use Rattle.tv_parts.specs.declared.records.StateWires.{StateWires}
+use Rattle.tv_inputs.specs.declared.records.StateWires.{StateWires}
 use Rattle.tv_block.specs.Block.{registers_of}
 use Rattle.tv_word.specs.Word.{flag_of}
 

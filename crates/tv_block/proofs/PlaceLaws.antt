@@ -2,10 +2,10 @@
 use Rattle.std.proofs.Common.{◌≡◌, ℕ, zero, suc, ◌<◌, ◌≤◌, List, [], ◌∷◌, replicate, All, ◌∙◌, ap, arith}
 use Rattle.std.proofs.lemmas.List.Elements.{All-nil, All-cons}
 use Rattle.tv_core.specs.declared.lines.LineLc.{LineLc}
-use Rattle.tv_regs.specs.Reads.{wires_top}
-use Rattle.tv_parts.specs.States.{StateUnder}
-use Rattle.tv_parts.specs.declared.records.Spot.{Spot}
-use Rattle.tv_parts.specs.declared.records.StateWires.{StateWires}
+use Rattle.tv_bits.specs.Wires.{wires_top}
+use Rattle.tv_inputs.specs.States.{StateUnder}
+use Rattle.tv_inputs.specs.declared.records.Spot.{Spot}
+use Rattle.tv_inputs.specs.declared.records.StateWires.{StateWires}
 use Rattle.tv_block.specs.declared.records.Block.{Block}
 
 abbrev state_from : ℕ → List ℕ → ℕ → ℕ → ℕ → StateWires

@@ -9,19 +9,19 @@ use Rattle.tv_decode.proofs.InstructionLaws.{instruction_sizes}
 use Rattle.tv_decode.specs.Instructions.{imm_wire}
 use Rattle.tv_decode.specs.declared.records.InstructionWires.{InstructionWires}
 use Rattle.tv_word.specs.Widths.{IsWidth}
-use Rattle.tv_parts.proofs.ArithmeticCounts.{arithmetic_sizes}
+use Rattle.tv_results.proofs.ArithmeticCounts.{arithmetic_sizes}
 use Rattle.tv_parts.proofs.FlagFills.{flag_sizes}
 use Rattle.tv_parts.proofs.MemoryFills.{memory_sizes}
-use Rattle.tv_parts.proofs.OperandLaws.{operand_sizes}
+use Rattle.tv_inputs.proofs.OperandLaws.{operand_sizes}
 use Rattle.tv_parts.proofs.PcFills.{pc_sizes}
-use Rattle.tv_parts.proofs.TapeFills.{tapes_sizes}
+use Rattle.tv_inputs.proofs.TapeFills.{tapes_sizes}
 use Rattle.tv_parts.proofs.WrittenFills.{written_sizes}
-use Rattle.tv_parts.specs.declared.records.ArithmeticWires.{ArithmeticWires}
-use Rattle.tv_parts.specs.declared.records.OperandWires.{OperandWires}
-use Rattle.tv_parts.specs.declared.records.Spot.{Spot}
-use Rattle.tv_parts.specs.declared.records.StateWires.{StateWires}
-use Rattle.tv_parts.specs.declared.records.StoreWires.{StoreWires}
-use Rattle.tv_parts.specs.declared.records.TapeWires.{TapeWires}
+use Rattle.tv_inputs.specs.declared.records.ArithmeticWires.{ArithmeticWires}
+use Rattle.tv_inputs.specs.declared.records.OperandWires.{OperandWires}
+use Rattle.tv_inputs.specs.declared.records.Spot.{Spot}
+use Rattle.tv_inputs.specs.declared.records.StateWires.{StateWires}
+use Rattle.tv_inputs.specs.declared.records.StoreWires.{StoreWires}
+use Rattle.tv_inputs.specs.declared.records.TapeWires.{TapeWires}
 use Rattle.tv_block.proofs.BlockChain.{instruction, triple, operand, made, tapes, memory, results, zero, written, flag}
 use Rattle.tv_block.proofs.BlockChain.{operand_begins, arithmetic_begins, tapes_begin, memory_begins, written_begins, flag_begins, pc_begins}
 use Rattle.tv_block.proofs.PlaceLaws.{same_state, same_wires, all_three}

@@ -6,7 +6,7 @@ use Rattle.tv_block.specs.Places.{next_state}
 use Rattle.tv_core.specs.Circuits.{Circuit, pure, ◌>>=◌}
 use Rattle.tv_core.specs.Sinks.{Meaning, PutsAll, PutsSome}
 use Rattle.tv_core.specs.declared.sink.SinkFault.{SinkFault}
-use Rattle.tv_parts.specs.States.{StateUnder}
+use Rattle.tv_inputs.specs.States.{StateUnder}
 use Rattle.tv_word.specs.Widths.{IsWidth}
 
 -- what puts a circuit and answers a part of its answer puts the circuit

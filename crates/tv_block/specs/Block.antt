@@ -21,24 +21,24 @@ use Rattle.tv_numbers.specs.Views.{ViewInRange}
 use Rattle.tv_regs.specs.Triple.{triple_of}
 use Rattle.tv_regs.specs.declared.triple.Triple.{Triple}
 use Rattle.tv_word.specs.Widths.{IsWidth}
-use Rattle.tv_parts.specs.Arithmetic.{arithmetic_of}
+use Rattle.tv_results.specs.Arithmetic.{arithmetic_of}
 use Rattle.tv_parts.specs.Flag.{next_flag_of}
 use Rattle.tv_parts.specs.Memory.{memory_of}
-use Rattle.tv_parts.specs.OpcodeSums.{opcode_sum}
-use Rattle.tv_parts.specs.Operand.{operand_of}
+use Rattle.tv_inputs.specs.OpcodeSums.{opcode_sum}
+use Rattle.tv_inputs.specs.Operand.{operand_of}
 use Rattle.tv_parts.specs.Pc.{pc_of}
-use Rattle.tv_parts.specs.Results.{sign_of, results_of}
-use Rattle.tv_parts.specs.States.{state_in}
-use Rattle.tv_parts.specs.Tapes.{tapes_of}
+use Rattle.tv_results.specs.Results.{sign_of, results_of}
+use Rattle.tv_inputs.specs.States.{state_in}
+use Rattle.tv_inputs.specs.Tapes.{tapes_of}
 use Rattle.tv_parts.specs.Written.{written_of}
-use Rattle.tv_parts.specs.declared.records.ArithmeticWires.{ArithmeticWires}
-use Rattle.tv_parts.specs.declared.records.DataWires.{DataWires}
-use Rattle.tv_parts.specs.declared.records.Sources.{Sources}
+use Rattle.tv_inputs.specs.declared.records.ArithmeticWires.{ArithmeticWires}
+use Rattle.tv_inputs.specs.declared.records.DataWires.{DataWires}
+use Rattle.tv_inputs.specs.declared.records.Sources.{Sources}
 use Rattle.tv_block.specs.declared.records.Block.{Block}
 use Rattle.tv_block.specs.declared.records.Computed.{Computed}
 use Rattle.tv_block.specs.declared.records.Effects.{Effects}
 use Rattle.tv_block.specs.declared.records.Reached.{Reached}
-use Rattle.tv_parts.specs.declared.records.StateWires.{StateWires}
+use Rattle.tv_inputs.specs.declared.records.StateWires.{StateWires}
 use Rattle.tv_word.specs.Word.{flag_of}
 
 -- ---- the circuit

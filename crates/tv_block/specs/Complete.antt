@@ -13,8 +13,8 @@ use Rattle.tv_step.specs.Runs.{IsDefined}
 use Rattle.tv_step.specs.State.{State}
 use Rattle.tv_step.specs.Trace.{step_lines}
 use Rattle.tv_word.specs.Widths.{IsWidth}
-use Rattle.tv_parts.specs.States.{state_in}
-use Rattle.tv_parts.specs.declared.records.StateWires.{StateWires}
+use Rattle.tv_inputs.specs.States.{state_in}
+use Rattle.tv_inputs.specs.declared.records.StateWires.{StateWires}
 use Rattle.tv_block.specs.Block.{block_of, transition_in}
 use Rattle.tv_block.specs.Values.{row_low, block_values}
 

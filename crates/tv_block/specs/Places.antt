@@ -7,7 +7,7 @@ use Rattle.tv_core.specs.declared.lines.LineLc.{LineLc}
 use Rattle.tv_isa.specs.Opcodes.{place_of}
 use Rattle.tv_isa.specs.declared.opcode.TheConstants.{ANSWER}
 use Rattle.tv_word.specs.Widths.{IsWidth}
-use Rattle.tv_parts.specs.declared.records.StateWires.{StateWires}
+use Rattle.tv_inputs.specs.declared.records.StateWires.{StateWires}
 use Rattle.tv_block.specs.Block.{cell_of, block_of}
 use Rattle.tv_block.specs.Complete.{block_made}
 use Rattle.tv_block.specs.Under.{LineUnder, SpotUnder}

@@ -9,7 +9,7 @@ use Rattle.tv_step.specs.Reads.{word_taken}
 use Rattle.tv_step.specs.State.{State}
 use Rattle.tv_step.specs.Trace.{traced_state}
 use Rattle.tv_word.specs.Widths.{IsWidth}
-use Rattle.tv_parts.specs.Traced.{traced_view}
+use Rattle.tv_inputs.specs.Traced.{traced_view}
 use Rattle.tv_block.specs.Complete.{olds_of, step_values}
 use Rattle.tv_block.specs.Values.{block_values}
 use Rattle.tv_word.specs.Word.{flag_of}

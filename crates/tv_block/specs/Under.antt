@@ -3,10 +3,11 @@ use Rattle.std.specs.Prelude.{◌≡◌, ℕ, ◌+◌, ◌-◌, ◌≤◌, ◌<�
 use Rattle.tv_core.specs.Combinations.{top}
 use Rattle.tv_core.specs.declared.lines.LineLc.{LineLc}
 use Rattle.tv_decode.specs.declared.records.InstructionWires.{InstructionWires}
-use Rattle.tv_regs.specs.Reads.{wires_top}
-use Rattle.tv_parts.specs.States.{StateUnder, TripleUnder, OperandUnder, ArithmeticUnder, TapesUnder, StoreUnder}
-use Rattle.tv_parts.specs.declared.records.Spot.{Spot}
-use Rattle.tv_parts.specs.declared.records.StateWires.{StateWires}
+use Rattle.tv_bits.specs.Wires.{wires_top}
+use Rattle.tv_inputs.specs.States.{StateUnder, OperandUnder, ArithmeticUnder, TapesUnder, StoreUnder}
+use Rattle.tv_parts.specs.Written.{TripleUnder}
+use Rattle.tv_inputs.specs.declared.records.Spot.{Spot}
+use Rattle.tv_inputs.specs.declared.records.StateWires.{StateWires}
 use Rattle.tv_block.specs.declared.records.Block.{Block}
 use Rattle.tv_block.specs.declared.records.Computed.{Computed}
 use Rattle.tv_block.specs.declared.records.Effects.{Effects}

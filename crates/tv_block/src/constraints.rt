@@ -9,9 +9,10 @@ ghost use Rattle.tv_block.specs.Under.{BlockUnder, InstructionUnder, ComputedUnd
 ghost use Rattle.tv_block.specs.Under.{EffectsUnder};
 ghost use Rattle.tv_core.specs.Sinks.{PutsIn, Grows, Room};
 ghost use Rattle.tv_parts.specs.Memory.{memory_of};
-ghost use Rattle.tv_parts.specs.Results.{sign_of, results_of};
-ghost use Rattle.tv_parts.specs.States.{StateUnder, TripleUnder, TapesUnder, StoreUnder};
-ghost use Rattle.tv_parts.specs.States.{ResultUnder};
+ghost use Rattle.tv_results.specs.Results.{sign_of, results_of};
+ghost use Rattle.tv_inputs.specs.States.{StateUnder, TapesUnder, StoreUnder};
+ghost use Rattle.tv_parts.specs.Written.{TripleUnder};
+ghost use Rattle.tv_inputs.specs.States.{ResultUnder};
 ghost use Rattle.tv_word.specs.Widths.{IsWidth};
 
 use crate::places::block_wires;
@@ -19,13 +20,14 @@ use crate::records::{Block, Computed, Effects, Reached};
 use tv_bits::zero_sign;
 use tv_core::{Lc, Put, Scratch, Sink, Wire};
 use tv_decode::{InstructionWires, instruction};
-use tv_isa::opcode::{ANSWER, STORE_B, STORE_W};
-use tv_parts::{
-    DataWires, ResultWires, Sources, StateWires, StoreWires, TapeWires, opcode_wire,
-    put_arithmetic, put_flag, put_memory, put_operand, put_pc, put_results, put_tapes, put_written,
-    set_opcodes, set_sign,
+use tv_inputs::{
+    DataWires, ResultWires, Sources, StateWires, StoreWires, TapeWires, opcode_wire, put_operand,
+    put_tapes, set_opcodes,
 };
+use tv_isa::opcode::{ANSWER, STORE_B, STORE_W};
+use tv_parts::{put_flag, put_memory, put_pc, put_written};
 use tv_regs::{Names, Triple, read_triple};
+use tv_results::{put_arithmetic, put_results, set_sign};
 
 /// Constrains one step of the machine from a state, the primary tape having `n` words; its lines of
 /// memory have `time` and the two times after it. Makes as many wires and constraints as

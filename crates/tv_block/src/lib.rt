@@ -20,5 +20,5 @@ pub use laws::{
 };
 pub use places::{block_line, block_spot, block_wires, next_state};
 pub use records::{Block, Computed, Effects, Reached, StateNum};
-pub use tv_parts::{Spot, StateWires};
+pub use tv_inputs::{Spot, StateWires};
 pub use values::{fill_block, fill_traced_step};

@@ -7,15 +7,15 @@ ghost use Rattle.tv_block.specs.Places.{first_line, second_line, third_line, IsS
 ghost use Rattle.tv_block.specs.Under.{LineUnder, SpotUnder};
 ghost use Rattle.tv_lines.specs.Placed.{line_in};
 ghost use Rattle.tv_lines.specs.Compact.{line_lc};
-ghost use Rattle.tv_parts.specs.States.{StateUnder};
-ghost use Rattle.tv_parts.specs.declared.records.StateWires.{StateWires};
+ghost use Rattle.tv_inputs.specs.States.{StateUnder};
+ghost use Rattle.tv_inputs.specs.declared.records.StateWires.{StateWires};
 ghost use Rattle.tv_word.specs.Widths.{IsWidth};
 
 use crate::records::Block;
 use tv_core::{F, P, Wire};
+use tv_inputs::{Spot, StateWires, opcode_wire};
 use tv_isa::opcode::ANSWER;
 use tv_lines::{Cell, CompactLine, Word};
-use tv_parts::{Spot, StateWires, opcode_wire};
 use tv_regs::wires_from;
 
 // Counted from a step's first wire, 2 W or 6 W less: the two words of its instruction and its

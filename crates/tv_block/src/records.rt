@@ -1,7 +1,7 @@
 //! Records of a step's numbers.
 use tv_core::{LineLc, Wire};
 use tv_decode::InstructionWires;
-use tv_parts::{ArithmeticWires, OperandWires, Spot, StateWires, StoreWires, TapeWires};
+use tv_inputs::{ArithmeticWires, OperandWires, Spot, StateWires, StoreWires, TapeWires};
 use tv_regs::Triple;
 
 /// The numbers of a state: all of it but memory and the auxiliary tape.
@@ -20,7 +20,7 @@ pub struct StateNum {
 }
 
 /// What a step computes before it changes anything.
-#[derive(Clone, Copy, PartialEq, Eq, Debug)]
+#[derive(Clone, Copy)]
 pub struct Computed {
     /// Its instruction.
     pub instruction: InstructionWires,
@@ -35,7 +35,7 @@ pub struct Computed {
 }
 
 /// What a step does.
-#[derive(Clone, Copy, PartialEq, Eq, Debug)]
+#[derive(Clone, Copy)]
 pub struct Effects {
     /// To the tapes.
     pub tapes: TapeWires,
@@ -50,7 +50,7 @@ pub struct Effects {
 }
 
 /// What a step leads to.
-#[derive(Clone, Copy, PartialEq, Eq, Debug)]
+#[derive(Clone, Copy)]
 pub struct Reached {
     /// The state after it.
     pub next: StateWires,

@@ -4,7 +4,7 @@ use Rattle.std.proofs.Common.{append_assoc, Ok, Err}
 use Rattle.std.proofs.lemmas.Bool.{eq-eqb, eqb-true}
 use Rattle.std.specs.Prelude.{◌==◌, slice_index}
 use Rattle.tv_block.specs.Block.{block_of}
-use Rattle.tv_parts.specs.declared.records.Spot.{Spot}
+use Rattle.tv_inputs.specs.declared.records.Spot.{Spot}
 use Rattle.tv_core.proofs.JoinedLaws.{joined_below-zero, joined_below-suc}
 use Rattle.tv_core.specs.Below.{joined_below}
 use Rattle.tv_layout.specs.Layout.{block_at, taken_wire, taken_wires}

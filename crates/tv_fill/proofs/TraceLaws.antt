@@ -23,7 +23,7 @@ use Rattle.tv_step.specs.State.{State}
 use Rattle.tv_step.specs.Trace.{step_lines, lines_of, states_of, traced_state_after}
 use Rattle.tv_step.specs.declared.lines.TraceState.{TraceState}
 use Rattle.tv_word.specs.Widths.{IsWidth}
-use Rattle.tv_parts.specs.Traced.{traced_view}
+use Rattle.tv_inputs.specs.Traced.{traced_view}
 use Rattle.tv_fill.specs.TraceValues.{no_state, traced_state_at, old_at, takes_at, taken_at, data_at, traced_values, StepInRange}
 
 -- the word that is passed

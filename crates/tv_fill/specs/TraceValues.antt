@@ -1,7 +1,7 @@
 -- The values of steps, from a trace's states and lines.
 use Rattle.std.specs.Prelude.{◌≡◌, ℕ, ◌+◌, ◌*◌, ◌^◌, ◌<◌, Bool, true, false, nat_lt, if◌then◌else◌, List, [], length, slice_index, slice_index_or, Option}
 use Rattle.std.specs.Prelude.{Some, None, is_some, unwrap_or}
-use Rattle.tv_parts.specs.Traced.{traced_view}
+use Rattle.tv_inputs.specs.Traced.{traced_view}
 use Rattle.tv_block.specs.Values.{block_values}
 use Rattle.tv_core.specs.Lines.{Line}
 use Rattle.tv_lines.specs.Placed.{number_in}

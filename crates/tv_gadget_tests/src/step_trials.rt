@@ -2,7 +2,7 @@
 ghost use Rattle.std.specs.Prelude.{◌≡◌, ◌<◌, ◌^◌, true, false, slice_index, IfOk};
 ghost use Rattle.tv_block.specs.Values.{numbers_view};
 ghost use Rattle.tv_numbers.specs.Views.{ViewInRange};
-ghost use Rattle.tv_parts.specs.States.{StateUnder};
+ghost use Rattle.tv_inputs.specs.States.{StateUnder};
 ghost use Rattle.tv_step.specs.Range.{AreWords};
 ghost use Rattle.tv_word.specs.Widths.{IsWidth};
 

@@ -19,7 +19,7 @@ use Rattle.tv_step.specs.Rows.{word_size}
 use Rattle.tv_step.specs.Trace.{null_line}
 use Rattle.tv_word.proofs.WidthLaws.{for_widths}
 use Rattle.tv_word.specs.Widths.{IsWidth}
-use Rattle.tv_parts.specs.States.{state_in}
+use Rattle.tv_inputs.specs.States.{state_in}
 use Rattle.tv_layout.proofs.Blocks.{BlockSizes, HasCells, BlockIsSound}
 use Rattle.tv_layout.proofs.LineKinds.{of_image, first_boot, later_boot, least_first, some_first, later_first}
 use Rattle.tv_layout.proofs.MemoryCosts.{tape_kind, first_kinds, second_kinds, third_kinds}

@@ -4,8 +4,8 @@ use Rattle.std.specs.List.{range_with_len}
 use Rattle.std.specs.Prelude.{slice_index}
 use Rattle.tv_core.specs.Circuits.{turns, pure}
 use Rattle.tv_numbers.specs.Views.{View}
-use Rattle.tv_parts.specs.States.{StateUnder, state_in}
-use Rattle.tv_regs.specs.Reads.{words_at}
+use Rattle.tv_inputs.specs.States.{StateUnder, state_in}
+use Rattle.tv_bits.specs.Wires.{words_at}
 use Rattle.tv_layout.specs.Blocks.{BlockCircuit}
 use Rattle.tv_layout.specs.Layout.{first_state, steps_of, state_at}
 use Rattle.tv_layout.specs.declared.places.TheConstants.{STATE_WIRES}

@@ -14,7 +14,7 @@ use Rattle.tv_block.specs.Complete.{block_made}
 use Rattle.tv_block.specs.Places.{next_state, block_wires, IsShortLine}
 use Rattle.tv_block.specs.Under.{LineUnder}
 use Rattle.tv_block.specs.declared.records.Block.{Block}
-use Rattle.tv_parts.specs.declared.records.StateWires.{StateWires}
+use Rattle.tv_inputs.specs.declared.records.StateWires.{StateWires}
 use Rattle.tv_core.proofs.JoinedLaws.{joined_below-suc, length-joined_below}
 use Rattle.tv_core.specs.Below.{joined_below}
 use Rattle.tv_core.specs.Circuits.{pure, turns, ◌>>=◌}

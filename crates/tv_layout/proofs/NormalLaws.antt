@@ -13,8 +13,8 @@ use Rattle.tv_core.specs.Combinations.{wire, constant}
 use Rattle.tv_core.specs.Loops.{sequence}
 use Rattle.tv_core.specs.Normal.{IsNormal, AreNormal}
 use Rattle.tv_argument.proofs.NormalLaws.{memory_normal}
-use Rattle.tv_parts.proofs.NormalStates.{row_apart}
-use Rattle.tv_parts.specs.States.{StateUnder, StateIsApart}
+use Rattle.tv_inputs.proofs.NormalStates.{row_apart}
+use Rattle.tv_inputs.specs.States.{StateUnder, StateIsApart}
 use Rattle.tv_word.proofs.WidthLaws.{width_short}
 use Rattle.tv_word.specs.Widths.{IsWidth}
 use Rattle.tv_layout.proofs.FirstState.{first_under}

@@ -10,7 +10,7 @@ use Rattle.tv_block.specs.Block.{block_of}
 use Rattle.tv_block.specs.Complete.{block_made, block_added}
 use Rattle.tv_block.specs.Costs.{block_terms}
 use Rattle.tv_block.specs.declared.records.Reached.{Reached}
-use Rattle.tv_parts.specs.declared.records.StateWires.{StateWires}
+use Rattle.tv_inputs.specs.declared.records.StateWires.{StateWires}
 use Rattle.tv_core.specs.Below.{each_below, weighted}
 use Rattle.tv_core.specs.Circuits.{pure, here, fresh, put, ◌>>=◌, turns}
 use Rattle.tv_core.specs.Constraints.{Constraint}

@@ -26,7 +26,7 @@ use Rattle.tv_step.specs.Trace.{lines_of}
 use Rattle.tv_layout.proofs.Machine.{HonestFrom-right, holds, Led, led}
 use Rattle.tv_layout.proofs.Steps.{step, transition_at, next_state}
 use Rattle.tv_layout.proofs.TakenWords.{taken_in, taken_fits}
-use Rattle.tv_parts.specs.States.{state_in}
+use Rattle.tv_inputs.specs.States.{state_in}
 use Rattle.tv_layout.proofs.Blocks.{BlockSizes}
 use Rattle.tv_layout.specs.Blocks.{BlockCircuit}
 

@@ -25,7 +25,7 @@ use Rattle.tv_layout.proofs.Run.{Known, known_at, takes_at, accepts, reads_all}
 use Rattle.tv_layout.proofs.Steps.{step, transition_at, last_step, does, taken_words}
 use Rattle.tv_layout.proofs.TakenWords.{taken_in, taken_at_is, taken_of_is}
 use Rattle.tv_layout.proofs.Whole.{few, short, early, spare, lines, lines_valued, all_placed, lines_many}
-use Rattle.tv_parts.specs.States.{state_in}
+use Rattle.tv_inputs.specs.States.{state_in}
 use Rattle.tv_layout.proofs.Blocks.{BlockSizes, BlockIsSound}
 use Rattle.tv_layout.specs.Blocks.{BlockCircuit}
 use Rattle.tv_layout.proofs.Checked.{are_of_kinds}

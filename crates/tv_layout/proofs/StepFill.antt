@@ -19,7 +19,7 @@ use Rattle.tv_block.specs.Block.{IsMachineStep, transition_in}
 use Rattle.tv_layout.proofs.Blocks.{BlockIsSound, BlockIsComplete, Given, ShowsStep}
 use Rattle.tv_layout.specs.Blocks.{BlockCircuit, BlockValues}
 use Rattle.tv_block.specs.declared.records.Block.{Block}
-use Rattle.tv_parts.specs.declared.records.StateWires.{StateWires}
+use Rattle.tv_inputs.specs.declared.records.StateWires.{StateWires}
 use Rattle.tv_word.specs.Word.{flag_of}
 
 or_false : (e : Bool) → flag_of (e || false) ≡ flag_of e

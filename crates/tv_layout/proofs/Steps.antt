@@ -23,14 +23,14 @@ use Rattle.tv_step.specs.Rows.{instruction_size}
 use Rattle.tv_word.specs.Widths.{IsWidth}
 use Rattle.tv_layout.proofs.Boot.{LinesFrom-append}
 use Rattle.tv_layout.proofs.FirstState.{HoldsZeros, first_view}
-use Rattle.tv_parts.specs.States.{state_in}
+use Rattle.tv_inputs.specs.States.{state_in}
 use Rattle.tv_block.specs.Block.{IsMachineStep, transition_in, reached}
 use Rattle.tv_layout.proofs.Blocks.{BlockSizes, HasCells, BlockIsSound}
 use Rattle.tv_layout.proofs.TakenWords.{taken_in}
 use Rattle.tv_layout.specs.Blocks.{BlockCircuit}
 use Rattle.tv_layout.specs.Layout.{before_steps, step_of, steps_of, state_at, block_at}
 use Rattle.tv_block.specs.declared.records.Block.{Block}
-use Rattle.tv_parts.specs.declared.records.StateWires.{StateWires}
+use Rattle.tv_inputs.specs.declared.records.StateWires.{StateWires}
 use Rattle.tv_word.proofs.WidthLaws.{word_small}
 
 zero_word : (w : ℕ) → IsWidth w → 0 < 2 ^ w

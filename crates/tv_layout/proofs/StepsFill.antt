@@ -32,7 +32,7 @@ use Rattle.tv_layout.proofs.Sound.{starts}
 use Rattle.tv_layout.proofs.StepFill.{Stepped, step_met, shows, sound, stepped}
 use Rattle.tv_layout.proofs.Steps.{state, step, transition_at, next_state, last_step, start_held}
 use Rattle.tv_layout.proofs.TakenWords.{AuxCase.{Takes, Ends, Other}, aux_case, taken_in}
-use Rattle.tv_parts.specs.States.{state_in}
+use Rattle.tv_inputs.specs.States.{state_in}
 use Rattle.tv_numbers.specs.Shown.{MayTake}
 use Rattle.tv_layout.proofs.Blocks.{BlockSizes, BlockIsSound, BlockIsComplete, Given}
 use Rattle.tv_layout.specs.Blocks.{BlockCircuit, BlockValues, view_of}

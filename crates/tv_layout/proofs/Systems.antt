@@ -4,7 +4,7 @@ use Rattle.tv_block.proofs.BlockLaws.{step_in, block_sound}
 use Rattle.tv_block.proofs.MachineFills.{machine_step_met, machine_values_fit}
 use Rattle.tv_block.specs.Block.{block_of}
 use Rattle.tv_block.specs.Complete.{block_made, step_values}
-use Rattle.tv_parts.specs.States.{state_in}
+use Rattle.tv_inputs.specs.States.{state_in}
 use Rattle.tv_word.proofs.FlagLaws.{flag_small}
 use Rattle.tv_word.specs.Widths.{IsWidth}
 use Rattle.tv_layout.proofs.Fill.{fill_complete}

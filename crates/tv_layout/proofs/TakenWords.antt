@@ -3,7 +3,7 @@ use Rattle.std.proofs.Common.{◌≡◌, ℕ, Bool, true, false, List, [], ◌�
 use Rattle.std.proofs.lemmas.List.{map-append}
 use Rattle.std.specs.List.{range_with_len, flat_map}
 use Rattle.std.specs.Prelude.{slice_get, slice_index, ◌==◌, ◌&&◌, not, is_some, if◌then◌else◌}
-use Rattle.tv_parts.specs.declared.records.Spot.{Spot}
+use Rattle.tv_inputs.specs.declared.records.Spot.{Spot}
 use Rattle.tv_core.specs.Below.{joined_below}
 use Rattle.tv_layout.specs.Blocks.{BlockCircuit}
 use Rattle.tv_layout.specs.Layout.{taken_wire, taken_wires, taken_at, taken_of, step_block}

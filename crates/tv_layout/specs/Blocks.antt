@@ -1,7 +1,7 @@
 -- The circuit of one step, and the values of its wires, as a system takes them.
 use Rattle.std.specs.Prelude.{ℕ, ◌-◌, Bool, List, length, Option}
 use Rattle.tv_block.specs.declared.records.Block.{Block}
-use Rattle.tv_parts.specs.declared.records.StateWires.{StateWires}
+use Rattle.tv_inputs.specs.declared.records.StateWires.{StateWires}
 use Rattle.tv_core.specs.Circuits.{Circuit}
 use Rattle.tv_numbers.specs.Views.{View, seen}
 use Rattle.tv_step.specs.State.{State}

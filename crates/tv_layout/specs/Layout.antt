@@ -19,8 +19,8 @@ use Rattle.tv_layout.specs.declared.places.TheConstants.{STATE_WIRES}
 use Rattle.tv_block.specs.Block.{reached}
 use Rattle.tv_block.specs.declared.records.Block.{Block}
 use Rattle.tv_block.specs.declared.records.Reached.{Reached}
-use Rattle.tv_parts.specs.declared.records.Spot.{Spot}
-use Rattle.tv_parts.specs.declared.records.StateWires.{StateWires}
+use Rattle.tv_inputs.specs.declared.records.Spot.{Spot}
+use Rattle.tv_inputs.specs.declared.records.StateWires.{StateWires}
 
 -- ---- the parts
 -- n wires from a first one on hold words of w bits

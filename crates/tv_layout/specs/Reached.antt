@@ -1,6 +1,6 @@
 -- What the steps so far lead to, as wires that were made.
 use Rattle.std.specs.Prelude.{ℕ, ◌<◌}
-use Rattle.tv_parts.specs.States.{StateUnder}
+use Rattle.tv_inputs.specs.States.{StateUnder}
 use Rattle.tv_block.specs.declared.records.Reached.{Reached}
 
 -- all its wires are below a number

@@ -8,7 +8,7 @@ use Rattle.tv_step.specs.Machine.{start, state_after, Accepts}
 use Rattle.tv_step.specs.Range.{AreWords}
 use Rattle.tv_step.specs.Reads.{word_taken, words_in, Reads}
 use Rattle.tv_step.specs.Trace.{null_line}
-use Rattle.tv_parts.specs.States.{state_in}
+use Rattle.tv_inputs.specs.States.{state_in}
 use Rattle.tv_layout.specs.Blocks.{BlockCircuit}
 use Rattle.tv_layout.specs.Layout.{step_state, step_block, system_lines, taken_at, taken_of}
 use Rattle.tv_layout.specs.Places.{line_count, log_of, ProgramRuns, runs_like}

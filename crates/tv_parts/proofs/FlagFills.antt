@@ -1,9 +1,9 @@
 -- The laws of the flag after a step.
-use Rattle.std.proofs.Common.{◌≡◌, ℕ, ◌+◌, ◌-◌, ◌*◌, ◌%◌, ◌^◌, ◌<◌, ◌==◌, ◌&&◌, Bool, true, false, if◌then◌else◌, List, [], ◌∷◌, ◌++◌, length, inl, inr, refl}
-use Rattle.std.proofs.Common.{sym, ◌∙◌, ap, ap₂, arith, mod-lt, true≢false}
+use Rattle.std.proofs.Common.{◌≡◌, ℕ, ◌+◌, ◌-◌, ◌*◌, ◌%◌, ◌^◌, ◌<◌, ◌==◌, Bool, true, false, if◌then◌else◌, List, [], ◌∷◌, ◌++◌, length, inl, inr, refl}
+use Rattle.std.proofs.Common.{sym, ◌∙◌, ap, ap₂, arith, mod-lt}
 use Rattle.std.specs.Int.{bit_at}
-use Rattle.std.specs.Prelude.{slice_index, nat_lt}
-use Rattle.std.proofs.lemmas.Bool.{cases_eq, eqb-true, ne_eqb, and_parts}
+use Rattle.std.specs.Prelude.{slice_index}
+use Rattle.std.proofs.lemmas.Bool.{cases_eq, ne_eqb}
 use Rattle.tv_bits.proofs.TimesLaws.{times_sound, times_complete, times_next}
 use Rattle.tv_bits.specs.Times.{times_of}
 use Rattle.tv_bits.specs.declared.bit_wires.Bits.{Bits}
@@ -18,48 +18,26 @@ use Rattle.tv_core.specs.Meanings.{terms_in}
 use Rattle.tv_core.specs.declared.field.TheConstants.{P}
 use Rattle.tv_isa.specs.Opcodes.{among, chosen, keeper_ops}
 use Rattle.tv_isa.specs.declared.instr.Instr.{Instr}
-use Rattle.tv_numbers.specs.Numbers.{operand_word, other_word, takes_primary, asks, found}
+use Rattle.tv_numbers.specs.Numbers.{operand_word, other_word, takes_primary, found}
 use Rattle.tv_numbers.specs.Tables.{flags}
 use Rattle.tv_numbers.proofs.Cases.{chosen_in}
 use Rattle.tv_numbers.specs.Views.{View}
 use Rattle.tv_word.proofs.FlagLaws.{flag_small}
 use Rattle.tv_word.specs.Widths.{IsWidth}
-use Rattle.tv_parts.proofs.AccumulationLaws.{accumulated_sound, accumulated_complete}
-use Rattle.tv_parts.proofs.FieldNumbers.{flag_in_field, either}
+use Rattle.tv_inputs.proofs.AccumulationLaws.{accumulated_sound, accumulated_complete}
+use Rattle.tv_inputs.proofs.FieldNumbers.{flag_in_field, either}
 use Rattle.tv_parts.proofs.FlagLaws.{raised_ops, flag_sum, FlagCase, flag_number}
-use Rattle.tv_parts.proofs.OpcodeLaws.{opcode_sum_sound}
-use Rattle.tv_parts.proofs.TapeGates.{value-two}
-use Rattle.tv_parts.proofs.TapeLaws.{among_one}
-use Rattle.tv_parts.specs.Accumulation.{closed_of}
+use Rattle.tv_inputs.proofs.OpcodeLaws.{opcode_sum_sound}
+use Rattle.tv_inputs.proofs.TapeGates.{value-two}
+use Rattle.tv_inputs.proofs.TapeLaws.{among_one, no_primary, no_auxiliary, one_tape}
+use Rattle.tv_inputs.specs.Accumulation.{closed_of}
 use Rattle.tv_parts.specs.Flag.{tested_in, next_flag_of, HasFlag, flag_in, flag_values, FlagIsSound, FlagIsComplete, FlagSizes, FlagCosts}
-use Rattle.tv_parts.specs.Inputs.{input_of}
-use Rattle.tv_parts.specs.OpcodeSums.{opcode_sum}
-use Rattle.tv_parts.specs.Tapes.{took}
-use Rattle.tv_parts.specs.declared.records.StateWires.{StateWires}
-use Rattle.tv_parts.specs.declared.records.TapeWires.{TapeWires}
+use Rattle.tv_inputs.specs.Inputs.{input_of}
+use Rattle.tv_inputs.specs.OpcodeSums.{opcode_sum}
+use Rattle.tv_inputs.specs.Tapes.{took}
+use Rattle.tv_inputs.specs.declared.records.StateWires.{StateWires}
+use Rattle.tv_inputs.specs.declared.records.TapeWires.{TapeWires}
 use Rattle.tv_word.specs.Word.{flag_of}
-
--- ---- what is taken of the tapes
--- nothing but at a read
-pub no_primary : (v : View) (i : Instr) (n : ℕ) → (i.op == 30) ≡ false → takes_primary v i n ≡ false
-no_primary v i n e = ap (λ b. (b && (operand_word v i == 0)) && nat_lt v.taken n) e
-
-pub no_auxiliary : (v : View) (i : Instr) (t : Bool) → (t ≡ true → asks v i ≡ true) → (i.op == 30) ≡ false → t ≡ false
-no_auxiliary v i true asked e = absurd (true≢false (sym (asked refl) ∙ ap (λ b. (b && (operand_word v i == 1)) && (v.ended == 0)) e))
-no_auxiliary v i false asked e = refl
-
--- and of one tape alone
-pub one_tape : (v : View) (i : Instr) (n : ℕ) (t : Bool) → (t ≡ true → asks v i ≡ true) → takes_primary v i n ≡ true → t ≡ false
-one_tape v i n true asked p =
-    let first = and_parts ((i.op == 30) && (operand_word v i == 0)) (nat_lt v.taken n) p in
-    let zeroth = and_parts (i.op == 30) (operand_word v i == 0) first.0 in
-    let other = and_parts ((i.op == 30) && (operand_word v i == 1)) (v.ended == 0) (asked refl) in
-    let one = and_parts (i.op == 30) (operand_word v i == 1) other.0 in
-    absurd (apart (operand_word v i) (eqb-true (operand_word v i) 0 zeroth.1) (eqb-true (operand_word v i) 1 one.1))
-  where
-    apart : (a : ℕ) → a ≡ 0 → a ≡ 1 → ⊥
-    apart a e f = absurd (omega arith)
-one_tape v i n false asked p = refl
 
 -- ---- the combinations' values
 -- a shift's bit in place of the test, as a product with its opcode's wire

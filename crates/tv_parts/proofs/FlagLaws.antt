@@ -20,8 +20,8 @@ use Rattle.tv_word.specs.Twos.{twos, fits}
 use Rattle.tv_word.specs.Widths.{IsWidth}
 use Rattle.tv_word.specs.Word.{has_bit, signed, flag_of}
 use Rattle.tv_parts.specs.Flag.{sign_at}
-use Rattle.tv_parts.specs.Results.{zero_ops, tested_numbers}
-use Rattle.tv_parts.specs.Rows.{covers, AreHalves}
+use Rattle.tv_inputs.specs.TestNumbers.{zero_ops, tested_numbers}
+use Rattle.tv_inputs.specs.Rows.{covers, AreHalves}
 
 -- ---- tests
 minus_of : (y f : ℕ) → f ≡ (if y == 0 then P - 1 else 0) → (1 + f) % P ≡ nonzero_flag y

@@ -27,26 +27,26 @@ use Rattle.tv_step.specs.Rows.{word_size}
 use Rattle.tv_step.specs.Trace.{tape_cell}
 use Rattle.tv_word.proofs.WidthLaws.{for_widths, word_small}
 use Rattle.tv_word.specs.Widths.{IsWidth}
-use Rattle.tv_parts.proofs.AccumulationLaws.{accumulated_sound, accumulated_complete, accumulated_next}
-use Rattle.tv_parts.proofs.FieldNumbers.{small_word, byte_small, either, flag_times}
+use Rattle.tv_inputs.proofs.AccumulationLaws.{accumulated_sound, accumulated_complete, accumulated_next}
+use Rattle.tv_inputs.proofs.FieldNumbers.{small_word, byte_small, either, flag_times}
 use Rattle.tv_parts.proofs.MemoryLaws.{located_is, line_cell, line_old, word_below, power_two, power_four, put_in_by, place_small, byte_value}
 use Rattle.tv_parts.proofs.MemoryLaws.{low_bit, next_bit, parity_bit, new_by, byte_laws}
-use Rattle.tv_parts.proofs.OpcodeLaws.{opcode_sum_sound}
-use Rattle.tv_parts.proofs.TapeGates.{value-two, value-four}
-use Rattle.tv_parts.proofs.TapeLaws.{among_one}
-use Rattle.tv_parts.specs.Accumulation.{closed_of, accumulated_of}
-use Rattle.tv_parts.specs.Inputs.{input_of}
+use Rattle.tv_inputs.proofs.OpcodeLaws.{opcode_sum_sound}
+use Rattle.tv_inputs.proofs.TapeGates.{value-two, value-four}
+use Rattle.tv_inputs.proofs.TapeLaws.{among_one}
+use Rattle.tv_inputs.specs.Accumulation.{closed_of, accumulated_of}
+use Rattle.tv_inputs.specs.Inputs.{input_of}
 use Rattle.tv_parts.specs.Memory.{located_line, byte_of_pair, byte_of_four, byte_at_of, power_in, new_of, memory_of, line_values, byte_values, gained}
 use Rattle.tv_parts.specs.Memory.{new_values, memory_values, HasMemory, MemoryIsSound, MemoryIsComplete, MemorySizes, MemoryCosts}
-use Rattle.tv_parts.specs.OpcodeSums.{opcode_sum}
-use Rattle.tv_parts.specs.Operand.{upper_of}
-use Rattle.tv_parts.specs.Tapes.{primary_in}
-use Rattle.tv_parts.specs.declared.records.DataWires.{DataWires}
-use Rattle.tv_parts.specs.declared.records.LineWires.{LineWires}
-use Rattle.tv_parts.specs.declared.records.OperandWires.{OperandWires}
-use Rattle.tv_parts.specs.declared.records.StateWires.{StateWires}
-use Rattle.tv_parts.specs.declared.records.StoreWires.{StoreWires}
-use Rattle.tv_parts.specs.declared.records.TapeWires.{TapeWires}
+use Rattle.tv_inputs.specs.OpcodeSums.{opcode_sum}
+use Rattle.tv_inputs.specs.Operand.{upper_of}
+use Rattle.tv_inputs.specs.Tapes.{primary_in}
+use Rattle.tv_inputs.specs.declared.records.DataWires.{DataWires}
+use Rattle.tv_inputs.specs.declared.records.LineWires.{LineWires}
+use Rattle.tv_inputs.specs.declared.records.OperandWires.{OperandWires}
+use Rattle.tv_inputs.specs.declared.records.StateWires.{StateWires}
+use Rattle.tv_inputs.specs.declared.records.StoreWires.{StoreWires}
+use Rattle.tv_inputs.specs.declared.records.TapeWires.{TapeWires}
 use Rattle.tv_word.specs.Word.{flag_of}
 
 power_is : (z : List ℕ) (a both at : ℕ) → slice_index z 0 ≡ 1 → slice_index z both ≡ slice_index z a * slice_index z (a + 1) % P → (w : ℕ) → IsWidth w

@@ -25,22 +25,22 @@ use Rattle.tv_step.specs.Rows.{word_size}
 use Rattle.tv_step.specs.Trace.{tape_cell}
 use Rattle.tv_word.proofs.WidthLaws.{width_short, for_widths}
 use Rattle.tv_word.specs.Widths.{IsWidth}
-use Rattle.tv_parts.proofs.AccumulationLaws.{accumulated_sound, accumulated_complete, accumulated_next}
-use Rattle.tv_parts.proofs.FieldNumbers.{small_word, byte_small, flag_times}
-use Rattle.tv_parts.proofs.FlagFills.{no_primary}
-use Rattle.tv_parts.proofs.OpcodeLaws.{opcode_sum_sound}
-use Rattle.tv_parts.proofs.TapeGates.{value-two, value-three}
-use Rattle.tv_parts.proofs.UpperLaws.{upper_once}
-use Rattle.tv_parts.specs.Accumulation.{accumulated_of}
-use Rattle.tv_parts.specs.Inputs.{input_of}
+use Rattle.tv_inputs.proofs.AccumulationLaws.{accumulated_sound, accumulated_complete, accumulated_next}
+use Rattle.tv_inputs.proofs.FieldNumbers.{small_word, byte_small, flag_times}
+use Rattle.tv_inputs.proofs.TapeLaws.{no_primary}
+use Rattle.tv_inputs.proofs.OpcodeLaws.{opcode_sum_sound}
+use Rattle.tv_inputs.proofs.TapeGates.{value-two, value-three}
+use Rattle.tv_inputs.proofs.UpperLaws.{upper_once}
+use Rattle.tv_inputs.specs.Accumulation.{accumulated_of}
+use Rattle.tv_inputs.specs.Inputs.{input_of}
 use Rattle.tv_parts.specs.Memory.{byte_of_pair, byte_of_four, byte_at_of, byte_values, gained, HasMemory}
-use Rattle.tv_parts.specs.OpcodeSums.{opcode_sum}
-use Rattle.tv_parts.specs.Operand.{upper_of}
-use Rattle.tv_parts.specs.Tapes.{primary_in}
-use Rattle.tv_parts.specs.declared.records.DataWires.{DataWires}
-use Rattle.tv_parts.specs.declared.records.OperandWires.{OperandWires}
-use Rattle.tv_parts.specs.declared.records.StateWires.{StateWires}
-use Rattle.tv_parts.specs.declared.records.TapeWires.{TapeWires}
+use Rattle.tv_inputs.specs.OpcodeSums.{opcode_sum}
+use Rattle.tv_inputs.specs.Operand.{upper_of}
+use Rattle.tv_inputs.specs.Tapes.{primary_in}
+use Rattle.tv_inputs.specs.declared.records.DataWires.{DataWires}
+use Rattle.tv_inputs.specs.declared.records.OperandWires.{OperandWires}
+use Rattle.tv_inputs.specs.declared.records.StateWires.{StateWires}
+use Rattle.tv_inputs.specs.declared.records.TapeWires.{TapeWires}
 use Rattle.tv_word.specs.Word.{flag_of}
 
 -- ---- numbers of the line

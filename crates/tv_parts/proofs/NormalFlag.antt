@@ -12,13 +12,13 @@ use Rattle.tv_core.specs.Normal.{IsNormal, IsNormalFrom, AreNormal}
 use Rattle.tv_core.specs.declared.field.TheConstants.{P}
 use Rattle.tv_isa.specs.Opcodes.{keeper_ops}
 use Rattle.tv_isa.specs.declared.opcode.TheConstants.{ADD, MULL, UMULH, SMULH, SHL, SHR, CMPA, CMPAE, CMPG, CMPGE, READ}
-use Rattle.tv_parts.proofs.NormalAccumulation.{accumulated_normal}
-use Rattle.tv_parts.proofs.NormalOpcodes.{opcode_sum_normal, opcodes_then, opcodes_top}
-use Rattle.tv_parts.specs.Accumulation.{closed_of}
+use Rattle.tv_inputs.proofs.NormalAccumulation.{accumulated_normal}
+use Rattle.tv_inputs.proofs.NormalOpcodes.{opcode_sum_normal, opcodes_then, opcodes_top}
+use Rattle.tv_inputs.specs.Accumulation.{closed_of}
 use Rattle.tv_parts.specs.Flag.{tested_in, next_flag_of}
-use Rattle.tv_parts.specs.OpcodeSums.{opcode_sum}
-use Rattle.tv_parts.specs.declared.records.StateWires.{StateWires}
-use Rattle.tv_parts.specs.declared.records.TapeWires.{TapeWires}
+use Rattle.tv_inputs.specs.OpcodeSums.{opcode_sum}
+use Rattle.tv_inputs.specs.declared.records.StateWires.{StateWires}
+use Rattle.tv_inputs.specs.declared.records.TapeWires.{TapeWires}
 
 -- the opcodes whose sign is negative, and read
 abbrev turned_ops : List ℕ

@@ -14,19 +14,19 @@ use Rattle.tv_isa.specs.Opcodes.{memory_ops}
 use Rattle.tv_isa.specs.declared.opcode.TheConstants.{STORE_B, STORE_W}
 use Rattle.tv_word.proofs.WidthLaws.{for_widths}
 use Rattle.tv_word.specs.Widths.{IsWidth}
-use Rattle.tv_parts.proofs.NormalAccumulation.{accumulated_normal}
-use Rattle.tv_parts.proofs.NormalOpcodes.{opcode_sum_normal, opcodes_then}
-use Rattle.tv_parts.proofs.UpperLaws.{upper_normal}
-use Rattle.tv_parts.specs.Accumulation.{closed_of}
+use Rattle.tv_inputs.proofs.NormalAccumulation.{accumulated_normal}
+use Rattle.tv_inputs.proofs.NormalOpcodes.{opcode_sum_normal, opcodes_then}
+use Rattle.tv_inputs.proofs.UpperLaws.{upper_normal}
+use Rattle.tv_inputs.specs.Accumulation.{closed_of}
 use Rattle.tv_parts.specs.Memory.{located_line, byte_of_pair, byte_of_four, byte_at_of, power_in, new_of, memory_of}
-use Rattle.tv_parts.specs.OpcodeSums.{opcode_sum}
-use Rattle.tv_parts.specs.Operand.{upper_of}
-use Rattle.tv_parts.specs.Tapes.{primary_in}
-use Rattle.tv_parts.specs.declared.records.DataWires.{DataWires}
-use Rattle.tv_parts.specs.declared.records.LineWires.{LineWires}
-use Rattle.tv_parts.specs.declared.records.OperandWires.{OperandWires}
-use Rattle.tv_parts.specs.declared.records.StateWires.{StateWires}
-use Rattle.tv_parts.specs.declared.records.TapeWires.{TapeWires}
+use Rattle.tv_inputs.specs.OpcodeSums.{opcode_sum}
+use Rattle.tv_inputs.specs.Operand.{upper_of}
+use Rattle.tv_inputs.specs.Tapes.{primary_in}
+use Rattle.tv_inputs.specs.declared.records.DataWires.{DataWires}
+use Rattle.tv_inputs.specs.declared.records.LineWires.{LineWires}
+use Rattle.tv_inputs.specs.declared.records.OperandWires.{OperandWires}
+use Rattle.tv_inputs.specs.declared.records.StateWires.{StateWires}
+use Rattle.tv_inputs.specs.declared.records.TapeWires.{TapeWires}
 
 -- ---- the cell
 cells_normal : (w : ℕ) → IsWidth w → (a : OperandWires) → 0 < a.word → a.word < a.bits.first → IsNormal ((P - NULL_CELL, 0) ∷ upper_of 1 a (w / 16))

@@ -11,15 +11,15 @@ use Rattle.tv_isa.specs.Opcodes.{place_of}
 use Rattle.tv_isa.specs.declared.opcode.TheConstants.{JMP, CJMP, CNJMP, ANSWER}
 use Rattle.tv_word.proofs.WidthLaws.{for_widths}
 use Rattle.tv_word.specs.Widths.{IsWidth}
-use Rattle.tv_parts.proofs.NormalAccumulation.{accumulated_normal}
-use Rattle.tv_parts.proofs.NormalTapes.{if_zero_normal}
-use Rattle.tv_parts.proofs.UpperLaws.{upper_normal, upper_top}
-use Rattle.tv_parts.specs.Accumulation.{closed_of}
-use Rattle.tv_parts.specs.Operand.{upper_of}
+use Rattle.tv_inputs.proofs.NormalAccumulation.{accumulated_normal}
+use Rattle.tv_inputs.proofs.NormalTapes.{if_zero_normal}
+use Rattle.tv_inputs.proofs.UpperLaws.{upper_normal, upper_top}
+use Rattle.tv_inputs.specs.Accumulation.{closed_of}
+use Rattle.tv_inputs.specs.Operand.{upper_of}
 use Rattle.tv_parts.specs.Pc.{from_last, goes_in, after_in, jump_in, pc_of}
-use Rattle.tv_parts.specs.Tapes.{if_zero_of}
-use Rattle.tv_parts.specs.declared.records.OperandWires.{OperandWires}
-use Rattle.tv_parts.specs.declared.records.StateWires.{StateWires}
+use Rattle.tv_inputs.specs.Tapes.{if_zero_of}
+use Rattle.tv_inputs.specs.declared.records.OperandWires.{OperandWires}
+use Rattle.tv_inputs.specs.declared.records.StateWires.{StateWires}
 
 -- ---- what depends on the width
 abbrev LastIsNormal : ℕ → Type 0

@@ -9,14 +9,14 @@ use Rattle.tv_isa.specs.Opcodes.{writer_ops}
 use Rattle.tv_isa.specs.declared.opcode.TheConstants.{CMOV}
 use Rattle.tv_regs.proofs.NormalLaws.{reg_below, update_normal}
 use Rattle.tv_regs.specs.declared.triple.Triple.{Triple}
-use Rattle.tv_parts.proofs.AccumulationLaws.{accumulated_next}
-use Rattle.tv_parts.proofs.NormalAccumulation.{accumulated_normal}
-use Rattle.tv_parts.proofs.NormalOpcodes.{opcode_sum_normal, opcodes_top}
-use Rattle.tv_parts.specs.Accumulation.{accumulated_of}
-use Rattle.tv_parts.specs.OpcodeSums.{opcode_sum}
-use Rattle.tv_parts.specs.States.{StateUnder, StateIsApart}
+use Rattle.tv_inputs.proofs.AccumulationLaws.{accumulated_next}
+use Rattle.tv_inputs.proofs.NormalAccumulation.{accumulated_normal}
+use Rattle.tv_inputs.proofs.NormalOpcodes.{opcode_sum_normal, opcodes_top}
+use Rattle.tv_inputs.specs.Accumulation.{accumulated_of}
+use Rattle.tv_inputs.specs.OpcodeSums.{opcode_sum}
+use Rattle.tv_inputs.specs.States.{StateUnder, StateIsApart}
 use Rattle.tv_parts.specs.Written.{written_of}
-use Rattle.tv_parts.specs.declared.records.StateWires.{StateWires}
+use Rattle.tv_inputs.specs.declared.records.StateWires.{StateWires}
 
 pub written_normal : (op : ℕ) (state : StateWires) (regs : Triple) (result next : ℕ) → StateUnder next state → StateIsApart state → op + 29 ≤ next
     → 0 < regs.dest → regs.dest_word < result → AreNormal (written_of op state regs result next).list

@@ -23,20 +23,20 @@ use Rattle.tv_numbers.specs.Views.{View}
 use Rattle.tv_word.proofs.FlagLaws.{flag_small}
 use Rattle.tv_word.proofs.WidthLaws.{for_widths}
 use Rattle.tv_word.specs.Widths.{IsWidth}
-use Rattle.tv_parts.proofs.AccumulationLaws.{accumulated_sound, accumulated_complete}
-use Rattle.tv_parts.proofs.OpcodeLaws.{opcode_wire_is}
+use Rattle.tv_inputs.proofs.AccumulationLaws.{accumulated_sound, accumulated_complete}
+use Rattle.tv_inputs.proofs.OpcodeLaws.{opcode_wire_is}
 use Rattle.tv_numbers.proofs.Cases.{chosen_in}
 use Rattle.tv_parts.proofs.PcLaws.{distance, wrap_of, after_of, flag_jump, jump_gate, target_by, jump_number, pc_number}
-use Rattle.tv_parts.proofs.FieldNumbers.{flag_in_field, either}
-use Rattle.tv_parts.proofs.TapeFills.{if_zero_next}
-use Rattle.tv_parts.proofs.TapeGates.{value-two, value-three, value-four, if_zero_sound, if_zero_complete}
-use Rattle.tv_parts.proofs.UpperLaws.{upper_is, length-upper}
-use Rattle.tv_parts.specs.Accumulation.{closed_of}
-use Rattle.tv_parts.specs.Operand.{upper_of}
+use Rattle.tv_inputs.proofs.FieldNumbers.{flag_in_field, either}
+use Rattle.tv_inputs.proofs.TapeFills.{if_zero_next}
+use Rattle.tv_inputs.proofs.TapeGates.{value-two, value-three, value-four, if_zero_sound, if_zero_complete}
+use Rattle.tv_inputs.proofs.UpperLaws.{upper_is, length-upper}
+use Rattle.tv_inputs.specs.Accumulation.{closed_of}
+use Rattle.tv_inputs.specs.Operand.{upper_of}
 use Rattle.tv_parts.specs.Pc.{from_last, goes_in, after_in, jump_in, pc_of, pc_values, HasPc, PcIsSound, PcIsComplete, PcSizes, PcCosts}
-use Rattle.tv_parts.specs.Tapes.{if_zero_of}
-use Rattle.tv_parts.specs.declared.records.OperandWires.{OperandWires}
-use Rattle.tv_parts.specs.declared.records.StateWires.{StateWires}
+use Rattle.tv_inputs.specs.Tapes.{if_zero_of}
+use Rattle.tv_inputs.specs.declared.records.OperandWires.{OperandWires}
+use Rattle.tv_inputs.specs.declared.records.StateWires.{StateWires}
 use Rattle.tv_word.specs.Word.{flag_of}
 
 -- ---- the combinations' values

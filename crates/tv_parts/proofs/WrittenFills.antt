@@ -18,19 +18,19 @@ use Rattle.tv_core.specs.declared.field.TheConstants.{P}
 use Rattle.tv_isa.specs.Opcodes.{among, writer_ops}
 use Rattle.tv_numbers.specs.Numbers.{writes, stepped, result_in}
 use Rattle.tv_regs.proofs.UpdateLaws.{update_complete, update_sizes, update_costs}
-use Rattle.tv_regs.specs.Reads.{words_at}
+use Rattle.tv_bits.specs.Wires.{words_at}
 use Rattle.tv_regs.specs.Update.{update_of}
 use Rattle.tv_regs.specs.Writes.{written_regs}
 use Rattle.tv_regs.specs.declared.triple.Triple.{Triple}
-use Rattle.tv_parts.proofs.AccumulationLaws.{accumulated_complete, accumulated_answer, accumulated_next}
-use Rattle.tv_parts.proofs.OpcodeLaws.{opcode_sum_sound}
-use Rattle.tv_parts.proofs.TapeFills.{flag_test}
-use Rattle.tv_parts.proofs.TapeLaws.{among_one}
-use Rattle.tv_parts.specs.Accumulation.{accumulated_of, closed_of}
+use Rattle.tv_inputs.proofs.AccumulationLaws.{accumulated_complete, accumulated_answer, accumulated_next}
+use Rattle.tv_inputs.proofs.OpcodeLaws.{opcode_sum_sound}
+use Rattle.tv_inputs.proofs.TapeFills.{flag_test}
+use Rattle.tv_inputs.proofs.TapeLaws.{among_one}
+use Rattle.tv_inputs.specs.Accumulation.{accumulated_of, closed_of}
 use Rattle.tv_parts.specs.Written.{written_of}
-use Rattle.tv_parts.specs.OpcodeSums.{opcode_sum}
+use Rattle.tv_inputs.specs.OpcodeSums.{opcode_sum}
 use Rattle.tv_parts.specs.Written.{WrittenIsComplete, WrittenSizes, WrittenCosts}
-use Rattle.tv_parts.specs.declared.records.StateWires.{StateWires}
+use Rattle.tv_inputs.specs.declared.records.StateWires.{StateWires}
 use Rattle.tv_word.proofs.FlagLaws.{flag_small}
 use Rattle.tv_word.specs.Word.{flag_of}
 

@@ -17,14 +17,14 @@ use Rattle.tv_numbers.specs.Numbers.{operand_word, other_word, found, result_in}
 use Rattle.tv_numbers.specs.Tables.{flags}
 use Rattle.tv_numbers.specs.Views.{View}
 use Rattle.tv_word.specs.Widths.{IsWidth}
-use Rattle.tv_parts.specs.Accumulation.{accumulated_of}
-use Rattle.tv_parts.specs.Inputs.{FlagWires, StepInput, input_of, ResultNumbers}
-use Rattle.tv_parts.specs.OpcodeSums.{opcode_sum, IsOpcode}
-use Rattle.tv_parts.specs.Results.{plus_ops, minus_ops, zero_ops, tested_numbers}
-use Rattle.tv_parts.specs.Rows.{covers, AreHalves}
-use Rattle.tv_parts.specs.Tapes.{took, AreTapes}
-use Rattle.tv_parts.specs.declared.records.StateWires.{StateWires}
-use Rattle.tv_parts.specs.declared.records.TapeWires.{TapeWires}
+use Rattle.tv_inputs.specs.Accumulation.{accumulated_of}
+use Rattle.tv_inputs.specs.Inputs.{FlagWires, StepInput, input_of, ResultNumbers}
+use Rattle.tv_inputs.specs.OpcodeSums.{opcode_sum, IsOpcode}
+use Rattle.tv_inputs.specs.TestNumbers.{plus_ops, minus_ops, zero_ops, tested_numbers}
+use Rattle.tv_inputs.specs.Rows.{covers, AreHalves}
+use Rattle.tv_inputs.specs.Tapes.{took, AreTapes}
+use Rattle.tv_inputs.specs.declared.records.StateWires.{StateWires}
+use Rattle.tv_inputs.specs.declared.records.TapeWires.{TapeWires}
 use Rattle.tv_word.specs.Word.{flag_of}
 
 -- the flag where it isn't kept, without the shifts' bits: the test f, 1 more where its sign is negative, and 1 less what

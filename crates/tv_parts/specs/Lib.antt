@@ -1,17 +1,4 @@
-pub mod Accumulation
-pub mod Arithmetic
 pub mod Flag
 pub mod Memory
-pub mod OpcodeSums
-pub mod Operand
 pub mod Pc
-pub mod Results
-pub mod Rows
-pub mod States
-pub mod Inputs
-pub mod Tapes
-pub mod Traced
 pub mod Written
-pub use Rattle.tv_core.specs.Combinations
-pub use Rattle.tv_core.specs.Values
-pub use Rattle.tv_core.specs.Sinks

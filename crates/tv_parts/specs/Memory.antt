@@ -17,17 +17,17 @@ use Rattle.tv_numbers.specs.Numbers.{operand_word, other_word, touches, old_in, 
 use Rattle.tv_numbers.specs.Views.{View}
 use Rattle.tv_step.specs.Rows.{word_size}
 use Rattle.tv_word.specs.Widths.{IsWidth}
-use Rattle.tv_parts.specs.Accumulation.{accumulated_of}
-use Rattle.tv_parts.specs.Inputs.{TapedWires, StepInput, input_of}
-use Rattle.tv_parts.specs.OpcodeSums.{opcode_sum, IsOpcode}
-use Rattle.tv_parts.specs.Operand.{upper_of, IsOperand}
-use Rattle.tv_parts.specs.Tapes.{primary_in, AreTapes}
-use Rattle.tv_parts.specs.declared.records.DataWires.{DataWires}
-use Rattle.tv_parts.specs.declared.records.LineWires.{LineWires}
-use Rattle.tv_parts.specs.declared.records.OperandWires.{OperandWires}
-use Rattle.tv_parts.specs.declared.records.StateWires.{StateWires}
-use Rattle.tv_parts.specs.declared.records.StoreWires.{StoreWires}
-use Rattle.tv_parts.specs.declared.records.TapeWires.{TapeWires}
+use Rattle.tv_inputs.specs.Accumulation.{accumulated_of}
+use Rattle.tv_inputs.specs.Inputs.{TapedWires, StepInput, input_of}
+use Rattle.tv_inputs.specs.OpcodeSums.{opcode_sum, IsOpcode}
+use Rattle.tv_inputs.specs.Operand.{upper_of, IsOperand}
+use Rattle.tv_inputs.specs.Tapes.{primary_in, AreTapes}
+use Rattle.tv_inputs.specs.declared.records.DataWires.{DataWires}
+use Rattle.tv_inputs.specs.declared.records.LineWires.{LineWires}
+use Rattle.tv_inputs.specs.declared.records.OperandWires.{OperandWires}
+use Rattle.tv_inputs.specs.declared.records.StateWires.{StateWires}
+use Rattle.tv_inputs.specs.declared.records.StoreWires.{StoreWires}
+use Rattle.tv_inputs.specs.declared.records.TapeWires.{TapeWires}
 
 -- ---- the cell
 -- the cell of the data line, and the word that it holds before the step: at a load or store that of the operand's

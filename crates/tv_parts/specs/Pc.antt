@@ -16,13 +16,13 @@ use Rattle.tv_numbers.specs.Numbers.{operand_word}
 use Rattle.tv_numbers.specs.Tables.{pcs}
 use Rattle.tv_numbers.specs.Views.{View}
 use Rattle.tv_word.specs.Widths.{IsWidth}
-use Rattle.tv_parts.specs.Accumulation.{accumulated_of}
-use Rattle.tv_parts.specs.Inputs.{StepWires}
-use Rattle.tv_parts.specs.OpcodeSums.{IsOpcode}
-use Rattle.tv_parts.specs.Operand.{upper_of, IsOperand}
-use Rattle.tv_parts.specs.Tapes.{if_zero_of}
-use Rattle.tv_parts.specs.declared.records.OperandWires.{OperandWires}
-use Rattle.tv_parts.specs.declared.records.StateWires.{StateWires}
+use Rattle.tv_inputs.specs.Accumulation.{accumulated_of}
+use Rattle.tv_inputs.specs.Inputs.{StepWires}
+use Rattle.tv_inputs.specs.OpcodeSums.{IsOpcode}
+use Rattle.tv_inputs.specs.Operand.{upper_of, IsOperand}
+use Rattle.tv_inputs.specs.Tapes.{if_zero_of}
+use Rattle.tv_inputs.specs.declared.records.OperandWires.{OperandWires}
+use Rattle.tv_inputs.specs.declared.records.StateWires.{StateWires}
 use Rattle.tv_word.specs.Word.{flag_of}
 
 -- 0 where the counter is that of the last instruction

@@ -11,13 +11,13 @@ use Rattle.tv_isa.specs.declared.instr.Instr.{Instr}
 use Rattle.tv_isa.specs.declared.opcode.TheConstants.{CMOV}
 use Rattle.tv_numbers.specs.Numbers.{writes, stepped, result_in}
 use Rattle.tv_numbers.specs.Views.{View}
-use Rattle.tv_regs.specs.Reads.{words_at}
+use Rattle.tv_bits.specs.Wires.{words_at}
 use Rattle.tv_regs.specs.Update.{update_of}
 use Rattle.tv_regs.specs.declared.triple.Triple.{Triple}
-use Rattle.tv_parts.specs.Accumulation.{accumulated_of}
-use Rattle.tv_parts.specs.Inputs.{StepInput, input_of}
-use Rattle.tv_parts.specs.OpcodeSums.{opcode_sum, IsOpcode}
-use Rattle.tv_parts.specs.declared.records.StateWires.{StateWires}
+use Rattle.tv_inputs.specs.Accumulation.{accumulated_of}
+use Rattle.tv_inputs.specs.Inputs.{StepInput, input_of}
+use Rattle.tv_inputs.specs.OpcodeSums.{opcode_sum, IsOpcode}
+use Rattle.tv_inputs.specs.declared.records.StateWires.{StateWires}
 use Rattle.tv_word.specs.Word.{flag_of}
 
 -- whether the destination is written, and the registers after it
@@ -29,6 +29,13 @@ written_of op state regs result = do
 -- the values of the wires that are made: whether the destination is written, and the registers
 abbrev pub written_values : ℕ → ℕ → View → Instr → ℕ → Bool → List ℕ
 written_values w n v i o takes = flag_of (writes w n v i o takes) ∷ (stepped w n v i o takes).regs
+
+-- the wires of the registers that are read are below a number
+pub record TripleUnder (wires : ℕ) (regs : Triple) : Type 0 where
+  pub dest : regs.dest < wires
+  pub other : regs.other_word < wires
+  pub named : regs.named_word < wires
+  pub dest_word : regs.dest_word < wires
 
 -- the wires that the registers are written by: those of the state, of the opcode's row, of the registers that the step
 -- reads, and of its result

@@ -1,27 +1,27 @@
 //! The flag after a step.
 ghost use Rattle.std.specs.Prelude.{◌≡◌, ◌+◌, ◌-◌, ◌≤◌, ◌<◌, ◌^◌, ◌%◌};
-ghost use Rattle.std.specs.Prelude.{false, length, max, IfOk, OnOk};
+ghost use Rattle.std.specs.Prelude.{false, [], ◌∷◌, length, max, IfOk, OnOk};
 ghost use Rattle.std.specs.Int.{bit_at};
-ghost use Rattle.tv_core.specs.Combinations.{scaled, top};
+ghost use Rattle.tv_bits.specs.Times.{times_of};
+ghost use Rattle.tv_core.specs.Combinations.{scaled, top, wire};
 ghost use Rattle.tv_core.specs.Values.{GivesIn};
 ghost use Rattle.tv_core.specs.Sinks.{PutsIn, Grows, Room};
 ghost use Rattle.tv_core.specs.declared.field.TheConstants.{P};
 ghost use Rattle.tv_parts.specs.Flag.{tested_in, next_flag_of, FlagIsSound, FlagIsComplete};
 ghost use Rattle.tv_parts.specs.Flag.{FlagSizes, FlagCosts, flag_values};
-ghost use Rattle.tv_parts.specs.States.{FlagUnder};
-ghost use Rattle.tv_parts.specs.Traced.{traced_view, traced_input, AreNumbers};
+ghost use Rattle.tv_inputs.specs.States.{FlagUnder};
+ghost use Rattle.tv_inputs.specs.Traced.{traced_view, traced_input, AreNumbers};
 ghost use Rattle.tv_isa.specs.Opcodes.{chosen};
 ghost use Rattle.tv_numbers.specs.Tables.{flags};
 ghost use Rattle.tv_word.specs.Widths.{IsWidth};
 ghost use Rattle.tv_word.specs.Word.{flag_of};
 
-use crate::accumulation::accumulated;
-use crate::opcode_sums::{opcode_wire, plus_opcodes, set_opcodes};
-use crate::records::{StateWires, TapeWires};
-use crate::step_numbers::StepNumbers;
-use crate::tapes::set_terms;
 use tv_bits::{Bits, times_by};
 use tv_core::{F, Lc, Put, Scratch, Sink, Values, Wire, give_values};
+use tv_inputs::{
+    StateWires, StepNumbers, TapeWires, accumulated, opcode_wire, plus_opcodes, set_minus,
+    set_opcodes, set_rise,
+};
 use tv_isa::opcode::{
     ADD, AND, ANSWER, CJMP, CMOV, CMPA, CMPAE, CMPE, CMPG, CMPGE, CNJMP, JMP, LOAD_B, LOAD_W, MOV,
     MULL, NOT, OR, READ, SHL, SHR, SMULH, STORE_B, STORE_W, SUB, UDIV, UMOD, UMULH, XOR,
@@ -56,14 +56,9 @@ pub fn put_flag<const W: u32, S: Sink>(
     ensures grows { IfOk result (λ _. Grows S.meaning s.old s.new 3 3) }
     ensures below { IfOk result (λ w. w < S.meaning.wires s.new) }
 {
-    let minus = -F::ONE;
-    scratch.a.set_wire(opcode_wire(op, SHL));
     let highest = x.first.offset(W - 1);
-    set_terms(&mut scratch.b, &[(minus, f), (F::ONE, highest)]);
-    let left = times_by(s, &mut scratch.c, &scratch.a, &scratch.b)?;
-    scratch.a.set_wire(opcode_wire(op, SHR));
-    set_terms(&mut scratch.b, &[(minus, f), (F::ONE, x.first)]);
-    let right = times_by(s, &mut scratch.c, &scratch.a, &scratch.b)?;
+    let left = put_shifted(s, scratch, opcode_wire(op, SHL), f, highest)?;
+    let right = put_shifted(s, scratch, opcode_wire(op, SHR), f, x.first)?;
     set_opcodes(
         &mut scratch.a,
         op,
@@ -84,6 +79,26 @@ pub fn put_flag<const W: u32, S: Sink>(
     accumulated(s, &mut scratch.c, &scratch.a, &scratch.b)
 }
 
+// Constrains a bit less the test where the opcode's wire is 1.
+fn put_shifted<S: Sink>(
+    s: &mut S,
+    scratch: &mut Scratch,
+    opcode: Wire,
+    f: Wire,
+    bit: Wire,
+) -> Put<Wire>
+    requires room { Room S.meaning s.old 1 1 }
+    requires wires_made { max opcode (max f bit) < S.meaning.wires s.old }
+    ensures puts { PutsIn S.meaning s.old s.new (times_of (wire opcode)
+        ((P - 1, f) ∷ (1, bit) ∷ [])) result }
+    ensures grows { IfOk result (λ _. Grows S.meaning s.old s.new 1 1) }
+    ensures below { IfOk result (λ w. w < S.meaning.wires s.new) }
+{
+    scratch.a.set_wire(opcode);
+    set_rise(&mut scratch.b, f, bit);
+    times_by(s, &mut scratch.c, &scratch.a, &scratch.b)
+}
+
 // Sets `lc` to the flag where it isn't kept, with its coefficients negated.
 fn set_tested(
     lc: &mut Lc,
@@ -101,7 +116,7 @@ fn set_tested(
     ensures len { length lc.new ≡ 15 }
 {
     let minus = -F::ONE;
-    set_terms(lc, &[(minus, before)]);
+    set_minus(lc, before);
     plus_opcodes(
         lc,
         minus,

@@ -1,31 +1,38 @@
 //! The data line of a step, and the bytes of its word.
 ghost use Rattle.std.specs.Prelude.{◌≡◌, ◌+◌, ◌-◌, ◌*◌, ◌/◌, ◌%◌, ◌≤◌, ◌<◌, ◌^◌, false};
-ghost use Rattle.std.specs.Prelude.{max, IfOk, OnOk};
-ghost use Rattle.tv_core.specs.Combinations.{top};
+ghost use Rattle.std.specs.Prelude.{[], ◌∷◌, ◌++◌, max, IfOk, OnOk};
+ghost use Rattle.tv_bits.specs.Bits.{bits_combination};
+ghost use Rattle.tv_bits.specs.Times.{times_of};
+ghost use Rattle.tv_core.specs.Combinations.{constant, top, wire};
+ghost use Rattle.tv_core.specs.declared.field.TheConstants.{P};
+ghost use Rattle.tv_core.specs.declared.limits.TheConstants.{TAPE_CELLS, NULL_CELL};
+ghost use Rattle.tv_inputs.specs.Accumulation.{accumulated_of};
+ghost use Rattle.tv_inputs.specs.OpcodeSums.{opcode_sum};
+ghost use Rattle.tv_inputs.specs.Operand.{upper_of};
 ghost use Rattle.tv_core.specs.Values.{GivesIn};
 ghost use Rattle.tv_core.specs.Sinks.{PutsIn, Grows, Room};
 ghost use Rattle.tv_parts.specs.Memory.{located_line, byte_of_pair, byte_of_four, byte_at_of};
 ghost use Rattle.tv_parts.specs.Memory.{power_in, new_of, memory_of};
 ghost use Rattle.tv_parts.specs.Memory.{MemoryIsSound, MemoryIsComplete, MemorySizes, MemoryCosts};
-ghost use Rattle.tv_parts.specs.Inputs.{taped_of};
-ghost use Rattle.tv_parts.specs.States.{TapedUnder, DataUnder, LineUnder, StoreUnder};
+ghost use Rattle.tv_inputs.specs.Inputs.{taped_of};
+ghost use Rattle.tv_inputs.specs.States.{TapedUnder, DataUnder, LineUnder, StoreUnder};
+ghost use Rattle.tv_inputs.specs.States.{OperandUnder};
 ghost use Rattle.tv_parts.specs.Memory.{line_values, byte_values, gained, new_values};
 ghost use Rattle.tv_parts.specs.Memory.{memory_values};
-ghost use Rattle.tv_parts.specs.Traced.{traced_view, traced_input, AreNumbers};
+ghost use Rattle.tv_inputs.specs.Traced.{traced_view, traced_input, AreNumbers};
 ghost use Rattle.tv_isa.specs.Opcodes.{among, memory_ops};
 ghost use Rattle.tv_mem.specs.Bytes.{byte_of};
 ghost use Rattle.tv_numbers.specs.Numbers.{with_byte_in};
 ghost use Rattle.tv_word.specs.Widths.{IsWidth};
 
-use crate::accumulation::accumulated;
-use crate::opcode_sums::{opcode_wire, plus_opcodes, set_opcodes};
-use crate::operand::plus_upper;
-use crate::records::{DataWires, LineWires, OperandWires, StateWires, StoreWires, TapeWires};
-use crate::step_numbers::StepNumbers;
-use crate::tapes::{set_negated, set_terms};
 use tv_bits::{Bits, times_by};
 use tv_core::limits::{NULL_CELL, TAPE_CELLS};
 use tv_core::{F, Lc, Put, Scratch, Sink, Values, Wire, give_values};
+use tv_inputs::{
+    DataWires, LineWires, OperandWires, StateWires, StepNumbers, StoreWires, TapeWires,
+    accumulated, byte_of, byte_power, opcode_wire, plus_opcodes, plus_upper, set_minus,
+    set_opcodes, set_rise,
+};
 use tv_isa::opcode::{LOAD_B, LOAD_W, STORE_B, STORE_W};
 use tv_step::TraceState;
 
@@ -80,31 +87,66 @@ fn put_line<const W: u32, S: Sink>(
     ensures grows { IfOk result (λ _. Grows S.meaning s.old s.new 3 3) }
     ensures below { IfOk result (λ made. LineUnder (S.meaning.wires s.new) made) }
 {
-    let minus = -F::ONE;
-    let null = F::from(NULL_CELL);
     let before = state.taken_of_primary;
-    set_opcodes(&mut scratch.a, op, &MEMORY_OPS);
-    set_terms(&mut scratch.b, &[(-null, Wire(0))]);
-    plus_upper(&mut scratch.b, F::ONE, a, W / 16);
-    set_negated(&mut scratch.c, &[(null, Wire(0))]);
-    let located = accumulated(s, &mut scratch.c, &scratch.a, &scratch.b)?;
-    set_terms(&mut scratch.a, &[(minus, before), (F::ONE, tapes.taken)]);
-    set_terms(
-        &mut scratch.b,
-        &[
-            (F::from(TAPE_CELLS), Wire(0)),
-            (F::ONE, before),
-            (minus, located),
-        ],
-    );
-    set_negated(&mut scratch.c, &[(F::ONE, located)]);
-    let cell = accumulated(s, &mut scratch.c, &scratch.a, &scratch.b)?;
-    set_terms(&mut scratch.a, &[(minus, before)]);
+    let located = put_located::<W, S>(s, scratch, op, a)?;
+    let cell = put_cell(s, scratch, before, located, tapes.taken)?;
+    set_minus(&mut scratch.a, before);
     plus_opcodes(&mut scratch.a, F::ONE, op, &MEMORY_OPS);
     scratch.a.plus(F::ONE, tapes.taken);
     scratch.b.set_wire(word);
     let old = times_by(s, &mut scratch.c, &scratch.a, &scratch.b)?;
     Ok(LineWires { cell, old })
+}
+
+// Constrains the cell of a load or store.
+fn put_located<const W: u32, S: Sink>(
+    s: &mut S,
+    scratch: &mut Scratch,
+    op: Wire,
+    a: &OperandWires,
+) -> Put<Wire>
+    requires width { IsWidth W }
+    requires room { Room S.meaning s.old 1 1 }
+    requires op_made { op + 29 ≤ S.meaning.wires s.old }
+    requires operand_made { OperandUnder W (S.meaning.wires s.old) a.now }
+    ensures puts { PutsIn S.meaning s.old s.new (accumulated_of (constant NULL_CELL)
+        (opcode_sum op memory_ops) ((P - NULL_CELL, 0) ∷ upper_of 1 a.now (W / 16))) result }
+    ensures grows { IfOk result (λ _. Grows S.meaning s.old s.new 1 1) }
+    ensures below { IfOk result (λ w. w < S.meaning.wires s.new) }
+{
+    let null = -F::from(NULL_CELL);
+    set_opcodes(&mut scratch.a, op, &MEMORY_OPS);
+    scratch.b.clear();
+    scratch.b.plus(null, Wire(0));
+    plus_upper(&mut scratch.b, F::ONE, a, W / 16);
+    scratch.c.clear();
+    scratch.c.plus(null, Wire(0));
+    accumulated(s, &mut scratch.c, &scratch.a, &scratch.b)
+}
+
+// Constrains the cell, which is that of the next word of tape 0 where one is taken.
+fn put_cell<S: Sink>(
+    s: &mut S,
+    scratch: &mut Scratch,
+    before: Wire,
+    located: Wire,
+    taken: Wire,
+) -> Put<Wire>
+    requires room { Room S.meaning s.old 1 1 }
+    requires wires_made { max before (max located taken) < S.meaning.wires s.old }
+    ensures puts { PutsIn S.meaning s.old s.new (accumulated_of (wire located)
+        ((P - 1, before) ∷ (1, taken) ∷ [])
+        ((TAPE_CELLS, 0) ∷ (1, before) ∷ (P - 1, located) ∷ [])) result }
+    ensures grows { IfOk result (λ _. Grows S.meaning s.old s.new 1 1) }
+    ensures below { IfOk result (λ w. w < S.meaning.wires s.new) }
+{
+    set_rise(&mut scratch.a, before, taken);
+    scratch.b.clear();
+    scratch.b.plus(F::from(TAPE_CELLS), Wire(0));
+    scratch.b.plus(F::ONE, before);
+    scratch.b.plus(-F::ONE, located);
+    set_minus(&mut scratch.c, located);
+    accumulated(s, &mut scratch.c, &scratch.a, &scratch.b)
 }
 
 // Constrains the byte of a word that the lowest bits of an address choose.
@@ -162,12 +204,11 @@ fn byte_of_four<S: Sink>(s: &mut S, scratch: &mut Scratch, bits: Wire, a: Wire) 
     ensures grows { IfOk result (λ _. Grows S.meaning s.old s.new 3 3) }
     ensures below { IfOk result (λ w. w < S.meaning.wires s.new) }
 {
-    let minus = -F::ONE;
     let low = byte_of_pair(s, scratch, bits, a)?;
     let high = byte_of_pair(s, scratch, bits.offset(16), a)?;
     scratch.a.set_wire(a.offset(1));
-    set_terms(&mut scratch.b, &[(minus, low), (F::ONE, high)]);
-    set_negated(&mut scratch.c, &[(F::ONE, low)]);
+    set_rise(&mut scratch.b, low, high);
+    set_minus(&mut scratch.c, low);
     accumulated(s, &mut scratch.c, &scratch.a, &scratch.b)
 }
 
@@ -190,22 +231,43 @@ fn put_new<const W: u32, S: Sink>(
     ensures grows { IfOk result (λ _. Grows S.meaning s.old s.new 3 3) }
     ensures below { IfOk result (λ w. w < S.meaning.wires s.new) }
 {
-    let minus = -F::ONE;
-    set_power::<W>(&mut scratch.a, a.bits.first, d.both);
+    let change = put_change::<W, S>(s, scratch, d, a.bits.first, byte)?;
+    scratch.a.set_wire(opcode_wire(op, STORE_B));
+    scratch.b.set_wire(change);
+    let changed = times_by(s, &mut scratch.c, &scratch.a, &scratch.b)?;
+    scratch.a.set_wire(opcode_wire(op, STORE_W));
+    scratch.b.set_difference(d.other, d.word);
+    set_minus(&mut scratch.c, line.old);
+    scratch.c.plus(-F::ONE, changed);
+    accumulated(s, &mut scratch.c, &scratch.a, &scratch.b)
+}
+
+// Constrains what the word gains by the lowest byte of `d.x` in place of its byte.
+fn put_change<const W: u32, S: Sink>(
+    s: &mut S,
+    scratch: &mut Scratch,
+    d: &DataWires,
+    address: Wire,
+    byte: Wire,
+) -> Put<Wire>
+    requires width { IsWidth W }
+    requires room { Room S.meaning s.old 1 1 }
+    requires data_made { DataUnder W (S.meaning.wires s.old) d.now }
+    requires address_made { address + W ≤ S.meaning.wires s.old }
+    requires byte_made { byte < S.meaning.wires s.old }
+    ensures puts { PutsIn S.meaning s.old s.new (times_of (power_in W address d.now.both)
+        (bits_combination d.now.x.first 8 ++ (P - 1, byte) ∷ [])) result }
+    ensures grows { IfOk result (λ _. Grows S.meaning s.old s.new 1 1) }
+    ensures below { IfOk result (λ w. w < S.meaning.wires s.new) }
+{
+    set_power::<W>(&mut scratch.a, address, d.both);
     let lowest = Bits {
         first: d.x.first,
         n: 8,
     };
     lowest.set_number(&mut scratch.b);
-    scratch.b.plus(minus, byte);
-    let change = times_by(s, &mut scratch.c, &scratch.a, &scratch.b)?;
-    scratch.a.set_wire(opcode_wire(op, STORE_B));
-    scratch.b.set_wire(change);
-    let changed = times_by(s, &mut scratch.c, &scratch.a, &scratch.b)?;
-    scratch.a.set_wire(opcode_wire(op, STORE_W));
-    set_terms(&mut scratch.b, &[(F::ONE, d.other), (minus, d.word)]);
-    set_negated(&mut scratch.c, &[(F::ONE, line.old), (F::ONE, changed)]);
-    accumulated(s, &mut scratch.c, &scratch.a, &scratch.b)
+    scratch.b.plus(-F::ONE, byte);
+    times_by(s, &mut scratch.c, &scratch.a, &scratch.b)
 }
 
 // Sets `lc` to 256 to the power of the number that the lowest bits of an address represent.
@@ -215,7 +277,8 @@ fn set_power<const W: u32>(lc: &mut Lc, a: Wire, both: Wire)
     ensures terms { lc.new ≡ power_in W a both }
     ensures top { top lc.new ≤ max (a + 2) (both + 1) }
 {
-    set_terms(lc, &[(F::ONE, Wire(0)), (F::from(255), a)]);
+    lc.set_wire(Wire(0));
+    lc.plus(F::from(255), a);
     if W == 32 {
         lc.plus(F::from(65_535), a.offset(1));
         lc.plus(F::from(16_711_425), both);
@@ -313,34 +376,12 @@ fn new_values<const W: u32>(state: &TraceState, step: &StepNumbers) -> [F; 3]
     [change, changed, F::from(new)]
 }
 
-// 256 to the power of a byte's number.
-fn power_of(j: u32) -> u32
-    requires { j < 4 }
-    ensures power { result ≡ 256 ^ j }
-    ensures some { 1 ≤ result }
-{
-    match j {
-        0 => 1,
-        1 => 256,
-        2 => 65_536,
-        _ => 16_777_216,
-    }
-}
-
-/// A byte of a word, by its number from the lowest on.
-pub(crate) fn byte_of(word: u32, j: u32) -> u32
-    requires { j < 4 }
-    ensures { result ≡ byte_of word j }
-{
-    word / power_of(j) % 256
-}
-
 // What a word gains by another byte in place of its byte number `j`.
 fn gained(word: u32, j: u32, byte: u32) -> F
     requires { j < 4 }
     ensures { result ≡ gained word j byte }
 {
-    F::from(power_of(j)) * (F::from(byte) - F::from(byte_of(word, j)))
+    F::from(byte_power(j)) * (F::from(byte) - F::from(byte_of(word, j)))
 }
 
 // A word with another byte in place of its byte number `j`.
@@ -351,7 +392,7 @@ fn with_byte<const W: u32>(word: u32, j: u32, byte: u32) -> u32
     requires byte { byte < 256 }
     ensures { result ≡ with_byte_in word j byte }
 {
-    let power = u64::from(power_of(j));
+    let power = u64::from(byte_power(j));
     let old = u64::from(byte_of(word, j));
     (u64::from(word) + u64::from(byte) * power - old * power) as u32
 }

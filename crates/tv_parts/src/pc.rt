@@ -1,27 +1,28 @@
 //! The program counter after a step.
 ghost use Rattle.std.specs.Prelude.{◌≡◌, ◌+◌, ◌-◌, ◌*◌, ◌/◌, ◌≤◌, ◌<◌, ◌^◌, ◌%◌, ◌==◌};
-ghost use Rattle.std.specs.Prelude.{if◌then◌else◌, false, length, max, IfOk, OnOk};
-ghost use Rattle.tv_core.specs.Combinations.{scaled, top};
+ghost use Rattle.std.specs.Prelude.{[], ◌∷◌, if◌then◌else◌, false, length, max, IfOk, OnOk};
+ghost use Rattle.tv_bits.specs.Times.{times_of};
+ghost use Rattle.tv_core.specs.Combinations.{scaled, top, wire};
 ghost use Rattle.tv_core.specs.Sinks.{PutsIn, Grows, Room};
 ghost use Rattle.tv_core.specs.declared.field.TheConstants.{P};
 ghost use Rattle.tv_parts.specs.Pc.{from_last, after_in, jump_in, pc_of, PcIsSound};
 ghost use Rattle.tv_parts.specs.Pc.{PcIsComplete, PcSizes, PcCosts, pc_values};
-ghost use Rattle.tv_parts.specs.Traced.{traced_view, AreNumbers};
-ghost use Rattle.tv_isa.specs.Opcodes.{chosen};
+ghost use Rattle.tv_inputs.specs.Traced.{traced_view, AreNumbers};
+ghost use Rattle.tv_isa.specs.Opcodes.{chosen, place_of};
+ghost use Rattle.tv_isa.specs.declared.opcode.TheConstants.{JMP, CJMP, CNJMP};
+ghost use Rattle.tv_inputs.specs.Tapes.{if_zero_of};
 ghost use Rattle.tv_numbers.specs.Tables.{next_pc, target, pcs};
 ghost use Rattle.tv_core.specs.Values.{GivesIn};
-ghost use Rattle.tv_parts.specs.States.{StateUnder, OperandUnder};
+ghost use Rattle.tv_inputs.specs.States.{StateUnder, OperandUnder};
 ghost use Rattle.tv_word.specs.Widths.{IsWidth};
 ghost use Rattle.tv_word.specs.Word.{flag_of};
 
-use crate::accumulation::accumulated;
-use crate::opcode_sums::opcode_wire;
-use crate::operand::plus_upper;
-use crate::records::{OperandWires, StateWires};
-use crate::step_numbers::StepNumbers;
-use crate::tapes::{if_zero, inverse_where, set_negated, set_terms};
 use tv_bits::times_by;
 use tv_core::{F, Lc, Put, Scratch, Sink, Values, Wire, give_values};
+use tv_inputs::{
+    OperandWires, StateWires, StepNumbers, accumulated, if_zero, inverse_where, opcode_wire,
+    plus_upper, set_negated, set_terms,
+};
 use tv_isa::opcode::{AND, ANSWER, CJMP, CMOV, CNJMP, JMP, READ, STORE_B};
 use tv_step::TraceState;
 use tv_word::arithmetic::sum;
@@ -44,29 +45,61 @@ pub fn put_pc<const W: u32, S: Sink>(
     ensures grows { IfOk result (λ _. Grows S.meaning s.old s.new 4 4) }
     ensures below { IfOk result (λ w. w < S.meaning.wires s.new) }
 {
-    let minus = -F::ONE;
     let answers = opcode_wire(op, ANSWER);
-    let unless = opcode_wire(op, CNJMP);
-    let goes = [(F::ONE, Wire(0)), (minus, answers)];
-    set_from_last::<W>(&mut scratch.a, state.pc);
-    let wraps = if_zero(s, &mut scratch.b, &mut scratch.c, &goes, &scratch.a)?;
-    scratch.a.set_wire(state.flag);
-    set_terms(
-        &mut scratch.b,
-        &[(F::ONE, opcode_wire(op, CJMP)), (minus, unless)],
-    );
-    let by_flag = times_by(s, &mut scratch.c, &scratch.a, &scratch.b)?;
-    set_terms(
-        &mut scratch.a,
-        &[
-            (F::ONE, opcode_wire(op, JMP)),
-            (F::ONE, unless),
-            (F::ONE, by_flag),
-        ],
-    );
+    let wraps = put_wraps::<W, S>(s, scratch, state.pc, answers)?;
+    let by_flag = put_by_flag(s, scratch, op, state.flag)?;
+    set_taken(&mut scratch.a, op, by_flag);
     set_jump::<W>(&mut scratch.b, state.pc, answers, a, wraps);
     set_after::<W>(&mut scratch.c, state.pc, answers, wraps);
     accumulated(s, &mut scratch.c, &scratch.a, &scratch.b)
+}
+
+// Constrains whether the program counter wraps.
+fn put_wraps<const W: u32, S: Sink>(
+    s: &mut S,
+    scratch: &mut Scratch,
+    pc: Wire,
+    answers: Wire,
+) -> Put<Wire>
+    requires width { IsWidth W }
+    requires room { Room S.meaning s.old 2 2 }
+    requires wires_made { max pc answers < S.meaning.wires s.old }
+    ensures puts { PutsIn S.meaning s.old s.new (if_zero_of ((1, 0) ∷ (P - 1, answers) ∷ [])
+        (from_last W pc)) result }
+    ensures grows { IfOk result (λ _. Grows S.meaning s.old s.new 2 2) }
+    ensures below { IfOk result (λ w. w < S.meaning.wires s.new) }
+{
+    let goes = [(F::ONE, Wire(0)), (-F::ONE, answers)];
+    set_from_last::<W>(&mut scratch.a, pc);
+    if_zero(s, &mut scratch.b, &mut scratch.c, &goes, &scratch.a)
+}
+
+// Constrains whether a jump is taken by the flag, less whether it is one where the flag is clear.
+fn put_by_flag<S: Sink>(s: &mut S, scratch: &mut Scratch, op: Wire, flag: Wire) -> Put<Wire>
+    requires room { Room S.meaning s.old 1 1 }
+    requires op_made { op + 29 ≤ S.meaning.wires s.old }
+    requires flag_made { flag < S.meaning.wires s.old }
+    ensures puts { PutsIn S.meaning s.old s.new (times_of (wire flag)
+        ((1, op + place_of CJMP) ∷ (P - 1, op + place_of CNJMP) ∷ [])) result }
+    ensures grows { IfOk result (λ _. Grows S.meaning s.old s.new 1 1) }
+    ensures below { IfOk result (λ w. w < S.meaning.wires s.new) }
+{
+    scratch.a.set_wire(flag);
+    scratch
+        .b
+        .set_difference(opcode_wire(op, CJMP), opcode_wire(op, CNJMP));
+    times_by(s, &mut scratch.c, &scratch.a, &scratch.b)
+}
+
+// Sets `lc` to whether a jump is taken.
+fn set_taken(lc: &mut Lc, op: Wire, by_flag: Wire)
+    requires within { op + 29 ≤ 2 ^ 32 }
+    ensures terms { lc.new ≡ (1, op + place_of JMP) ∷ (1, op + place_of CNJMP) ∷ (1, by_flag) ∷ [] }
+    ensures top { top lc.new ≤ max (op + 29) (by_flag + 1) }
+{
+    lc.set_wire(opcode_wire(op, JMP));
+    lc.plus(F::ONE, opcode_wire(op, CNJMP));
+    lc.plus(F::ONE, by_flag);
 }
 
 // The place of the last instruction.

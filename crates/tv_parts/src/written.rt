@@ -4,24 +4,21 @@ ghost use Rattle.std.specs.Prelude.{IfOk, OnOk};
 ghost use Rattle.tv_core.specs.Values.{GivesIn};
 ghost use Rattle.tv_core.specs.Sinks.{PutsIn, Grows, Room};
 ghost use Rattle.tv_parts.specs.Written.{written_of};
-ghost use Rattle.tv_parts.specs.States.{StateUnder, TripleUnder};
-ghost use Rattle.tv_parts.specs.Traced.{traced_view, AreNumbers};
+ghost use Rattle.tv_inputs.specs.States.{StateUnder};
+ghost use Rattle.tv_parts.specs.Written.{TripleUnder};
+ghost use Rattle.tv_inputs.specs.Traced.{traced_view, AreNumbers};
 ghost use Rattle.tv_parts.specs.Written.{written_values, WrittenIsComplete, WrittenSizes};
 ghost use Rattle.tv_parts.specs.Written.{WrittenCosts};
 ghost use Rattle.tv_isa.specs.Opcodes.{among, chosen, writer_ops};
 ghost use Rattle.tv_isa.specs.declared.opcode.TheConstants.{CMOV};
 ghost use Rattle.tv_numbers.specs.Numbers.{result_in};
 ghost use Rattle.tv_numbers.specs.Tables.{results};
-ghost use Rattle.tv_regs.specs.Reads.{wires_top};
+ghost use Rattle.tv_bits.specs.Wires.{wires_top};
 ghost use Rattle.tv_word.specs.Widths.{IsWidth};
 ghost use Rattle.tv_word.specs.Word.{flag_of};
 
-use crate::accumulation::accumulated;
-use crate::memory::byte_of;
-use crate::opcode_sums::{opcode_wire, plus_opcodes};
-use crate::records::StateWires;
-use crate::step_numbers::StepNumbers;
 use tv_core::{F, Put, Scratch, Sink, Values, Wire};
+use tv_inputs::{StateWires, StepNumbers, accumulated, byte_of, opcode_wire, plus_opcodes};
 use tv_isa::opcode::{
     ADD, AND, CMOV, LOAD_B, LOAD_W, MOV, MULL, NOT, OR, READ, SHL, SHR, SMULH, SUB, UDIV, UMOD,
     UMULH, XOR,

@@ -9,7 +9,7 @@ use Rattle.tv_core.specs.Combinations.{wire, less}
 use Rattle.tv_core.specs.Constraints.{value}
 use Rattle.tv_core.specs.Laws.{Assigns, InField}
 use Rattle.tv_core.specs.declared.field.TheConstants.{P}
-use Rattle.tv_regs.specs.Reads.{words_at, wires_top}
+use Rattle.tv_bits.specs.Wires.{words_at, wires_top}
 
 -- a number less itself, any number of times
 pub times_itself : (g w x : ℕ) → w ≡ x → x < P → g * ((w + (P - x)) % P) % P ≡ 0

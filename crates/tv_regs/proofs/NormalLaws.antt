@@ -25,7 +25,7 @@ use Rattle.tv_regs.proofs.TripleLaws.{other_branch, negative_small, square_small
 use Rattle.tv_regs.proofs.TripleLaws.{curve_answer, curve_next, point_next}
 use Rattle.tv_regs.proofs.UpdateLaws.{turn_at}
 use Rattle.tv_regs.proofs.WriteLaws.{sum_of-suc}
-use Rattle.tv_regs.specs.Reads.{wires_top}
+use Rattle.tv_bits.specs.Wires.{wires_top}
 use Rattle.tv_regs.specs.Triple.{roots_of, sums_of, pairs_of, cubic, departure, passes_of, passes_turn, curve_of, point_of, triple_of}
 use Rattle.tv_regs.specs.Update.{number_less, stays_of, stays_turn, sum_rise, update_of}
 use Rattle.tv_regs.specs.declared.triple.Roots.{Roots}

@@ -34,7 +34,7 @@ use Rattle.tv_core.specs.Normal.{normal, IsNormal}
 use Rattle.tv_core.specs.declared.field.TheConstants.{P}
 use Rattle.tv_regs.proofs.Gates.{word_of, word_below}
 use Rattle.tv_regs.proofs.TripleNumbers.{cubic_number, root_other, root_named, root_dest, curve_passes, passing_divides}
-use Rattle.tv_regs.specs.Reads.{words_at}
+use Rattle.tv_bits.specs.Wires.{words_at}
 use Rattle.tv_regs.specs.Triple.{roots_of, sums_of, pairs_of, cubic, departure, passes_of, passes_turn, curve_of, point_of, triple_of, triple_wires}
 use Rattle.tv_regs.specs.Triple.{triple_values, roots_values, curve_values, passing_values, minus, curve_through, curve_at, root_product, passing}
 use Rattle.tv_regs.specs.Triple.{point_values, other_number, AreNumbers, TripleIsSound, TripleIsComplete, TripleSizes, TripleCosts}

@@ -28,7 +28,7 @@ use Rattle.tv_regs.proofs.Gates.{word_of}
 use Rattle.tv_regs.proofs.TripleLaws.{value-rise, other_branch}
 use Rattle.tv_regs.proofs.TripleNumbers.{minus_below}
 use Rattle.tv_regs.proofs.WriteLaws.{sum_apart, value-regs_sum, length-written, written_other, written_here, has_at}
-use Rattle.tv_regs.specs.Reads.{words_at}
+use Rattle.tv_bits.specs.Wires.{words_at}
 use Rattle.tv_regs.specs.Triple.{minus}
 use Rattle.tv_regs.specs.Update.{number_less, stays_of, stays_turn, sum_rise, update_of, UpdateIsSound, UpdateIsComplete, UpdateSizes, UpdateCosts}
 use Rattle.tv_regs.specs.Writes.{regs_sum, written_regs}

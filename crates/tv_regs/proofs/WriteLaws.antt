@@ -30,7 +30,7 @@ use Rattle.tv_core.specs.Normal.{normal}
 use Rattle.tv_core.specs.declared.field.TheConstants.{P}
 use Rattle.tv_regs.proofs.Gates.{word_of, word_below, product_value, wires_top-at}
 use Rattle.tv_regs.proofs.TripleLaws.{value-rise}
-use Rattle.tv_regs.specs.Reads.{words_at, wires_top}
+use Rattle.tv_bits.specs.Wires.{words_at, wires_top}
 use Rattle.tv_regs.specs.Writes.{write_of, write_turn, tie_of, regs_sum, change, change_with, write_reg_of, written_regs, write_reg_values, WriteRegIsSound}
 use Rattle.tv_regs.specs.Writes.{WriteRegIsComplete, WriteRegSizes}
 use Rattle.tv_bits.proofs.SelectLaws.{times_one, times_zero}

@@ -1,19 +1,11 @@
 -- A register read by a one-hot row.
-use Rattle.std.specs.Prelude.{◌≡◌, ℕ, ◌+◌, List, [], ◌∷◌, length, map, max, slice_index}
+use Rattle.std.specs.Prelude.{◌≡◌, ℕ, ◌+◌, List, [], ◌∷◌, length, slice_index}
 use Rattle.tv_bits.specs.OneHot.{IsOneHot}
+use Rattle.tv_bits.specs.Wires.{words_at}
 use Rattle.tv_core.specs.Circuits.{Circuit, fresh, put, pure, ◌>>=◌}
 use Rattle.tv_core.specs.Combinations.{wire, less}
 use Rattle.tv_core.specs.Laws.{Assigns, Meets, HasFrom, Fills, InField}
 use Rattle.tv_core.specs.Loops.{sequence}
-
--- the numbers in some wires
-abbrev pub words_at : List ℕ → List ℕ → List ℕ
-words_at z wires = map (λ w. slice_index z w) wires
-
--- one more than the greatest of some wires, and 0 where there is none
-abbrev pub wires_top : List ℕ → ℕ
-wires_top [] = 0
-wires_top (w ∷ ws) = max (w + 1) (wires_top ws)
 
 -- a wire of the row times the new wire less a register is 0
 unfoldable pub read_of : ℕ → ℕ → ℕ → Circuit (Unit {0})

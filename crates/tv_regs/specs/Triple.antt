@@ -16,7 +16,7 @@ use Rattle.tv_core.specs.Loops.{sequence}
 use Rattle.tv_core.specs.Meanings.{terms_in}
 use Rattle.tv_core.specs.Normal.{IsNormal}
 use Rattle.tv_core.specs.declared.field.TheConstants.{P}
-use Rattle.tv_regs.specs.Reads.{words_at}
+use Rattle.tv_bits.specs.Wires.{words_at}
 use Rattle.tv_regs.specs.declared.triple.Curve.{Curve}
 use Rattle.tv_regs.specs.declared.triple.Names.{Names}
 use Rattle.tv_regs.specs.declared.triple.Roots.{Roots}

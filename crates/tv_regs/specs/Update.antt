@@ -10,7 +10,7 @@ use Rattle.tv_core.specs.Laws.{Assigns, Meets, HasFrom, Fills}
 use Rattle.tv_core.specs.Loops.{sequence}
 use Rattle.tv_core.specs.Meanings.{terms_in}
 use Rattle.tv_core.specs.declared.field.TheConstants.{P}
-use Rattle.tv_regs.specs.Reads.{words_at}
+use Rattle.tv_bits.specs.Wires.{words_at}
 use Rattle.tv_regs.specs.declared.update.Write.{Write}
 use Rattle.tv_regs.specs.Writes.{regs_sum, written_regs}
 

@@ -2,7 +2,8 @@
 ghost use Rattle.std.specs.Prelude.{◌≡◌, ◌+◌, ◌≤◌, ◌<◌, false, IfOk, OnOk};
 ghost use Rattle.tv_core.specs.Values.{GivesIn};
 ghost use Rattle.tv_core.specs.Sinks.{PutsIn, Grows, Room};
-ghost use Rattle.tv_regs.specs.Reads.{wires_top, read_of, read_reg_of, read_reg_values};
+ghost use Rattle.tv_bits.specs.Wires.{wires_top};
+ghost use Rattle.tv_regs.specs.Reads.{read_of, read_reg_of, read_reg_values};
 ghost use Rattle.tv_regs.specs.Reads.{ReadRegIsSound, ReadRegIsComplete, ReadRegSizes};
 
 use tv_core::{F, Put, Scratch, Sink, Values, Wire};

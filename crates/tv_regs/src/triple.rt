@@ -13,7 +13,7 @@ ghost use Rattle.tv_core.specs.Values.{GivesIn};
 ghost use Rattle.tv_core.specs.Inverse.{inverse_of};
 ghost use Rattle.tv_core.specs.Sinks.{PutsIn, Grows, Room};
 ghost use Rattle.tv_core.specs.declared.field.TheConstants.{P};
-ghost use Rattle.tv_regs.specs.Reads.{wires_top};
+ghost use Rattle.tv_bits.specs.Wires.{wires_top};
 ghost use Rattle.tv_regs.specs.Triple.{roots_of, sums_of, pairs_of, cubic, departure};
 ghost use Rattle.tv_regs.specs.Triple.{passes_of, curve_of, point_of, triple_of, triple_wires};
 ghost use Rattle.tv_regs.specs.Triple.{AreNames};

@@ -6,7 +6,7 @@ ghost use Rattle.tv_core.specs.Combinations.{scaled, top};
 ghost use Rattle.tv_core.specs.Values.{GivesIn};
 ghost use Rattle.tv_core.specs.Sinks.{PutsIn, Grows, Room};
 ghost use Rattle.tv_core.specs.declared.field.TheConstants.{P};
-ghost use Rattle.tv_regs.specs.Reads.{wires_top};
+ghost use Rattle.tv_bits.specs.Wires.{wires_top};
 ghost use Rattle.tv_regs.specs.Update.{number_less, rise, stays_of, update_of, IsWriteMade};
 ghost use Rattle.tv_regs.specs.Update.{UpdateIsSound, UpdateIsComplete, UpdateSizes};
 ghost use Rattle.tv_regs.specs.Update.{UpdateCosts};

@@ -5,7 +5,7 @@ ghost use Rattle.std.specs.List.{range_with_len};
 ghost use Rattle.tv_core.specs.Combinations.{top};
 ghost use Rattle.tv_core.specs.Values.{GivesIn};
 ghost use Rattle.tv_core.specs.Sinks.{PutsIn, Grows, Room};
-ghost use Rattle.tv_regs.specs.Reads.{wires_top};
+ghost use Rattle.tv_bits.specs.Wires.{wires_top};
 ghost use Rattle.tv_regs.specs.Writes.{tie_of, regs_sum, written_regs, write_reg_of};
 ghost use Rattle.tv_regs.specs.Writes.{write_reg_values, WriteRegIsSound, WriteRegIsComplete};
 ghost use Rattle.tv_regs.specs.Writes.{WriteRegSizes};

@@ -4,7 +4,7 @@ use Rattle.std.specs.Prelude.{slice_index}
 use Rattle.std.proofs.lemmas.List.{length-append, length-map}
 use Rattle.std.proofs.lemmas.List.Elements.{All-cons}
 use Rattle.tv_block.specs.Block.{block_of}
-use Rattle.tv_parts.specs.declared.records.Spot.{Spot}
+use Rattle.tv_inputs.specs.declared.records.Spot.{Spot}
 use Rattle.tv_core.proofs.JoinedLaws.{joined_below-zero, joined_below-suc}
 use Rattle.tv_core.specs.Below.{joined_below}
 use Rattle.tv_extract.specs.Runs.{IsRunOf}

@@ -5,7 +5,7 @@ use Rattle.tv_block.specs.Block.{block_of}
 use Rattle.tv_block.specs.Complete.{block_made}
 use Rattle.tv_block.specs.Places.{next_state, block_wires}
 use Rattle.tv_block.specs.Under.{BlockUnder}
-use Rattle.tv_parts.specs.States.{StateUnder}
+use Rattle.tv_inputs.specs.States.{StateUnder}
 use Rattle.tv_core.proofs.Chain.{refused}
 use Rattle.tv_core.specs.Sinks.{PutsAll}
 use Rattle.tv_block.proofs.constraints.block.Goals as goal

@@ -1,9 +1,9 @@
 use Rattle.std.specs.Prelude.{ℕ, ◌%◌, List, ◌∷◌, ◌++◌}
 use Rattle.tv_core.proofs.ValuesChain.{some_given, first_given, in_given, gives_refused}
-use Rattle.tv_parts.specs.Arithmetic.{arithmetic_values}
-use Rattle.tv_parts.specs.Inputs.{operation_of}
-use Rattle.tv_parts.specs.Operand.{operand_values}
-use Rattle.tv_parts.specs.declared.step_numbers.StepNumbers.{StepNumbers}
+use Rattle.tv_results.specs.Arithmetic.{arithmetic_values}
+use Rattle.tv_inputs.specs.Inputs.{operation_of}
+use Rattle.tv_inputs.specs.Operand.{operand_values}
+use Rattle.tv_inputs.specs.declared.step_numbers.StepNumbers.{StepNumbers}
 use Rattle.tv_regs.specs.Triple.{triple_values}
 use Rattle.tv_block.specs.Values.{other_register}
 use Rattle.tv_block.proofs.values.fill_computed.Goals as goal

@@ -3,12 +3,12 @@ use Rattle.tv_bits.specs.ZeroSign.{zero_sign_values}
 use Rattle.tv_core.proofs.ValuesChain.{some_given, first_given, in_given, gives_refused}
 use Rattle.tv_numbers.specs.Numbers.{operand_word, found}
 use Rattle.tv_parts.specs.Flag.{sign_at, flag_values}
-use Rattle.tv_parts.specs.Inputs.{StepInput}
+use Rattle.tv_inputs.specs.Inputs.{StepInput}
 use Rattle.tv_parts.specs.Pc.{pc_values}
-use Rattle.tv_parts.specs.Results.{results_values}
-use Rattle.tv_parts.specs.Traced.{traced_input}
+use Rattle.tv_results.specs.Results.{results_values}
+use Rattle.tv_inputs.specs.Traced.{traced_input}
 use Rattle.tv_parts.specs.Written.{written_values}
-use Rattle.tv_parts.specs.declared.step_numbers.StepNumbers.{StepNumbers}
+use Rattle.tv_inputs.specs.declared.step_numbers.StepNumbers.{StepNumbers}
 use Rattle.tv_step.specs.declared.lines.TraceState.{TraceState}
 use Rattle.tv_block.specs.Values.{tested_in, effects_values}
 use Rattle.tv_block.proofs.values.fill_effects.Goals as goal

@@ -2,8 +2,8 @@ use Rattle.std.proofs.Common.{ℕ, List, subst}
 use Rattle.tv_core.proofs.ValuesChain.{gives_refused_then, gives_refused, gives_in_then}
 use Rattle.tv_core.specs.Values.{GivesIn, GivesSome}
 use Rattle.tv_numbers.specs.Views.{View}
-use Rattle.tv_parts.specs.Traced.{traced_view}
-use Rattle.tv_parts.specs.declared.step_numbers.StepNumbers.{StepNumbers}
+use Rattle.tv_inputs.specs.Traced.{traced_view}
+use Rattle.tv_inputs.specs.declared.step_numbers.StepNumbers.{StepNumbers}
 use Rattle.tv_block.proofs.FilledValues.{effects_by, filled}
 use Rattle.tv_block.proofs.values.fill_traced_step.Goals as goal
 

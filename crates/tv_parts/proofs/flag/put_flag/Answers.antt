@@ -6,23 +6,20 @@ use Rattle.tv_parts.proofs.flag.put_flag.Goals as goal
 pub returns-in_err-left-clause-puts : goal.returns-in_err-left-clause-puts
 unfolding next_flag_of
 returns-in_err-left-clause-puts g c =
-    let p0 = rw (c.set_wire.ensures.terms, c.opcode_wire.ensures, c.set_terms.ensures.terms, c.offset-highest.ensures, c.neg-minus.ensures)
-    at c.in_err-left.ensures.puts in
+    let p0 = rw (c.opcode_wire.ensures, c.offset-highest.ensures) at c.in_err-left.ensures.puts in
     refused _ _ _ _ _ c.from_residual.ensures.1 (some_first _ p0)
 
 pub returns-in_err-right-clause-puts : goal.returns-in_err-right-clause-puts
 unfolding next_flag_of
 returns-in_err-right-clause-puts g c =
-    let p0 = rw (c.set_wire.ensures.terms, c.opcode_wire.ensures, c.set_terms.ensures.terms, c.offset-highest.ensures, c.neg-minus.ensures)
-    at c.in_ok-left.ensures.puts in
-    let p1 = rw (c.set_wire-2.ensures.terms, c.opcode_wire-2.ensures, c.set_terms-2.ensures.terms, c.neg-minus.ensures) at c.in_err-right.ensures.puts in
+    let p0 = rw (c.opcode_wire.ensures, c.offset-highest.ensures) at c.in_ok-left.ensures.puts in
+    let p1 = rw c.opcode_wire-2.ensures at c.in_err-right.ensures.puts in
     refused _ _ _ _ _ c.from_residual-in_err-right.ensures.1 (some_then _ p0 (some_first _ p1))
 
 pub returns-clause-puts : goal.returns-clause-puts
 unfolding next_flag_of
 returns-clause-puts g c =
-    let p0 = rw (c.set_wire.ensures.terms, c.opcode_wire.ensures, c.set_terms.ensures.terms, c.offset-highest.ensures, c.neg-minus.ensures)
-    at c.in_ok-left.ensures.puts in
-    let p1 = rw (c.set_wire-2.ensures.terms, c.opcode_wire-2.ensures, c.set_terms-2.ensures.terms, c.neg-minus.ensures) at c.in_ok-right.ensures.puts in
-    let last = rw (c.set_opcodes.ensures.terms, c.set_wire-3.ensures.terms, c.set_tested.ensures.terms) at c.accumulated.ensures.puts in
+    let p0 = rw (c.opcode_wire.ensures, c.offset-highest.ensures) at c.in_ok-left.ensures.puts in
+    let p1 = rw c.opcode_wire-2.ensures at c.in_ok-right.ensures.puts in
+    let last = rw (c.set_opcodes.ensures.terms, c.set_wire.ensures.terms, c.set_tested.ensures.terms) at c.accumulated.ensures.puts in
     puts_in_then _ _ _ _ _ _ _ _ p0 (puts_in_then _ _ _ _ _ _ _ _ p1 last)

@@ -17,6 +17,6 @@ pub returns-clause-puts : goal.returns-clause-puts
 unfolding byte_of_four
 returns-clause-puts g c =
     let p1 = rw c.offset.ensures at c.in_ok-high.ensures.puts in
-    let p2 = rw (c.set_wire.ensures.terms, c.offset-2.ensures, c.set_terms.ensures.terms, c.set_negated.ensures.terms, c.neg-minus.ensures)
+    let p2 = rw (c.set_wire.ensures.terms, c.offset-2.ensures, c.set_rise.ensures.terms, c.set_minus.ensures.terms)
     at c.accumulated.ensures.puts in
     puts_in_then _ _ _ _ _ _ _ _ c.in_ok-low.ensures.puts (puts_in_then _ _ _ _ _ _ _ _ p1 p2)

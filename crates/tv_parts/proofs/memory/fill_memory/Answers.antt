@@ -1,5 +1,4 @@
 use Rattle.tv_core.proofs.ValuesChain.{some_given, first_given, in_given, gives_refused}
-use Rattle.tv_parts.specs.Memory.{new_values}
 use Rattle.tv_parts.proofs.memory.fill_memory.Goals as goal
 
 pub returns-in_err-give_values-clause-gives : goal.returns-in_err-give_values-clause-gives

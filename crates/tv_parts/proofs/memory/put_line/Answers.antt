@@ -4,38 +4,22 @@ use Rattle.tv_parts.proofs.memory.put_line.Goals as goal
 
 pub returns-in_err-located-clause-puts : goal.returns-in_err-located-clause-puts
 unfolding located_line
-returns-in_err-located-clause-puts g c =
-    let q0 = rw (c.set_opcodes.ensures.terms, c.plus_upper.ensures.terms, c.set_terms.ensures.terms) at c.in_err-located.ensures.puts in
-    let p0 = rw (c.set_negated.ensures.terms, c.neg.ensures, c.from-null.ensures) at q0 in
-    refused _ _ _ _ _ c.from_residual.ensures.1 (some_first _ p0)
+returns-in_err-located-clause-puts g c = refused _ _ _ _ _ c.from_residual.ensures.1 (some_first _ c.in_err-located.ensures.puts)
 
 pub returns-in_err-cell-clause-puts : goal.returns-in_err-cell-clause-puts
 unfolding located_line
 returns-in_err-cell-clause-puts g c =
-    let q0 = rw (c.set_opcodes.ensures.terms, c.plus_upper.ensures.terms, c.set_terms.ensures.terms) at c.in_ok-located.ensures.puts in
-    let p0 = rw (c.set_negated.ensures.terms, c.neg.ensures, c.from-null.ensures) at q0 in
-    let p1 = rw (c.set_terms-2.ensures.terms, c.set_terms-3.ensures.terms, c.set_negated-2.ensures.terms, c.neg-minus.ensures, c.from.ensures)
-    at c.in_err-cell.ensures.puts in
-    refused _ _ _ _ _ c.from_residual-in_err-cell.ensures.1 (some_then _ p0 (some_first _ p1))
+    refused _ _ _ _ _ c.from_residual-in_err-cell.ensures.1 (some_then _ c.in_ok-located.ensures.puts (some_first _ c.in_err-cell.ensures.puts))
 
 pub returns-in_err-old-clause-puts : goal.returns-in_err-old-clause-puts
 unfolding located_line
 returns-in_err-old-clause-puts g c =
-    let q0 = rw (c.set_opcodes.ensures.terms, c.plus_upper.ensures.terms, c.set_terms.ensures.terms) at c.in_ok-located.ensures.puts in
-    let p0 = rw (c.set_negated.ensures.terms, c.neg.ensures, c.from-null.ensures) at q0 in
-    let p1 = rw (c.set_terms-2.ensures.terms, c.set_terms-3.ensures.terms, c.set_negated-2.ensures.terms, c.neg-minus.ensures, c.from.ensures)
-    at c.in_ok-cell.ensures.puts in
-    let p2 = rw (c.plus.ensures.terms, c.plus_opcodes.ensures.terms, c.set_terms-4.ensures.terms, c.set_wire.ensures.terms, c.neg-minus.ensures)
-    at c.in_err-old.ensures.puts in
-    refused _ _ _ _ _ c.from_residual-in_err-old.ensures.1 (some_then _ p0 (some_then _ p1 (some_first _ p2)))
+    let p2 = rw (c.plus.ensures.terms, c.plus_opcodes.ensures.terms, c.set_minus.ensures.terms, c.set_wire.ensures.terms) at c.in_err-old.ensures.puts in
+    refused _ _ _ _ _ c.from_residual-in_err-old.ensures.1 (some_then _ c.in_ok-located.ensures.puts (some_then _ c.in_ok-cell.ensures.puts
+    (some_first _ p2)))
 
 pub returns-clause-puts : goal.returns-clause-puts
 unfolding located_line
 returns-clause-puts g c =
-    let q0 = rw (c.set_opcodes.ensures.terms, c.plus_upper.ensures.terms, c.set_terms.ensures.terms) at c.in_ok-located.ensures.puts in
-    let p0 = rw (c.set_negated.ensures.terms, c.neg.ensures, c.from-null.ensures) at q0 in
-    let p1 = rw (c.set_terms-2.ensures.terms, c.set_terms-3.ensures.terms, c.set_negated-2.ensures.terms, c.neg-minus.ensures, c.from.ensures)
-    at c.in_ok-cell.ensures.puts in
-    let p2 = rw (c.plus.ensures.terms, c.plus_opcodes.ensures.terms, c.set_terms-4.ensures.terms, c.set_wire.ensures.terms, c.neg-minus.ensures)
-    at c.in_ok-old.ensures.puts in
-    all_then _ p0 (all_then _ p1 (all_then _ p2 all_pure))
+    let p2 = rw (c.plus.ensures.terms, c.plus_opcodes.ensures.terms, c.set_minus.ensures.terms, c.set_wire.ensures.terms) at c.in_ok-old.ensures.puts in
+    all_then _ c.in_ok-located.ensures.puts (all_then _ c.in_ok-cell.ensures.puts (all_then _ p2 all_pure))

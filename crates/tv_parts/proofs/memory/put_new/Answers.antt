@@ -6,21 +6,18 @@ use Rattle.tv_parts.proofs.memory.put_new.Goals as goal
 pub returns-in_err-change-clause-puts : goal.returns-in_err-change-clause-puts
 unfolding new_of
 returns-in_err-change-clause-puts g c =
-    let p0 = rw (c.set_power.ensures.terms, c.plus.ensures.terms, c.set_number.ensures.terms, c.neg-minus.ensures) at c.in_err-change.ensures.puts in
-    refused _ _ _ _ _ c.from_residual.ensures.1 (some_first _ p0)
+    refused _ _ _ _ _ c.from_residual.ensures.1 (some_first _ c.in_err-change.ensures.puts)
 
 pub returns-in_err-changed-clause-puts : goal.returns-in_err-changed-clause-puts
 unfolding new_of
 returns-in_err-changed-clause-puts g c =
-    let p0 = rw (c.set_power.ensures.terms, c.plus.ensures.terms, c.set_number.ensures.terms, c.neg-minus.ensures) at c.in_ok-change.ensures.puts in
     let p1 = rw (c.set_wire.ensures.terms, c.set_wire-2.ensures.terms, c.opcode_wire.ensures) at c.in_err-changed.ensures.puts in
-    refused _ _ _ _ _ c.from_residual-in_err-changed.ensures.1 (some_then _ p0 (some_first _ p1))
+    refused _ _ _ _ _ c.from_residual-in_err-changed.ensures.1 (some_then _ c.in_ok-change.ensures.puts (some_first _ p1))
 
 pub returns-clause-puts : goal.returns-clause-puts
 unfolding new_of
 returns-clause-puts g c =
-    let p0 = rw (c.set_power.ensures.terms, c.plus.ensures.terms, c.set_number.ensures.terms, c.neg-minus.ensures) at c.in_ok-change.ensures.puts in
     let p1 = rw (c.set_wire.ensures.terms, c.set_wire-2.ensures.terms, c.opcode_wire.ensures) at c.in_ok-changed.ensures.puts in
-    let last = rw (c.set_wire-3.ensures.terms, c.opcode_wire-2.ensures, c.set_terms.ensures.terms, c.set_negated.ensures.terms, c.neg-minus.ensures)
+    let last = rw (c.set_wire-3.ensures.terms, c.opcode_wire-2.ensures, c.set_difference.ensures.terms, c.plus.ensures.terms, c.set_minus.ensures.terms, c.neg.ensures)
     at c.accumulated.ensures.puts in
-    puts_in_then _ _ _ _ _ _ _ _ p0 (puts_in_then _ _ _ _ _ _ _ _ p1 last)
+    puts_in_then _ _ _ _ _ _ _ _ c.in_ok-change.ensures.puts (puts_in_then _ _ _ _ _ _ _ _ p1 last)

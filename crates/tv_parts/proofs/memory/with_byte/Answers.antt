@@ -10,5 +10,5 @@ overflow_cast-result g c =
     let small = with_byte_small g.row.W width c.args.word c.args.j c.args.byte c.requires.place c.requires.fits c.requires.byte in
     let most : 2 ^ g.row.W ≤ 2 ^ 32 = grind (arith, nat_tests) in
     let same : c.from.result + c.from-2.result * c.from-power.result - c.from-old.result * c.from-power.result ≡ with_byte_in c.args.word c.args.j c.args.byte
-    = rw (c.from.ensures, c.from-2.ensures, c.from-power.ensures, c.power_of.ensures.power, c.from-old.ensures, c.byte_of.ensures) refl in
+    = rw (c.from.ensures, c.from-2.ensures, c.from-power.ensures, c.byte_power.ensures.power, c.from-old.ensures, c.byte_of.ensures) refl in
     rw same (omega arith)

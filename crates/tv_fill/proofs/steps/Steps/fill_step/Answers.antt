@@ -4,7 +4,7 @@ use Rattle.tv_block.proofs.StepFills.{same_values}
 use Rattle.tv_block.specs.Values.{block_values}
 use Rattle.tv_core.specs.Values.{GivesIn}
 use Rattle.tv_numbers.specs.Numbers.{step_words}
-use Rattle.tv_parts.specs.Traced.{traced_view}
+use Rattle.tv_inputs.specs.Traced.{traced_view}
 use Rattle.tv_fill.specs.TraceValues.{traced_state_at, traced_values}
 use Rattle.tv_fill.proofs.steps.Steps.fill_step.Goals as goal
 

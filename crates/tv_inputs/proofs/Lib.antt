@@ -1,0 +1,14 @@
+pub mod AccumulationLaws
+pub mod FieldNumbers
+pub mod NormalAccumulation
+pub mod NormalOpcodes
+pub mod NormalOperand
+pub mod NormalStates
+pub mod NormalTapes
+pub mod OpcodeLaws
+pub mod OperandLaws
+pub mod Sized
+pub mod TapeFills
+pub mod TapeGates
+pub mod TapeLaws
+pub mod UpperLaws

@@ -1,0 +1,13 @@
+use Rattle.tv_core.proofs.ValuesChain.{first_given, in_given, gives_refused}
+use Rattle.tv_inputs.proofs.operand.fill_operand.Goals as goal
+
+pub returns-in_err-give-clause-gives : goal.returns-in_err-give-clause-gives
+returns-in_err-give-clause-gives g c =
+    let word = rw c.from.ensures at c.in_err-give.ensures.gives in
+    gives_refused _ _ _ _ _ c.from_residual.ensures.1 (first_given _ word)
+
+pub returns-clause-gives : goal.returns-clause-gives
+returns-clause-gives g c =
+    let word = rw c.from.ensures at c.in_ok-give.ensures.gives in
+    let bits = rw c.from-2.ensures at c.fill_bits.ensures.gives in
+    in_given _ _ _ word bits

@@ -1,0 +1,28 @@
+use Rattle.tv_core.proofs.Chain.{some_then, some_first, refused}
+use Rattle.tv_core.proofs.TailCalls.{puts_in_then}
+use Rattle.tv_inputs.specs.Tapes.{tapes_of}
+use Rattle.tv_inputs.proofs.tapes.put_tapes.Goals as goal
+
+pub returns-in_err-reads-clause-puts : goal.returns-in_err-reads-clause-puts
+unfolding tapes_of
+returns-in_err-reads-clause-puts g c =
+    refused _ _ _ _ _ c.from_residual.ensures.1 (some_first _ c.in_err-reads.ensures.puts)
+
+pub returns-in_err-aux-clause-puts : goal.returns-in_err-aux-clause-puts
+unfolding tapes_of
+returns-in_err-aux-clause-puts g c =
+    let p1 = rw (c.set_wire.ensures.terms, c.set_wire-2.ensures.terms) at c.in_err-aux.ensures.puts in
+    refused _ _ _ _ _ c.from_residual-in_err-aux.ensures.1 (some_then _ c.in_ok-reads.ensures.puts (some_first _ p1))
+
+pub returns-in_err-taken-clause-puts : goal.returns-in_err-taken-clause-puts
+unfolding tapes_of
+returns-in_err-taken-clause-puts g c =
+    let p1 = rw (c.set_wire.ensures.terms, c.set_wire-2.ensures.terms) at c.in_ok-aux.ensures.puts in
+    refused _ _ _ _ _ c.from_residual-in_err-taken.ensures.1 (some_then _ c.in_ok-reads.ensures.puts (some_then _ p1 (some_first _ c.in_err-taken.ensures.puts)))
+
+pub returns-clause-puts : goal.returns-clause-puts
+unfolding tapes_of
+returns-clause-puts g c =
+    let p1 = rw (c.set_wire.ensures.terms, c.set_wire-2.ensures.terms) at c.in_ok-aux.ensures.puts in
+    puts_in_then _ _ _ _ _ _ _ _ c.in_ok-reads.ensures.puts (puts_in_then _ _ _ _ _ _ _ _ p1
+    (puts_in_then _ _ _ _ _ _ _ _ c.in_ok-taken.ensures.puts c.auxiliary.ensures.puts))

@@ -1,0 +1,9 @@
+pub mod Accumulation
+pub mod Inputs
+pub mod OpcodeSums
+pub mod Operand
+pub mod Rows
+pub mod States
+pub mod Tapes
+pub mod TestNumbers
+pub mod Traced

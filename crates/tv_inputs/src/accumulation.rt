@@ -1,0 +1,35 @@
+//! A product added to a sum, as a new wire.
+ghost use Rattle.std.specs.Prelude.{◌≤◌, ◌<◌, length, IfOk};
+ghost use Rattle.tv_core.specs.Combinations.{top};
+ghost use Rattle.tv_core.specs.Sinks.{PutsIn, Grows, Room};
+ghost use Rattle.tv_inputs.specs.Accumulation.{closed_of, AccumulatedIsSound};
+ghost use Rattle.tv_inputs.specs.Accumulation.{AccumulatedIsComplete, AccumulatedSizes};
+
+use tv_core::{F, Lc, Put, Sink, Wire};
+
+/// Returns a wire that is `f` times `g` plus a sum, of which `product` has the terms with their
+/// coefficients negated; the wire is appended to `product`. It makes 1 wire and 1 constraint.
+pub fn accumulated<S: Sink>(s: &mut S, product: &mut Lc, f: &Lc, g: &Lc) -> Put<Wire>
+    requires room { Room S.meaning s.old 1 1 }
+    requires f_made { top f.now ≤ S.meaning.wires s.old }
+    requires g_made { top g.now ≤ S.meaning.wires s.old }
+    requires sum_made { top product.old ≤ S.meaning.wires s.old }
+    requires short { length product.old ≤ 64 }
+    ensures puts { PutsIn S.meaning s.old s.new (closed_of product.old f.now g.now) result }
+    ensures grows { IfOk result (λ _. Grows S.meaning s.old s.new 1 1) }
+    ensures below { IfOk result (λ sum. sum < S.meaning.wires s.new) }
+{
+    let sum = s.fresh();
+    product.plus(F::ONE, sum);
+    s.put(f, g, product)?;
+    Ok(sum)
+}
+
+/// The laws of `accumulated`. In an assignment that meets the constraint the wire holds the sum,
+/// and an assignment that has the sum at the wire meets it. They also say which wire is returned,
+/// and that its value is one number of the field.
+pub fn accumulated_laws()
+    ensures sound { AccumulatedIsSound }
+    ensures complete { AccumulatedIsComplete }
+    ensures sizes { AccumulatedSizes }
+{}

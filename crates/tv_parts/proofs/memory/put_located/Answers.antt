@@ -1,0 +1,6 @@
+use Rattle.tv_parts.proofs.memory.put_located.Goals as goal
+
+pub returns-clause-puts : goal.returns-clause-puts
+returns-clause-puts g c =
+    let p = rw (c.set_opcodes.ensures.terms, c.plus_upper.ensures.terms, c.plus.ensures.terms, c.clear.ensures) at c.accumulated.ensures.puts in
+    rw (c.plus-2.ensures.terms, c.clear-2.ensures, c.neg-null.ensures, c.from.ensures) at p

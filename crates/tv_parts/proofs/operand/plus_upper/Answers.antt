@@ -1,8 +1,0 @@
-use Rattle.std.proofs.Common.{◌∙◌}
-use Rattle.tv_parts.proofs.UpperLaws.{upper_terms}
-use Rattle.tv_parts.proofs.operand.plus_upper.Goals as goal
-
-pub returns-clause-terms : goal.returns-clause-terms
-returns-clause-terms c =
-    let p = rw (c.plus.ensures.terms, c.neg.ensures, c.mul-coefficient.ensures, c.power_inverse.ensures) at c.plus_to.ensures.terms in
-    p ∙ upper_terms c.args.lc.now c.args.factor c.args.a.now c.args.k

@@ -1,0 +1,10 @@
+pub mod ArithmeticCounts
+pub mod ArithmeticFills
+pub mod ArithmeticLaws
+pub mod ArithmeticNumbers
+pub mod NormalArithmetic
+pub mod NormalResults
+pub mod OpcodeCases
+pub mod ResultFills
+pub mod ResultLaws
+pub mod ShiftTests

@@ -1,0 +1,38 @@
+use Rattle.tv_core.proofs.Chain.{all_then, some_then, some_first, all_pure, refused}
+use Rattle.tv_results.specs.Arithmetic.{shifts_of}
+use Rattle.tv_results.proofs.arithmetic.put_shifts.Goals as goal
+
+pub returns-in_err-kept-clause-puts : goal.returns-in_err-kept-clause-puts
+unfolding shifts_of
+returns-in_err-kept-clause-puts g c =
+    let p0 = rw c.set_opcodes.ensures.terms at c.in_err-kept.ensures.puts in
+    refused _ _ _ _ _ c.from_residual.ensures.1 (some_first _ p0)
+
+pub returns-in_err-power-clause-puts : goal.returns-in_err-power-clause-puts
+unfolding shifts_of
+returns-in_err-power-clause-puts g c =
+    let p0 = rw c.set_opcodes.ensures.terms at c.in_ok-kept.ensures.puts in
+    refused _ _ _ _ _ c.from_residual-in_err-power.ensures.1 (some_then _ p0 (some_first _ c.in_err-power.ensures.puts))
+
+pub returns-in_err-row_product-clause-puts : goal.returns-in_err-row_product-clause-puts
+unfolding shifts_of
+returns-in_err-row_product-clause-puts g c =
+    let p0 = rw c.set_opcodes.ensures.terms at c.in_ok-kept.ensures.puts in
+    let p2 = rw c.set_opcodes-2.ensures.terms at c.in_err-row_product.ensures.puts in
+    refused _ _ _ _ _ c.from_residual-in_err-row_product.ensures.1 (some_then _ p0 (some_then _ c.in_ok-power.ensures.puts (some_first _ p2)))
+
+pub returns-in_err-right_shift-clause-puts : goal.returns-in_err-right_shift-clause-puts
+unfolding shifts_of
+returns-in_err-right_shift-clause-puts g c =
+    let p0 = rw c.set_opcodes.ensures.terms at c.in_ok-kept.ensures.puts in
+    let p2 = rw c.set_opcodes-2.ensures.terms at c.in_ok-row_product.ensures.puts in
+    let p3 = rw c.set_opcodes-3.ensures.terms at c.in_err-right_shift.ensures.puts in
+    refused _ _ _ _ _ c.from_residual-in_err-right_shift.ensures.1 (some_then _ p0 (some_then _ c.in_ok-power.ensures.puts (some_then _ p2 (some_first _ p3))))
+
+pub returns-clause-puts : goal.returns-clause-puts
+unfolding shifts_of
+returns-clause-puts g c =
+    let p0 = rw c.set_opcodes.ensures.terms at c.in_ok-kept.ensures.puts in
+    let p2 = rw c.set_opcodes-2.ensures.terms at c.in_ok-row_product.ensures.puts in
+    let p3 = rw c.set_opcodes-3.ensures.terms at c.in_ok-right_shift.ensures.puts in
+    all_then _ p0 (all_then _ c.in_ok-power.ensures.puts (all_then _ p2 (all_then _ p3 all_pure)))
