@@ -11,7 +11,10 @@ use tv_core::{F, ListValues, Put, Sink, Values, Wire};
 use tv_decode::{Fields, fields, fill_fields};
 use tv_limb::{Split, add, fill_add, fill_sub, sub};
 use tv_logic::{fill_logic, logic};
-use tv_muldiv::{High, Product, Quot, fill_product, fill_quotient, fill_signed_high, product, quotient, signed_high};
+use tv_muldiv::{
+    High, Product, Quot, fill_product, fill_quotient, fill_signed_high, product, quotient,
+    signed_high,
+};
 use tv_shift::{Shift, fill_shift, shift};
 
 /// A gadget over two words.

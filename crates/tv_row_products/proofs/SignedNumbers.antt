@@ -1,17 +1,17 @@
 -- Signed numbers as residues modulo P.
 use Rattle.std.proofs.Common.{◌⊎◌, ◌≡◌, ◌≢◌, ℕ, zero, suc, ◌+◌, ◌-◌, ◌*◌, ◌%◌, ◌^◌, ◌<◌, ◌≤◌, ℤ, pos, negsuc, neg_ℤ, ◌*ℤ◌, ◌-ℤ◌, w64, Bool, true, false}
-use Rattle.std.proofs.Common.{if◌then◌else◌, inl, inr, refl, sym, ◌∙◌, ap, ap₂, arith, zero-mul, mul-zero, mul_comm}
+use Rattle.std.proofs.Common.{if◌then◌else◌, inl, inr, refl, sym, ◌∙◌, ap, ap₂, arith, FitsSigned, to_z, of_z, mod-eq_of_lt, zero-mul, mul-zero, mul_comm}
 use Rattle.std.specs.Int.{bit_at, cast_unsigned}
 use Rattle.std.proofs.Math.IntN.{pos-*ℤ-pos, pos-*ℤ-negsuc, negsuc-*ℤ-pos, negsuc-*ℤ-negsuc}
 use Rattle.std.proofs.lemmas.Bool.{cases_lt, lt-ltb, le-ltb}
-use Rattle.std.proofs.lemmas.Int.{ints}
+use Rattle.std.proofs.lemmas.Int.{ints, to_z-of_z}
 use Rattle.std.proofs.lemmas.Nat.{mul-le}
 use Rattle.tv_core.proofs.Residues.{mul-mod_same, mul-mod_zero}
 use Rattle.tv_core.specs.declared.field.TheConstants.{P}
 use Rattle.tv_bits.proofs.NonzeroLaws.{nonzero_flag-zero, nonzero_flag-other}
 use Rattle.tv_bits.specs.Nonzero.{nonzero_flag}
 use Rattle.tv_row_products.specs.RowSignedProduct.{excess_in}
-use Rattle.tv_word.specs.Operations.{product_twos}
+use Rattle.tv_word.specs.Operations.{signed_product, product_twos}
 use Rattle.tv_word.specs.Twos.{twos, fits}
 use Rattle.tv_word.specs.Widths.{IsWidth}
 use Rattle.tv_word.specs.Word.{signed}
@@ -145,11 +145,24 @@ cast_neg w width (suc m) h = grind arith
 cast_twos : (w : ℕ) → IsWidth w → (v : ℕ) (s : ℤ) → Stands v s (most_product w) → cast_unsigned w64 s % 2 ^ (2 * w) ≡ twos (2 * w) s
 cast_twos w width v s p = search (arith, w64, cast_neg)
 
-pub product_cast : (w : ℕ) → IsWidth w → (a b : ℕ) → a < 2 ^ w → b < 2 ^ w → cast_unsigned w64 (signed w a *ℤ signed w b) % 2 ^ (2 * w) ≡ product_twos w a b
+product_cast : (w : ℕ) → IsWidth w → (a b : ℕ) → a < 2 ^ w → b < 2 ^ w → cast_unsigned w64 (signed w a *ℤ signed w b) % 2 ^ (2 * w) ≡ product_twos w a b
 product_cast w width a b h k =
     cast_twos w width _ (signed w a *ℤ signed w b)
     (Stands-product (signed_value w a) (signed_value w b) (signed w a) (signed w b) (2 ^ (w - 1)) (2 ^ (w - 1)) (Stands-signed w width a h)
     (Stands-signed w width b k))
+
+-- of words of 16 bits its lowest 32, and of words of 32 bits all 64
+module _ (w a b n : ℕ) (p : ℤ) (width : IsWidth w) (h : a < 2 ^ w) (k : b < 2 ^ w) (fits : FitsSigned w64 p) (is_p : p ≡ signed_product w a b)
+    (is_n : n ≡ cast_unsigned w64 (to_z w64 (of_z w64 p))) where
+  cast : n ≡ cast_unsigned w64 (signed_product w a b)
+  cast = is_n ∙ ap (cast_unsigned w64) (to_z-of_z w64 p fits ∙ is_p)
+
+  pub product_low : w ≡ 16 → n % 2 ^ 32 ≡ product_twos w a b
+  product_low half = ap₂ (λ n w. n % 2 ^ (2 * w)) cast (sym half) ∙ product_cast w width a b h k
+
+  pub product_all : (w ≡ 16 → ⊥) → n < 2 ^ 64 → n ≡ product_twos w a b
+  product_all whole small = let long : 64 ≡ 2 * w = omega arith in
+      sym (mod-eq_of_lt small) ∙ ap₂ (λ n m. n % 2 ^ m) cast long ∙ product_cast w width a b h k
 
 -- ---- whether it fits a word
 excess_pos : (w : ℕ) → IsWidth w → (m n : ℕ) → m ≤ most_product w → n ≡ m % 2 ^ (2 * w) → (m < 2 ^ (w - 1) → excess_in w n ≡ 0)

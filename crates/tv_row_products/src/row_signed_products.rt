@@ -134,7 +134,6 @@ pub fn signed_product_halves<const W: u32>(x: u32, y: u32) -> (u32, u32)
 }
 
 /// Returns the product of two words as signed numbers, in two's complement of `2 W` bits.
-#[tactic(auto, using(crate::proofs::SignedNumbers::product_cast))]
 pub fn product_twos<const W: u32>(x: u32, y: u32) -> u64
     requires width { IsWidth W }
     requires x_word { x < 2 ^ W }

@@ -1,11 +1,12 @@
 //! Words that the machine's instructions make of words of `W` bits, 16 or 32, the flags of sums,
 //! products and left shifts, signed words, and powers of 2.
-ghost use Rattle.std.specs.Prelude.{◌≡◌, ◌*◌, ◌/◌, ◌%◌, ◌^◌, ◌<◌};
+ghost use Rattle.std.specs.Prelude.{◌≡◌, not, ◌*◌, ◌/◌, ◌%◌, ◌^◌, ◌<◌};
 ghost use Rattle.tv_word.specs.Operations.{and_result, or_result, xor_result, not_result};
 ghost use Rattle.tv_word.specs.Operations.{add_result, add_flag, sub_result, mull_result};
 ghost use Rattle.tv_word.specs.Operations.{umulh_result, product_flag, smulh_result, smulh_flag};
 ghost use Rattle.tv_word.specs.Operations.{udiv_result, umod_result, shl_result, shl_flag};
-ghost use Rattle.tv_word.specs.Operations.{shr_result};
+ghost use Rattle.tv_word.specs.Operations.{signed_product, shr_result};
+ghost use Rattle.tv_word.specs.Twos.{twos, fits};
 ghost use Rattle.tv_word.specs.Widths.{IsWidth};
 ghost use Rattle.tv_word.specs.Word.{signed};
 
@@ -135,32 +136,44 @@ pub fn high_signed<const W: u32>(s: u32, a: u32) -> (u32, bool)
     ensures wide { result.1 ≡ smulh_flag W s a }
 {
     if W == 16 {
-        high_signed_16(s, a)
+        high_16(product_16(s, a))
     } else {
-        high_signed_32(s, a)
+        high_32(product_32(s, a))
     }
 }
 
-// Like `high_signed`, for words of 16 bits.
-fn high_signed_16(s: u32, a: u32) -> (u32, bool)
+// The product of signed words of 16 bits.
+fn product_16(s: u32, a: u32) -> i64
     requires s_word { s < 2 ^ 16 }
     requires a_word { a < 2 ^ 16 }
-    ensures high { result.0 ≡ smulh_result 16 s a }
-    ensures small { result.0 < 2 ^ 16 }
-    ensures wide { result.1 ≡ smulh_flag 16 s a }
+    ensures { result ≡ signed_product 16 s a }
 {
-    let product = signed16(s) * signed16(a);
+    signed16(s) * signed16(a)
+}
+
+// The same of words of 32 bits.
+fn product_32(s: u32, a: u32) -> i64
+    ensures { result ≡ signed_product 32 s a }
+{
+    signed(s) * signed(a)
+}
+
+// The high word of a product of words of 16 bits, and whether it is no signed word.
+fn high_16(product: i64) -> (u32, bool)
+    ensures high { result.0 ≡ twos 32 product / 2 ^ 16 }
+    ensures small { result.0 < 2 ^ 16 }
+    ensures wide { result.1 ≡ not (fits 16 product) }
+{
     let high = ((product.cast_unsigned() >> 16) % (1 << 16)) as u32;
     (high, product < -0x8000 || product >= 0x8000)
 }
 
-// Like `high_signed`, for words of 32 bits.
-fn high_signed_32(s: u32, a: u32) -> (u32, bool)
-    ensures high { result.0 ≡ smulh_result 32 s a }
+// The same of words of 32 bits.
+fn high_32(product: i64) -> (u32, bool)
+    ensures high { result.0 ≡ twos 64 product / 2 ^ 32 }
     ensures small { result.0 < 2 ^ 32 }
-    ensures wide { result.1 ≡ smulh_flag 32 s a }
+    ensures wide { result.1 ≡ not (fits 32 product) }
 {
-    let product = signed(s) * signed(a);
     let high = (product.cast_unsigned() >> 32) as u32;
     (high, product < -0x8000_0000 || product >= 0x8000_0000)
 }

@@ -1,3 +1,4 @@
+use Rattle.std.proofs.Common.{arith}
 use Rattle.tv_core.proofs.Chain.{refused, all_then, all_pure, some_then, some_first}
 use Rattle.tv_muldiv.specs.Product.{product_bits_of}
 use Rattle.tv_muldiv.proofs.products.product_bits.Goals as goal
@@ -40,3 +41,28 @@ returns-clause-puts g c =
       c.requires.y_word.size,
     ) at c.in_ok-put-2.ensures.puts in
     all_then _ c.fresh-first.ensures.puts (all_then _ c.in_ok-new_bits_by.ensures.puts (all_then _ lowest (all_then _ whole all_pure)))
+
+pub put-requires : goal.put-requires
+put-requires g c =
+    let first = c.fresh-first.ensures in
+    let grown = c.in_ok-new_bits_by.ensures.grows in
+    record {
+      whole = grown.whole;
+      room = omega (arith, c.requires.room.constraints, first.grows.constraints, grown.constraints);
+      a_made = omega (arith, c.set_wire.ensures.top, c.requires.x_word.below, c.requires.width, first.grows.wires, grown.wires);
+      b_made = omega (arith, c.set_wire-2.ensures.top, c.requires.y_word.below, c.requires.width, first.grows.wires, grown.wires);
+      c_made = omega (arith, c.set_wire-3.ensures.top, first.next, first.grows.wires, grown.wires);
+    }
+
+pub put-requires-2 : goal.put-requires-2
+put-requires-2 g c =
+    let first = c.fresh-first.ensures in
+    let grown = c.in_ok-new_bits_by.ensures.grows in
+    let put = c.in_ok-put.ensures.grows in
+    record {
+      whole = put.whole;
+      room = omega (arith, c.requires.room.constraints, first.grows.constraints, grown.constraints, put.constraints, c.requires.width);
+      a_made = omega (arith, c.set_number.ensures.top, c.requires.x_word, first.grows.wires, grown.wires, put.wires);
+      b_made = omega (arith, c.set_number-2.ensures.top, c.requires.y_word, first.grows.wires, grown.wires, put.wires);
+      c_made = omega (arith, c.set_long_number.ensures.top, c.requires.width, first.next, first.grows.wires, grown.wires, put.wires);
+    }

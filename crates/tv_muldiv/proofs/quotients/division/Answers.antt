@@ -1,3 +1,4 @@
+use Rattle.std.proofs.Common.{arith}
 use Rattle.tv_core.proofs.Chain.{refused, some_first}
 use Rattle.tv_core.proofs.TailCalls.{puts_in_then}
 use Rattle.tv_muldiv.specs.Quotient.{division_of}
@@ -25,3 +26,15 @@ returns-clause-puts g c =
       c.requires.y_word.size,
     ) at c.put.ensures.puts in
     puts_in_then g.S.Sink.meaning _ _ _ _ _ _ _ c.in_ok-gate.ensures.puts whole
+
+pub put-requires : goal.put-requires
+put-requires g c =
+    let gate = c.in_ok-gate.ensures in
+    let grown = gate.grows in
+    record {
+      whole = grown.whole;
+      room = omega (arith, c.requires.room.constraints, grown.constraints);
+      a_made = omega (arith, c.set_number.ensures.top, c.requires.made.quot, grown.wires);
+      b_made = omega (arith, c.set_number-2.ensures.top, c.requires.y_word, grown.wires);
+      c_made = omega (arith, c.plus.ensures.top, c.plus_to.ensures.top, c.set_number-3.ensures.top, c.requires.x_word, c.requires.made.rem, gate.below, grown.wires);
+    }
