@@ -184,9 +184,9 @@ pub record DoesSame (net : Net) (g form : Form) (k n : ℕ) (b b' : ℕ → Bool
   pub values : level_values net g k b (pair_at xs) ≡ level_values net form k b' f
   pub moved : (ys : List PairNum) → ys ≡ places (2 ^ suc k) (through net k b (pair_at xs)) → ys ≡ places n (through net k b' f)
 
-pub does_same : (net : Net) (g form : Form) (k m n : ℕ) (b b' : ℕ → Bool) (f : ℕ → PairNum) (xs : List PairNum) → g ≡ form → m ≡ n → n ≡ 2 ^ suc k
+pub does_same : (net : Net) (k : ℕ) (f : ℕ → PairNum) {g form : Form} {m n : ℕ} {b b' : ℕ → Bool} {xs : List PairNum} → g ≡ form → m ≡ n → n ≡ 2 ^ suc k
     → ◌≡◌ {A = ℕ → Bool} b b' → xs ≡ places m f → DoesSame net g form k n b b' f xs
-does_same net g form k m n b b' f xs same_form same_count size same is =
+does_same net k f {g} {form} {m} {n} {b} {b'} {xs} same_form same_count size same is =
     let each : SameBelow (2 ^ suc k) (pair_at xs) f = λ j h. pair_at-places m f xs is j (omega arith) in
     record {
       values = ap₂ (λ g b. level_values net g k b (pair_at xs)) same_form same ∙ level_values-same net form k b' (pair_at xs) f each;
@@ -219,7 +219,7 @@ module _ (net : Net) (form : Form) (h k : ℕ) (level : h ≡ suc k) (bit : ℕ 
   abbrev pub lower_out : ℕ → ℕ → PairNum
   lower_out l = through net k (from (2 ^ l + switches net k) bit) (to_lower bit item)
 
-  module _ (us ls : List PairNum) (up : us ≡ places (2 ^ h) (upper_out h)) (low : ls ≡ places (2 ^ h) (lower_out h)) (b : ℕ → Bool)
+  module _ {us ls : List PairNum} (up : us ≡ places (2 ^ h) (upper_out h)) (low : ls ≡ places (2 ^ h) (lower_out h)) {b : ℕ → Bool}
       (same : ◌≡◌ {A = ℕ → Bool} b (from (2 ^ h + 2 * switches net k) bit)) where
     long : length us ≡ 2 ^ h
     long = ap length up ∙ places-length (2 ^ h) (upper_out h)

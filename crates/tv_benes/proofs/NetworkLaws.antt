@@ -216,20 +216,8 @@ pub record IsLevel (z : List ℕ) (net : Net) (form : Form) (h first : ℕ) (v o
 -- a network within others, and the two columns around them
 module _ (z : List ℕ) (net : Net) (form : Form) (h first u l g : ℕ) (at_u : u ≡ switch_wire form first (2 ^ suc h))
     (at_l : l ≡ u + level_wires net (other form) h) (at_g : g ≡ l + level_wires net (other form) h) where
-  n : ℕ
-  n = 2 ^ suc h
-
-  s : ℕ
-  s = switches net h
-
-  wires : ℕ
-  wires = level_wires net (other form) h
-
   bit : ℕ → Bool
   bit = level_bit z net form (suc h) first
-
-  places : (j : ℕ) → ((j < 2 ^ suc h → bit_place net form (suc h) first j ≡ switch_wire form first j))
-  places j k = place_first net form h first j k
 
   upper_place : (i j : ℕ) → i ≡ 2 ^ suc h + j → j < switches net h → bit_place net form (suc h) first i ≡ bit_place net (other form) h u j
   upper_place i j e k = place_upper net form h first i j e k ∙ ap (λ w. bit_place net (other form) h w j) (sym at_u)
@@ -253,7 +241,7 @@ module _ (z : List ℕ) (net : Net) (form : Form) (h first u l g : ℕ) (at_u : 
       let size = switches-suc net h in
       let one = missing_small net in
       elim (cases_lt j (2 ^ suc h)) [
-        | inl a ↦ subst (λ w. Q j w) (sym (places j a)) (in_first j a)
+        | inl a ↦ subst (λ w. Q j w) (sym (place_first net form h first j a)) (in_first j a)
         | inr a ↦ elim (cases_lt j (2 ^ suc h + switches net h)) [
           | inl b ↦ let r : 2 ^ suc h + (j - 2 ^ suc h) ≡ j = omega arith in
               subst (λ w. Q j w) (sym (upper_place j (j - 2 ^ suc h) (sym r) (omega arith)))
@@ -312,9 +300,9 @@ module _ (z : List ℕ) (net : Net) (form : Form) (h first u l g : ℕ) (at_u : 
         let n = 2 ^ suc h in
         let s = switches net h in
         let up_items : (j : ℕ) → j < n → up_in j ≡ to_upper bit v j = λ j k. (in_column j k).first
-        ∙ ap (λ b. passed b (v (2 * j)) (v (2 * j + 1))) (at_bit _ _ (sym (places j k))) in
+        ∙ ap (λ b. passed b (v (2 * j)) (v (2 * j + 1))) (at_bit _ _ (sym (place_first net form h first j k))) in
         let low_items : (j : ℕ) → j < n → low_in j ≡ to_lower bit v j = λ j k. (in_column j k).second
-        ∙ ap (λ b. passed b (v (2 * j + 1)) (v (2 * j))) (at_bit _ _ (sym (places j k))) in
+        ∙ ap (λ b. passed b (v (2 * j + 1)) (v (2 * j))) (at_bit _ _ (sym (place_first net form h first j k))) in
         let same_upper : (j : ℕ) → j < n → up_out j ≡ through net h (from n bit) (to_upper bit v) j =
         λ j k. upper.outputs j k ∙ through-same net h (level_bit z net (other form) h u) (from n bit) up_in (to_upper bit v)
         (λ i b. at_bit _ _ (sym (upper_place (n + i) i refl b))) up_items j k in

@@ -182,10 +182,6 @@ level_below net Open (suc h) next from has =
     (sums_made net o n last.next (below_later u.answer n u.next last.next (omega arith) (level_below net Bound h c.next (to_upper_of Open next from) tt))
     (below_later l.answer n l.next last.next (omega arith) (level_below net Bound h u.next (to_lower_of Open next from) tt)) (omega arith))
 
-pub network_below : (net : Net) (h next : ℕ) (item : ℕ → Pair)
-    → AreBelow (level_of net Bound h item next).answer (2 ^ suc h) (level_of net Bound h item next).next
-network_below net h next item = level_below net Bound h next item tt
-
 -- ---- the values
 five_small : (a b c d e : ℕ) → a < P → b < P → c < P → d < P → e < P → InField (a ∷ b ∷ c ∷ d ∷ e ∷ [])
 five_small a b c d e p q r s t =
@@ -246,6 +242,6 @@ network_sizes = record {
   fills = λ net h item bit v next. level_next net Bound h item next ∙ ap (λ k. next + k) (sym (level_values-length net Bound h bit v));
   ends = λ net h next item. level_next net Bound h item next;
   below = λ net h next item. subst (λ end. AreBelow (level_of net Bound h item next).answer (2 ^ suc h) end) (level_next net Bound h item next)
-      (network_below net h next item);
+      (level_below net Bound h next item tt);
   small = λ net h bit v each. level_small net Bound h bit v each;
 }

@@ -29,11 +29,7 @@ pub fn conclude<D: Files>(files: &mut D, word_count: usize, ending: Ending) -> S
 }
 
 /// Writes a file of these bytes.
-pub fn write_bytes<D: Files>(
-    files: &mut D,
-    place: Place<'_>,
-    bytes: &[u8],
-) -> Result<(), Stop>
+pub fn write_bytes<D: Files>(files: &mut D, place: Place<'_>, bytes: &[u8]) -> Result<(), Stop>
     ensures { Writes (one_write (named place.entry) (Bytes bytes.now))
         (D.seen files.old) (D.seen files.new) result }
 {

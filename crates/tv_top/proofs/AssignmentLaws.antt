@@ -12,8 +12,13 @@ use Rattle.tv_step.specs.declared.not_run.NotRun.{NotRun}
 use Rattle.tv_step.specs.declared.not_run.NotRun.TheVariants.{WireCount}
 use Rattle.tv_extract.specs.declared.run.Run.{Run}
 use Rattle.tv_wtns.specs.Wtns.{Firsts, firsts_of, assignment_of}
-use Rattle.tv_plan.proofs.Common.{Names, Outside, Bad, Finish, Stop, Memory, Holds, Then, Completes, Named, name_at, Look, Outcome, ◌>>=◌, outcome_by, held_at}
-use Rattle.tv_plan.proofs.Common.{input, look_on, map_ok, settled, Program, bits, program_in}
+use Rattle.tv_plan.proofs.Common.{Names, Outside, Holds, Then, Completes, Named, name_at, Look, Outcome, ◌>>=◌, outcome_by, held_at}
+use Rattle.tv_plan.specs.declared.refusal.Bad.{Bad}
+use Rattle.tv_plan.specs.declared.refusal.Finish.{Finish}
+use Rattle.tv_plan.specs.declared.refusal.Stop.{Stop}
+use Rattle.tv_plan.specs.declared.refusal.Stop.TheVariants.{Memory}
+use Rattle.tv_plan.proofs.Common.{input, look_on, map_ok, settled, bits, program_in}
+use Rattle.tv_plan.specs.declared.programs.Program.{Program}
 use Rattle.tv_layout.specs.Places.{WithinLimits}
 use Rattle.tv_plan.specs.declared.refusal.Finish.TheVariants.{NotARun}
 use Rattle.tv_top.specs.Build.{program_system, program_runs}

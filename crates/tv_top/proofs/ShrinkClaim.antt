@@ -9,7 +9,8 @@ use Rattle.tv_shrink.proofs.Whole.{systems_are_over}
 use Rattle.tv_shrink.specs.Answers.{most, all_terms, first_wide}
 use Rattle.tv_shrink.specs.Laws.{IsWhole}
 use Rattle.tv_r1cs_write.specs.Shrunken.{Shrunken}
-use Rattle.tv_plan.proofs.Common.{Bad, Holds, Then, name_at, input, settled}
+use Rattle.tv_plan.proofs.Common.{Holds, Then, name_at, input, settled}
+use Rattle.tv_plan.specs.declared.refusal.Bad.{Bad}
 use Rattle.tv_plan.specs.Containers.{system_bad, system_in}
 use Rattle.tv_top.specs.Shrink.{terms_bad, narrow_shrunk, shrunk_of, shrunk_look, shrink_ends, shrink_form, shrink_plan, Keeps, IsShrunk, OnShrink}
 use Rattle.tv_plan.proofs.ClaimLaws.{Form, FormOf, Promises, leads_to, shows_input, shows_then, shows_made, shows_more}

@@ -11,7 +11,9 @@ use Rattle.tv_shrink.specs.declared.fault.ShrinkFault.{ShrinkFault}
 use Rattle.tv_shrink.specs.declared.fault.ShrinkFault.TheVariants as fault
 use Rattle.tv_plan.specs.Containers.{system_in}
 use Rattle.tv_top.specs.Shrink.{shrink_sizes, shrink_stop, shrunk_of, shrunk_look}
-use Rattle.tv_plan.proofs.Common.{Outside, Rose, Bad, Stop, IsFound, Finds, Spares, Named, Look, ◌>>=◌, look_on, held_at, input, made_of, settled}
+use Rattle.tv_plan.proofs.Common.{Outside, Rose, IsFound, Finds, Spares, Named, Look, ◌>>=◌, look_on, held_at, input, made_of, settled}
+use Rattle.tv_plan.specs.declared.refusal.Bad.{Bad}
+use Rattle.tv_plan.specs.declared.refusal.Stop.{Stop}
 use Rattle.tv_plan.proofs.ContainerReads.{StopsBy, came, finds_file}
 use Rattle.tv_plan.specs.Finds.{reading}
 

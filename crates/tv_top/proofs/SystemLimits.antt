@@ -2,7 +2,10 @@
 use Rattle.std.proofs.Common.{◌≤◌, ℕ, arith}
 use Rattle.tv_core.specs.declared.limits.TheConstants.{IMAGE_WORDS, TAPE_WORDS, STEPS}
 use Rattle.tv_layout.specs.Places.{WithinLimits}
-use Rattle.tv_plan.proofs.Common.{Program, Width, Bits16, Bits32, HasImage, image_words}
+use Rattle.tv_plan.proofs.Common.{HasImage, image_words}
+use Rattle.tv_plan.specs.declared.programs.Program.{Program}
+use Rattle.tv_plan.specs.declared.programs.Width.{Width}
+use Rattle.tv_plan.specs.declared.programs.Width.TheVariants.{Bits16, Bits32}
 use Rattle.tv_plan.proofs.ProgramLaws.{is_width}
 use Rattle.tv_top.specs.Build.{program_runs}
 

@@ -11,7 +11,8 @@ use Rattle.tv_extract.specs.Runs.{IsRunOf}
 use Rattle.tv_extract.specs.declared.run.Run.{Run}
 use Rattle.tv_layout.specs.Layout.{taken_wire, taken_wires, taken_of, step_block}
 use Rattle.tv_layout.specs.Places.{runs_of}
-use Rattle.tv_plan.proofs.Common.{Width, bits}
+use Rattle.tv_plan.proofs.Common.{bits}
+use Rattle.tv_plan.specs.declared.programs.Width.{Width}
 use Rattle.tv_plan.proofs.ProgramLaws.{is_width}
 use Rattle.tv_plan.proofs.TapeTexts.{primary_comes_back, aux_comes_back, publics_come_back}
 use Rattle.tv_step.proofs.EndLaws.{end_answers}

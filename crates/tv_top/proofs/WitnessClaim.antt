@@ -9,7 +9,8 @@ use Rattle.tv_step.specs.RunTrace.{IsRefused}
 use Rattle.tv_step.specs.declared.end.End.{End}
 use Rattle.tv_step.specs.declared.end.End.TheVariants.{Answer, Silent}
 use Rattle.tv_step.specs.declared.run_trace.TraceFault.TheVariants as traces
-use Rattle.tv_plan.proofs.Common.{Outside, Named, name_at, Completes, Inputs, bits}
+use Rattle.tv_plan.proofs.Common.{Outside, Named, name_at, Completes, bits}
+use Rattle.tv_plan.specs.declared.inputs.Inputs.{Inputs}
 use Rattle.tv_plan.proofs.AnswerLaws.{completes_nothing}
 use Rattle.tv_plan.specs.declared.refusal.Finish.TheVariants.{Quiet, NoRun}
 use Rattle.tv_plan.specs.Contents.{Content.{Values}}

@@ -17,5 +17,6 @@ pub use commands::command;
 pub use laws::{limits_are_these, tapes_come_back};
 pub use tv_draw::{Drawn, draw};
 pub use tv_extract::NotRun;
-pub use tv_plan::{NoWhy, Refusal, Status, What, Width};
-pub use tv_plan::{definitions_want_no_memory, image_comes_back};
+pub use tv_plan::{
+    NoWhy, Refusal, Status, What, Width, definitions_want_no_memory, image_comes_back,
+};

@@ -63,8 +63,7 @@ returns-in_err-route_level-clause-gives g t c =
     let n_is = c.long_power-n.ensures.is in
     let long = c.split_at_mut-upper.ensures.front_len ∙ n_is in
     let size = ap (λ j. 2 ^ j) below.level in
-    let up = does_same net c.other-inner.result (other c.args.form) (c.args.h - 1) _ (2 ^ c.args.h) (bit_at c.bits_from-bits.result.now) (from (2 ^ c.args.h) bit)
-    (to_upper bit item) c.first_column.new.upper c.other-inner.ensures long size (c.bits_from-bits.ensures ∙ ap (λ n. from n bit) n_is)
+    let up = does_same net (c.args.h - 1) (to_upper bit item) c.other-inner.ensures long size (c.bits_from-bits.ensures ∙ ap (λ n. from n bit) n_is)
     c.in_ok-first_column.ensures.upper in
     let column = all_as (ap (λ n. column_values c.args.form n bit item) long) c.in_ok-first_column.ensures.gives in
     let upper = some_as up.values c.in_err-route_level.ensures.gives in
@@ -81,11 +80,9 @@ returns-in_err-route_level-2-clause-gives g t c =
     let s_is = c.level_switches-s.ensures.is in
     let long = c.split_at_mut-upper.ensures.front_len ∙ n_is in
     let size = ap (λ j. 2 ^ j) below.level in
-    let up = does_same net c.other-inner.result (other c.args.form) (c.args.h - 1) _ (2 ^ c.args.h) (bit_at c.bits_from-bits.result.now) (from (2 ^ c.args.h) bit)
-    (to_upper bit item) c.first_column.new.upper c.other-inner.ensures long size (c.bits_from-bits.ensures ∙ ap (λ n. from n bit) n_is)
+    let up = does_same net (c.args.h - 1) (to_upper bit item) c.other-inner.ensures long size (c.bits_from-bits.ensures ∙ ap (λ n. from n bit) n_is)
     c.in_ok-first_column.ensures.upper in
-    let low = does_same net c.other-inner.result (other c.args.form) (c.args.h - 1) _ (2 ^ c.args.h) (bit_at c.bits_from-bits-2.result.now)
-    (from (2 ^ c.args.h + switches net (c.args.h - 1)) bit) (to_lower bit item) c.first_column.new.lower c.other-inner.ensures long size
+    let low = does_same net (c.args.h - 1) (to_lower bit item) c.other-inner.ensures long size
     (second_bits bit n_is s_is c.bits_from-bits.ensures c.bits_from-bits-2.ensures) c.in_ok-first_column.ensures.lower in
     let column = all_as (ap (λ n. column_values c.args.form n bit item) long) c.in_ok-first_column.ensures.gives in
     let upper = all_as up.values c.in_ok-route_level.ensures.gives in
@@ -104,11 +101,9 @@ returns-clause-gives g t c =
     let s_is = c.level_switches-s.ensures.is in
     let long = c.split_at_mut-upper.ensures.front_len ∙ n_is in
     let size = ap (λ j. 2 ^ j) below.level in
-    let up = does_same net c.other-inner.result (other c.args.form) (c.args.h - 1) _ (2 ^ c.args.h) (bit_at c.bits_from-bits.result.now) (from (2 ^ c.args.h) bit)
-    (to_upper bit item) c.first_column.new.upper c.other-inner.ensures long size (c.bits_from-bits.ensures ∙ ap (λ n. from n bit) n_is)
+    let up = does_same net (c.args.h - 1) (to_upper bit item) c.other-inner.ensures long size (c.bits_from-bits.ensures ∙ ap (λ n. from n bit) n_is)
     c.in_ok-first_column.ensures.upper in
-    let low = does_same net c.other-inner.result (other c.args.form) (c.args.h - 1) _ (2 ^ c.args.h) (bit_at c.bits_from-bits-2.result.now)
-    (from (2 ^ c.args.h + switches net (c.args.h - 1)) bit) (to_lower bit item) c.first_column.new.lower c.other-inner.ensures long size
+    let low = does_same net (c.args.h - 1) (to_lower bit item) c.other-inner.ensures long size
     (second_bits bit n_is s_is c.bits_from-bits.ensures c.bits_from-bits-2.ensures) c.in_ok-first_column.ensures.lower in
     let column = all_as (ap (λ n. column_values c.args.form n bit item) long) c.in_ok-first_column.ensures.gives in
     let upper = all_as up.values c.in_ok-route_level.ensures.gives in
@@ -117,8 +112,7 @@ returns-clause-gives g t c =
     let to_l = low.moved c.route_level-2.new.items c.in_ok-route_level-2.ensures.moved in
     let same = third_bits bit n_is s_is c.bits_from-bits.ensures c.bits_from-bits-2.ensures c.bits_from.ensures in
     let last = subst (λ (l : List ℕ). GivesIn g.V.Values.giving c.route_level-2.new.v c.last_column.new.v l c.last_column.result)
-    (moved_values net c.args.form c.args.h (c.args.h - 1) below.level bit item c.route_level.new.items c.route_level-2.new.items to_u to_l
-    (bit_at c.bits_from.result.now) same) c.last_column.ensures.gives in
+    (moved_values net c.args.form c.args.h (c.args.h - 1) below.level bit item to_u to_l same) c.last_column.ensures.gives in
     level_given g.V.Values.giving c.args.net c.args.form c.args.h (c.args.h - 1) bit item below.level _ _ column _ upper _ _ c.last_column.result lower last
 
 pub returns-clause-moved : goal.returns-clause-moved
@@ -131,15 +125,12 @@ returns-clause-moved g t c =
     let s_is = c.level_switches-s.ensures.is in
     let long = c.split_at_mut-upper.ensures.front_len ∙ n_is in
     let size = ap (λ j. 2 ^ j) below.level in
-    let up = does_same net c.other-inner.result (other c.args.form) (c.args.h - 1) _ (2 ^ c.args.h) (bit_at c.bits_from-bits.result.now) (from (2 ^ c.args.h) bit)
-    (to_upper bit item) c.first_column.new.upper c.other-inner.ensures long size (c.bits_from-bits.ensures ∙ ap (λ n. from n bit) n_is)
+    let up = does_same net (c.args.h - 1) (to_upper bit item) c.other-inner.ensures long size (c.bits_from-bits.ensures ∙ ap (λ n. from n bit) n_is)
     c.in_ok-first_column.ensures.upper in
-    let low = does_same net c.other-inner.result (other c.args.form) (c.args.h - 1) _ (2 ^ c.args.h) (bit_at c.bits_from-bits-2.result.now)
-    (from (2 ^ c.args.h + switches net (c.args.h - 1)) bit) (to_lower bit item) c.first_column.new.lower c.other-inner.ensures long size
+    let low = does_same net (c.args.h - 1) (to_lower bit item) c.other-inner.ensures long size
     (second_bits bit n_is s_is c.bits_from-bits.ensures c.bits_from-bits-2.ensures) c.in_ok-first_column.ensures.lower in
     let to_u = up.moved c.route_level.new.items c.in_ok-route_level.ensures.moved in
     let to_l = low.moved c.route_level-2.new.items c.in_ok-route_level-2.ensures.moved in
     let same = third_bits bit n_is s_is c.bits_from-bits.ensures c.bits_from-bits-2.ensures c.bits_from.ensures in
-    let last = moved_items net c.args.form c.args.h (c.args.h - 1) below.level bit item c.route_level.new.items c.route_level-2.new.items to_u to_l
-    (bit_at c.bits_from.result.now) same in
+    let last = moved_items net c.args.form c.args.h (c.args.h - 1) below.level bit item to_u to_l same in
     on_ok_weaker c.last_column.result (λ joined. joined ∙ last) c.last_column.ensures.joined
