@@ -1,15 +1,17 @@
 -- Looking into a normal combination.
 use Rattle.std.proofs.Common.{◌≡◌, ℕ, zero, suc, ◌+◌, ◌*◌, ◌%◌, ◌<◌, ◌≤◌, ◌&&◌, [], ◌∷◌, Some, None, refl, sym, ◌∙◌, ap, ap₂, subst, arith, eqb, ltb}
-use Rattle.std.proofs.Common.{true, false, inl, inr, cond, length, get_or, eq-eqb, ne_eqb, ltb-true, one-mul, mod-eq_of_lt}
+use Rattle.std.proofs.Common.{◌++◌, not, true, false, inl, inr, cond, length, get_or, eq-eqb, ne_eqb, ltb-true, one-mul, mod-eq_of_lt}
 use Rattle.std.specs.List.{list_all}
-use Rattle.std.proofs.lemmas.Bool.{and_left, and_right, cases_lt, ltb-false, or_from}
+use Rattle.std.specs.Prelude.{Option, IfSome, is_some}
+use Rattle.std.proofs.lemmas.Bool.{and_left, and_right, cases_lt, cond-true, cond-false, ltb-false, or_from}
 use Rattle.std.specs.List.Sorted.{IsNonDecreasingBy, IsPartitionPoint}
 use Rattle.tv_core.specs.Combinations.{scaled}
 use Rattle.tv_core.specs.Constraints.{Combination}
 use Rattle.tv_core.specs.declared.field.TheConstants.{P}
 use Rattle.tv_core.specs.Normal.{coefficient, IsNormalFrom}
-use Rattle.tv_shrink.specs.Substitution.{has_wire, constant_in}
+use Rattle.tv_shrink.specs.Substitution.{has_wire, constant_in, without}
 use Rattle.tv_shrink.proofs.ReplacingLaws.{found_here, found_later}
+use Rattle.tv_core.proofs.NormalLaws.{Over, IsNormalFrom-lower}
 use Rattle.tv_core.proofs.Unique.{coefficient-first, coefficient-other}
 
 -- constants
@@ -60,31 +62,11 @@ above_at least i d [] n h = absurd (omega arith)
 above_at least zero d (t ∷ x) n h = n.0
 above_at least (suc i) d (t ∷ x) n h = let later = above_at (t.1 + 1) i d x n.3 (omega arith) in omega (arith, n.0)
 
-pub found_at : (least i w : ℕ) (d : ℕ × ℕ) (x : Combination) → IsNormalFrom least x → i < length x → (get_or x i d).1 ≡ w → (has_wire w x ≡ true)
-    × (coefficient w x ≡ (get_or x i d).0)
-found_at least i w d [] n h is = absurd (omega arith)
-found_at least zero w d (t ∷ x) n h is = (found_here w t x (sym is), subst (λ v. coefficient v (t ∷ x) ≡ t.0) is (coefficient-first t x n.2 n.3))
-found_at least (suc i) w d (t ∷ x) n h is =
-    let inside : i < length x = omega arith in
-    let later = found_at (t.1 + 1) i w d x n.3 inside is in
-    let above = above_at (t.1 + 1) i d x n.3 inside in
-    (found_later w t x later.0, coefficient-other t w x (λ e. absurd (omega arith)) ∙ later.1)
-
-pub coefficient_found : (i w : ℕ) (t : ℕ × ℕ) (x : Combination) → IsNormalFrom 0 x → i < length x → t ≡ get_or x i t → t.1 ≡ w
-    → Some t.0 ≡ cond (has_wire w x) (Some (coefficient w x)) None
-coefficient_found i w t x n h at is =
-    let found = found_at 0 i w t x n h (ap (λ u. u.1) (sym at) ∙ is) in
-    ap Some (ap (λ u. u.0) at ∙ sym found.1) ∙ sym (ap (λ b. cond b (Some (coefficient w x)) None) found.0)
-
 lacks_each : (w : ℕ) (x : Combination) → ((k : ℕ) (d : ℕ × ℕ) → k < length x → (get_or x k d).1 ≡ w → ⊥) → has_wire w x ≡ false
 unfolding has_wire
 lacks_each w [] each = refl
 lacks_each w (t ∷ x) each =
     or_from (eqb t.1 w) (has_wire w x) (ne_eqb t.1 w (λ e. each 0 t (omega arith) e)) (lacks_each w x (λ k d h e. each (suc k) d (omega arith) e))
-
-pub coefficient_missing : (w : ℕ) (x : Combination) → ((k : ℕ) (d : ℕ × ℕ) → k < length x → (get_or x k d).1 ≡ w → ⊥)
-    → None ≡ cond (has_wire w x) (Some (coefficient w x)) None
-coefficient_missing w x each = sym (ap (λ b. cond b (Some (coefficient w x)) None) (lacks_each w x each))
 
 -- once times a combination
 pub scaled_once : (least : ℕ) (x : Combination) → IsNormalFrom least x → scaled 1 x ≡ x
@@ -103,10 +85,9 @@ rising least (t ∷ x) n (suc i) (suc j) d le h = rising (t.1 + 1) x n.3 i j d (
 
 -- so a wire stands where those before it end, or nowhere
 pub split_missing : (w i : ℕ) (x : Combination) → IsNormalFrom 0 x → IsPartitionPoint (λ t. ltb t.1 w ≡ true) (λ t. ltb t.1 w ≡ false) x i
-    → ((d : ℕ × ℕ) → i < length x → (get_or x i d).1 ≡ w → ⊥) →
-    None ≡ cond (has_wire w x) (Some (coefficient w x)) None
+    → ((d : ℕ × ℕ) → i < length x → (get_or x i d).1 ≡ w → ⊥) → has_wire w x ≡ false
 split_missing w i x n point apart =
-    coefficient_missing w x (λ k d h e.
+    lacks_each w x (λ k d h e.
     elim (cases_lt k i) [
       | inl before ↦ absurd (let less = ltb-true (get_or x k d).1 w (point.0 k d (omega arith) before) in omega arith)
       | inr behind ↦
@@ -115,3 +96,60 @@ split_missing w i x n point apart =
           let most : (get_or x i d).1 ≤ (get_or x k d).1 = rising 0 x n i k d behind h in
           apart d inside (omega arith)
     ])
+
+-- a wire that stands in a normal combination, between the terms before it and those after it
+pub record Parted (least w k : ℕ) (before after : Combination) : Type 0 where
+  pub low : least ≤ w
+  pub some : 0 < k
+  pub has : has_wire w (before ++ (k, w) ∷ after) ≡ true
+  pub own : coefficient w (before ++ (k, w) ∷ after) ≡ k
+  pub others : without w (before ++ (k, w) ∷ after) ≡ before ++ after
+  pub front : IsNormalFrom least before
+  pub below : Over (λ v. v < w) before
+  pub back : IsNormalFrom (w + 1) after
+
+without-before : (least w : ℕ) (x : Combination) → IsNormalFrom least x → w < least → without w x ≡ x
+unfolding without
+without-before least w [] n h = refl
+without-before least w (t ∷ x) n h =
+    cond-true (not (eqb t.1 w)) (t ∷ without w x) (without w x) (ap not (ne_eqb t.1 w (λ e. absurd (omega (arith, n.0)))))
+    ∙ ap (λ rest. t ∷ rest) (without-before (t.1 + 1) w x n.3 (omega (arith, n.0)))
+
+pub parted : (least w k : ℕ) (before after : Combination) → IsNormalFrom least (before ++ (k, w) ∷ after) → Parted least w k before after
+unfolding without
+parted least w k [] after n = record {
+  low = n.0;
+  some = n.1;
+  has = found_here w (k, w) after refl;
+  own = coefficient-first (k, w) after n.2 n.3;
+  others = cond-false (not (eqb w w)) ((k, w) ∷ without w after) (without w after) (ap not (eq-eqb w w refl))
+      ∙ without-before (w + 1) w after n.3 (omega arith);
+  front = tt;
+  below = tt;
+  back = n.3;
+}
+parted least w k (t ∷ before) after n =
+    let x = before ++ (k, w) ∷ after in
+    let rest = parted (t.1 + 1) w k before after n.3 in
+    let apart : t.1 ≡ w → ⊥ = λ e. absurd (omega (arith, rest.low)) in
+    record {
+      low = omega (arith, n.0, rest.low);
+      some = rest.some;
+      has = found_later w t x rest.has;
+      own = coefficient-other t w x apart ∙ rest.own;
+      others = cond-true (not (eqb t.1 w)) (t ∷ without w x) (without w x) (ap not (ne_eqb t.1 w apart)) ∙ ap (λ y. t ∷ y) rest.others;
+      front = (n.0, n.1, n.2, rest.front);
+      below = (omega (arith, rest.low), rest.below);
+      back = rest.back;
+    }
+
+pub has_from : {A : Type 0} (w : ℕ) (x : Combination) (o : Option A) (before after : A → Combination) (k : A → ℕ) → IsNormalFrom 0 x
+    → IfSome o (λ p. x ≡ before p ++ (k p, w) ∷ after p) → (is_some o ≡ false → has_wire w x ≡ false) → is_some o ≡ has_wire w x
+has_from w x (Some p) before after k n is none =
+    sym (ap (has_wire w) is ∙ (parted 0 w (k p) (before p) (after p) (subst (IsNormalFrom 0) is n)).has)
+has_from w x None before after k n is none = sym (none refl)
+
+-- a normal combination, and one of later wires after it
+pub joined : (least w : ℕ) (x y : Combination) → least ≤ w → IsNormalFrom least x → Over (λ v. v < w) x → IsNormalFrom w y → IsNormalFrom least (x ++ y)
+joined least w [] y low n h m = IsNormalFrom-lower least w y low m
+joined least w (t ∷ x) y low n h m = (n.0, n.1, n.2, joined (t.1 + 1) w x y (omega (arith, h.0)) n.3 h.1 m)

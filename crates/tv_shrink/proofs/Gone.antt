@@ -1,19 +1,14 @@
 -- The wires that are gone, and the numbers of the others.
-use Rattle.std.proofs.Common.{◌≡◌, ℕ, zero, suc, ◌+◌, ◌-◌, ◌<◌, ◌≤◌, Bool, not, ◌||◌, List, [], ◌∷◌, ◌++◌, refl, sym, ◌∙◌, ap, ap₂, arith, eqb, ltb}
-use Rattle.std.proofs.Common.{true, false, inl, inr, cond, length, length-set, get_or, set, replicate, eqb-true, eq-eqb, ne_eqb, lt-ltb, le-ltb}
+use Rattle.std.proofs.Common.{◌≡◌, ℕ, zero, suc, ◌+◌, ◌-◌, ◌<◌, ◌≤◌, Bool, not, ◌||◌, List, [], ◌∷◌, ◌++◌, refl, sym, ◌∙◌, ap, arith, eqb, ltb}
+use Rattle.std.proofs.Common.{true, false, inl, inr, cond, length, get_or, eqb-true, eq-eqb, ne_eqb, lt-ltb, le-ltb}
 use Rattle.std.proofs.Common.{ltb-true, append-nil}
-use Rattle.std.specs.List.{dedup, dedup_from, filter, fold, list_any, range_with_len}
+use Rattle.std.specs.List.{dedup, dedup_from, filter, list_any}
 use Rattle.std.specs.List.Sorted.{IsNonDecreasingBy, IsPartitionPoint}
-use Rattle.std.proofs.lemmas.Bool.{cases_Bool, cases_eq, cases_lt, or_left, or_right}
-use Rattle.std.proofs.lemmas.List.{get_or-set_other, get_or-set_same, length-append, length-replicate}
-use Rattle.std.proofs.lemmas.List.Sums.{fold_push}
-use Rattle.std.proofs.Math.Bool.{or-false}
+use Rattle.std.proofs.lemmas.Bool.{cases_Bool, cases_eq, cases_lt, or_left}
+use Rattle.std.proofs.lemmas.List.{length-append}
 use Rattle.tv_r1cs_write.specs.Bytes.{others}
 use Rattle.tv_r1cs_write.proofs.Others.{none_before, others_more, Rising}
-use Rattle.tv_shrink.specs.Shrunk.{kept, place}
-use Rattle.tv_shrink.specs.Tidy.{marked}
-use Rattle.tv_shrink.proofs.Labels.{kept_below, place_is, Rising-at}
-use Rattle.tv_shrink.proofs.Solutions.{none_gone}
+use Rattle.tv_shrink.proofs.Labels.{Rising-at}
 
 -- how many of the numbers are below one
 abbrev below : ℕ → List ℕ → ℕ
@@ -139,53 +134,3 @@ values_more f [] n v k each before is h =
 values_more f (x ∷ values) n zero k each before is h = before 0 (omega arith)
 values_more f (x ∷ values) n (suc v) k each before is h =
     values_more (λ u. f (suc u)) values (n - 1) v k (omega arith) (λ u l. before (suc u) (omega arith)) (is ∙ ap f (omega arith)) (omega arith)
-
--- the marks of the wires that are gone
-pub marked_more : (wires : ℕ) (gone : List ℕ) (w : ℕ) → marked wires (gone ++ w ∷ []) ≡ set (marked wires gone) w true
-marked_more wires gone w = fold_push (λ (flags : List Bool) v. set flags v true) (replicate wires false) gone w
-
-length_from : (flags : List Bool) (gone : List ℕ) → length (fold (λ (flags : List Bool) v. set flags v true) flags gone) ≡ length flags
-length_from flags [] = refl
-length_from flags (v ∷ gone) = length_from (set flags v true) gone ∙ length-set flags v true
-
-pub length_marked : (wires : ℕ) (gone : List ℕ) → length (marked wires gone) ≡ wires
-length_marked wires gone = length_from (replicate wires false) gone ∙ length-replicate wires false
-
-marks_from : (flags : List Bool) (gone : List ℕ) (w : ℕ) → w < length flags
-    → get_or (fold (λ (flags : List Bool) v. set flags v true) flags gone) w false ≡ (get_or flags w false || list_any (λ v. eqb v w) gone)
-marks_from flags [] w h = sym (or-false (get_or flags w false))
-marks_from flags (v ∷ gone) w h =
-    let rest = marks_from (set flags v true) gone w (omega (arith, length-set flags v true)) in
-    elim (cases_eq w v) [
-      | inl same ↦
-          rest ∙ ap (λ b. b || list_any (λ u. eqb u w) gone) (ap (λ u. get_or (set flags v true) u false) same
-          ∙ get_or-set_same flags v true false (omega arith))
-          ∙ sym (or_right (get_or flags w false) (eqb v w || list_any (λ u. eqb u w) gone)
-          (or_left (eqb v w) (list_any (λ u. eqb u w) gone) (eq-eqb v w (sym same))))
-      | inr apart ↦
-          rest ∙ ap (λ b. b || list_any (λ u. eqb u w) gone) (get_or-set_other flags v w true false apart)
-          ∙ ap (λ b. get_or flags w false || (b || list_any (λ u. eqb u w) gone)) (sym (ne_eqb v w (λ e. absurd (apart (sym e)))))
-    ]
-
-pub marks : (wires : ℕ) (gone : List ℕ) (w : ℕ) → w < wires → get_or (marked wires gone) w false ≡ list_any (λ v. eqb v w) gone
-marks wires gone w h =
-    marks_from (replicate wires false) gone w (omega (arith, length-replicate wires false))
-    ∙ ap (λ b. b || list_any (λ v. eqb v w) gone) (none_gone wires w)
-
--- the wires that are kept, by the marks or by the list
-module _ (wires : ℕ) (flags : List Bool) (gone : List ℕ) (same : (w : ℕ) → w < wires → get_or flags w false ≡ list_any (λ v. eqb v w) gone) where
-  kept_from : (a n : ℕ) → a + n ≤ wires
-      → filter (λ w. not (get_or flags w false)) (range_with_len a n) ≡ filter (λ w. not (list_any (λ v. eqb v w) gone)) (range_with_len a n)
-  kept_from a zero h = refl
-  kept_from a (suc n) h = ap₂ (λ b rest. cond (not b) (a ∷ rest) rest) (same a (omega arith)) (kept_from (a + 1) n (omega arith))
-
-  kept_first : (n : ℕ) → n ≤ wires → kept_below n flags ≡ others n gone
-  unfolding others
-  kept_first n h = kept_from 0 n (omega arith)
-
-  pub kept_others : kept wires flags ≡ others wires gone
-  unfolding kept
-  kept_others = kept_first wires (omega arith)
-
-  pub numbered : (w : ℕ) → w < wires → get_or flags w false ≡ false → length (others w gone) ≡ place w (kept wires flags)
-  numbered w h stays = sym (place_is wires w flags h stays ∙ ap length (kept_first w (omega arith)))

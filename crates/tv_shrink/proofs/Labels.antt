@@ -8,7 +8,8 @@ use Rattle.std.proofs.lemmas.List.Elements.{filter-append}
 use Rattle.std.proofs.lemmas.List.{ext_get_or, get_or-map, length-map}
 use Rattle.tv_core.proofs.BelowLaws.{range-append}
 use Rattle.tv_r1cs_write.proofs.Others.{Rising}
-use Rattle.tv_shrink.specs.Shrunk.{kept, place}
+use Rattle.tv_r1cs_write.specs.Bytes.{others}
+use Rattle.tv_shrink.specs.Shrunk.{place}
 
 place-here : (w x : ℕ) (xs : List ℕ) → eqb x w ≡ true → place w (x ∷ xs) ≡ 0
 place-here w x xs e = cond-false (not (eqb x w)) _ 0 (ap not e)
@@ -71,35 +72,47 @@ any_filter p a (suc n) w h from to =
           any_cond (λ v. eqb v w) a (filter p (range_with_len (a + 1) n)) (p a) (any_filter p (a + 1) n w h (omega arith) (omega arith))
     ]
 
-module _ (wires : ℕ) (gone : List Bool) where
-  pub Rising-kept : Rising 0 (kept wires gone)
-  unfolding kept
-  Rising-kept = Rising-filter (λ w. not (get_or gone w false)) 0 wires
+-- whether a wire is gone
+abbrev pub is_gone : List ℕ → ℕ → Bool
+is_gone gone w = list_any (λ m. eqb m w) gone
+
+pub others_same : (xs ys : List ℕ) → ((w : ℕ) → is_gone xs w ≡ is_gone ys w) → (n : ℕ) → others n xs ≡ others n ys
+unfolding others
+others_same xs ys same n = each (range_with_len 0 n)
+  where
+    each : (ws : List ℕ) → filter (λ w. not (is_gone xs w)) ws ≡ filter (λ w. not (is_gone ys w)) ws
+    each [] = refl
+    each (w ∷ ws) = ap₂ (λ b rest. cond (not b) (w ∷ rest) rest) (same w) (each ws)
+
+module _ (wires : ℕ) (gone : List ℕ) where
+  pub Rising-kept : Rising 0 (others wires gone)
+  unfolding others
+  Rising-kept = Rising-filter (λ w. not (is_gone gone w)) 0 wires
 
   -- a wire that stays stands at its place
-  pub at_place-kept : (w : ℕ) → w < wires → get_or gone w false ≡ false → slice_index (kept wires gone) (place w (kept wires gone)) ≡ w
-  unfolding kept
+  pub at_place-kept : (w : ℕ) → w < wires → is_gone gone w ≡ false → slice_index (others wires gone) (place w (others wires gone)) ≡ w
+  unfolding others
   at_place-kept w h stays =
-      (found_place w (kept wires gone) (any_filter (λ v. not (get_or gone v false)) 0 wires w (ap not stays) (omega arith) (omega arith))).1
+      (found_place w (others wires gone) (any_filter (λ v. not (is_gone gone v)) 0 wires w (ap not stays) (omega arith) (omega arith))).1
 
-  filter_stay : (a n : ℕ) → a + n ≤ wires → AllByRecursion (λ w. (w < wires) × (get_or gone w false ≡ false))
-      (filter (λ w. not (get_or gone w false)) (range_with_len a n))
+  filter_stay : (a n : ℕ) → a + n ≤ wires → AllByRecursion (λ w. (w < wires) × (is_gone gone w ≡ false))
+      (filter (λ w. not (is_gone gone w)) (range_with_len a n))
   filter_stay a zero h = tt
   filter_stay a (suc n) h =
       let rest = filter_stay (a + 1) n (omega arith) in
-      cond_both (not (get_or gone a false)) (a ∷ filter (λ w. not (get_or gone w false)) (range_with_len (a + 1) n))
-      (filter (λ w. not (get_or gone w false)) (range_with_len (a + 1) n))
-      (AllByRecursion (λ w. (w < wires) × (get_or gone w false ≡ false)))
-      (λ e. ((omega arith, not-true (get_or gone a false) e), rest)) (λ e. rest)
+      cond_both (not (is_gone gone a)) (a ∷ filter (λ w. not (is_gone gone w)) (range_with_len (a + 1) n))
+      (filter (λ w. not (is_gone gone w)) (range_with_len (a + 1) n))
+      (AllByRecursion (λ w. (w < wires) × (is_gone gone w ≡ false)))
+      (λ e. ((omega arith, not-true (is_gone gone a) e), rest)) (λ e. rest)
 
-  pub inside-kept : (w : ℕ) → w < wires → get_or gone w false ≡ false → place w (kept wires gone) < length (kept wires gone)
-  unfolding kept
+  pub inside-kept : (w : ℕ) → w < wires → is_gone gone w ≡ false → place w (others wires gone) < length (others wires gone)
+  unfolding others
   inside-kept w h stays =
-      (found_place w (kept wires gone) (any_filter (λ v. not (get_or gone v false)) 0 wires w (ap not stays) (omega arith) (omega arith))).0
+      (found_place w (others wires gone) (any_filter (λ v. not (is_gone gone v)) 0 wires w (ap not stays) (omega arith) (omega arith))).0
 
   -- and each wire that is kept stays
-  pub kept_stay : AllByRecursion (λ w. (w < wires) × (get_or gone w false ≡ false)) (kept wires gone)
-  unfolding kept
+  pub kept_stay : AllByRecursion (λ w. (w < wires) × (is_gone gone w ≡ false)) (others wires gone)
+  unfolding others
   kept_stay = filter_stay 0 wires (omega arith)
 
 -- numbers looked up at the places of the wires are the numbers
@@ -118,21 +131,18 @@ front_kept p a (suc n) (suc m) h each =
     ∙ ap (λ xs. a ∷ xs) (front_kept p (a + 1) n m (omega arith) (λ w k. each w (omega arith)))
 
 -- none of the first wires is gone where those that are come later
-pub none_below : (publics w : ℕ) (gone : List Bool) → ((v : ℕ) → get_or gone v false ≡ true → publics ≤ v) → w < publics → get_or gone w false ≡ false
-none_below publics w gone later h = false_from_ne_true (get_or gone w false) (λ e. let above = later w e in omega arith)
+pub none_below : (publics w : ℕ) (gone : List ℕ) → ((v : ℕ) → is_gone gone v ≡ true → publics ≤ v) → w < publics → is_gone gone w ≡ false
+none_below publics w gone later h = false_from_ne_true (is_gone gone w) (λ e. let above = later w e in omega arith)
 
-pub front-kept : (wires publics : ℕ) (gone : List Bool) → publics ≤ wires → ((v : ℕ) → get_or gone v false ≡ true → publics ≤ v)
-    → take publics (kept wires gone) ≡ range_with_len 0 publics
-unfolding kept
-front-kept wires publics gone h later = front_kept (λ w. not (get_or gone w false)) 0 publics wires h
+pub front-kept : (wires publics : ℕ) (gone : List ℕ) → publics ≤ wires → ((v : ℕ) → is_gone gone v ≡ true → publics ≤ v)
+    → take publics (others wires gone) ≡ range_with_len 0 publics
+unfolding others
+front-kept wires publics gone h later = front_kept (λ w. not (is_gone gone w)) 0 publics wires h
     (λ w k. ap not (none_below publics w gone later (omega arith)))
 
 -- the place of a wire that is kept is how many before it are
 first_of : (w n : ℕ) → range_with_len (0 + w) (1 + n) ≡ w ∷ range_with_len (w + 1) n
 first_of w n = let one : 1 + n ≡ suc n = omega arith in let same : 0 + w ≡ w = omega arith in ap₂ range_with_len same one
-
-abbrev pub kept_below : ℕ → List Bool → List ℕ
-kept_below n gone = filter (λ w. not (get_or gone w false)) (range_with_len 0 n)
 
 -- a wire's place is after those before it
 place-after : (w : ℕ) (xs ys : List ℕ) → AllByRecursion (λ v. v < w) xs → place w (xs ++ (w ∷ ys)) ≡ length xs
@@ -145,15 +155,15 @@ below_range p a (suc n) m h =
     cond_both (p a) (a ∷ filter p (range_with_len (a + 1) n)) (filter p (range_with_len (a + 1) n)) (AllByRecursion (λ v. v < m))
     (λ e. (omega arith, below_range p (a + 1) n m (omega arith))) (λ e. below_range p (a + 1) n m (omega arith))
 
-pub place_is : (wires w : ℕ) (gone : List Bool) → w < wires → get_or gone w false ≡ false → place w (kept wires gone) ≡ length (kept_below w gone)
-unfolding kept
+pub place_is : (wires w : ℕ) (gone : List ℕ) → w < wires → is_gone gone w ≡ false → place w (others wires gone) ≡ length (others w gone)
+unfolding others
 place_is wires w gone h stays =
     let split : wires ≡ w + (1 + (wires - w - 1)) = omega arith in
-    ap (λ n. place w (kept_below n gone)) split
-    ∙ ap (place w) (ap (filter (λ v. not (get_or gone v false)))
+    ap (λ n. place w (others n gone)) split
+    ∙ ap (place w) (ap (filter (λ v. not (is_gone gone v)))
     (range-append 0 w (1 + (wires - w - 1)) ∙ ap (λ xs. range_with_len 0 w ++ xs) (first_of w (wires - w - 1)))
-    ∙ filter-append (λ v. not (get_or gone v false)) (range_with_len 0 w) (w ∷ range_with_len (w + 1) (wires - w - 1))
-    ∙ ap (λ b. kept_below w gone ++ cond b (w ∷ filter (λ v. not (get_or gone v false)) (range_with_len (w + 1) (wires - w - 1)))
-    (filter (λ v. not (get_or gone v false)) (range_with_len (w + 1) (wires - w - 1)))) (ap not stays))
-    ∙ place-after w (kept_below w gone) (filter (λ v. not (get_or gone v false)) (range_with_len (w + 1) (wires - w - 1)))
-    (below_range (λ v. not (get_or gone v false)) 0 w w (omega arith))
+    ∙ filter-append (λ v. not (is_gone gone v)) (range_with_len 0 w) (w ∷ range_with_len (w + 1) (wires - w - 1))
+    ∙ ap (λ b. others w gone ++ cond b (w ∷ filter (λ v. not (is_gone gone v)) (range_with_len (w + 1) (wires - w - 1)))
+    (filter (λ v. not (is_gone gone v)) (range_with_len (w + 1) (wires - w - 1)))) (ap not stays))
+    ∙ place-after w (others w gone) (filter (λ v. not (is_gone gone v)) (range_with_len (w + 1) (wires - w - 1)))
+    (below_range (λ v. not (is_gone gone v)) 0 w w (omega arith))

@@ -1,17 +1,21 @@
 -- What the functions on a constraint's combinations return.
-use Rattle.std.proofs.Common.{◌≡◌, ◌≢◌, ℕ, ◌+◌, ◌-◌, ◌*◌, ◌%◌, ◌<◌, ◌≤◌, Bool, not, ◌||◌, leb, length, [], ◌∷◌, ◌++◌, Some, None, refl, sym, ◌∙◌, ap}
-use Rattle.std.proofs.Common.{ap₂, arith, eqb, true, false, inl, inr, cond, mul-zero}
+use Rattle.std.proofs.Common.{◌≡◌, ◌≢◌, ℕ, ◌+◌, ◌-◌, ◌*◌, ◌%◌, ◌<◌, ◌≤◌, Bool, not, ◌||◌, leb, length, [], ◌∷◌, ◌++◌, Some, None, sym, ◌∙◌, ap}
+use Rattle.std.proofs.Common.{ap₂, append-nil, arith, eqb, true, false, inl, inr, cond, mod-lt, mul-zero}
 use Rattle.std.proofs.lemmas.Bool.{cond_both, le-leb, leb-true, not-true, or_cases, or_left, or_right}
 use Rattle.std.proofs.lemmas.List.{length-append, length-map}
 use Rattle.std.specs.Option.{option_or}
 use Rattle.tv_core.specs.Combinations.{scaled}
-use Rattle.tv_core.specs.Constraints.{Combination, Constraint}
+use Rattle.tv_core.proofs.CombinationLaws.{value-append}
+use Rattle.tv_core.proofs.InverseLaws.{inverse_of-below, mul-inverse_of}
+use Rattle.tv_core.proofs.PrimeLaws.{p_cancels}
+use Rattle.tv_core.proofs.Unique.{normal-same, same_values}
+use Rattle.tv_core.specs.Constraints.{Combination, Constraint, value}
 use Rattle.tv_core.specs.Inverse.{inverse_of}
 use Rattle.tv_core.specs.declared.field.TheConstants.{P}
 use Rattle.tv_core.specs.Normal.{coefficient, normal, IsNormalFrom}
 use Rattle.tv_shrink.specs.Substitution.{has_wire, without, constant_in, difference, linear_form, solved, replaced, fits}
-use Rattle.tv_core.proofs.NormalLaws.{IsNormalFrom-lower, length-normal}
-use Rattle.tv_shrink.proofs.Constants.{scaled_once}
+use Rattle.tv_core.proofs.NormalLaws.{Over, Over-append, Over-normal, Over-scaled, Over-weaker, IsNormalFrom-normal, length-normal, value-normal}
+use Rattle.tv_shrink.proofs.Constants.{joined, parted, scaled_once}
 
 -- what a constraint says is 0
 pub linear-first : (c : Constraint) (k : ℕ) (out : Combination) → constant_in c.a ≡ Some k → out ≡ normal (scaled k c.b ++ scaled (P - 1) c.c)
@@ -31,30 +35,30 @@ unfolding linear_form difference
 linear-none c isnt is = ap₂ (λ o p. option_or (difference o c.b c.c) (difference p c.a c.c)) isnt is
 
 -- a combination with another one in place of a wire
-normal-without : (least w : ℕ) (x : Combination) → IsNormalFrom least x → IsNormalFrom least (without w x)
-unfolding without
-normal-without least w [] n = tt
-normal-without least w (t ∷ x) n =
-    let rest = normal-without (t.1 + 1) w x n.3 in
-    cond_both (not (eqb t.1 w)) (t ∷ without w x) (without w x) (IsNormalFrom least)
-    (λ e. (n.0, n.1, n.2, rest)) (λ e. IsNormalFrom-lower least (t.1 + 1) (without w x) (omega (arith, n.0)) rest)
+swapped : (a b c : ℕ) → ((a + c) % P + b) % P ≡ ((a + b) % P + c) % P
+swapped a b c = omega arith
 
-pub has_by : {A : Type 0} (b : Bool) (k own : A) → Some k ≡ cond b (Some own) None → (b ≡ true) × (k ≡ own)
-has_by true k own e = (refl, cc)
-has_by false k own e = absurd (cc)
-
-pub lacks_by : {A : Type 0} (b : Bool) (own : A) → None ≡ cond b (Some own) None → b ≡ false
-lacks_by true own e = absurd (cc)
-lacks_by false own e = refl
-
-pub replaced-made : (w k : ℕ) (r x out : Combination) → IsNormalFrom 0 x → Some k ≡ cond (has_wire w x) (Some (coefficient w x)) None
-    → out ≡ normal (scaled 1 (without w x) ++ scaled k r) → out ≡ replaced w r x
+pub replaced-made : (w k : ℕ) (r before after : Combination) → IsNormalFrom 0 (before ++ (k, w) ∷ after) → Over (λ v. v < w) r
+    → normal (scaled 1 before ++ scaled k r) ++ after ≡ replaced w r (before ++ (k, w) ∷ after)
 unfolding replaced
-replaced-made w k r x out n e made =
-    let has = has_by (has_wire w x) k (coefficient w x) e in
-    made
-    ∙ ap₂ (λ y j. normal (y ++ scaled j r)) (scaled_once 0 (without w x) (normal-without 0 w x n)) has.1
-    ∙ sym (ap (λ b. cond b (normal (without w x ++ scaled (coefficient w x) r)) x) has.0)
+replaced-made w k r before after n below =
+    let x = before ++ (k, w) ∷ after in
+    let p = parted 0 w k before after n in
+    let both = scaled 1 before ++ scaled k r in
+    let up = λ (y : Combination) (h : Over (λ v. v < w) y). Over-weaker (λ v. v < w) (λ v. v < w + 1) y (λ v l. omega arith) h in
+    let low : Over (λ v. v < w + 1) (normal both) = up (normal both) (Over-normal (λ v. v < w) both (Over-append (λ v. v < w) (scaled 1 before) (scaled k r)
+    (Over-scaled (λ v. v < w) 1 before p.below) (Over-scaled (λ v. v < w) k r below))) in
+    same_values 0 0 (normal both ++ after) (normal (before ++ after ++ scaled k r))
+    (joined 0 (w + 1) (normal both) after (omega arith) (IsNormalFrom-normal both) low p.back) (IsNormalFrom-normal (before ++ after ++ scaled k r))
+    (λ z. value-append (normal both) after z
+    ∙ ap (λ m. (m + value after z) % P) (value-normal z both ∙ value-append (scaled 1 before) (scaled k r) z
+    ∙ ap (λ y. (value y z + value (scaled k r) z) % P) (scaled_once 0 before p.front))
+    ∙ swapped (value before z) (value after z) (value (scaled k r) z)
+    ∙ ap (λ m. (m + value (scaled k r) z) % P) (sym (value-append before after z))
+    ∙ sym (value-append (before ++ after) (scaled k r) z)
+    ∙ sym (value-normal z (before ++ after ++ scaled k r)))
+    ∙ ap₂ (λ y j. normal (y ++ scaled j r)) (sym p.others) (sym p.own)
+    ∙ sym (ap (λ b. cond b (normal (without w x ++ scaled (coefficient w x) r)) x) p.has)
 
 pub replaced-lacking : (w : ℕ) (r x : Combination) → false ≡ has_wire w x → replaced w r x ≡ x
 unfolding replaced
@@ -66,10 +70,26 @@ negative k i small one =
     let some : i ≢ 0 = λ e. let none : k * i % P ≡ 0 = ap (λ j. k * j % P) e ∙ ap (λ n. n % P) (mul-zero k) in omega arith in
     omega arith
 
-pub solve-made : (factor own w : ℕ) (x out : Combination) → factor ≡ P - inverse_of own → own ≡ coefficient w x → out ≡ normal (scaled factor (without w x))
-    → out ≡ solved w x
+pub solve-made : (own w : ℕ) (front : Combination) → IsNormalFrom 0 (front ++ (own, w) ∷ [])
+    → normal (scaled (P - inverse_of own) front) ≡ solved w (front ++ (own, w) ∷ [])
 unfolding solved
-solve-made factor own w x out is of made = made ∙ ap (λ f. normal (scaled f (without w x))) (is ∙ ap (λ k. P - inverse_of k) of)
+solve-made own w front n =
+    let p = parted 0 w own front [] n in
+    sym (ap₂ (λ k y. normal (scaled (P - inverse_of k) y)) p.own (p.others ∙ append-nil front))
+
+scaled-normal : (f least : ℕ) (x : Combination) → f % P ≢ 0 → IsNormalFrom least x → IsNormalFrom least (scaled f x)
+scaled-normal f least [] apart n = tt
+scaled-normal f least (t ∷ x) apart n =
+    let some : f * t.0 % P ≢ 0 = λ none. let zero = p_cancels f t.0 0 (none ∙ sym (ap (λ k. k % P) (mul-zero f))) apart in omega (arith, zero, n.1, n.2) in
+    (n.0, omega arith, mod-lt (f * t.0) (omega arith), scaled-normal f (t.1 + 1) x apart n.3)
+
+pub scaled-same : (own : ℕ) (x : Combination) → 0 < own → own < P → IsNormalFrom 0 x
+    → scaled (P - inverse_of own) x ≡ normal (scaled (P - inverse_of own) x)
+scaled-same own x some small n =
+    let one = mul-inverse_of own (λ none. omega arith) in
+    let factor = negative own (inverse_of own) (inverse_of-below own) one in
+    let below = inverse_of-below own in
+    sym (normal-same (scaled (P - inverse_of own) x) (scaled-normal (P - inverse_of own) 0 x (λ none. absurd (omega arith)) n))
 
 -- whether a combination keeps to its most terms
 pub fits-lacking : (w : ℕ) (r x : Combination) → has_wire w x ≡ false → fits w r x ≡ true

@@ -1,12 +1,12 @@
 -- The rows that wires may stand in.
 use Rattle.std.proofs.Common.{◌≡◌, ℕ, suc, ◌+◌, ◌-◌, ◌%◌, ◌<◌, ◌≤◌, Bool, List, [], ◌∷◌, ◌++◌, true, refl, sym, ◌∙◌, ap, ap₂, subst, arith}
-use Rattle.std.proofs.Common.{eq-eqb, ne_eqb, cond, inl, inr, map, length, length-set, get_or, set, reverse}
+use Rattle.std.proofs.Common.{◌||◌, eqb, eq-eqb, ne_eqb, cond, inl, inr, map, length, length-set, get_or, set, reverse}
 use Rattle.std.specs.List.{AllByRecursion, list_any}
 use Rattle.std.specs.Prelude.{slice_index}
-use Rattle.std.proofs.lemmas.Bool.{cases_eq, or_right}
+use Rattle.std.proofs.lemmas.Bool.{cases_eq, or_left, or_right}
 use Rattle.std.proofs.lemmas.List.{get_or_default, get_or-map, get_or-reverse, get_or-set_other, get_or-set_same, length-map, length-reverse, reverse-append}
 use Rattle.std.proofs.lemmas.Nat.{mod_below}
-use Rattle.tv_shrink.specs.Occurrences.{rows_from, rows_of, AreLinked, LeadBack}
+use Rattle.tv_shrink.specs.Occurrences.{has_row, rows_from, AreLinked, LeadBack}
 use Rattle.tv_shrink.proofs.Elements.{each_at, each_set, each_weaker}
 use Rattle.tv_shrink.specs.declared.occurrences.Entry.{Entry}
 
@@ -100,62 +100,64 @@ head_inside entries heads place head linked inside at =
     (omega (arith, is, head_within (length entries) heads place linked.within), is)
 
 -- the rows of a wire, by entries and heads
-abbrev pub rows_in : List Entry → List ℕ → ℕ → List ℕ
-rows_in entries heads w = rows_from (reverse entries) (slice_index heads (w % length heads))
+abbrev is_filed : List Entry → List ℕ → ℕ → ℕ → Bool
+is_filed entries heads w row = list_any (λ p. eqb p row) (rows_from (reverse entries) (slice_index heads (w % length heads)))
 
-pub rows_seen : (entries : List Entry) (heads : List ℕ) (lists : List (List ℕ)) (w : ℕ) → map (rows_from (reverse entries)) heads ≡ lists → 0 < length heads
-    → rows_of lists w ≡ rows_in entries heads w
-rows_seen entries heads lists w is some =
+pub seen : (entries : List Entry) (heads : List ℕ) (w i : ℕ) → 0 < length heads
+    → has_row (map (rows_from (reverse entries)) heads) w i ≡ is_filed entries heads w i
+seen entries heads w i some =
     let f = rows_from (reverse entries) in
-    ap (λ xs. rows_of xs w) (sym is) ∙ ap (λ n. get_or (map f heads) (w % n) []) (length-map heads f)
-    ∙ get_or-map f heads (w % length heads) 0 [] (mod_below w (length heads) some)
+    ap (list_any (λ p. eqb p i)) (ap (λ n. get_or (map f heads) (w % n) []) (length-map heads f)
+    ∙ get_or-map f heads (w % length heads) 0 [] (mod_below w (length heads) some))
 
--- the lists once there is one more entry
-module _ (entries more : List Entry) (heads : List ℕ) (row head : ℕ) (linked : AreLinked entries heads)
-    (is : more ≡ entries ++ record { row = row; next = head } ∷ []) where
-  from_before : (number : ℕ) → number ≤ length entries → rows_from (reverse more) number ≡ rows_from (reverse entries) number
-  from_before number h =
-      ap (λ es. rows_from (reverse es) number) is
-      ∙ ap (λ es. rows_from es number) (reverse_push entries (record { row = row; next = head }))
-      ∙ rows_from-before (record { row = row; next = head }) (reverse entries) number (omega (arith, length-reverse entries))
+-- once there is one more entry, at which one list begins
+module _ (entries more : List Entry) (heads : List ℕ) (row head place number : ℕ) (linked : AreLinked entries heads)
+    (is : more ≡ entries ++ record { row = row; next = head } ∷ []) (inside : place < length heads) (each : number ≡ length entries + 1) where
+  from_before : (first : ℕ) → first ≤ length entries → rows_from (reverse more) first ≡ rows_from (reverse entries) first
+  from_before first h =
+      ap (λ es. rows_from es first) (ap reverse is ∙ reverse_push entries (record { row = row; next = head }))
+      ∙ rows_from-before (record { row = row; next = head }) (reverse entries) first (omega (arith, length-reverse entries))
 
-  from_new : (number : ℕ) → number ≡ length entries + 1 → rows_from (reverse more) number ≡ row ∷ rows_from (reverse entries) head
-  from_new number each =
+  from_new : rows_from (reverse more) number ≡ row ∷ rows_from (reverse entries) head
+  from_new =
       let same : length (reverse entries) ≡ length entries = length-reverse entries in
       let last : number ≡ suc (length (reverse entries)) = omega arith in
       ap (λ es. rows_from es number) (ap reverse is ∙ reverse_push entries (record { row = row; next = head }))
       ∙ ap (rows_from (record { row = row; next = head } ∷ reverse entries)) last
       ∙ rows_from-last (record { row = row; next = head }) (reverse entries)
 
-  -- of which none begins at it
-  pub rows_of-same : (w : ℕ) → rows_in more heads w ≡ rows_in entries heads w
-  rows_of-same w = from_before (slice_index heads (w % length heads)) (head_within (length entries) heads (w % length heads) linked.within)
+  at_place : (w i k : ℕ) → w % length heads ≡ k
+      → is_filed more (set heads place number) w i ≡ list_any (λ p. eqb p i) (rows_from (reverse more) (slice_index (set heads place number) k))
+  at_place w i k e =
+      ap (λ k. list_any (λ p. eqb p i) (rows_from (reverse more) (slice_index (set heads place number) k)))
+      (ap (λ n. w % n) (length-set heads place number) ∙ e)
 
-  -- or one does
-  module _ (place number : ℕ) (inside : place < length heads) (each : number ≡ length entries + 1) where
-    at_place : (w : ℕ) → w % length (set heads place number) ≡ w % length heads
-    at_place w = ap (λ n. w % n) (length-set heads place number)
+  filed_there : (w i : ℕ) → w % length heads ≡ place
+      → is_filed more (set heads place number) w i ≡ (eqb row i || list_any (λ p. eqb p i) (rows_from (reverse entries) head))
+  filed_there w i there =
+      at_place w i place there
+      ∙ ap (list_any (λ p. eqb p i)) (ap (rows_from (reverse more)) (get_or-set_same heads place number 0 inside) ∙ from_new)
 
-    pub rows_of-there : (w : ℕ) → w % length heads ≡ place → rows_in more (set heads place number) w ≡ row ∷ rows_from (reverse entries) head
-    rows_of-there w there =
-        ap (λ k. rows_from (reverse more) (slice_index (set heads place number) k)) (at_place w ∙ there)
-        ∙ ap (rows_from (reverse more)) (get_or-set_same heads place number 0 inside)
-        ∙ from_new number each
+  some_list : 0 < length (set heads place number)
+  some_list = omega (arith, length-set heads place number)
 
-    pub rows_of-apart : (w : ℕ) → (w % length heads ≡ place → ⊥) → rows_in more (set heads place number) w ≡ rows_in entries heads w
-    rows_of-apart w apart =
-        ap (λ k. rows_from (reverse more) (slice_index (set heads place number) k)) (at_place w)
-        ∙ ap (rows_from (reverse more)) (get_or-set_other heads place (w % length heads) number 0 apart)
-        ∙ rows_of-same w
+  pub filed_here : (w : ℕ) → w % length heads ≡ place → has_row (map (rows_from (reverse more)) (set heads place number)) w row ≡ true
+  filed_here w there =
+      seen more (set heads place number) w row some_list ∙ filed_there w row there
+      ∙ or_left (eqb row row) (list_any (λ p. eqb p row) (rows_from (reverse entries) head)) (eq-eqb row row refl)
 
-    pub rows_of-more : (q : ℕ → Bool) (w : ℕ) → head ≡ slice_index heads place → list_any q (rows_in entries heads w) ≡ true
-        → list_any q (rows_in more (set heads place number) w) ≡ true
-    rows_of-more q w is_head e =
-        elim (cases_eq (w % length heads) place) [
-          | inl there ↦
-              let before : rows_in entries heads w ≡ rows_from (reverse entries) head =
-              ap (λ k. rows_from (reverse entries) (slice_index heads k)) there ∙ ap (rows_from (reverse entries)) (sym is_head) in
-              ap (list_any q) (rows_of-there w there)
-              ∙ or_right (q row) (list_any q (rows_from (reverse entries) head)) (ap (list_any q) (sym before) ∙ e)
-          | inr apart ↦ ap (list_any q) (rows_of-apart w apart) ∙ e
-        ]
+  pub filed_more : (lists : List (List ℕ)) (w i : ℕ) → map (rows_from (reverse entries)) heads ≡ lists → head ≡ slice_index heads place
+      → has_row lists w i ≡ true → has_row (map (rows_from (reverse more)) (set heads place number)) w i ≡ true
+  filed_more lists w i view is_head has =
+      let e = sym (seen entries heads w i (omega arith)) ∙ ap (λ xs. has_row xs w i) view ∙ has in
+      seen more (set heads place number) w i some_list ∙ elim (cases_eq (w % length heads) place) [
+        | inl there ↦
+            filed_there w i there
+            ∙ or_right (eqb row i) (list_any (λ p. eqb p i) (rows_from (reverse entries) head))
+            (ap (λ n. list_any (λ p. eqb p i) (rows_from (reverse entries) n)) (is_head ∙ ap (slice_index heads) (sym there)) ∙ e)
+        | inr apart ↦
+            at_place w i (w % length heads) refl
+            ∙ ap (list_any (λ p. eqb p i)) (ap (rows_from (reverse more)) (get_or-set_other heads place (w % length heads) number 0 apart)
+            ∙ from_before (slice_index heads (w % length heads)) (head_within (length entries) heads (w % length heads) linked.within))
+            ∙ e
+      ]

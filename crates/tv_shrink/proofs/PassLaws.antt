@@ -1,10 +1,12 @@
 -- A pass keeps a system's solutions: what it leaves says the same of the wires that are not gone.
-use Rattle.std.proofs.Common.{◌≡◌, ◌≢◌, ℕ, zero, suc, ◌*◌, ◌%◌, ◌<◌, ◌≤◌, Bool, List, [], ◌∷◌, Option, Some, None, refl, sym, ◌∙◌, ap, ap₂, subst, arith}
-use Rattle.std.proofs.Common.{true, false, inl, inr, map, length, get_or, set, get_or-set_other, get_or-set_same, length-set}
+use Rattle.std.proofs.Common.{◌≡◌, ◌≢◌, ℕ, zero, suc, ◌*◌, ◌%◌, ◌<◌, ◌≤◌, List, [], ◌∷◌, Option, Some, None, refl, sym, ◌∙◌, ap, ap₂, subst, arith}
+use Rattle.std.proofs.Common.{◌++◌, ◌||◌, eqb, eqb-true, ne_eqb, true, false, inl, inr, map, length, get_or, set, get_or-set_other, get_or-set_same, length-set}
 use Rattle.std.specs.List.{AllByRecursion, list_all, fold}
 use Rattle.std.specs.Option.{option_map}
 use Rattle.std.specs.Prelude.{slice_index}
-use Rattle.std.proofs.lemmas.Bool.{cond_both, cases_eq}
+use Rattle.std.proofs.lemmas.Bool.{cond_both, cases_eq, eqb-false, or_cases, or_from, or_parts}
+use Rattle.std.proofs.lemmas.List.Folds.{list_any-append}
+use Rattle.std.proofs.Math.Bool.{or-false}
 use Rattle.std.proofs.lemmas.List.Elements.{All-set}
 use Rattle.tv_core.proofs.CombinationLaws.{value-below}
 use Rattle.tv_core.specs.Constraints.{Combination, Constraint, value, Holds}
@@ -15,6 +17,7 @@ use Rattle.tv_shrink.specs.Substitution.{linear_form, greatest_from, solved, rep
 use Rattle.tv_shrink.specs.Pass.{Pass, dropped, substituted, row_fits, attempted, eliminated, treated, linear_row, turn}
 use Rattle.tv_core.proofs.NormalLaws.{Over, Over-weaker, value-local}
 use Rattle.tv_shrink.proofs.Elements.{each_at, each_set}
+use Rattle.tv_shrink.proofs.Labels.{is_gone}
 use Rattle.tv_shrink.proofs.ReplacingLaws.{value-replaced, solved-from_zero, zero-from_solved, holds_where_zero, zero_where_holds, Over-linear_form}
 use Rattle.tv_shrink.proofs.ReplacingLaws.{Over-solved, Over-replaced, Over-has_wire, greatest_is, coefficient-apart}
 
@@ -69,15 +72,15 @@ rows_local Q y z same [] h k = tt
 rows_local Q y z same (row ∷ rows) h k = (row_local Q y z same row (h.0, k.0), rows_local Q y z same rows h.1 k.1)
 
 -- a wire that there is, and that is not gone
-abbrev pub Stays : ℕ → List Bool → ℕ → Type 0
-Stays wires gone v = (v < wires) × (get_or gone v false ≡ false)
+abbrev pub Stays : ℕ → List ℕ → ℕ → Type 0
+Stays wires gone v = (v < wires) × (is_gone gone v ≡ false)
 
 -- two assignments agree at the wires that are not gone
-abbrev pub Agree : List Bool → List ℕ → List ℕ → Type 0
-Agree gone y z = (v : ℕ) → get_or gone v false ≡ false → slice_index y v ≡ slice_index z v
+abbrev pub Agree : List ℕ → List ℕ → List ℕ → Type 0
+Agree gone y z = (v : ℕ) → is_gone gone v ≡ false → slice_index y v ≡ slice_index z v
 
 -- an assignment from one that meets the rows that are left to one that meets those of the start
-pub record Extended (start : List (Option Constraint)) (wires : ℕ) (gone : List Bool) (z : List ℕ) : Type 0 where
+pub record Extended (start : List (Option Constraint)) (wires : ℕ) (gone z : List ℕ) : Type 0 where
   pub y : List ℕ
   pub assigns : Assigns y
   pub each : length y ≡ wires
@@ -87,8 +90,7 @@ pub record Extended (start : List (Option Constraint)) (wires : ℕ) (gone : Lis
 -- the rows that are left are of wires that are not gone, which are private, and have the solutions of the start
 pub record Sound (start : List (Option Constraint)) (wires publics : ℕ) (pass : Pass) : Type 0 where
   pub over : RowsOver (Stays wires pass.gone) pass.rows
-  pub each : length pass.gone ≡ wires
-  pub private : (v : ℕ) → get_or pass.gone v false ≡ true → publics ≤ v
+  pub private : (v : ℕ) → is_gone pass.gone v ≡ true → publics ≤ v
   pub down : (z : List ℕ) → Assigns z → RowsHold z start → RowsHold z pass.rows
   pub up : (z : List ℕ) → Assigns z → length z ≡ wires → RowsHold z pass.rows → Extended start wires pass.gone z
   pub unique : (y z : List ℕ) → Assigns y → Assigns z → RowsHold y start → RowsHold z start → Agree pass.gone y z → (v : ℕ) → slice_index y v ≡ slice_index z v
@@ -107,7 +109,6 @@ module _ (start : List (Option Constraint)) (wires publics : ℕ) (positive : 0 
   unfolding dropped
   dropped-sound i c pass at says sound = record {
     over = each_set (RowOver (Stays wires pass.gone)) pass.rows i None tt sound.over;
-    each = sound.each;
     private = sound.private;
     down = λ z assigns h. each_set (RowHolds z) pass.rows i None tt (sound.down z assigns h);
     up = λ z assigns each h. sound.up z assigns each (rows_back (RowHolds z) pass.rows i h
@@ -155,21 +156,27 @@ module _ (start : List (Option Constraint)) (wires publics : ℕ) (positive : 0 
         let same = λ (x : Combination). value-replaced w z (solved w lin) x is in
         same_holds (replaced_in w (solved w lin) d) d z z (same d.a) (same d.b) (same d.c) h
 
-    stays_on : (v : ℕ) → Stays wires pass.gone v × (v ≢ w) → Stays wires (set pass.gone w true) v
-    stays_on v h = (h.0.0, get_or-set_other pass.gone w v true false h.1 ∙ h.0.1)
+    gone_more : (v : ℕ) → is_gone (pass.gone ++ w ∷ []) v ≡ (is_gone pass.gone v || eqb w v)
+    gone_more v = list_any-append (λ m. eqb m v) pass.gone (w ∷ []) ∙ ap (λ b. is_gone pass.gone v || b) (or-false (eqb w v))
+
+    still_there : (v : ℕ) → is_gone pass.gone v ≡ false → v ≢ w → is_gone (pass.gone ++ w ∷ []) v ≡ false
+    still_there v e apart = gone_more v ∙ or_from (is_gone pass.gone v) (eqb w v) e (ne_eqb w v (λ same. apart (sym same)))
+
+    stays_on : (v : ℕ) → Stays wires pass.gone v × (v ≢ w) → Stays wires (pass.gone ++ w ∷ []) v
+    stays_on v h = (h.0.0, still_there v h.0.1 h.1)
 
     over_row : (row : Option Constraint) → RowOver (Stays wires pass.gone) row
-        → RowOver (Stays wires (set pass.gone w true)) (option_map (replaced_in w (solved w lin)) row)
+        → RowOver (Stays wires (pass.gone ++ w ∷ [])) (option_map (replaced_in w (solved w lin)) row)
     over_row None h = tt
     over_row (Some d) h =
         let each = λ (x : Combination) (k : Over (Stays wires pass.gone) x).
-        Over-weaker (λ v. Stays wires pass.gone v × (v ≢ w)) (Stays wires (set pass.gone w true)) (replaced w (solved w lin) x) stays_on
+        Over-weaker (λ v. Stays wires pass.gone v × (v ≢ w)) (Stays wires (pass.gone ++ w ∷ [])) (replaced w (solved w lin) x) stays_on
         (Over-replaced (Stays wires pass.gone) w (solved w lin) x k solved_over) in
         (each d.a h.0, each d.b h.1, each d.c h.2)
 
-    rows_over : RowsOver (Stays wires (set pass.gone w true)) (map (option_map (replaced_in w (solved w lin))) (set pass.rows i None))
+    rows_over : RowsOver (Stays wires (pass.gone ++ w ∷ [])) (map (option_map (replaced_in w (solved w lin))) (set pass.rows i None))
     rows_over =
-        rows_changed (RowOver (Stays wires pass.gone)) (RowOver (Stays wires (set pass.gone w true))) (option_map (replaced_in w (solved w lin))) over_row
+        rows_changed (RowOver (Stays wires pass.gone)) (RowOver (Stays wires (pass.gone ++ w ∷ []))) (option_map (replaced_in w (solved w lin))) over_row
         (set pass.rows i None) (each_set (RowOver (Stays wires pass.gone)) pass.rows i None tt sound.over)
 
     rows_down : (z : List ℕ) → Assigns z → RowsHold z pass.rows → RowsHold z (map (option_map (replaced_in w (solved w lin))) (set pass.rows i None))
@@ -188,20 +195,14 @@ module _ (start : List (Option Constraint)) (wires publics : ℕ) (positive : 0 
         ∙ sym (value-local (λ v. Stays wires pass.gone v × (v ≢ w)) (set z w (value (solved w lin) z)) z (solved w lin) solved_over
         (λ v h. differs_only z v h.1))
 
-    gone_there : get_or (set pass.gone w true) w false ≡ true
-    gone_there = get_or-set_same pass.gone w true false (omega (arith, sound.each, wire_is.1))
+    still : (v : ℕ) → is_gone (pass.gone ++ w ∷ []) v ≡ false → (is_gone pass.gone v ≡ false) × (v ≢ w)
+    still v e = let both = or_parts (is_gone pass.gone v) (eqb w v) (sym (gone_more v) ∙ e) in (both.0, λ same. eqb-false w v both.1 (sym same))
 
-    gone_apart : (v : ℕ) → get_or (set pass.gone w true) v false ≡ false → v ≢ w
-    gone_apart v e same = let both : true ≡ false = sym gone_there ∙ ap (λ u. get_or (set pass.gone w true) u false) (sym same) ∙ e in cc
-
-    still : (v : ℕ) → get_or (set pass.gone w true) v false ≡ false → get_or pass.gone v false ≡ false
-    still v e = sym (get_or-set_other pass.gone w v true false (gone_apart v e)) ∙ e
-
-    all_private : (v : ℕ) → get_or (set pass.gone w true) v false ≡ true → publics ≤ v
+    all_private : (v : ℕ) → is_gone (pass.gone ++ w ∷ []) v ≡ true → publics ≤ v
     all_private v e =
-        elim (cases_eq v w) [
-          | inl same ↦ omega (arith, wire_is.0)
-          | inr apart ↦ sound.private v (sym (get_or-set_other pass.gone w v true false apart) ∙ e)
+        elim (or_cases (is_gone pass.gone v) (eqb w v) (sym (gone_more v) ∙ e)) [
+          | inl before ↦ sound.private v before
+          | inr here ↦ omega (arith, wire_is.0, eqb-true w v here)
         ]
 
     rows_up : (z : List ℕ) → Assigns z → length z ≡ wires → RowsHold z (map (option_map (replaced_in w (solved w lin))) (set pass.rows i None))
@@ -210,7 +211,7 @@ module _ (start : List (Option Constraint)) (wires publics : ℕ) (positive : 0 
         let is = set_is_solved z each in
         let fine : Assigns (set z w (value (solved w lin) z)) = Assigns-set z w (value (solved w lin) z) assigns (omega (arith, wire_is.0))
         (value-below (solved w lin) z) in
-        let moved = rows_local (Stays wires (set pass.gone w true)) z (set z w (value (solved w lin) z)) (λ v k. sym (differs_only z v (gone_apart v k.1)))
+        let moved = rows_local (Stays wires (pass.gone ++ w ∷ [])) z (set z w (value (solved w lin) z)) (λ v k. sym (differs_only z v (still v k.1).1))
         (map (option_map (replaced_in w (solved w lin))) (set pass.rows i None)) rows_over h in
         rows_back (RowHolds (set z w (value (solved w lin) z))) pass.rows i
         (rows_unchanged (RowHolds (set z w (value (solved w lin) z))) (RowHolds (set z w (value (solved w lin) z))) (option_map (replaced_in w (solved w lin)))
@@ -218,7 +219,7 @@ module _ (start : List (Option Constraint)) (wires publics : ℕ) (positive : 0 
         (row_holds (set z w (value (solved w lin) z)) fine is)
 
     substituted-up : (z : List ℕ) → Assigns z → length z ≡ wires → RowsHold z (map (option_map (replaced_in w (solved w lin))) (set pass.rows i None))
-        → Extended start wires (set pass.gone w true) z
+        → Extended start wires (pass.gone ++ w ∷ []) z
     substituted-up z assigns each h =
         let fine : Assigns (set z w (value (solved w lin) z)) = Assigns-set z w (value (solved w lin) z) assigns (omega (arith, wire_is.0))
         (value-below (solved w lin) z) in
@@ -228,10 +229,10 @@ module _ (start : List (Option Constraint)) (wires publics : ℕ) (positive : 0 
           assigns = before.assigns;
           each = before.each;
           holds = before.holds;
-          agree = λ v e. before.agree v (still v e) ∙ differs_only z v (gone_apart v e);
+          agree = λ v e. before.agree v (still v e).0 ∙ differs_only z v (still v e).1;
         }
 
-    substituted-unique : (y z : List ℕ) → Assigns y → Assigns z → RowsHold y start → RowsHold z start → Agree (set pass.gone w true) y z → (v : ℕ)
+    substituted-unique : (y z : List ℕ) → Assigns y → Assigns z → RowsHold y start → RowsHold z start → Agree (pass.gone ++ w ∷ []) y z → (v : ℕ)
         → slice_index y v ≡ slice_index z v
     substituted-unique y z ay az hy hz agree =
         let there : slice_index y w ≡ slice_index z w =
@@ -240,14 +241,13 @@ module _ (start : List (Option Constraint)) (wires publics : ℕ) (positive : 0 
         ∙ sym (is_solved z az (sound.down z az hz)) in
         sound.unique y z ay az hy hz (λ v e. elim (cases_eq v w) [
           | inl same ↦ subst (λ u. slice_index y u ≡ slice_index z u) (sym same) there
-          | inr apart ↦ agree v (get_or-set_other pass.gone w v true false apart ∙ e)
+          | inr apart ↦ agree v (still_there v e apart)
         ])
 
     substituted-sound : Sound start wires publics (substituted w (solved w lin) (dropped i pass))
     unfolding substituted dropped
     substituted-sound = record {
       over = rows_over;
-      each = length-set pass.gone w true ∙ sound.each;
       private = all_private;
       down = λ z assigns h. rows_down z assigns (sound.down z assigns h);
       up = substituted-up;

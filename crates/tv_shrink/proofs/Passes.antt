@@ -1,6 +1,6 @@
 -- What the loops of a pass keep.
 use Rattle.std.proofs.Common.{◌≡◌, ◌≢◌, ◌⊎◌, ℕ, zero, suc, ◌+◌, ◌<◌, ◌≤◌, Bool, ◌||◌, ◌&&◌, List, [], ◌∷◌, ◌++◌, Option, Some, None, refl, sym, ◌∙◌, ap}
-use Rattle.std.proofs.Common.{subst, arith, eqb, true, false, inl, inr, cond, map, length, get_or, set, take, ltb, ◌-◌, ltb-true, lt-ltb, le-ltb}
+use Rattle.std.proofs.Common.{subst, arith, eqb, true, false, inl, inr, cond, map, length, get_or, set, take, ltb, ltb-true, lt-ltb, le-ltb}
 use Rattle.std.proofs.Common.{eqb-true, eq-eqb, ne_eqb, take_all, add-one}
 use Rattle.std.specs.List.{fold, list_any, list_all, range_with_len}
 use Rattle.std.specs.Option.{option_map}
@@ -11,20 +11,17 @@ use Rattle.std.proofs.lemmas.List.Folds.{list_any_more}
 use Rattle.tv_core.proofs.BelowLaws.{range-more}
 use Rattle.std.proofs.lemmas.List.Sums.{fold_push, list_all-from_AllPass}
 use Rattle.tv_core.specs.Combinations.{scaled}
-use Rattle.tv_core.specs.Inverse.{inverse_of}
-use Rattle.tv_core.specs.declared.field.TheConstants.{P}
 use Rattle.tv_core.specs.Constraints.{Combination, Constraint}
 use Rattle.tv_core.specs.Normal.{coefficient, normal, IsNormalFrom}
 use Rattle.tv_shrink.specs.Pass.{Pass, all_replaced, attempted, dropped, substituted, eliminated, linear_row, row_fits, treated, turn}
-use Rattle.tv_shrink.specs.Occurrences.{rows_of}
 use Rattle.tv_shrink.specs.Substitution.{greater_from, greatest_from, has_wire, without, solved, replaced, replaced_in, fits}
 use Rattle.tv_shrink.specs.Tidy.{RowIsNormal, Covers, pass_of, row_has}
 use Rattle.std.proofs.Math.Bool.{or-false}
 use Rattle.tv_shrink.proofs.Linear.{fits-lacking, replaced-lacking}
 use Rattle.tv_shrink.proofs.Spans.{same_row}
 use Rattle.tv_core.proofs.NormalLaws.{Over, Over-weaker, IsNormalFrom-normal}
-use Rattle.tv_shrink.proofs.ReplacingLaws.{none_some, Over-linear_form, Over-solved, Over-has_wire, Over-replaced, Over-lacking, found_here, found_later}
-use Rattle.tv_shrink.proofs.Constants.{above_at, found_at}
+use Rattle.tv_shrink.proofs.ReplacingLaws.{none_some, Over-linear_form, Over-has_wire, Over-replaced, Over-lacking, found_here, found_later}
+use Rattle.tv_shrink.proofs.Constants.{parted}
 
 pub all_units : (x : Combination) → Over (λ v. Unit {0}) x
 all_units [] = tt
@@ -34,6 +31,9 @@ lacks_over : (w : ℕ) (x : Combination) → Over (λ v. Unit {0} × (v ≢ w)) 
 unfolding has_wire
 lacks_over w [] h = refl
 lacks_over w (t ∷ x) h = or_from (eqb t.1 w) (has_wire w x) (ne_eqb t.1 w h.0.1) (lacks_over w x h.1)
+
+pub lacks_below : (w : ℕ) (x : Combination) → Over (λ v. v < w) x → has_wire w x ≡ false
+lacks_below w x h = lacks_over w x (Over-weaker (λ v. v < w) (λ v. Unit {0} × (v ≢ w)) x (λ v l. (tt, λ e. omega arith)) h)
 
 -- a constraint without the wire
 module _ (w : ℕ) (r : Combination) where
@@ -177,20 +177,7 @@ pub form-normal : (row : Option Constraint) (form : Combination) → linear_row 
 form-normal None form e = absurd (none_some form e)
 form-normal (Some c) form e = (Over-linear_form (λ v. Unit {0}) c form (all_units c.a) (all_units c.b) (all_units c.c) e).1
 
-pub solved-lacks : (w : ℕ) (form : Combination) → has_wire w (solved w form) ≡ false
-solved-lacks w form = lacks_over w (solved w form) (Over-solved (λ v. Unit {0}) w form (all_units form))
-
-pub solved-normal : (w : ℕ) (form : Combination) → IsNormalFrom 0 (solved w form)
-unfolding solved
-solved-normal w form = IsNormalFrom-normal (scaled (P - inverse_of (coefficient w form)) (without w form))
-
 -- the greatest wire is the last
-last-above : (least : ℕ) (d : ℕ × ℕ) (x : Combination) → IsNormalFrom least x → 0 < length x → least ≤ (get_or x (length x - 1) d).1
-last-above least d x n h = above_at least (length x - 1) d x n (omega arith)
-
-last-after : (t u d : ℕ × ℕ) (x : Combination) → get_or (t ∷ u ∷ x) (length (t ∷ u ∷ x) - 1) d ≡ get_or (u ∷ x) (length (u ∷ x) - 1) d
-last-after t u d x = let e : length (t ∷ u ∷ x) - 1 ≡ suc (length (u ∷ x) - 1) = omega arith in ap (λ k. get_or (t ∷ u ∷ x) k d) e
-
 greatest-last_step : (publics : ℕ) (t : ℕ × ℕ) (last : ℕ) → t.1 < last
     → greater_from publics t.1 (cond (ltb last publics) None (Some last)) ≡ cond (ltb last publics) None (Some last)
 unfolding greater_from
@@ -200,22 +187,13 @@ greatest-last_step publics t last h = by_order (ltb last publics) refl
     by_order true e = let less = ltb-true last publics e in ap (λ b. cond b None (Some t.1)) (lt-ltb t.1 publics (omega arith))
     by_order false e = ap Some (omega arith)
 
-pub greatest-last : (publics least : ℕ) (d : ℕ × ℕ) (x : Combination) → IsNormalFrom least x → 0 < length x →
-    greatest_from publics x ≡ cond (ltb (get_or x (length x - 1) d).1 publics) None (Some (get_or x (length x - 1) d).1)
+greatest-last : (publics least own w : ℕ) (front : Combination) → IsNormalFrom least (front ++ (own, w) ∷ [])
+    → greatest_from publics (front ++ (own, w) ∷ []) ≡ cond (ltb w publics) None (Some w)
 unfolding greatest_from greater_from
-greatest-last publics least d [] n h = absurd (omega arith)
-greatest-last publics least d (t ∷ []) n h = refl
-greatest-last publics least d (t ∷ u ∷ x) n h =
-    let later = greatest-last publics (t.1 + 1) d (u ∷ x) n.3 (omega arith) in
-    let above = last-above (t.1 + 1) d (u ∷ x) n.3 (omega arith) in
-    ap (greater_from publics t.1) later
-    ∙ greatest-last_step publics t (get_or (u ∷ x) (length (u ∷ x) - 1) d).1 (omega arith)
-    ∙ ap (λ v. cond (ltb v.1 publics) None (Some v.1)) (sym (last-after t u d x))
-
-positive_at : (least i : ℕ) (d : ℕ × ℕ) (x : Combination) → IsNormalFrom least x → i < length x → 0 < (get_or x i d).0
-positive_at least i d [] n h = absurd (omega arith)
-positive_at least zero d (t ∷ x) n h = n.1
-positive_at least (suc i) d (t ∷ x) n h = positive_at (t.1 + 1) i d x n.3 (omega arith)
+greatest-last publics least own w [] n = refl
+greatest-last publics least own w (t ∷ front) n =
+    let rest = parted (t.1 + 1) w own front [] n.3 in
+    ap (greater_from publics t.1) (greatest-last publics (t.1 + 1) own w front n.3) ∙ greatest-last_step publics t w (omega (arith, rest.low))
 
 -- the turn of a constraint, by what it says
 pub turn-unlinear : (publics at : ℕ) (pass : Pass) → linear_row (get_or pass.rows at None) ≡ None → turn publics pass at ≡ pass
@@ -226,52 +204,43 @@ pub turn-empty : (publics at : ℕ) (pass : Pass) → linear_row (get_or pass.ro
 unfolding turn treated
 turn-empty publics at pass e = ap (λ o. treated publics at o pass) e
 
-turn-greatest : (publics at : ℕ) (t : ℕ × ℕ) (pass : Pass) (form : Combination) → 0 < length form → linear_row (get_or pass.rows at None) ≡ Some form
-    → t ≡ get_or form (length form - 1) t → turn publics pass at ≡ eliminated at form (cond (ltb t.1 publics) None (Some t.1)) pass
-unfolding turn treated
-turn-greatest publics at t pass [] h e last = absurd (omega arith)
-turn-greatest publics at t pass (u ∷ x) h e last =
-    ap (λ o. treated publics at o pass) e
-    ∙ ap (λ o. eliminated at (u ∷ x) o pass) (greatest-last publics 0 t (u ∷ x) (form-normal (get_or pass.rows at None) (u ∷ x) e) h
-    ∙ ap (λ v. cond (ltb v.1 publics) None (Some v.1)) (sym last))
+treated-some : (publics at : ℕ) (t : ℕ × ℕ) (front : Combination) (pass : Pass) → treated publics at (Some (front ++ t ∷ [])) pass
+    ≡ eliminated at (front ++ t ∷ []) (greatest_from publics (front ++ t ∷ [])) pass
+unfolding treated
+treated-some publics at t [] pass = refl
+treated-some publics at t (u ∷ front) pass = refl
 
-pub turn-public : (publics at : ℕ) (t : ℕ × ℕ) (pass : Pass) (form : Combination) → 0 < length form → linear_row (get_or pass.rows at None) ≡ Some form
-    → t ≡ get_or form (length form - 1) t → t.1 < publics → turn publics pass at ≡ pass
-unfolding eliminated
-turn-public publics at t pass form h e last below =
-    turn-greatest publics at t pass form h e last ∙ ap (λ b. eliminated at form (cond b None (Some t.1)) pass) (lt-ltb t.1 publics below)
+module _ (publics at own w : ℕ) (pass : Pass) (front : Combination) (is : linear_row (get_or pass.rows at None) ≡ Some (front ++ (own, w) ∷ [])) where
+  turn-greatest : turn publics pass at ≡ eliminated at (front ++ (own, w) ∷ []) (cond (ltb w publics) None (Some w)) pass
+  unfolding turn
+  turn-greatest =
+      ap (λ o. treated publics at o pass) is
+      ∙ treated-some publics at (own, w) front pass
+      ∙ ap (λ o. eliminated at (front ++ (own, w) ∷ []) o pass)
+      (greatest-last publics 0 own w front (form-normal (get_or pass.rows at None) (front ++ (own, w) ∷ []) is))
 
-pub turn-private : (publics at : ℕ) (t : ℕ × ℕ) (pass : Pass) (form : Combination) → 0 < length form → linear_row (get_or pass.rows at None) ≡ Some form
-    → t ≡ get_or form (length form - 1) t → publics ≤ t.1 →
-    turn publics pass at ≡ attempted t.1 (solved t.1 form) (dropped at pass) pass
-unfolding eliminated
-turn-private publics at t pass form h e last above =
-    turn-greatest publics at t pass form h e last ∙ ap (λ b. eliminated at form (cond b None (Some t.1)) pass) (le-ltb t.1 publics above)
+  pub turn-public : w < publics → turn publics pass at ≡ pass
+  unfolding eliminated
+  turn-public below = turn-greatest ∙ ap (λ b. eliminated at (front ++ (own, w) ∷ []) (cond b None (Some w)) pass) (lt-ltb w publics below)
 
--- the last term
-pub last-own : (t : ℕ × ℕ) (form : Combination) → IsNormalFrom 0 form → 0 < length form → t ≡ get_or form (length form - 1) t →
-    (0 < t.0) × (has_wire t.1 form ≡ true) × (t.0 ≡ coefficient t.1 form)
-last-own t form n h last =
-    let inside : length form - 1 < length form = omega arith in
-    let found = found_at 0 (length form - 1) t.1 t form n inside (ap (λ u. u.1) (sym last)) in
-    (subst (λ u. 0 < u.0) (sym last) (positive_at 0 (length form - 1) t form n inside), found.0, ap (λ u. u.0) last ∙ sym found.1)
+  pub turn-private : publics ≤ w → turn publics pass at ≡ attempted w (solved w (front ++ (own, w) ∷ [])) (dropped at pass) pass
+  unfolding eliminated
+  turn-private above = turn-greatest ∙ ap (λ b. eliminated at (front ++ (own, w) ∷ []) (cond b None (Some w)) pass) (le-ltb w publics above)
 
 -- one turn of the loop that files a row
-module _ (publics : ℕ) (lists next : List (List ℕ)) (row k : ℕ) (t : ℕ × ℕ) (x : Combination) (h : k < length x) (at : t ≡ get_or x k t)
-    (added : (w : ℕ) → publics ≤ w → has_wire w (take k x) ≡ true → list_any (λ p. eqb p row) (rows_of lists w) ≡ true) where
-  pub filed-more : ((w i : ℕ) → list_any (λ p. eqb p i) (rows_of lists w) ≡ true → list_any (λ p. eqb p i) (rows_of next w) ≡ true)
-      → list_any (λ p. eqb p row) (rows_of next t.1) ≡ true →
-      (w : ℕ) → publics ≤ w → has_wire w (take (k + 1) x) ≡ true → list_any (λ p. eqb p row) (rows_of next w) ≡ true
+module _ (publics : ℕ) (may next : ℕ → ℕ → Bool) (row k : ℕ) (t : ℕ × ℕ) (x : Combination) (h : k < length x) (at : t ≡ get_or x k t)
+    (added : (w : ℕ) → publics ≤ w → has_wire w (take k x) ≡ true → may w row ≡ true) where
+  pub filed-more : ((w i : ℕ) → may w i ≡ true → next w i ≡ true) → next t.1 row ≡ true →
+      (w : ℕ) → publics ≤ w → has_wire w (take (k + 1) x) ≡ true → next w row ≡ true
   filed-more more here w above has =
       elim (or_cases (has_wire w (take k x)) (eqb t.1 w) (sym (has_next w k t x h at) ∙ has)) [
         | inl earlier ↦ more w row (added w above earlier)
-        | inr same ↦ subst (λ v. list_any (λ p. eqb p row) (rows_of next v) ≡ true) (eqb-true t.1 w same) here
+        | inr same ↦ subst (λ v. next v row ≡ true) (eqb-true t.1 w same) here
       ]
 
-  pub filed-none : t.1 < publics → next ≡ lists → (w : ℕ) → publics ≤ w → has_wire w (take (k + 1) x) ≡ true
-      → list_any (λ p. eqb p row) (rows_of next w) ≡ true
+  pub filed-none : t.1 < publics → next ≡ may → (w : ℕ) → publics ≤ w → has_wire w (take (k + 1) x) ≡ true → next w row ≡ true
   filed-none public is w above has =
-      subst (λ xs. list_any (λ p. eqb p row) (rows_of xs w) ≡ true) (sym is)
+      subst (λ f. f w row ≡ true) (sym is)
       (elim (or_cases (has_wire w (take k x)) (eqb t.1 w) (sym (has_next w k t x h at) ∙ has)) [
         | inl earlier ↦ added w above earlier
         | inr here ↦ absurd (omega (arith, eqb-true t.1 w here))
@@ -282,23 +251,20 @@ pub form_is : (rows : List (Option Constraint)) (at : ℕ) (row : Option Constra
     → linear_row row ≡ cond b (Some form) None → b ≡ c → linear_row (get_or rows at None) ≡ cond c (Some form) None
 form_is rows at row form b c is says e = ap linear_row (sym is) ∙ says ∙ ap (λ linear. cond linear (Some form) None) e
 
-pub last_at : (form : Combination) (n : ℕ) (t : ℕ × ℕ) → n ≡ length form → t ≡ get_or form (n - 1) t → t ≡ get_or form (length form - 1) t
-last_at form n t e is = is ∙ ap (λ m. get_or form (m - 1) t) e
-
 -- the attempt, by whether all keep to their most terms
-pub not-attempted : (w at : ℕ) (r : Combination) (rows : List (Option Constraint)) (gone : List Bool) (all : Bool)
+pub not-attempted : (w at : ℕ) (r : Combination) (rows : List (Option Constraint)) (gone : List ℕ) (all : Bool)
     → all ≡ list_all (row_fits w r) (set rows at None) → all ≡ false →
     attempted w r (dropped at (pass_of rows gone)) (pass_of rows gone) ≡ pass_of rows gone
 unfolding attempted dropped
 not-attempted w at r rows gone all is e =
     ap (λ b. cond b (substituted w r (record { rows = set rows at None; gone = gone })) (pass_of rows gone)) (sym is ∙ e)
 
-pub attempted-all : (w at : ℕ) (r : Combination) (rows : List (Option Constraint)) (gone : List Bool) (all : Bool)
+pub attempted-all : (w at : ℕ) (r : Combination) (rows : List (Option Constraint)) (gone : List ℕ) (all : Bool)
     → all ≡ list_all (row_fits w r) (set rows at None) → all ≡ true →
-    attempted w r (dropped at (pass_of rows gone)) (pass_of rows gone) ≡ pass_of (all_replaced w r (set rows at None)) (set gone w true)
+    attempted w r (dropped at (pass_of rows gone)) (pass_of rows gone) ≡ pass_of (all_replaced w r (set rows at None)) (gone ++ w ∷ [])
 unfolding attempted dropped substituted
 attempted-all w at r rows gone all is e =
-    ap (λ b. cond b (pass_of (all_replaced w r (set rows at None)) (set gone w true)) (pass_of rows gone)) (sym is ∙ e)
+    ap (λ b. cond b (pass_of (all_replaced w r (set rows at None)) (gone ++ w ∷ [])) (pass_of rows gone)) (sym is ∙ e)
 
 -- and the places name each row that a private wire stands in
 module _ (v w : ℕ) (r : Combination) (lacks : has_wire w r ≡ false) where
@@ -331,40 +297,33 @@ set_cases (first ∷ rows) zero (suc i) row = inl refl
 set_cases (first ∷ rows) (suc at) zero row = inl refl
 set_cases (first ∷ rows) (suc at) (suc i) row = elim (set_cases rows at i row) [ inl same ↦ inl same | inr here ↦ inr (ap suc here.0, here.1) ]
 
-pub covers-dropped : (publics at : ℕ) (rows : List (Option Constraint)) (lists : List (List ℕ)) → Covers publics rows lists
-    → Covers publics (set rows at None) lists
-covers-dropped publics at rows lists covers i w above has =
+pub covers-dropped : (publics at : ℕ) (rows : List (Option Constraint)) (may : ℕ → ℕ → Bool) → Covers publics rows may
+    → Covers publics (set rows at None) may
+covers-dropped publics at rows may covers i w above has =
     elim (set_cases rows at i None) [
       | inl same ↦ covers i w above (ap (row_has w) (sym same) ∙ has)
       | inr here ↦ absurd (let no : false ≡ true = sym (ap (row_has w) here.1) ∙ has in cc)
     ]
 
-pub covers-more : (publics : ℕ) (rows : List (Option Constraint)) (lists next : List (List ℕ)) → Covers publics rows lists →
-    ((v i : ℕ) → list_any (λ p. eqb p i) (rows_of lists v) ≡ true → list_any (λ p. eqb p i) (rows_of next v) ≡ true) → Covers publics rows next
-covers-more publics rows lists next covers more i w above has = more w i (covers i w above has)
-
-pub covers-replaced : (publics w at : ℕ) (r : Combination) (rows : List (Option Constraint)) (lists : List (List ℕ)) → has_wire w r ≡ false
-    → Covers publics rows lists →
-    ((v : ℕ) → publics ≤ v → has_wire v r ≡ true → list_any (λ p. eqb p at) (rows_of lists v) ≡ true)
-    → Covers publics (set rows at (option_map (replaced_in w r) (get_or rows at None))) lists
-covers-replaced publics w at r rows lists lacks covers added i v above has =
+pub covers-replaced : (publics w at : ℕ) (r : Combination) (rows : List (Option Constraint)) (may : ℕ → ℕ → Bool) → has_wire w r ≡ false
+    → Covers publics rows may → ((v : ℕ) → publics ≤ v → has_wire v r ≡ true → may v at ≡ true)
+    → Covers publics (set rows at (option_map (replaced_in w r) (get_or rows at None))) may
+covers-replaced publics w at r rows may lacks covers added i v above has =
     elim (set_cases rows at i (option_map (replaced_in w r) (get_or rows at None))) [
       | inl own ↦ covers i v above (ap (row_has v) (sym own) ∙ has)
       | inr here ↦
-          subst (λ j. list_any (λ p. eqb p j) (rows_of lists v) ≡ true) (sym here.0)
+          subst (λ j. may v j ≡ true) (sym here.0)
           (elim (row_has_replaced v w r lacks (get_or rows at None)
           (ap (row_has v) (sym here.1) ∙ has)) [ inl own ↦ covers at v above own | inr by ↦ added v above by ])
     ]
 
 -- all but the one at a place keep to their most terms where those that the wire may stand in do
-pub all-fit-there : (w at : ℕ) (r : Combination) (publics : ℕ) (rows : List (Option Constraint)) (lists : List (List ℕ)) → Covers publics rows lists
-    → publics ≤ w →
-    ((i : ℕ) → list_any (λ p. eqb p i) (rows_of lists w) ≡ true → row_fits w r (get_or (set rows at None) i None) ≡ true)
-    → list_all (row_fits w r) (set rows at None) ≡ true
-all-fit-there w at r publics rows lists covers above fit =
+pub all-fit-there : (w at : ℕ) (r : Combination) (publics : ℕ) (rows : List (Option Constraint)) (may : ℕ → ℕ → Bool) → Covers publics rows may → publics ≤ w
+    → ((i : ℕ) → may w i ≡ true → row_fits w r (get_or (set rows at None) i None) ≡ true) → list_all (row_fits w r) (set rows at None) ≡ true
+all-fit-there w at r publics rows may covers above fit =
     list_all-from_AllPass (row_fits w r) (set rows at None) (All-from_get_or (λ row. row_fits w r row ≡ true) (set rows at None) None (λ i h.
     elim (cases_Bool (row_has w (get_or (set rows at None) i None))) [
-      | inl has ↦ fit i (covers-dropped publics at rows lists covers i w above has)
+      | inl has ↦ fit i (covers-dropped publics at rows may covers i w above has)
       | inr lacks ↦ row-lacking-fits w r (get_or (set rows at None) i None) lacks
     ]))
 

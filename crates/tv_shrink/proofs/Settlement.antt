@@ -1,7 +1,7 @@
 -- What is left once a pass has run, its wires numbered anew.
-use Rattle.std.proofs.Common.{◌≡◌, ℕ, ◌+◌, ◌<◌, ◌≤◌, Bool, ◌&&◌, List, [], ◌∷◌, Option, Some, None, refl, sym, ◌∙◌, ap, ap₂, subst}
-use Rattle.std.proofs.Common.{arith, true, false, eqb, map, length, get_or, replicate}
-use Rattle.std.specs.List.{AllByRecursion, filter_map, fold, list_all, list_any, range_with_len}
+use Rattle.std.proofs.Common.{◌≡◌, ℕ, ◌+◌, ◌<◌, ◌≤◌, ◌&&◌, List, [], ◌∷◌, Option, Some, None, refl, sym, ◌∙◌, ap, ap₂, subst}
+use Rattle.std.proofs.Common.{arith, true, map, length}
+use Rattle.std.specs.List.{AllByRecursion, filter_map, fold, list_all, range_with_len}
 use Rattle.std.specs.Option.{option_map}
 use Rattle.tv_r1cs_write.specs.Bytes.{others}
 use Rattle.std.proofs.lemmas.Bool.{and_parts}
@@ -14,17 +14,16 @@ use Rattle.tv_shrink.specs.Renumbering.{moved, moved_rows}
 use Rattle.tv_core.specs.Normal.{normal_constraint}
 use Rattle.tv_shrink.specs.Pass.{Pass, all_replaced, begun, dropped, passed, row_fits, substituted, turn}
 use Rattle.tv_shrink.specs.Substitution.{fits, replaced_in}
-use Rattle.tv_shrink.specs.Shrunk.{kept, left_over, renumbered, renumbered_in, shrink}
+use Rattle.tv_shrink.specs.Shrunk.{left_over, place, renumbered, renumbered_in, shrink}
 use Rattle.tv_shrink.specs.Tidy.{AreWithin, pass_of}
-use Rattle.tv_shrink.proofs.Labels.{front-kept, inside-kept}
+use Rattle.tv_shrink.proofs.Labels.{front-kept, inside-kept, is_gone, others_same, place_is}
 use Rattle.tv_shrink.proofs.Linear.{replaced_short}
 use Rattle.tv_shrink.proofs.Spans.{same_row}
 use Rattle.tv_core.proofs.NormalLaws.{Over, Over-weaker}
 use Rattle.tv_shrink.proofs.Elements.{each_set}
 use Rattle.tv_shrink.proofs.PassLaws.{RowsOver, Sound, Stays, turns-sound}
 use Rattle.tv_shrink.proofs.States.{turns_keep}
-use Rattle.tv_shrink.proofs.Gone.{kept_others, numbered}
-use Rattle.tv_shrink.proofs.Solutions.{none_gone, start-sound}
+use Rattle.tv_shrink.proofs.Solutions.{start-sound}
 
 -- combinations of at most 128 terms
 abbrev RowIsShort : Option Constraint → Type 0
@@ -53,17 +52,17 @@ short-turns publics places pass h =
     publics places pass h
 
 -- rows within, as rows of wires that are not gone, and short ones
-over_start : (wires : ℕ) (rows : List (Option Constraint)) → AreWithin wires rows → RowsOver (Stays wires (replicate wires false)) rows
+over_start : (wires : ℕ) (rows : List (Option Constraint)) → AreWithin wires rows → RowsOver (Stays wires []) rows
     × AllByRecursion RowIsShort rows
 over_start wires [] h = (tt, tt)
 over_start wires (None ∷ rows) h = let rest = over_start wires rows h.1 in ((tt, rest.0), (tt, rest.1))
 over_start wires (Some c ∷ rows) h =
     let rest = over_start wires rows h.1 in
     let each = λ (x : Combination) (k : AllByRecursion (λ t. t.1 < wires) x).
-    Over-weaker (λ v. v < wires) (Stays wires (replicate wires false)) x (λ v l. (l, none_gone wires v)) k in
+    Over-weaker (λ v. v < wires) (Stays wires []) x (λ v l. (l, refl)) k in
     (((each c.a h.0.a, each c.b h.0.b, each c.c h.0.c), rest.0), ((h.0.short_a, h.0.short_b, h.0.short_c), rest.1))
 
-short_end : (rows : List (Option Constraint)) → AllByRecursion RowIsShort rows → (room : ℕ) (gone : List Bool) → RowsOver (Stays room gone) rows
+short_end : (rows : List (Option Constraint)) → AllByRecursion RowIsShort rows → (room : ℕ) (gone : List ℕ) → RowsOver (Stays room gone) rows
     → AreWithin room rows
 short_end [] k room gone h = tt
 short_end (None ∷ rows) k room gone h = (tt, short_end rows k.1 room gone h.1)
@@ -73,25 +72,28 @@ short_end (Some c ∷ rows) k room gone h =
 
 -- a pass over constraints of these wires, before its first turn and after its last
 module _ (room publics : ℕ) (positive : 0 < publics) (rows : List (Option Constraint)) (within : AreWithin room rows) where
-  run-sound : Sound rows room publics (fold (turn publics) (pass_of rows (replicate room false)) (range_with_len 0 (length rows)))
-  run-sound = turns-sound rows room publics positive (range_with_len 0 (length rows)) (pass_of rows (replicate room false))
+  run-sound : Sound rows room publics (fold (turn publics) (pass_of rows []) (range_with_len 0 (length rows)))
+  run-sound = turns-sound rows room publics positive (range_with_len 0 (length rows)) (pass_of rows [])
       (start-sound room publics rows (over_start room rows within).0)
 
-  run-within : AreWithin room (fold (turn publics) (pass_of rows (replicate room false)) (range_with_len 0 (length rows))).rows
+  run-within : AreWithin room (fold (turn publics) (pass_of rows []) (range_with_len 0 (length rows))).rows
   run-within =
-      let last = fold (turn publics) (pass_of rows (replicate room false)) (range_with_len 0 (length rows)) in
-      short_end last.rows (short-turns publics (range_with_len 0 (length rows)) (pass_of rows (replicate room false))
+      let last = fold (turn publics) (pass_of rows []) (range_with_len 0 (length rows)) in
+      short_end last.rows (short-turns publics (range_with_len 0 (length rows)) (pass_of rows [])
       (over_start room rows within).1) room last.gone run-sound.over
 
 -- the wires that stay get their places
-module _ (wires : ℕ) (flags : List Bool) (gone : List ℕ) (same : (w : ℕ) → w < wires → get_or flags w false ≡ list_any (λ v. eqb v w) gone) where
-  moved-renumbered : (x : Combination) → Over (Stays wires flags) x → moved gone x ≡ renumbered (kept wires flags) x
+module _ (wires : ℕ) (gone numbers : List ℕ) (same : (w : ℕ) → is_gone numbers w ≡ is_gone gone w) where
+  numbered : (w : ℕ) → Stays wires gone w → length (others w numbers) ≡ place w (others wires gone)
+  numbered w stays = ap length (others_same numbers gone same w) ∙ sym (place_is wires w gone stays.0 stays.1)
+
+  moved-renumbered : (x : Combination) → Over (Stays wires gone) x → moved numbers x ≡ renumbered (others wires gone) x
   unfolding renumbered
   moved-renumbered [] h = refl
-  moved-renumbered (t ∷ x) h = ap₂ (λ w rest. (t.0, w) ∷ rest) (numbered wires flags gone same t.1 h.0.0 h.0.1) (moved-renumbered x h.1)
+  moved-renumbered (t ∷ x) h = ap₂ (λ w rest. (t.0, w) ∷ rest) (numbered t.1 h.0) (moved-renumbered x h.1)
 
-  pub rows-renumbered : (rows : List (Option Constraint)) → RowsOver (Stays wires flags) rows
-      → moved_rows gone rows ≡ map (option_map (renumbered_in (kept wires flags))) rows
+  pub rows-renumbered : (rows : List (Option Constraint)) → RowsOver (Stays wires gone) rows
+      → moved_rows numbers rows ≡ map (option_map (renumbered_in (others wires gone))) rows
   rows-renumbered [] h = refl
   rows-renumbered (None ∷ rows) h = ap (λ rest. None ∷ rest) (rows-renumbered rows h.1)
   rows-renumbered (Some c ∷ rows) h =
@@ -99,12 +101,12 @@ module _ (wires : ℕ) (flags : List Bool) (gone : List ℕ) (same : (w : ℕ) �
       (same_row _ _ _ _ _ _ (moved-renumbered c.a h.0.0) (moved-renumbered c.b h.0.1) (moved-renumbered c.c h.0.2)) (rows-renumbered rows h.1)
 
   -- the rows are of the wires that are kept
-  over-moved : (x : Combination) → Over (Stays wires flags) x → Over (λ v. v < length (kept wires flags)) (moved gone x)
+  over-moved : (x : Combination) → Over (Stays wires gone) x → Over (λ v. v < length (others wires gone)) (moved numbers x)
   over-moved [] h = tt
-  over-moved (t ∷ x) h = (omega (arith, numbered wires flags gone same t.1 h.0.0 h.0.1, inside-kept wires flags t.1 h.0.0 h.0.1), over-moved x h.1)
+  over-moved (t ∷ x) h = (omega (arith, numbered t.1 h.0, inside-kept wires gone t.1 h.0.0 h.0.1), over-moved x h.1)
 
-  pub within-moved : (rows : List (Option Constraint)) → RowsOver (Stays wires flags) rows → AreWithin wires rows
-      → AreWithin (length (kept wires flags)) (moved_rows gone rows)
+  pub within-moved : (rows : List (Option Constraint)) → RowsOver (Stays wires gone) rows → AreWithin wires rows
+      → AreWithin (length (others wires gone)) (moved_rows numbers rows)
   within-moved [] h k = tt
   within-moved (None ∷ rows) h k = (tt, within-moved rows h.1 k.1)
   within-moved (Some c ∷ rows) h k = (
@@ -119,8 +121,8 @@ module _ (wires : ℕ) (flags : List Bool) (gone : List ℕ) (same : (w : ℕ) �
     within-moved rows h.1 k.1,
   )
     where
-      short_moved : (x : Combination) → length x ≤ 128 → length (moved gone x) ≤ 128
-      short_moved x s = let same : length (moved gone x) ≡ length x = length-map x (λ (t : ℕ × ℕ). (t.0, length (others t.1 gone))) in omega arith
+      short_moved : (x : Combination) → length x ≤ 128 → length (moved numbers x) ≤ 128
+      short_moved x s = let same : length (moved numbers x) ≡ length x = length-map x (λ (t : ℕ × ℕ). (t.0, length (others t.1 numbers))) in omega arith
 
 -- the rows that are left
 pub left_rows : (f : Constraint → Constraint) (rows : List (Option Constraint))
@@ -130,63 +132,60 @@ left_rows f (None ∷ rows) = left_rows f rows
 left_rows f (Some c ∷ rows) = ap (λ rest. f c ∷ rest) (left_rows f rows)
 
 -- there is a label for wire 0 and each public wire
-pub enough_labels : (wires publics : ℕ) (gone : List Bool) → publics ≤ wires → ((v : ℕ) → get_or gone v false ≡ true → publics ≤ v)
-    → publics ≤ length (kept wires gone)
+pub enough_labels : (wires publics : ℕ) (gone : List ℕ) → publics ≤ wires → ((v : ℕ) → is_gone gone v ≡ true → publics ≤ v)
+    → publics ≤ length (others wires gone)
 enough_labels wires publics gone h later =
     let front = front-kept wires publics gone h later in
-    omega (arith, ap length front, length-take publics (kept wires gone), length-range_with_len 0 publics)
+    omega (arith, ap length front, length-take publics (others wires gone), length-range_with_len 0 publics)
 
 -- the shrunk system, from the pass
 shrink_is : (counts : Counts) (list : List Constraint) (last : Pass) →
-    last ≡ fold (turn (1 + counts.outputs + counts.inputs)) (pass_of (start_rows list) (replicate counts.wires false))
+    last ≡ fold (turn (1 + counts.outputs + counts.inputs)) (pass_of (start_rows list) [])
     (range_with_len 0 (length (start_rows list))) →
-    left_over (counted_system counts list) last.rows (kept counts.wires last.gone) ≡ shrink (counted_system counts list)
+    left_over (counted_system counts list) last.rows (others counts.wires last.gone) ≡ shrink (counted_system counts list)
 unfolding shrink passed begun
 shrink_is counts list last ran =
     let publics = 1 + counts.outputs + counts.inputs in
-    ap (λ (pass : Pass). left_over (counted_system counts list) pass.rows (kept counts.wires pass.gone))
-    (ran ∙ ap (λ n. fold (turn publics) (pass_of (start_rows list) (replicate counts.wires false)) (range_with_len 0 n))
+    ap (λ (pass : Pass). left_over (counted_system counts list) pass.rows (others counts.wires pass.gone))
+    (ran ∙ ap (λ n. fold (turn publics) (pass_of (start_rows list) []) (range_with_len 0 n))
     (length-map list (λ c. Some (normal_constraint c))))
 
 -- what is left, by what the calls gave
 module _ (counts : Counts) (rows : List (Option Constraint)) (ready : IsReady counts rows)
-    (publics : ℕ) (private : publics ≡ 1 + counts.outputs + counts.inputs) (left : List (Option Constraint)) (flags : List Bool)
-    (ran : pass_of left flags ≡ fold (turn publics) (pass_of rows (replicate counts.wires false)) (range_with_len 0 (length rows))) where
+    (publics : ℕ) (private : publics ≡ 1 + counts.outputs + counts.inputs) (left : List (Option Constraint)) (gone : List ℕ)
+    (ran : pass_of left gone ≡ fold (turn publics) (pass_of rows []) (range_with_len 0 (length rows))) where
   positive : 0 < publics
   positive = omega (arith, private)
 
-  sound : Sound rows counts.wires publics (pass_of left flags)
+  sound : Sound rows counts.wires publics (pass_of left gone)
   sound = subst (Sound rows counts.wires publics) (sym ran) (run-sound counts.wires publics positive rows ready.within)
-
-  pub flags_each : length flags ≡ counts.wires
-  flags_each = sound.each
 
   left_within : AreWithin counts.wires left
   left_within = subst (λ (pass : Pass). AreWithin counts.wires pass.rows) (sym ran) (run-within counts.wires publics positive rows ready.within)
 
-  module _ (gone : List ℕ) (moved_on : List (Option Constraint)) (same : (w : ℕ) → w < counts.wires → get_or flags w false ≡ list_any (λ v. eqb v w) gone)
-      (lowered_on : moved_on ≡ moved_rows gone left) where
-    labels_are : kept counts.wires flags ≡ others counts.wires gone
-    labels_are = kept_others counts.wires flags gone same
+  module _ (numbers : List ℕ) (moved_on : List (Option Constraint)) (same : (w : ℕ) → is_gone numbers w ≡ is_gone gone w)
+      (lowered_on : moved_on ≡ moved_rows numbers left) where
+    labels_are : others counts.wires gone ≡ others counts.wires numbers
+    labels_are = sym (others_same numbers gone same counts.wires)
 
-    pub labels_enough : 1 + counts.outputs + counts.inputs ≤ length (others counts.wires gone)
+    pub labels_enough : 1 + counts.outputs + counts.inputs ≤ length (others counts.wires numbers)
     labels_enough =
-        omega (arith, private, ap length labels_are, enough_labels counts.wires publics flags (omega (arith, private, ready.room)) sound.private)
+        omega (arith, private, ap length labels_are, enough_labels counts.wires publics gone (omega (arith, private, ready.room)) sound.private)
 
-    pub rows_within : AreWithin (length (others counts.wires gone)) moved_on
+    pub rows_within : AreWithin (length (others counts.wires numbers)) moved_on
     rows_within =
         subst (λ xs. AreWithin (length xs) moved_on) labels_are
-        (subst (AreWithin (length (kept counts.wires flags))) (sym lowered_on) (within-moved counts.wires flags gone same left sound.over left_within))
+        (subst (AreWithin (length (others counts.wires gone))) (sym lowered_on) (within-moved counts.wires gone numbers same left sound.over left_within))
 
     pub system_is : (list : List Constraint) → rows ≡ start_rows list →
         record {
           system = record {
-            wires = length (others counts.wires gone);
+            wires = length (others counts.wires numbers);
             outputs = counts.outputs;
             inputs = counts.inputs;
             constraints = filter_map (λ row. row) moved_on;
           };
-          labels = others counts.wires gone;
+          labels = others counts.wires numbers;
           wires = counts.wires;
         }
         ≡ shrink (counted_system counts list)
@@ -198,7 +197,7 @@ module _ (counts : Counts) (rows : List (Option Constraint)) (ready : IsReady co
           wires = counts.wires;
         })
         (sym labels_are)
-        (ap (filter_map (λ (row : Option Constraint). row)) (lowered_on ∙ rows-renumbered counts.wires flags gone same left sound.over)
-        ∙ left_rows (renumbered_in (kept counts.wires flags)) left)
-        ∙ shrink_is counts list (pass_of left flags)
-        (ran ∙ ap₂ (λ n rs. fold (turn n) (pass_of rs (replicate counts.wires false)) (range_with_len 0 (length rs))) private start)
+        (ap (filter_map (λ (row : Option Constraint). row)) (lowered_on ∙ rows-renumbered counts.wires gone numbers same left sound.over)
+        ∙ left_rows (renumbered_in (others counts.wires gone)) left)
+        ∙ shrink_is counts list (pass_of left gone)
+        (ran ∙ ap₂ (λ n rs. fold (turn n) (pass_of rs []) (range_with_len 0 (length rs))) private start)

@@ -1,11 +1,11 @@
 -- The solutions of a shrunk system are those of the system at the wires that are kept.
-use Rattle.std.proofs.Common.{◌≡◌, ℕ, zero, suc, ◌+◌, ◌*◌, ◌%◌, ◌<◌, ◌≤◌, List, [], ◌∷◌, Option, Some, None, refl, sym, ◌∙◌, ap, ap₂, subst, arith, true}
-use Rattle.std.proofs.Common.{false, inl, inr, map, length, get_or, take, replicate}
+use Rattle.std.proofs.Common.{◌≡◌, ℕ, suc, ◌+◌, ◌*◌, ◌%◌, ◌<◌, ◌≤◌, List, [], ◌∷◌, Option, Some, None, refl, sym, ◌∙◌, ap, ap₂, subst, arith, true}
+use Rattle.std.proofs.Common.{false, inl, inr, map, length, take}
 use Rattle.std.specs.List.{AllByRecursion, All, filter_map, range_with_len}
 use Rattle.std.specs.Option.{option_map}
 use Rattle.std.specs.Prelude.{slice_index}
 use Rattle.std.proofs.lemmas.Bool.{cases_lt}
-use Rattle.std.proofs.lemmas.List.{ext_get_or, get_or-map, get_or_past, length-map, length-replicate}
+use Rattle.std.proofs.lemmas.List.{ext_get_or, get_or-map, get_or_past, length-map}
 use Rattle.std.proofs.lemmas.List.Elements.{All-from_recursion, recursion_from_All, All-get_or}
 use Rattle.std.proofs.lemmas.List.FromFn.{length-map-range_with_len, get_or-map-range_with_len}
 use Rattle.tv_core.proofs.CombinationLaws.{value-cons, wire-below, Assigns-from_Sat, Meets-from_Sat, Sat-from_Meets}
@@ -16,10 +16,11 @@ use Rattle.tv_shrink.specs.Laws.{AreOver, IsWhole, KeepsSolutions, SolutionsAreO
 use Rattle.tv_core.specs.Normal.{normal_constraint}
 use Rattle.tv_shrink.specs.Pass.{begun, passed}
 use Rattle.tv_shrink.specs.Tidy.{pass_of}
-use Rattle.tv_shrink.specs.Shrunk.{kept, place, renumbered, renumbered_in, left_over, shrink, at_wires}
+use Rattle.tv_r1cs_write.specs.Bytes.{others}
+use Rattle.tv_shrink.specs.Shrunk.{place, renumbered, renumbered_in, left_over, shrink, at_wires}
 use Rattle.tv_core.proofs.NormalLaws.{Over, Over-normal, Over-weaker, value-normal}
 use Rattle.tv_shrink.proofs.PassLaws.{RowsOver, RowsHold, Stays, Agree, Extended, Sound, same_holds, turns-sound}
-use Rattle.tv_shrink.proofs.Labels.{place-at, Rising-kept, at_place-kept, inside-kept, kept_stay, none_below, looked_up, front-kept}
+use Rattle.tv_shrink.proofs.Labels.{is_gone, place-at, Rising-kept, at_place-kept, inside-kept, kept_stay, none_below, looked_up, front-kept}
 
 -- the start of a pass
 module _ (z : List ℕ) where
@@ -40,29 +41,23 @@ module _ (z : List ℕ) where
 over-from_All : (wires : ℕ) (x : Combination) → All (λ t. t.1 < wires) x → Over (λ v. v < wires) x
 over-from_All wires x h = recursion_from_All (λ t. t.1 < wires) x h
 
-pub none_gone : (wires v : ℕ) → get_or (replicate wires false) v false ≡ false
-none_gone zero v = refl
-none_gone (suc n) zero = refl
-none_gone (suc n) (suc v) = none_gone n v
-
 start_over : (wires : ℕ) (list : List Constraint) → AllByRecursion (AreOver wires) list
-    → RowsOver (Stays wires (replicate wires false)) (map (λ c. Some (normal_constraint c)) list)
+    → RowsOver (Stays wires []) (map (λ c. Some (normal_constraint c)) list)
 start_over wires [] h = tt
 start_over wires (c ∷ list) h =
     let each = λ (x : Combination) (k : All (λ t. t.1 < wires) x).
-    Over-normal (Stays wires (replicate wires false)) x
-    (Over-weaker (λ v. v < wires) (Stays wires (replicate wires false)) x (λ v l. (l, none_gone wires v)) (over-from_All wires x k)) in
+    Over-normal (Stays wires []) x
+    (Over-weaker (λ v. v < wires) (Stays wires []) x (λ v l. (l, refl)) (over-from_All wires x k)) in
     ((each c.a h.0.a, each c.b h.0.b, each c.c h.0.c), start_over wires list h.1)
 
-pub start-sound : (wires publics : ℕ) (rows : List (Option Constraint)) → RowsOver (Stays wires (replicate wires false)) rows
-    → Sound rows wires publics (pass_of rows (replicate wires false))
+pub start-sound : (wires publics : ℕ) (rows : List (Option Constraint)) → RowsOver (Stays wires []) rows
+    → Sound rows wires publics (pass_of rows [])
 start-sound wires publics rows over = record {
   over = over;
-  each = length-replicate wires false;
-  private = λ v e. absurd (let both : true ≡ false = sym e ∙ none_gone wires v in cc);
+  private = λ v e. absurd (let both : false ≡ true = e in cc);
   down = λ z assigns h. h;
   up = λ z assigns each h. record { y = z; assigns = assigns; each = each; holds = h; agree = λ v e. refl };
-  unique = λ y z ay az hy hz agree v. agree v (none_gone wires v);
+  unique = λ y z ay az hy hz agree v. agree v refl;
 }
 
 module _ (system : System) (whole : IsWhole system) where
@@ -132,14 +127,14 @@ first_is n (x ∷ xs) e = let same : x ∷ take n xs ≡ 0 ∷ range_with_len (0
 
 -- the labels of the shrunk system
 abbrev pub labels_of : System → List ℕ
-labels_of system = kept system.wires (passed system).gone
+labels_of system = others system.wires (passed system).gone
 
 -- what is looked up at a place of the list
 looked_at : (z labels : List ℕ) (k : ℕ) → k < length labels → slice_index (at_wires labels z) k ≡ slice_index z (slice_index labels k)
 looked_at z labels k inside = get_or-map (λ w. slice_index z w) labels k 0 0 inside
 
 module _ (system : System) (whole : IsWhole system) where
-  private_gone : (v : ℕ) → get_or (passed system).gone v false ≡ true → 1 + system.outputs + system.inputs ≤ v
+  private_gone : (v : ℕ) → is_gone (passed system).gone v ≡ true → 1 + system.outputs + system.inputs ≤ v
   private_gone = (passed-sound system whole).private
 
   publics_kept : take (1 + system.outputs + system.inputs) (labels_of system) ≡ range_with_len 0 (1 + system.outputs + system.inputs)
@@ -151,7 +146,7 @@ module _ (system : System) (whole : IsWhole system) where
       first_is (system.outputs + system.inputs) (labels_of system)
       (subst (λ m. take m (labels_of system) ≡ range_with_len 0 m) more publics_kept)
 
-  zero_stays : get_or (passed system).gone 0 false ≡ false
+  zero_stays : is_gone (passed system).gone 0 ≡ false
   zero_stays = none_below (1 + system.outputs + system.inputs) 0 (passed system).gone private_gone (omega arith)
 
   some_wire : 0 < system.wires

@@ -8,10 +8,10 @@ use Rattle.tv_core.proofs.CombinationLaws.{value-below, value-cons}
 use Rattle.tv_core.specs.Constraints.{Combination, value}
 use Rattle.tv_core.specs.declared.field.TheConstants.{P}
 use Rattle.tv_core.specs.Normal.{normal, with_term}
-use Rattle.tv_r1cs_read.specs.Rows.{combination_of}
 use Rattle.tv_shrink.proofs.Merges.{with_term-front}
 use Rattle.tv_core.proofs.NormalLaws.{Over, normal_from, regrouped, residue_first}
-use Rattle.std.proofs.lemmas.List.{get_or_default}
+use Rattle.std.proofs.lemmas.List.{get_or_default, get_or-map, length-map}
+use Rattle.tv_r1cs_read.specs.Rows.{combination_of}
 use Rattle.tv_core.proofs.Unique.{by_values, normal-step}
 
 -- the order of the terms does not matter
@@ -72,6 +72,16 @@ over_after least zero [] h = tt
 over_after least (suc j) [] h = tt
 over_after least zero (x ∷ xs) h = (h 0 x (omega arith) (omega arith), over_after least zero xs (λ k d above inside. h (suc k) d (omega arith) (omega arith)))
 over_after least (suc j) (x ∷ xs) h = over_after least j xs (λ k d above inside. h (suc k) d (omega arith) (omega arith))
+
+-- terms that were read, as a combination
+pub read_at : (terms : List (ℕ × ℕ)) (i : ℕ) (d e : ℕ × ℕ) → i < length terms
+    → get_or (combination_of terms) i e ≡ ((get_or terms i d).1, (get_or terms i d).0)
+read_at terms i d e h = get_or-map (λ (t : ℕ × ℕ). (t.1, t.0)) terms i d e h
+
+pub read_rises : (terms : List (ℕ × ℕ)) → IsNonDecreasingBy (λ t. t.0) terms → IsNonDecreasingBy (λ t. t.1) (combination_of terms)
+read_rises terms h i j d le lt =
+    let inside : j < length terms = omega (arith, length-map {B = ℕ × ℕ} terms (λ (t : ℕ × ℕ). (t.1, t.0))) in
+    omega (arith, h i j d le inside, ap (λ u. u.1) (read_at terms i d d (omega arith)), ap (λ u. u.1) (read_at terms j d d inside))
 
 -- at a place of a list whose wires don't fall
 module _ (terms : Combination) (i sum : ℕ) (t : ℕ × ℕ) (h : i < length terms) (at : t ≡ get_or terms i t) where

@@ -1,18 +1,17 @@
 -- What the steps of a pass keep.
 use Rattle.std.proofs.Common.{◌≡◌, ℕ, ◌∷◌, ◌<◌, ◌≤◌, ◌^◌, Bool, List, [], Option, None, Some, Result, Ok, Err, OnOk, refl, sym, ◌∙◌, ap}
-use Rattle.std.proofs.Common.{ap₂, subst, replicate, true, false, eqb, length, length-set, get_or, set}
+use Rattle.std.proofs.Common.{ap₂, subst, ◌++◌, true, false, length, length-set, get_or, set}
 use Rattle.std.specs.Prelude.{OnErr}
-use Rattle.std.specs.List.{fold, list_all, list_any, range_with_len}
+use Rattle.std.specs.List.{fold, list_all, range_with_len}
 use Rattle.std.specs.Option.{option_map}
 use Rattle.std.proofs.lemmas.Bool.{cond_both}
 use Rattle.std.proofs.lemmas.List.{length-map, set-get_or}
 use Rattle.tv_core.specs.Constraints.{Combination, Constraint}
 use Rattle.tv_shrink.specs.Pass.{Pass, all_replaced, attempted, dropped, eliminated, linear_row, row_fits, substituted, treated, turn}
-use Rattle.tv_shrink.specs.Occurrences.{rows_of}
 use Rattle.tv_shrink.specs.Substitution.{greatest_from, has_wire, replaced_in, solved}
 use Rattle.tv_shrink.specs.Tidy.{pass_of, row_has, IsKept, RowIsNormal, State}
 use Rattle.tv_shrink.proofs.Elements.{each_at, each_set}
-use Rattle.tv_shrink.proofs.Passes.{covers-more, covers-replaced, normal-replaced_row, row-lacking-same}
+use Rattle.tv_shrink.proofs.Passes.{covers-replaced, normal-replaced_row, row-lacking-same}
 
 -- a constraint without the wire
 pub unchanged : (s : State) (w at : ℕ) (r : Combination) → row_has w (get_or s.pass.rows at None) ≡ false →
@@ -29,12 +28,11 @@ unchanged s w at r lacks =
     ap (λ rows. record { publics = s.publics; pass = record { rows = rows; gone = s.pass.gone } }) same
 
 -- once a wire is replaced in a constraint, or memory ran out, all are normal, and filed
-module _ (publics w at : ℕ) (r : Combination) (rows : List (Option Constraint)) (lists next : List (List ℕ))
-    (kept : IsKept publics rows lists) (lacks : has_wire w r ≡ false)
-    (more : (v i : ℕ) → list_any (λ p. eqb p i) (rows_of lists v) ≡ true → list_any (λ p. eqb p i) (rows_of next v) ≡ true)
-    (added : (v : ℕ) → publics ≤ v → has_wire v r ≡ true → list_any (λ p. eqb p at) (rows_of next v) ≡ true) where
+module _ (publics w at : ℕ) (r : Combination) (rows : List (Option Constraint)) (may next : ℕ → ℕ → Bool)
+    (kept : IsKept publics rows may) (lacks : has_wire w r ≡ false) (more : (v i : ℕ) → may v i ≡ true → next v i ≡ true)
+    (added : (v : ℕ) → publics ≤ v → has_wire v r ≡ true → next v at ≡ true) where
   kept_filed : IsKept publics rows next
-  kept_filed = record { normal = kept.normal; covers = covers-more publics rows lists next kept.covers more; few = kept.few }
+  kept_filed = record { normal = kept.normal; covers = λ i v above has. more v i (kept.covers i v above has); few = kept.few }
 
   kept_changed : IsKept publics (set rows at (option_map (replaced_in w r) (get_or rows at None))) next
   kept_changed =
@@ -51,18 +49,18 @@ module _ (publics w at : ℕ) (r : Combination) (rows : List (Option Constraint)
   kept_replaced (Err why) new is err = subst (λ xs. IsKept publics xs next) (sym err) kept_filed
 
 -- and at the end the wire is gone
-pub substituted_is : (s : State) (w : ℕ) (r : Combination) (publics : ℕ) (rows : List (Option Constraint)) (flags : List Bool) → publics ≡ s.publics
-    → rows ≡ all_replaced w r s.pass.rows → flags ≡ set s.pass.gone w true →
-    (let new : State = record { publics = publics; pass = record { rows = rows; gone = flags } } in new)
+pub substituted_is : (s : State) (w : ℕ) (r : Combination) (publics : ℕ) (rows : List (Option Constraint)) (gone : List ℕ) → publics ≡ s.publics
+    → rows ≡ all_replaced w r s.pass.rows → gone ≡ s.pass.gone ++ w ∷ [] →
+    (let new : State = record { publics = publics; pass = record { rows = rows; gone = gone } } in new)
     ≡ record { publics = s.publics; pass = substituted w r s.pass }
 unfolding substituted
-substituted_is s w r publics rows flags p q g = rw (p, q, g) refl
+substituted_is s w r publics rows gone p q g = rw (p, q, g) refl
 
 -- the state with another pass
 pub staged : (s : State) (pass : Pass) → pass ≡ s.pass → s ≡ record { publics = s.publics; pass = pass }
 staged s pass e = ap (λ p. record { publics = s.publics; pass = p }) (sym e)
 
-pub dropped_is : (s : State) (at publics : ℕ) (rows : List (Option Constraint)) (gone : List Bool) → publics ≡ s.publics → rows ≡ set s.pass.rows at None
+pub dropped_is : (s : State) (at publics : ℕ) (rows : List (Option Constraint)) (gone : List ℕ) → publics ≡ s.publics → rows ≡ set s.pass.rows at None
     → gone ≡ s.pass.gone →
     (let new : State = record { publics = publics; pass = record { rows = rows; gone = gone } } in new)
     ≡ record { publics = s.publics; pass = dropped at s.pass }
@@ -101,15 +99,15 @@ turns_length publics places pass =
     (λ w r p fit e. length-map p.rows (option_map (replaced_in w r)) ∙ e) publics places pass refl
 
 -- what a pass leaves that began with these constraints
-module _ (start end : State) (left : List (Option Constraint)) (flags : List Bool) (publics wires : ℕ) (rows : List (Option Constraint))
-    (begins : start ≡ record { publics = publics; pass = record { rows = rows; gone = replicate wires false } })
+module _ (start end : State) (left : List (Option Constraint)) (gone : List ℕ) (publics : ℕ) (rows : List (Option Constraint))
+    (begins : start ≡ record { publics = publics; pass = record { rows = rows; gone = [] } })
     (runs : end ≡ record { publics = start.publics; pass = fold (turn start.publics) start.pass (range_with_len 0 (length start.pass.rows)) })
-    (is : left ≡ end.pass.rows) (goes : flags ≡ end.pass.gone) where
-  pub ran : pass_of left flags ≡ fold (turn publics) (pass_of rows (replicate wires false)) (range_with_len 0 (length rows))
+    (is : left ≡ end.pass.rows) (goes : gone ≡ end.pass.gone) where
+  pub ran : pass_of left gone ≡ fold (turn publics) (pass_of rows []) (range_with_len 0 (length rows))
   ran =
       ap₂ pass_of is goes
       ∙ ap (λ (s : State). s.pass) runs
       ∙ ap (λ (s : State). fold (turn s.publics) s.pass (range_with_len 0 (length s.pass.rows))) begins
 
   pub ran_length : length left ≡ length rows
-  ran_length = ap (λ (p : Pass). length p.rows) ran ∙ turns_length publics (range_with_len 0 (length rows)) (pass_of rows (replicate wires false))
+  ran_length = ap (λ (p : Pass). length p.rows) ran ∙ turns_length publics (range_with_len 0 (length rows)) (pass_of rows [])

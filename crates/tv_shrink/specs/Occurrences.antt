@@ -1,6 +1,6 @@
 -- The rows that wires may stand in, each in an entry that leads to the wire's entry before it.
-use Rattle.std.specs.Prelude.{ℕ, suc, ◌≤◌, ◌<◌, ◌==◌, ◌%◌, List, [], ◌∷◌, length, reverse, slice_index_or, if◌then◌else◌}
-use Rattle.std.specs.List.{AllByRecursion}
+use Rattle.std.specs.Prelude.{ℕ, suc, ◌≤◌, ◌<◌, ◌==◌, ◌%◌, Bool, List, [], ◌∷◌, length, reverse, slice_index_or, if◌then◌else◌}
+use Rattle.std.specs.List.{AllByRecursion, list_any}
 use Rattle.tv_shrink.specs.declared.occurrences.Entry.{Entry}
 
 -- the rows of the entry of this number, counted from 1, and of those that it leads to; the entries stand last first
@@ -9,9 +9,9 @@ rows_from [] number = []
 rows_from (entry ∷ before) number =
     if number == suc (length before) then entry.row ∷ rows_from before entry.next else rows_from before number
 
--- the rows that a wire may stand in: those of the list whose place is the remainder of its number
-abbrev pub rows_of : List (List ℕ) → ℕ → List ℕ
-rows_of lists wire = slice_index_or lists (wire % length lists) []
+-- whether a wire may stand in a row: it is in the list whose place is the remainder of the wire's number
+abbrev pub has_row : List (List ℕ) → ℕ → ℕ → Bool
+has_row lists wire row = list_any (λ p. p == row) (slice_index_or lists (wire % length lists) [])
 
 -- each entry leads to one before it, or to none; the entries stand last first
 abbrev pub LeadBack : List Entry → Type 0

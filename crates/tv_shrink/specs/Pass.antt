@@ -1,5 +1,5 @@
 -- One pass over the constraints of a system, in which wires are replaced.
-use Rattle.std.specs.Prelude.{ℕ, ◌+◌, Bool, true, false, List, [], ◌∷◌, map, length, replicate, Option, None, Some, slice_index_or, slice_set, if◌then◌else◌}
+use Rattle.std.specs.Prelude.{ℕ, ◌+◌, Bool, true, List, [], ◌∷◌, ◌++◌, map, length, Option, None, Some, slice_index_or, slice_set, if◌then◌else◌}
 use Rattle.std.specs.List.{fold, list_all, range_with_len}
 use Rattle.std.specs.Option.{option_map}
 use Rattle.tv_core.specs.Constraints.{Combination, Constraint, System}
@@ -7,14 +7,14 @@ use Rattle.tv_core.specs.Normal.{normal_constraint}
 use Rattle.tv_shrink.specs.Substitution.{linear_form, greatest_from, solved, replaced_in, fits_in}
 
 -- how far the pass has come: at each constraint's place what it is by now, or nothing where it was dropped,
--- and for each wire whether it is gone, another combination standing in its place
+-- and the wires that are gone, another combination standing in the place of each
 pub record Pass : Type 0 where
   pub rows : List (Option Constraint)
-  pub gone : List Bool
+  pub gone : List ℕ
 
 -- the constraints made normal, none dropped
 unfoldable pub begun : System → Pass
-begun system = record { rows = map (λ c. Some (normal_constraint c)) system.constraints; gone = replicate system.wires false }
+begun system = record { rows = map (λ c. Some (normal_constraint c)) system.constraints; gone = [] }
 
 -- without the constraint at a place
 unfoldable pub dropped : ℕ → Pass → Pass
@@ -26,7 +26,7 @@ all_replaced w r rows = map (option_map (replaced_in w r)) rows
 
 -- a wire replaced in all constraints
 unfoldable pub substituted : ℕ → Combination → Pass → Pass
-substituted w r pass = record { rows = all_replaced w r pass.rows; gone = slice_set pass.gone w true }
+substituted w r pass = record { rows = all_replaced w r pass.rows; gone = pass.gone ++ w ∷ [] }
 
 -- the constraint at a place, where it was not dropped, keeps to 128 terms
 abbrev pub row_fits : ℕ → Combination → Option Constraint → Bool

@@ -1,14 +1,11 @@
 -- The system that is left after a pass, its wires numbered anew.
-use Rattle.std.specs.Prelude.{ℕ, ◌==◌, not, Bool, false, List, map, length, Option, slice_index, slice_index_or}
-use Rattle.std.specs.List.{filter, filter_map, position_or_len, range_with_len}
+use Rattle.std.specs.Prelude.{ℕ, ◌==◌, List, map, length, Option, slice_index}
+use Rattle.std.specs.List.{filter_map, position_or_len}
 use Rattle.std.specs.Option.{option_map}
 use Rattle.tv_core.specs.Constraints.{Combination, Constraint, System}
+use Rattle.tv_r1cs_write.specs.Bytes.{others}
 use Rattle.tv_r1cs_write.specs.Shrunken.{Shrunken}
 use Rattle.tv_shrink.specs.Pass.{passed}
-
--- the wires that are not gone, in order
-unfoldable pub kept : ℕ → List Bool → List ℕ
-kept wires gone = filter (λ w. not (slice_index_or gone w false)) (range_with_len 0 wires)
 
 -- the place of a wire among labels
 abbrev pub place : ℕ → List ℕ → ℕ
@@ -35,9 +32,9 @@ left_over system rows labels = record {
   wires = system.wires;
 }
 
--- the shrunk system
+-- the shrunk system, of the wires that are not gone
 unfoldable pub shrink : System → Shrunken
-shrink system = left_over system (passed system).rows (kept system.wires (passed system).gone)
+shrink system = left_over system (passed system).rows (others system.wires (passed system).gone)
 
 -- the numbers that an assignment has at these wires
 abbrev pub at_wires : List ℕ → List ℕ → List ℕ

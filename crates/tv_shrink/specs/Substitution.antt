@@ -1,6 +1,6 @@
 -- A combination in place of a wire.
-use Rattle.std.specs.Prelude.{◌≡◌, ℕ, ◌-◌, ◌==◌, nat_lt, nat_le, Bool, false, not, ◌||◌, ◌&&◌, max, [], ◌∷◌, ◌++◌, length, Option, None, Some, if◌then◌else◌}
-use Rattle.std.specs.List.{filter, list_any, list_all}
+use Rattle.std.specs.Prelude.{ℕ, ◌-◌, ◌<◌, ◌==◌, nat_lt, nat_le, Bool, not, ◌||◌, ◌&&◌, max, [], ◌∷◌, ◌++◌, length, Option, None, Some, if◌then◌else◌}
+use Rattle.std.specs.List.{AllByRecursion, filter, list_any, list_all}
 use Rattle.std.specs.Option.{option_or}
 use Rattle.tv_core.specs.Combinations.{scaled, less}
 use Rattle.tv_core.specs.Constraints.{Combination, Constraint}
@@ -17,10 +17,10 @@ pub record Replacement : Type 0 where
   pub wire : ℕ
   pub terms : Combination
 
--- the terms are normal, and the wire is not among them
+-- the terms are normal, of wires below the one that they replace
 pub record IsReplacement (wire : ℕ) (terms : Combination) : Type 0 where
   pub normal : IsNormalFrom 0 terms
-  pub lacks : has_wire wire terms ≡ false
+  pub below : AllByRecursion (λ t. t.1 < wire) terms
 
 -- a combination without a wire
 unfoldable pub without : ℕ → Combination → Combination

@@ -1,9 +1,8 @@
 -- What the rows of a pass keep to.
-use Rattle.std.specs.Prelude.{◌≡◌, ℕ, ◌^◌, ◌<◌, ◌≤◌, ◌==◌, Bool, false, true, ◌||◌, List, length, replicate, Option, None, Some, slice_index_or, slice_set}
-use Rattle.std.specs.List.{AllByRecursion, fold, list_any}
+use Rattle.std.specs.Prelude.{◌≡◌, ℕ, ◌^◌, ◌<◌, ◌≤◌, Bool, false, true, ◌||◌, List, length, Option, None, Some, slice_index_or}
+use Rattle.std.specs.List.{AllByRecursion}
 use Rattle.tv_core.specs.Constraints.{Constraint}
 use Rattle.tv_core.specs.Normal.{IsNormalConstraint}
-use Rattle.tv_shrink.specs.Occurrences.{rows_of}
 use Rattle.tv_shrink.specs.Pass.{Pass}
 use Rattle.tv_shrink.specs.Substitution.{has_wire}
 
@@ -38,12 +37,8 @@ abbrev pub row_has : ℕ → Option Constraint → Bool
 row_has w None = false
 row_has w (Some c) = has_wire w c.a || (has_wire w c.b || has_wire w c.c)
 
--- for each of this many wires whether it is one of these, which are gone
-abbrev pub marked : ℕ → List ℕ → List Bool
-marked wires gone = fold (λ flags w. slice_set flags w true) (replicate wires false) gone
-
 -- the state of a pass, from its parts
-abbrev pub pass_of : List (Option Constraint) → List Bool → Pass
+abbrev pub pass_of : List (Option Constraint) → List ℕ → Pass
 pass_of rows gone = record { rows = rows; gone = gone }
 
 -- a pass and the number of its first private wire
@@ -51,12 +46,12 @@ pub record State : Type 0 where
   pub publics : ℕ
   pub pass : Pass
 
--- the list of places of a private wire names each constraint that it stands in
-abbrev pub Covers : ℕ → List (Option Constraint) → List (List ℕ) → Type 0
-Covers publics rows lists = (i w : ℕ) → publics ≤ w → row_has w (slice_index_or rows i None) ≡ true → list_any (λ p. p == i) (rows_of lists w) ≡ true
+-- it is known of each private wire in which constraints it may stand
+abbrev pub Covers : ℕ → List (Option Constraint) → (ℕ → ℕ → Bool) → Type 0
+Covers publics rows may = (i w : ℕ) → publics ≤ w → row_has w (slice_index_or rows i None) ≡ true → may w i ≡ true
 
 -- the constraints are normal, fewer than 2 ^ 32, and for each private wire it is known where it may stand
-pub record IsKept (publics : ℕ) (rows : List (Option Constraint)) (lists : List (List ℕ)) : Type 0 where
+pub record IsKept (publics : ℕ) (rows : List (Option Constraint)) (may : ℕ → ℕ → Bool) : Type 0 where
   pub normal : RowsAreNormal rows
-  pub covers : Covers publics rows lists
+  pub covers : Covers publics rows may
   pub few : length rows < 2 ^ 32

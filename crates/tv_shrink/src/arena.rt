@@ -50,7 +50,7 @@ impl Span {
 /// where it has more than 128 then; `scratch` is for its use.
 #[inline(always)]
 pub(crate) fn append_narrow(
-    scratch: &mut Vec<(F, Wire)>,
+    scratch: &mut Vec<(u32, F)>,
     out: &mut Vec<(F, Wire)>,
     terms: &[(u32, F)],
 ) -> Result<u8, ShrinkFault>

@@ -1,52 +1,37 @@
 //! Adding multiples of normal combinations.
 
-ghost use Rattle.std.specs.Prelude.{◌≡◌, ◌≤◌, ◌<◌, ◌*◌, ◌%◌, [], ◌++◌, length, OnOk, None};
+ghost use Rattle.std.specs.Prelude.{◌≡◌, ◌≤◌, ◌*◌, ◌%◌, [], ◌++◌, length, OnOk};
 ghost use Rattle.tv_core.specs.Combinations.{scaled};
 ghost use Rattle.tv_core.specs.declared.field.TheConstants.{P};
-ghost use Rattle.tv_shrink.specs.Merge.{first_wire, head_at, leaving_out, unless_left, GoesPast};
+ghost use Rattle.tv_shrink.specs.Merge.{first_wire, head_at, GoesPast};
 ghost use Rattle.tv_core.specs.Normal.{normal, with_term, IsNormalFrom};
 
 use std::alloc::AllocError;
 use tv_core::{F, Wire};
 
-/// A multiple of a combination of which one wire may be left out, from its first terms on.
+/// A multiple of a normal combination, from its first terms on.
 #[derive(Clone, Copy)]
 pub(crate) struct Side<'a> {
     pub(crate) terms: &'a [(F, Wire)],
     pub(crate) factor: F,
-    pub(crate) leaving: Option<Wire>,
 }
 
 impl<'a> Side<'a> {
-    /// A multiple of a whole combination.
-    pub(crate) fn whole(terms: &'a [(F, Wire)], factor: F) -> Side<'a>
-        ensures terms { result.terms.now ≡ terms.now }
-        ensures factor { result.factor ≡ factor }
-        ensures leaving { result.leaving ≡ None }
+    // The first wire that is ahead; the greatest number where none is.
+    #[inline(always)]
+    fn first(&self) -> u32
+        ensures { result ≡ first_wire self.now.terms.now }
     {
-        Side {
-            terms,
-            factor,
-            leaving: None,
+        match self.terms.first() {
+            Some((_, wire)) => wire.0,
+            None => u32::MAX,
         }
     }
 
-    // The first wire that is ahead.
-    #[inline(always)]
-    fn first(&self) -> u32
-        requires { 0 < length self.now.terms.now }
-        ensures { result ≡ first_wire self.now.terms.now }
-    {
-        let (_, wire) = self.terms[0];
-        wire.0
-    }
-
-    // Goes past a wire, if it is the first, and answers its coefficient, which is 0 where it is
-    // left out.
+    // Goes past a wire, if it is the first, and answers its coefficient, which is 0 if it isn't.
     #[inline(always)]
     fn take(&mut self, wire: u32) -> F
-        ensures coefficient { result ≡ unless_left self.old.leaving wire
-            (self.old.factor * head_at wire self.old.terms.now % P) }
+        ensures coefficient { result ≡ self.old.factor * head_at wire self.old.terms.now % P }
         ensures past { GoesPast wire self.old self.new }
     {
         let [(coefficient, first), rest @ ..] = self.terms else {
@@ -56,24 +41,7 @@ impl<'a> Side<'a> {
             return F::ZERO;
         }
         self.terms = rest;
-        match self.leaving {
-            Some(left) if left.0 == wire => F::ZERO,
-            _ => self.factor * *coefficient,
-        }
-    }
-
-    /// Appends what it is, made normal, and uses it up.
-    #[inline(always)]
-    pub(crate) fn append(&mut self, out: &mut Vec<(F, Wire)>) -> Result<(), AllocError>
-        requires { IsNormalFrom 0 self.old.terms.now }
-        ensures { OnOk result (out.new.items ≡ out.old.items ++ normal
-            (scaled self.old.factor (leaving_out self.old.leaving self.old.terms.now))) }
-    {
-        while !self.terms.is_empty() {
-            let wire = self.first();
-            push_term(out, self.take(wire), Wire(wire))?;
-        }
-        Ok(())
+        self.factor * *coefficient
     }
 }
 
@@ -104,15 +72,13 @@ pub(crate) fn merge(
 ) -> Result<(), AllocError>
     requires left { IsNormalFrom 0 left.old.terms.now }
     requires right { IsNormalFrom 0 right.old.terms.now }
-    requires all { right.old.leaving ≡ None }
     ensures { OnOk result (out.new.items ≡ out.old.items ++ normal
-        (scaled left.old.factor (leaving_out left.old.leaving left.old.terms.now)
+        (scaled left.old.factor left.old.terms.now
         ++ scaled right.old.factor right.old.terms.now)) }
 {
-    while !left.terms.is_empty() && !right.terms.is_empty() {
+    while !left.terms.is_empty() || !right.terms.is_empty() {
         let wire = left.first().min(right.first());
         push_term(out, left.take(wire) + right.take(wire), Wire(wire))?;
     }
-    left.append(out)?;
-    right.append(out)
+    Ok(())
 }

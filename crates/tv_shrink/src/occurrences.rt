@@ -1,12 +1,10 @@
 //! In which rows each wire may stand.
 
-ghost use Rattle.std.specs.Prelude.{◌≡◌, ◌==◌, ◌≤◌, ◌<◌, ℕ, true, length};
-ghost use Rattle.std.specs.Prelude.{reverse, slice_index_or, slice_set, OnOk};
-ghost use Rattle.std.specs.Prelude.{IfOk};
-ghost use Rattle.std.specs.Prelude.{◌^◌, false, None, Ok, IfSome};
+ghost use Rattle.std.specs.Prelude.{◌≡◌, ◌==◌, ◌≤◌, ◌<◌, ◌^◌, ℕ, true, false, length};
+ghost use Rattle.std.specs.Prelude.{slice_index_or, slice_set, None, Ok, IfOk, OnOk, IfSome};
 ghost use Rattle.std.specs.List.{list_any};
+ghost use Rattle.tv_shrink.specs.Occurrences.{has_row};
 ghost use Rattle.tv_shrink.specs.Pass.{row_fits};
-ghost use Rattle.tv_shrink.specs.Occurrences.{rows_from, rows_of, LeadBack};
 ghost use Rattle.tv_shrink.specs.Substitution.{has_wire};
 ghost use Rattle.tv_shrink.specs.Tidy.{row_has, RowsAreNormal, Covers};
 
@@ -22,19 +20,6 @@ use tv_core::{F, Wire};
 struct Entry {
     row: u32,
     next: u32,
-}
-
-// Whether the list that begins at the entry of this number, where there is one, begins with a row.
-fn begins_with(entries: &[Entry], number: u32, row: u32) -> bool
-    requires inside { number ≤ length entries.now }
-    requires back { LeadBack (reverse entries.now) }
-    ensures { result ≡ true
-        → list_any (λ p. p == row) (rows_from (reverse entries.now) number) ≡ true }
-{
-    if number == 0 {
-        return false;
-    }
-    entries[number as usize - 1].row == row
 }
 
 /// For each wire a list of rows that it may stand in, the one filed last first.
@@ -74,7 +59,7 @@ impl Occurrences {
     ) -> Result<Occurrences, AllocError>
         requires some { 0 < lists }
         requires few { length rows.now < 2 ^ 32 }
-        ensures covers { IfOk result (λ lists. Covers publics rows.now lists) }
+        ensures covers { IfOk result (λ lists. Covers publics rows.now (has_row lists)) }
     {
         let mut lists = Occurrences {
             alloc,
@@ -90,7 +75,8 @@ impl Occurrences {
 
     /// Puts the rows that a wire may stand in into `rows`, whose memory serves again.
     pub(crate) fn rows_of(&self, wire: u32, rows: &mut Vec<u32>) -> Result<(), AllocError>
-        ensures { OnOk result (rows.new.items ≡ rows_of self.now wire) }
+        ensures { OnOk result ((i : ℕ) → list_any (λ p. p == i) rows.new.items
+            ≡ has_row self.now wire i) }
     {
         rows.clear();
         let mut number = self.heads[wire as usize % self.heads.len()];
@@ -115,8 +101,7 @@ impl Occurrences {
         ensures some { IfOk result (λ found. IfSome found (λ row.
             row_fits by.now.wire by.now.terms
             (slice_index_or (slice_set rows.now but None) row None) ≡ false)) }
-        ensures none { result ≡ Ok None → (i : ℕ)
-            → list_any (λ p. p == i) (rows_of self.now by.now.wire) ≡ true
+        ensures none { result ≡ Ok None → (i : ℕ) → has_row self.now by.now.wire i ≡ true
             → row_fits by.now.wire by.now.terms
             (slice_index_or (slice_set rows.now but None) i None) ≡ true }
     {
@@ -133,19 +118,15 @@ impl Occurrences {
 
     /// Files that a wire may stand in a row, which comes first in its list.
     pub(crate) fn add(&mut self, wire: u32, row: u32) -> Result<(), AllocError>
-        ensures has { OnOk result (list_any (λ p. p == row) (rows_of self.new wire) ≡ true) }
-        ensures more { (w i : ℕ) → list_any (λ p. p == i) (rows_of self.old w) ≡ true
-            → list_any (λ p. p == i) (rows_of self.new w) ≡ true }
+        ensures has { OnOk result (has_row self.new wire row ≡ true) }
+        ensures more { (w i : ℕ) → has_row self.old w i ≡ true → has_row self.new w i ≡ true }
     {
         let place = wire as usize % self.heads.len();
         let next = self.heads[place];
-        if begins_with(&self.entries, next, row) {
-            return Ok(());
-        }
-        self.entries.push(Entry { row, next })?;
-        let Ok(number) = u32::try_from(self.entries.len()) else {
+        let Ok(number) = u32::try_from(self.entries.len() + 1) else {
             return Err(AllocError);
         };
+        self.entries.push(Entry { row, next })?;
         self.heads[place] = number;
         Ok(())
     }
@@ -158,10 +139,9 @@ impl Occurrences {
         terms: &[(F, Wire)],
         publics: u32,
     ) -> Result<(), AllocError>
-        ensures more { (w i : ℕ) → list_any (λ p. p == i) (rows_of self.old w) ≡ true
-            → list_any (λ p. p == i) (rows_of self.new w) ≡ true }
+        ensures more { (w i : ℕ) → has_row self.old w i ≡ true → has_row self.new w i ≡ true }
         ensures added { OnOk result ((w : ℕ) → publics ≤ w → has_wire w terms.now ≡ true
-            → list_any (λ p. p == row) (rows_of self.new w) ≡ true) }
+            → has_row self.new w row ≡ true) }
     {
         for (_, wire) in terms {
             if wire.0 >= publics {
@@ -172,17 +152,17 @@ impl Occurrences {
     }
 
     /// Files each private wire of a constraint, unless it was dropped, in the row at this number.
-    #[inline(never)]
+    #[inline(always)]
     pub(crate) fn file_row(
         &mut self,
         at: u32,
         row: &Option<Row<'_>>,
         publics: u32,
     ) -> Result<(), AllocError>
-        ensures more { OnOk result ((w i : ℕ) → list_any (λ p. p == i) (rows_of self.old w) ≡ true
-            → list_any (λ p. p == i) (rows_of self.new w) ≡ true) }
+        ensures more { OnOk result ((w i : ℕ) → has_row self.old w i ≡ true
+            → has_row self.new w i ≡ true) }
         ensures added { OnOk result ((w : ℕ) → publics ≤ w → row_has w row.now ≡ true
-            → list_any (λ p. p == at) (rows_of self.new w) ≡ true) }
+            → has_row self.new w at ≡ true) }
     {
         let Some(row) = row else {
             return Ok(());
@@ -197,9 +177,9 @@ impl Occurrences {
     /// Files all constraints anew, once half of the entries are more than there were when a whole
     /// constraint was last filed, and than there are constraints, and lists.
     pub(crate) fn tidy(&mut self, rows: &Rows, publics: u32) -> Result<(), AllocError>
-        requires covers { Covers publics rows.now self.old }
+        requires covers { Covers publics rows.now (has_row self.old) }
         requires few { length rows.now < 2 ^ 32 }
-        ensures { Covers publics rows.now self.new }
+        ensures { Covers publics rows.now (has_row self.new) }
     {
         let wanted = self.wanted.max(rows.len()).max(self.heads.len());
         if self.entries.len() / 2 > wanted {

@@ -1,10 +1,9 @@
 //! One pass over the constraints of a system, in which private wires are replaced.
 
-ghost use Rattle.std.specs.Prelude.{◌≡◌, ◌≤◌, ◌<◌, false, length, OnOk};
-ghost use Rattle.std.specs.List.{fold, range_with_len};
+ghost use Rattle.std.specs.Prelude.{◌≡◌, ◌≤◌, ◌<◌, length, OnOk};
+ghost use Rattle.std.specs.List.{fold, range_with_len, AllByRecursion};
 ghost use Rattle.tv_core.specs.Normal.{IsNormalFrom};
 ghost use Rattle.tv_shrink.specs.Pass.{attempted, dropped, turn};
-ghost use Rattle.tv_shrink.specs.Substitution.{has_wire};
 
 use crate::row::solve;
 use crate::state::State;
@@ -18,10 +17,8 @@ pub(crate) struct Pass {
     pub(crate) state: State,
     /// The constraints that may have the wire of this turn.
     named: Vec<u32>,
-    /// What the constraint of this turn holds to 0.
+    /// What the constraint of this turn holds to 0, and then what it makes of its greatest wire.
     form: Vec<(F, Wire)>,
-    /// What it makes of its greatest wire.
-    solved: Vec<(F, Wire)>,
     /// A combination, or a constraint's.
     scratch: Vec<(F, Wire)>,
 }
@@ -35,7 +32,6 @@ impl Pass {
             state,
             named: Vec::new(alloc),
             form: Vec::new(alloc),
-            solved: Vec::new(alloc),
             scratch: Vec::new(alloc),
         }
     }
@@ -45,17 +41,17 @@ impl Pass {
     fn eliminate(&mut self, at: usize, wire: Wire) -> Result<(), AllocError>
         requires within { at < length self.old.state.pass.rows }
         requires private { self.old.state.publics ≤ wire }
-        requires by { IsNormalFrom 0 self.old.solved.items }
-        requires lacks { has_wire wire self.old.solved.items ≡ false }
+        requires by { IsNormalFrom 0 self.old.form.items }
+        requires below { AllByRecursion (λ t. t.1 < wire) self.old.form.items }
         ensures { OnOk result (self.new.state ≡ record {
           publics = self.old.state.publics;
-          pass = attempted wire self.old.solved.items (dropped at self.old.state.pass)
+          pass = attempted wire self.old.form.items (dropped at self.old.state.pass)
               self.old.state.pass;
         }) }
     {
         let by = Substitution {
             wire,
-            replacement: &self.solved,
+            replacement: &self.form,
         };
         let scratch = &mut self.scratch;
         if !self.state.others_fit(at, scratch, &by)? {
@@ -79,15 +75,15 @@ impl Pass {
         if !row.linear_form(&mut self.form)? {
             return Ok(());
         }
-        if self.form.is_empty() {
+        let Some(last) = self.form.pop() else {
             self.state.remove(at);
             return Ok(());
-        }
-        let (own, wire) = self.form[self.form.len() - 1];
+        };
+        let (own, wire) = last;
         if wire.0 < self.state.publics() {
             return Ok(());
         }
-        solve(&mut self.solved, &self.form, own, wire)?;
+        solve(&mut self.form, own);
         self.eliminate(at, wire)
     }
 

@@ -1,12 +1,13 @@
 //! Constraints of normal combinations.
 
-ghost use Rattle.std.specs.Prelude.{◌≡◌, ◌<◌, ◌-◌, ◌++◌, OnOk, IfOk, Some, None, if◌then◌else◌};
+ghost use Rattle.std.specs.Prelude.{◌≡◌, ◌<◌, ◌-◌, ◌∷◌, ◌++◌, false, length, OnOk, IfOk};
+ghost use Rattle.std.specs.Prelude.{IfSome, IsNone, Some, None, if◌then◌else◌};
 ghost use Rattle.tv_core.specs.Combinations.{scaled};
 ghost use Rattle.tv_core.specs.Inverse.{inverse_of};
 ghost use Rattle.tv_core.specs.declared.field.TheConstants.{P};
-ghost use Rattle.tv_core.specs.Normal.{coefficient, normal, IsNormalFrom, IsNormalConstraint};
+ghost use Rattle.tv_core.specs.Normal.{normal, IsNormalFrom, IsNormalConstraint};
 ghost use Rattle.tv_shrink.specs.Substitution.{constant_in, fits, fits_in, has_wire};
-ghost use Rattle.tv_shrink.specs.Substitution.{linear_form, replaced, solved};
+ghost use Rattle.tv_shrink.specs.Substitution.{linear_form, replaced};
 ghost use Rattle.tv_shrink.specs.Tidy.{row_has, RowIsNormal};
 
 use crate::merge::{Side, merge};
@@ -46,15 +47,24 @@ fn constant_in(terms: &[(F, Wire)]) -> Option<F>
     None
 }
 
-// The coefficient of a wire that stands in a combination.
-fn coefficient_of(terms: &[(F, Wire)], wire: Wire) -> Option<F>
+// The terms of a combination before a wire, its coefficient, and the terms after it; `None` where
+// the wire doesn't stand in it.
+#[inline(always)]
+fn split(terms: &[(F, Wire)], wire: Wire) -> Option<(&[(F, Wire)], F, &[(F, Wire)])>
     requires { IsNormalFrom 0 terms.now }
-    ensures { result ≡ (if has_wire wire terms.now then Some (coefficient wire terms.now)
-        else None) }
+    ensures parts { IfSome result (λ parts. terms.now
+        ≡ parts.0.now ++ (parts.1, wire) ∷ parts.2.now) }
+    ensures none { IsNone result → has_wire wire terms.now ≡ false }
 {
     let at = terms.partition_point(|(_, of)| of.0 < wire.0);
-    let (coefficient, of) = *terms.get(at)?;
-    if of == wire { Some(coefficient) } else { None }
+    let (before, others) = terms.split_at(at);
+    let [(coefficient, of), after @ ..] = others else {
+        return None;
+    };
+    if of.0 != wire.0 {
+        return None;
+    }
+    Some((before, *coefficient, after))
 }
 
 // Whether a wire stands in a combination.
@@ -63,7 +73,7 @@ fn has_wire(terms: &[(F, Wire)], wire: Wire) -> bool
     requires { IsNormalFrom 0 terms.now }
     ensures { result ≡ has_wire wire terms.now }
 {
-    coefficient_of(terms, wire).is_some()
+    split(terms, wire).is_some()
 }
 
 /// Whether a wire stands in a constraint, which may have been dropped.
@@ -90,43 +100,46 @@ fn subtract(
     requires y { IsNormalFrom 0 y.now }
     ensures { OnOk result (out.new.items ≡ normal (scaled factor x.now ++ scaled (P - 1) y.now)) }
 {
-    let mut product = Side::whole(x, factor);
-    let mut less = Side::whole(y, -F::ONE);
+    let mut product = Side { terms: x, factor };
+    let mut less = Side {
+        terms: y,
+        factor: -F::ONE,
+    };
     out.clear();
     merge(out, &mut product, &mut less)
 }
 
-// -1 divided by a coefficient. A constraint that sets a wire leaves -1 before it: that takes no
-// division.
-fn minus_inverse(coefficient: F) -> F
-    requires { 0 < coefficient }
-    ensures { result ≡ P - inverse_of coefficient }
+// Takes a multiple of a combination in its place.
+fn scale(terms: &mut [(F, Wire)], factor: F)
+    ensures { terms.new ≡ scaled factor terms.old }
 {
-    if coefficient == -F::ONE {
-        return F::ONE;
+    for term in terms.iter_mut() {
+        term.0 = factor * term.0;
     }
-    -coefficient.inverse_or_zero()
 }
 
-/// Puts what a wire is, where a combination that has it is 0, into `out`.
-pub(crate) fn solve(
-    out: &mut Vec<(F, Wire)>,
-    terms: &[(F, Wire)],
-    own: F,
-    wire: Wire,
-) -> Result<(), AllocError>
-    requires normal { IsNormalFrom 0 terms.now }
+/// Makes what is added to a multiple of a wire, where both are 0 together, what the wire is; `own`
+/// is the multiple. A constraint that sets a wire leaves -1 of it: that takes no division.
+pub(crate) fn solve(terms: &mut [(F, Wire)], own: F)
+    requires normal { IsNormalFrom 0 terms.old }
     requires apart { 0 < own }
-    requires of { own ≡ coefficient wire terms.now }
-    ensures { OnOk result (out.new.items ≡ solved wire terms.now) }
+    ensures is { terms.new ≡ normal (scaled (P - inverse_of own) terms.old) }
+    ensures size { length terms.new ≡ length terms.old }
 {
-    let mut others = Side {
-        terms,
-        factor: minus_inverse(own),
-        leaving: Some(wire),
-    };
-    out.clear();
-    others.append(out)
+    if own != -F::ONE {
+        scale(terms, -own.inverse_or_zero());
+    }
+}
+
+// Appends terms. Most are few: a loop costs less than a copy.
+#[inline(always)]
+fn append(out: &mut Vec<(F, Wire)>, terms: &[(F, Wire)]) -> Result<(), AllocError>
+    ensures { OnOk result (out.new.items ≡ out.old.items ++ terms.now) }
+{
+    for term in terms {
+        out.push(*term)?;
+    }
+    Ok(())
 }
 
 /// Appends a combination after a substitution.
@@ -139,16 +152,20 @@ pub(crate) fn append_replaced(
     ensures { OnOk result (out.new.items
         ≡ out.old.items ++ replaced by.now.wire by.now.terms terms.now) }
 {
-    let Some(coefficient) = coefficient_of(terms, by.wire) else {
-        return out.extend_from_slice(terms);
+    let Some(parts) = split(terms, by.wire) else {
+        return append(out, terms);
     };
-    let mut others = Side {
-        terms,
+    let (before, coefficient, after) = parts;
+    let mut before = Side {
+        terms: before,
         factor: F::ONE,
-        leaving: Some(by.wire),
     };
-    let mut replacement = Side::whole(by.replacement, coefficient);
-    merge(out, &mut others, &mut replacement)
+    let mut replacement = Side {
+        terms: by.replacement,
+        factor: coefficient,
+    };
+    merge(out, &mut before, &mut replacement)?;
+    append(out, after)
 }
 
 // Whether a combination keeps to its most terms after a substitution; `scratch` is for its use.

@@ -99,7 +99,7 @@ impl Rows {
     pub(crate) fn add(
         &mut self,
         row: &tv_r1cs_read::Row,
-        scratch: &mut Vec<(F, Wire)>,
+        scratch: &mut Vec<(u32, F)>,
     ) -> Result<(), ShrinkFault>
         ensures rows { OnOk result (self.new ≡ self.old
             ++ Some (normal_constraint (constraint_of row.now)) ∷ []) }

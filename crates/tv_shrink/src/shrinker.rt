@@ -26,10 +26,10 @@ pub const MOST_TERMS: u64 = 4_194_304;
 ///
 /// Memory is taken for the constraints as the pass makes them, which may be longer than those that
 /// were read, up to 128 terms a combination: 16 bytes for a term, 12 for a constraint, 8 for each
-/// private wire of one, 4 for each wire that is replaced; and 8 for each term that was read, or for
-/// each wire where the file counts fewer. So memory is bounded by the terms, whatever their wires.
-/// What replacements leave over is cleared away after the turn with which there may be more of it
-/// than of the rest, or than of constraints and terms.
+/// term of a private wire, 4 for each wire that is replaced; and 8 for each term that was read, or
+/// for each wire where the file counts fewer. So memory is bounded by the terms, whatever their
+/// wires. What replacements leave over is cleared away after the turn with which there may be more
+/// of it than of the rest, or than of constraints and terms.
 ///
 /// A replacement costs as much as the constraints that it changes have terms, and a look at each
 /// constraint with a wire whose number differs from its number by a multiple of the lists. A turn

@@ -1,12 +1,12 @@
 //! The state of a pass.
 
-ghost use Rattle.std.specs.Prelude.{◌≡◌, ◌+◌, ◌≤◌, ◌<◌, ◌^◌, true, false, length, replicate};
+ghost use Rattle.std.specs.Prelude.{◌≡◌, ◌+◌, ◌≤◌, ◌<◌, ◌^◌, [], true, length};
 ghost use Rattle.std.specs.Prelude.{slice_index_or, slice_set, None, Some, IfOk, OnOk};
 ghost use Rattle.std.specs.List.{list_all};
 ghost use Rattle.std.specs.Option.{option_map};
 ghost use Rattle.tv_shrink.specs.Pass.{dropped, row_fits, substituted};
 ghost use Rattle.tv_shrink.specs.Substitution.{replaced_in};
-ghost use Rattle.tv_shrink.specs.Tidy.{marked, row_has, RowsAreNormal, RowIsNormal};
+ghost use Rattle.tv_shrink.specs.Tidy.{row_has, RowsAreNormal, RowIsNormal};
 
 use crate::occurrences::Occurrences;
 use crate::row::{Row, row_has};
@@ -24,23 +24,23 @@ use tv_core::{F, Wire};
 #[derive(Drop)]
 pub(crate) struct State {
     publics: u32,
-    wires: u32,
     rows: Rows,
     gone: Vec<u32>,
     occurrences: Occurrences,
 }
 
 impl Model for State {
-    ghost use Rattle.tv_shrink.specs.Tidy.{State as Seen, IsKept, marked};
+    ghost use Rattle.tv_shrink.specs.Occurrences.{has_row};
+    ghost use Rattle.tv_shrink.specs.Tidy.{State as Seen, IsKept};
 
     ghost Value = { Seen };
 
     ghost view = { λ s. record {
       publics = s.publics;
-      pass = record { rows = s.rows; gone = marked s.wires s.gone.items };
+      pass = record { rows = s.rows; gone = s.gone.items };
     } };
 
-    ghost invariant = { λ s. IsKept s.publics s.rows s.occurrences };
+    ghost invariant = { λ s. IsKept s.publics s.rows (has_row s.occurrences) };
 }
 
 impl State {
@@ -55,13 +55,12 @@ impl State {
         requires few { length rows < 2 ^ 32 }
         ensures { IfOk result (λ state. state ≡ record {
           publics = publics;
-          pass = record { rows = rows; gone = replicate wires false };
+          pass = record { rows = rows; gone = [] };
         }) }
     {
         let lists = lists_for(rows.terms(), wires);
         Ok(State {
             publics,
-            wires,
             gone: Vec::new(alloc),
             occurrences: Occurrences::of(alloc, lists, &rows, publics)?,
             rows,
@@ -188,7 +187,7 @@ impl State {
     /// The constraints that are left, and the wires that are gone, in any order.
     pub(crate) fn into_parts(self) -> (Rows, Vec<u32>)
         ensures rows { result.0 ≡ self.pass.rows }
-        ensures gone { marked (length self.pass.gone) result.1.items ≡ self.pass.gone }
+        ensures gone { result.1.items ≡ self.pass.gone }
     {
         (self.rows, self.gone)
     }

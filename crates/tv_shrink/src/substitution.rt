@@ -3,7 +3,7 @@
 use std::marker::Model;
 use tv_core::{F, Wire};
 
-/// A wire, and the normal combination without it that takes its place.
+/// A wire, and the normal combination of wires below it that takes its place.
 #[derive(Drop)]
 pub(crate) struct Substitution<'a> {
     pub(crate) wire: Wire,

@@ -1,6 +1,5 @@
-use Rattle.std.proofs.Common.{◌≡◌, ◌+◌, ◌++◌, length, None}
+use Rattle.std.proofs.Common.{◌≡◌, ◌+◌, ◌++◌, length}
 use Rattle.tv_core.specs.Combinations.{scaled}
-use Rattle.tv_shrink.specs.Merge.{leaving_out}
 use Rattle.tv_core.specs.Normal.{normal, IsNormalFrom}
 use Rattle.tv_shrink.proofs.merge.merge.Given as goal
 
@@ -8,9 +7,8 @@ abbrev pub invariant-loop-left : goal.invariant-loop-left
 invariant-loop-left l = record {
   left : IsNormalFrom 0 l.left.terms.now;
   right : IsNormalFrom 0 l.right.terms.now;
-  all : l.right.leaving ≡ None;
-  whole : l.out.items ++ normal (scaled l.left.factor (leaving_out l.left.leaving l.left.terms.now) ++ scaled l.right.factor l.right.terms.now)
-      ≡ l.initial.out.items ++ normal (scaled l.initial.left.factor (leaving_out l.initial.left.leaving l.initial.left.terms.now)
+  whole : l.out.items ++ normal (scaled l.left.factor l.left.terms.now ++ scaled l.right.factor l.right.terms.now)
+      ≡ l.initial.out.items ++ normal (scaled l.initial.left.factor l.initial.left.terms.now
       ++ scaled l.initial.right.factor l.initial.right.terms.now);
 }
 

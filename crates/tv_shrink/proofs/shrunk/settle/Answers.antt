@@ -1,13 +1,13 @@
-use Rattle.std.proofs.Common.{◌≡◌, ◌<◌, ◌+◌, ◌∙◌, ℕ, false, ap, ap₂, arith, eqb, get_or, length, refl, replicate, subst, sym}
-use Rattle.std.specs.List.{filter_map, fold, list_any, range_with_len}
+use Rattle.std.proofs.Common.{◌≡◌, ◌+◌, ◌∙◌, ℕ, [], ap, ap₂, arith, length, refl, subst, sym}
+use Rattle.std.specs.List.{filter_map, fold, range_with_len}
 use Rattle.std.specs.Option.{option_map}
 use Rattle.std.proofs.lemmas.List.{length-map}
 use Rattle.tv_r1cs_write.specs.Bytes.{others}
 use Rattle.tv_shrink.specs.Renumbering.{moved_in}
 use Rattle.tv_shrink.specs.Pass.{turn}
-use Rattle.tv_shrink.specs.Tidy.{marked, pass_of, AreWithin}
-use Rattle.tv_shrink.proofs.Gone.{marks}
-use Rattle.tv_shrink.proofs.Settlement.{flags_each, labels_enough, rows_within, system_is}
+use Rattle.tv_shrink.specs.Tidy.{pass_of, AreWithin}
+use Rattle.tv_shrink.proofs.Labels.{is_gone}
+use Rattle.tv_shrink.proofs.Settlement.{labels_enough, rows_within, system_is}
 use Rattle.tv_shrink.proofs.States.{ran, ran_length}
 use Rattle.tv_shrink.proofs.shrunk.settle.Goals as goal
 use Rattle.tv_shrink.proofs.shrunk.settle.Goals.{After-into_gone}
@@ -17,19 +17,13 @@ publics_of c = 1 + c.args.system.counts.outputs + c.args.system.counts.inputs
 
 -- what the pass left
 runs : (c : After-into_gone) → pass_of c.into_parts-rows.result.0 c.run.new.self.state.pass.gone
-    ≡ fold (turn (publics_of c)) (pass_of c.args.system.rows (replicate c.args.system.counts.wires false)) (range_with_len 0 (length c.args.system.rows))
+    ≡ fold (turn (publics_of c)) (pass_of c.args.system.rows []) (range_with_len 0 (length c.args.system.rows))
 runs c = ran c.new-pass.result.state c.run.new.self.state c.into_parts-rows.result.0 c.run.new.self.state.pass.gone (publics_of c)
-    c.args.system.counts.wires c.args.system.rows (c.new-pass.ensures ∙ c.in_ok-state.ensures) c.in_ok-run.ensures c.into_parts-rows.ensures.rows refl
+    c.args.system.rows (c.new-pass.ensures ∙ c.in_ok-state.ensures) c.in_ok-run.ensures c.into_parts-rows.ensures.rows refl
 
 -- the wires of the list are those that are gone
-listed : (c : After-into_gone) (w : ℕ) → w < c.args.system.counts.wires
-    → get_or c.run.new.self.state.pass.gone w false ≡ list_any (λ v. eqb v w) c.in_ok-numbers.numbers
-listed c w h =
-    let each = flags_each c.args.system.counts c.args.system.rows c.requires (publics_of c) refl c.into_parts-rows.result.0 c.run.new.self.state.pass.gone
-    (runs c) in
-    ap (λ xs. get_or xs w false) (sym c.into_parts-rows.ensures.gone ∙ ap (λ n. marked n c.into_parts-rows.result.1.items) each)
-    ∙ marks c.args.system.counts.wires c.into_parts-rows.result.1.items w h
-    ∙ sym (c.in_ok-numbers.ensures w)
+listed : (c : After-into_gone) (w : ℕ) → is_gone c.in_ok-numbers.numbers w ≡ is_gone c.run.new.self.state.pass.gone w
+listed c w = c.in_ok-numbers.ensures w ∙ ap (λ xs. is_gone xs w) c.into_parts-rows.ensures.gone
 
 pub invariant_of-result : goal.invariant_of-result
 invariant_of-result c = (
@@ -49,7 +43,7 @@ invariant_of-result c = (
     ap length c.renumber.ensures,
     length-map c.into_parts-rows.result.0 (option_map (moved_in c.in_ok-numbers.numbers)),
     ran_length c.new-pass.result.state c.run.new.self.state c.into_parts-rows.result.0 c.run.new.self.state.pass.gone (publics_of c)
-        c.args.system.counts.wires c.args.system.rows (c.new-pass.ensures ∙ c.in_ok-state.ensures) c.in_ok-run.ensures c.into_parts-rows.ensures.rows refl,
+        c.args.system.rows (c.new-pass.ensures ∙ c.in_ok-state.ensures) c.in_ok-run.ensures c.into_parts-rows.ensures.rows refl,
     c.requires.few,
   ),
 )

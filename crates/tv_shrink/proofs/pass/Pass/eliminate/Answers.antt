@@ -18,7 +18,7 @@ returns-then-not-branch c =
     let off = ap (λ r. list_all (row_fits c.args.wire r) (set pass.rows c.args.at None)) (sym c.deref.ensures.value) ∙ sym c.in_ok-others_fit.ensures.fit
     ∙ c.if-not-branch.true in
     c.others_fit.ensures.same ∙ staged c.args.self.now.state _
-    (not-attempted c.args.wire c.args.at c.args.self.now.solved.items pass.rows pass.gone false (sym off) refl)
+    (not-attempted c.args.wire c.args.at c.args.self.now.form.items pass.rows pass.gone false (sym off) refl)
 
 pub substitute-requires-clause-fit : goal.substitute-requires-clause-fit
 unfolding dropped
@@ -37,4 +37,4 @@ returns c =
     ∙ ap₂ (λ r (s : State). record { publics = s.publics; pass = substituted c.args.wire r s.pass }) c.deref.ensures.value
     (removed c.args.self.now.state c.others_fit.new.self c.remove.new.self c.args.at c.remove.ensures c.others_fit.ensures.same)
     ∙ ap (λ p. record { publics = c.args.self.now.state.publics; pass = p })
-    (sym (attempted-all c.args.wire c.args.at c.args.self.now.solved.items pass.rows pass.gone true (sym fits) refl))) c.substitute.ensures
+    (sym (attempted-all c.args.wire c.args.at c.args.self.now.form.items pass.rows pass.gone true (sym fits) refl))) c.substitute.ensures

@@ -1,6 +1,8 @@
 use Rattle.std.proofs.Common.{◌∙◌, None, ap, get_or, sym}
 use Rattle.tv_shrink.specs.Substitution.{Replacement}
+use Rattle.tv_shrink.specs.Occurrences.{has_row}
 use Rattle.tv_shrink.specs.Tidy.{row_has, State}
+use Rattle.tv_shrink.proofs.Passes.{lacks_below}
 use Rattle.tv_shrink.proofs.States.{kept_replaced, unchanged}
 use Rattle.tv_shrink.proofs.state.State.replace_at.Goals as goal
 
@@ -13,8 +15,9 @@ returns-then-not-row_has c =
 
 pub invariant_of-self-2 : goal.invariant_of-self-2
 invariant_of-self-2 c =
-    kept_replaced c.self.inside.publics c.by.inside.wire c.args.at c.by.inside.replacement.now c.self.inside.rows c.self.inside.occurrences
-    c.file.new.self c.self.invariant c.by.invariant.lacks
+    kept_replaced c.self.inside.publics c.by.inside.wire c.args.at c.by.inside.replacement.now c.self.inside.rows
+    (has_row c.self.inside.occurrences) (has_row c.file.new.self) c.self.invariant
+    (lacks_below c.by.inside.wire c.by.inside.replacement.now c.by.invariant.below)
     c.in_ok-file.ensures.more
     c.in_ok-file.ensures.added
     c.replace.result c.replace.new.self (rw (← c.by.view_is) at c.replace.ensures.replaces) c.replace.ensures.err
