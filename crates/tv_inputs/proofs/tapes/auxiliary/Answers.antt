@@ -5,14 +5,15 @@ use Rattle.tv_inputs.proofs.tapes.auxiliary.Goals as goal
 pub returns-in_err-put_asked-clause-puts : goal.returns-in_err-put_asked-clause-puts
 unfolding auxiliary_of
 returns-in_err-put_asked-clause-puts g c =
-    refused _ _ _ _ _ c.from_residual.ensures.1 (some_then _ c.fresh-takes.ensures.puts (some_then _ c.fresh-ended.ensures.puts (some_first _ c.in_err-put_asked.ensures.puts)))
+    refused _ _ _ _ _ c.from_residual.ensures.1 (some_then _ c.fresh-takes.ensures.puts (some_then _ c.fresh-ended.ensures.puts
+    (some_first _ c.in_err-put_asked.ensures.puts)))
 
 pub returns-in_err-put-clause-puts : goal.returns-in_err-put-clause-puts
 unfolding auxiliary_of
 returns-in_err-put-clause-puts g c =
     let second = rw (c.set_wire.ensures.terms, c.set_rise.ensures.terms, c.clear.ensures) at c.in_err-put.ensures.puts in
-    refused _ _ _ _ _ c.from_residual-in_err-put.ensures.1 (some_then _ c.fresh-takes.ensures.puts (some_then _ c.fresh-ended.ensures.puts (some_then _ c.in_ok-put_asked.ensures.puts
-    (some_first _ second))))
+    refused _ _ _ _ _ c.from_residual-in_err-put.ensures.1 (some_then _ c.fresh-takes.ensures.puts (some_then _ c.fresh-ended.ensures.puts
+    (some_then _ c.in_ok-put_asked.ensures.puts (some_first _ second))))
 
 pub returns-clause-puts : goal.returns-clause-puts
 unfolding auxiliary_of

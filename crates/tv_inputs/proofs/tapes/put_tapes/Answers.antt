@@ -18,7 +18,8 @@ pub returns-in_err-taken-clause-puts : goal.returns-in_err-taken-clause-puts
 unfolding tapes_of
 returns-in_err-taken-clause-puts g c =
     let p1 = rw (c.set_wire.ensures.terms, c.set_wire-2.ensures.terms) at c.in_ok-aux.ensures.puts in
-    refused _ _ _ _ _ c.from_residual-in_err-taken.ensures.1 (some_then _ c.in_ok-reads.ensures.puts (some_then _ p1 (some_first _ c.in_err-taken.ensures.puts)))
+    refused _ _ _ _ _ c.from_residual-in_err-taken.ensures.1 (some_then _ c.in_ok-reads.ensures.puts (some_then _ p1
+    (some_first _ c.in_err-taken.ensures.puts)))
 
 pub returns-clause-puts : goal.returns-clause-puts
 unfolding tapes_of
