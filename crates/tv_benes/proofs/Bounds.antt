@@ -1,7 +1,6 @@
 -- How far the generator's places reach.
 use Rattle.std.proofs.Common.{◌≡◌, ℕ, suc, ◌+◌, ◌*◌, ◌^◌, ◌≤◌, ◌<◌, arith, ap, sym, ◌∙◌}
-use Rattle.std.proofs.Math.Nat.{mul-le-mul_right, mul-le-mul_left}
-use Rattle.std.proofs.lemmas.Nat.{pow_pos}
+use Rattle.std.proofs.Math.Nat.{mul-le-mul_right}
 use Rattle.tv_benes.proofs.ThroughLaws.{twice}
 
 twice_in : (j k : ℕ) → (j + 1) * (2 * k) ≡ (2 * j + 2) * k
@@ -12,12 +11,6 @@ pub nearer : (j b d m : ℕ) → b < 2 → (j + 1) * 2 ^ suc d ≤ m → (2 * j 
 nearer j b d m small near =
     let more : (2 * j + b + 1) * 2 ^ d ≤ (2 * j + 2) * 2 ^ d = mul-le-mul_right (2 ^ d) (omega arith) in
     let same : (j + 1) * 2 ^ suc d ≡ (2 * j + 2) * 2 ^ d = ap (λ k. (j + 1) * k) (twice d) ∙ twice_in j (2 ^ d) in
-    omega arith
-
-pub near_small : (j k m : ℕ) → (j + 1) * 2 ^ k ≤ m → j < m
-near_small j k m near =
-    let some : 1 ≤ 2 ^ k = omega (arith, pow_pos k) in
-    let more : (j + 1) * 1 ≤ (j + 1) * 2 ^ k = mul-le-mul_left (j + 1) some in
     omega arith
 
 twice_left : (a b : ℕ) → (2 * a) * b ≡ a * (2 * b)

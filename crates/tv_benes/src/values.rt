@@ -179,12 +179,14 @@ fn fill_level<V: Values>(
         return fill_column(v, form.innermost(net), 1, items, bits);
     }
     let n = long_power(h);
+    let below = h - 1;
     fill_column(v, form, n, items, bits)?;
-    let s = level_switches(net, h - 1);
+    let s = level_switches(net, below);
     let inner = form.other();
+    let upper_bits = bits_from(bits, n);
     let upper = Items::Half(&*items, bits, false);
-    fill_level(v, net, inner, h - 1, &upper, bits_from(bits, n))?;
+    fill_level(v, net, inner, below, &upper, upper_bits)?;
     let lower = Items::Half(&*items, bits, true);
-    fill_level(v, net, inner, h - 1, &lower, bits_from(bits, n + s))?;
-    fill_last(v, net, form, h - 1, items, bits)
+    fill_level(v, net, inner, below, &lower, bits_from(upper_bits, s))?;
+    fill_last(v, net, form, below, items, bits)
 }

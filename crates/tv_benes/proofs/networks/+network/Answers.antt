@@ -1,4 +1,4 @@
-use Rattle.std.proofs.Common.{true, false, suc, ◌+◌, ◌-◌, ◌*◌, ◌^◌, ◌≤◌, sym, ap, subst, arith}
+use Rattle.std.proofs.Common.{true, false, suc, ◌+◌, ◌-◌, ◌*◌, ◌^◌, ◌≤◌, ◌<◌, sym, ap, subst, arith}
 use Rattle.tv_benes.proofs.NetworkChain.{above_wires, bound_fits, bound_innermost, bound_lowest, room_part, room_after, grows_both, grows_then}
 use Rattle.tv_benes.proofs.NetworkChain.{lowest_put, first_column_refused, upper_refused, lower_refused, level_put, put_ends}
 use Rattle.tv_benes.proofs.Sizes.{passed_made, below_later, made_later}
@@ -120,23 +120,10 @@ open_network-bound_network-requires g t c κs within =
     let room = room_after {c = level_wires c.args.net Bound (c.args.h - 1)} c.requires.room grown (omega (arith, below.parts, c.power.ensures)) in
     let made = passed_made false c.wires.result c.args.from (2 * 2 ^ (c.args.h - 1)) (g.S.Sink.meaning.wires c.open_column.new.s)
     (omega (arith, c.requires.made, grown.wires, below.size))
-    (omega (arith, c.wires.ensures, grown.wires, c.power.ensures, below.size)) in (
-      omega (arith, below.level),
-      (
-        within.0,
-        (
-          within.1,
-          (
-            omega (
-              arith,
-              below.level,
-              c.requires.level,
-            ),
-            (room, (omega (arith, c.requires.made, c.requires.room.wires, below.size), made)),
-          ),
-        ),
-      ),
-    )
+    (omega (arith, c.wires.ensures, grown.wires, c.power.ensures, below.size)) in
+    let level : c.args.h - 1 < 31 = omega (arith, below.level, c.requires.level) in
+    let count : 2 * 2 ^ (c.args.h - 1) ≤ 2 ^ 30 = omega (arith, c.requires.made, c.requires.room.wires, below.size) in
+    (omega (arith, below.level), (within.0, (within.1, (level, (room, (count, made))))))
 
 pub open_network-returns-in_err-upper-clause-puts : goal.open_network-returns-in_err-upper-clause-puts
 open_network-returns-in_err-upper-clause-puts g t c =
@@ -153,23 +140,10 @@ open_network-bound_network-requires-2 g t c κs within =
     let room = room_after {c = level_wires c.args.net Bound (c.args.h - 1)} c.requires.room grown (omega (arith, below.parts, c.power.ensures)) in
     let made = passed_made true c.wires.result c.args.from (2 * 2 ^ (c.args.h - 1)) (g.S.Sink.meaning.wires c.bound_network.new.s)
     (omega (arith, c.requires.made, grown.wires, below.size))
-    (omega (arith, c.wires.ensures, grown.wires, c.power.ensures, below.size)) in (
-      omega (arith, below.level),
-      (
-        within.0,
-        (
-          within.1,
-          (
-            omega (
-              arith,
-              below.level,
-              c.requires.level,
-            ),
-            (room, (omega (arith, c.requires.made, c.requires.room.wires, below.size), made)),
-          ),
-        ),
-      ),
-    )
+    (omega (arith, c.wires.ensures, grown.wires, c.power.ensures, below.size)) in
+    let level : c.args.h - 1 < 31 = omega (arith, below.level, c.requires.level) in
+    let count : 2 * 2 ^ (c.args.h - 1) ≤ 2 ^ 30 = omega (arith, c.requires.made, c.requires.room.wires, below.size) in
+    (omega (arith, below.level), (within.0, (within.1, (level, (room, (count, made))))))
 
 pub open_network-returns-in_err-lower-clause-puts : goal.open_network-returns-in_err-lower-clause-puts
 open_network-returns-in_err-lower-clause-puts g t c =

@@ -40,7 +40,7 @@ route_level-requires g t c κs within =
     let size = c.long_power-n.ensures.is ∙ ap (λ k. 2 ^ k) below.level in
     let items = c.first_column.auto.upper ∙ c.split_at_mut-upper.ensures.front_len ∙ size in
     let spare = c.split_at_mut-upper_spare.ensures.front_len ∙ size in
-    (omega (arith, below.level), (within, (c.in_ok-first_column.ensures.whole, (omega arith, (items, spare)))))
+    (omega (arith, below.level), (within, (c.in_ok-first_column.ensures.whole, (omega (arith, c.requires.level), (items, spare)))))
 
 pub route_level-requires-2 : goal.route_level-requires-2
 route_level-requires-2 g t c κs within =
@@ -52,7 +52,7 @@ route_level-requires-2 g t c κs within =
     omega (arith, c.first_column.auto.lower, c.split_at_mut-upper.ensures.back_len, c.requires.spare, n, size, twice) in
     let spare : length c.split_at_mut-upper_spare.result.1.now ≡ 2 ^ suc (c.args.h - 1) =
     omega (arith, c.split_at_mut-upper_spare.ensures.back_len, c.requires.items, n, size, twice) in
-    (omega (arith, below.level), (within, (c.in_ok-route_level.ensures.whole, (omega arith, (items, spare)))))
+    (omega (arith, below.level), (within, (c.in_ok-route_level.ensures.whole, (omega (arith, c.requires.level), (items, spare)))))
 
 pub returns-in_err-route_level-clause-gives : goal.returns-in_err-route_level-clause-gives
 returns-in_err-route_level-clause-gives g t c =

@@ -1,8 +1,11 @@
-use Rattle.std.proofs.Common.{◌≡◌, ℕ, Bool, suc, ◌-◌, ◌*◌, ◌^◌, ◌≤◌, ap, sym, subst, arith}
+use Rattle.std.proofs.Common.{◌≡◌, ℕ, Bool, suc, ◌-◌, ◌*◌, ◌^◌, ◌≤◌, ap, ap₂, ◌∙◌, sym, subst, arith}
 use Rattle.tv_benes.proofs.Bounds.{half_near}
-use Rattle.tv_benes.proofs.ColumnChain.{column_refused, upper_refused, lower_refused, level_given, level_values-zero}
+use Rattle.tv_benes.proofs.ColumnChain.{all_as, some_as, column_refused, upper_refused, lower_refused, level_given, level_values-zero}
+use Rattle.tv_benes.proofs.Moved.{second_bits}
 use Rattle.tv_benes.proofs.ThroughLaws.{above}
 use Rattle.tv_benes.specs.Items.{bit_at, item_of, depth_of}
+use Rattle.tv_benes.specs.Network.{column_values, level_values}
+use Rattle.tv_benes.specs.Through.{from, to_upper, to_lower}
 use Rattle.tv_core.proofs.ValuesChain.{gives_refused}
 use Rattle.tv_core.specs.Values.{GivesIn}
 use Rattle.tv_benes.proofs.values.+fill_level.Goals as goal
@@ -25,48 +28,62 @@ returns-then-h-eq0-clause-gives g t c =
 pub returns-in_err-fill_column-clause-gives : goal.returns-in_err-fill_column-clause-gives
 returns-in_err-fill_column-clause-gives g t c =
     let below = above c.args.net c.args.h c.if-h-eq0.false in
-    let column = rw c.long_power-n.ensures.is at c.in_err-fill_column.ensures.gives in
-    gives_refused _ _ _ _ _ c.from_residual.ensures.1 (column_refused g.V.Values.giving c.args.net c.args.form c.args.h (c.args.h - 1)
-    (bit_at c.args.bits.now) (item_of c.args.items.now) below.level _ _ _ column)
+    let bit : ℕ → Bool = bit_at c.args.bits.now in
+    let item = item_of c.args.items.now in
+    let column = some_as (ap (λ n. column_values c.args.form n bit item) c.long_power-n.ensures.is) c.in_err-fill_column.ensures.gives in
+    gives_refused _ _ _ _ _ c.from_residual.ensures.1 (column_refused g.V.Values.giving c.args.net c.args.form c.args.h (c.args.h - 1) bit item
+    below.level _ _ _ column)
 
 pub fill_level-requires : goal.fill_level-requires
 fill_level-requires g t c κs within =
     let below = above c.args.net c.args.h c.if-h-eq0.false in
     let near = half_near c.args.h (depth_of c.args.items.now) (2 ^ 62) c.requires.near in
     let inner = subst (λ j. 2 ^ j * 2 ^ suc (depth_of c.args.items.now) ≤ 2 ^ 62) below.level near in
-    (omega (arith, below.level), (within, (c.in_ok-fill_column.ensures.whole, (omega arith, inner))))
+    (omega (arith, below.level), (within, (c.in_ok-fill_column.ensures.whole, (omega (arith, c.requires.level), inner))))
 
 pub returns-in_err-fill_level-clause-gives : goal.returns-in_err-fill_level-clause-gives
 returns-in_err-fill_level-clause-gives g t c =
     let below = above c.args.net c.args.h c.if-h-eq0.false in
-    let column = rw c.long_power-n.ensures.is at c.in_ok-fill_column.ensures.gives in
-    let upper = rw (c.other-inner.ensures, c.bits_from.ensures, c.long_power-n.ensures.is) at c.in_err-fill_level.ensures.gives in
-    gives_refused _ _ _ _ _ c.from_residual-in_err-fill_level.ensures.1 (upper_refused g.V.Values.giving c.args.net c.args.form c.args.h (c.args.h - 1)
-    (bit_at c.args.bits.now) (item_of c.args.items.now) below.level _ _ column _ _ upper)
+    let bit : ℕ → Bool = bit_at c.args.bits.now in
+    let item = item_of c.args.items.now in
+    let n_is = c.long_power-n.ensures.is in
+    let column = all_as (ap (λ n. column_values c.args.form n bit item) n_is) c.in_ok-fill_column.ensures.gives in
+    let upper = some_as (ap₂ (λ form b. level_values c.args.net form (c.args.h - 1) b (to_upper bit item)) c.other-inner.ensures (c.bits_from-upper_bits.ensures
+    ∙ ap (λ n. from n bit) n_is)) c.in_err-fill_level.ensures.gives in
+    gives_refused _ _ _ _ _ c.from_residual-in_err-fill_level.ensures.1 (upper_refused g.V.Values.giving c.args.net c.args.form c.args.h (c.args.h - 1) bit item
+    below.level _ _ column _ _ upper)
 
 pub fill_level-requires-2 : goal.fill_level-requires-2
 fill_level-requires-2 g t c κs within =
     let below = above c.args.net c.args.h c.if-h-eq0.false in
     let near = half_near c.args.h (depth_of c.args.items.now) (2 ^ 62) c.requires.near in
     let inner = subst (λ j. 2 ^ j * 2 ^ suc (depth_of c.args.items.now) ≤ 2 ^ 62) below.level near in
-    (omega (arith, below.level), (within, (c.in_ok-fill_level.ensures.whole, (omega arith, inner))))
+    (omega (arith, below.level), (within, (c.in_ok-fill_level.ensures.whole, (omega (arith, c.requires.level), inner))))
 
 pub returns-in_err-fill_level-2-clause-gives : goal.returns-in_err-fill_level-2-clause-gives
 returns-in_err-fill_level-2-clause-gives g t c =
     let below = above c.args.net c.args.h c.if-h-eq0.false in
-    let column = rw c.long_power-n.ensures.is at c.in_ok-fill_column.ensures.gives in
-    let upper = rw (c.other-inner.ensures, c.bits_from.ensures, c.long_power-n.ensures.is) at c.in_ok-fill_level.ensures.gives in
-    let lower = rw (c.other-inner.ensures, c.bits_from-2.ensures, c.long_power-n.ensures.is, c.level_switches-s.ensures.is) at
-    c.in_err-fill_level-2.ensures.gives in
-    gives_refused _ _ _ _ _ c.from_residual-in_err-fill_level-2.ensures.1 (lower_refused g.V.Values.giving c.args.net c.args.form c.args.h (c.args.h - 1)
-    (bit_at c.args.bits.now) (item_of c.args.items.now) below.level _ _ column _ upper _ _ lower)
+    let bit : ℕ → Bool = bit_at c.args.bits.now in
+    let item = item_of c.args.items.now in
+    let n_is = c.long_power-n.ensures.is in
+    let column = all_as (ap (λ n. column_values c.args.form n bit item) n_is) c.in_ok-fill_column.ensures.gives in
+    let upper = all_as (ap₂ (λ form b. level_values c.args.net form (c.args.h - 1) b (to_upper bit item)) c.other-inner.ensures (c.bits_from-upper_bits.ensures
+    ∙ ap (λ n. from n bit) n_is)) c.in_ok-fill_level.ensures.gives in
+    let lower = some_as (ap₂ (λ form b. level_values c.args.net form (c.args.h - 1) b (to_lower bit item)) c.other-inner.ensures
+    (second_bits bit n_is c.level_switches-s.ensures.is c.bits_from-upper_bits.ensures c.bits_from.ensures)) c.in_err-fill_level-2.ensures.gives in
+    gives_refused _ _ _ _ _ c.from_residual-in_err-fill_level-2.ensures.1 (lower_refused g.V.Values.giving c.args.net c.args.form c.args.h (c.args.h - 1) bit item
+    below.level _ _ column _ upper _ _ lower)
 
 pub returns-clause-gives : goal.returns-clause-gives
 returns-clause-gives g t c =
     let below = above c.args.net c.args.h c.if-h-eq0.false in
-    let column = rw c.long_power-n.ensures.is at c.in_ok-fill_column.ensures.gives in
-    let upper = rw (c.other-inner.ensures, c.bits_from.ensures, c.long_power-n.ensures.is) at c.in_ok-fill_level.ensures.gives in
-    let lower = rw (c.other-inner.ensures, c.bits_from-2.ensures, c.long_power-n.ensures.is, c.level_switches-s.ensures.is) at
-    c.in_ok-fill_level-2.ensures.gives in
-    level_given g.V.Values.giving c.args.net c.args.form c.args.h (c.args.h - 1) (bit_at c.args.bits.now) (item_of c.args.items.now) below.level _ _ column
+    let bit : ℕ → Bool = bit_at c.args.bits.now in
+    let item = item_of c.args.items.now in
+    let n_is = c.long_power-n.ensures.is in
+    let column = all_as (ap (λ n. column_values c.args.form n bit item) n_is) c.in_ok-fill_column.ensures.gives in
+    let upper = all_as (ap₂ (λ form b. level_values c.args.net form (c.args.h - 1) b (to_upper bit item)) c.other-inner.ensures (c.bits_from-upper_bits.ensures
+    ∙ ap (λ n. from n bit) n_is)) c.in_ok-fill_level.ensures.gives in
+    let lower = all_as (ap₂ (λ form b. level_values c.args.net form (c.args.h - 1) b (to_lower bit item)) c.other-inner.ensures
+    (second_bits bit n_is c.level_switches-s.ensures.is c.bits_from-upper_bits.ensures c.bits_from.ensures)) c.in_ok-fill_level-2.ensures.gives in
+    level_given g.V.Values.giving c.args.net c.args.form c.args.h (c.args.h - 1) bit item below.level _ _ column
     _ upper _ _ c.fill_last.result lower c.fill_last.ensures.gives
