@@ -6,7 +6,9 @@ usage: make_chains.py KIND FOLDER TERMS
 `rounds`: rounds of a cipher in components. Each round's input is a wire of its own that is equal to the output before it,
 the sum of it, the key and a constant is another, and its fifth power takes three products; so of six constraints, of 20
 terms, three are linear. `chain`: each wire is one more than the wire before it. `dense`: each constraint is linear, over
-60 of 120 wires. The numbers are the same at each run.
+60 of 120 wires. `hub`: each constraint but the first says that one wire is the sum of three others, and the first, the
+square of a sum of 127 wires, that one among them, would have more than 128 terms in a combination with any of these in
+its place. The numbers are the same at each run.
 """
 
 import pathlib
@@ -78,7 +80,25 @@ def dense(count, values):
         yield 62, row([(0, 1)], terms, [(0, sum(by * values[wire] for wire, by in terms) % P)])
 
 
-KINDS = {"rounds": (rounds, 20), "chain": (chain, 4), "dense": (dense, 62)}
+def hub(count, values):
+    """The constraints of one wire that none can replace, each with its terms."""
+    numbers, wide, first = random.Random(1), range(3, 129), 130
+    count -= 51  # as many terms as the first constraint has
+    middle, out = first + 3 * count, numbers.randrange(P)
+    values += [numbers.randrange(P) for _ in wide]
+    total = (sum(values[3:]) + out) % P
+    values.append(total * total % P)
+    for _ in range(count):
+        some = [numbers.randrange(P), numbers.randrange(P)]
+        values += [*some, (out - sum(some)) % P]
+    values.append(out)
+    terms = [(wire, 1) for wire in (*wide, middle)]
+    yield 255, row(terms, terms, [(129, 1)])
+    for at in range(first, middle, 3):
+        yield 5, equal([(at, 1), (at + 1, 1), (at + 2, 1)], middle)
+
+
+KINDS = {"rounds": (rounds, 20), "chain": (chain, 4), "dense": (dense, 62), "hub": (hub, 5)}
 
 
 def main(kind, folder, most):
