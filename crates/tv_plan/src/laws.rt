@@ -1,5 +1,5 @@
-//! That the text that `disasm` writes is assembled again, and that what files hold never leads to an
-//! allocation failure.
+//! That the text that `disasm` writes is assembled again, and that what files hold never leads to
+//! an allocation failure.
 ghost use Rattle.std.specs.Prelude.{◌≢◌, ℕ, List, Err};
 ghost use Rattle.tv_asm.specs.Assembly.{assembled};
 ghost use Rattle.tv_asm.specs.declared.fault.AsmFault.TheVariants as asm;

@@ -14,7 +14,8 @@ ghost use Rattle.tv_row_products.specs.RowSignedProduct.{row_signed_product_valu
 ghost use Rattle.tv_row_products.specs.RowSignedProduct.{RowSignedProductIsSound};
 ghost use Rattle.tv_row_products.specs.RowSignedProduct.{RowSignedProductIsComplete};
 ghost use Rattle.tv_row_products.specs.RowSignedProduct.{RowSignedProductFits};
-ghost use Rattle.tv_row_products.specs.RowSignedProduct.{RowSignedProductSizes, RowSignedProductCosts};
+ghost use Rattle.tv_row_products.specs.RowSignedProduct.{RowSignedProductSizes};
+ghost use Rattle.tv_row_products.specs.RowSignedProduct.{RowSignedProductCosts};
 ghost use Rattle.tv_word.specs.Operations.{signed_product, product_twos};
 ghost use Rattle.tv_word.specs.Widths.{IsWidth};
 
