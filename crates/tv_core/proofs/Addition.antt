@@ -3,12 +3,11 @@ use Rattle.std.proofs.Common.{◌≡◌, ℕ, zero, suc, ◌+◌, ◌*◌, ◌%�
 use Rattle.std.proofs.Common.{length-append, max, length, get_or, eqb, eq-eqb, ne_eqb, cond, inl, inr}
 use Rattle.std.specs.List.{insert, remove}
 use Rattle.std.proofs.lemmas.Bool.{cases_lt, cases_eq, cond_both, lt-ltb, le-ltb}
-use Rattle.std.proofs.lemmas.List.{map-append, take_more}
 use Rattle.tv_core.specs.Combinations.{scaled, top}
 use Rattle.tv_core.specs.Constraints.{Combination}
 use Rattle.tv_core.specs.declared.field.TheConstants.{P}
 use Rattle.tv_core.specs.Normal.{with_term, added, normal, place, put_at, IsNormal, IsNormalFrom}
-use Rattle.tv_core.proofs.CombinationLaws.{top-append}
+use Rattle.tv_core.proofs.CombinationLaws.{multiple, taken, top-append}
 use Rattle.tv_core.proofs.NormalLaws.{IsNormalFrom-normal, length-normal, top-normal}
 use Rattle.tv_core.proofs.Unique.{normal-end, normal-front, normal-same}
 
@@ -154,15 +153,13 @@ added_more x y out after t before adds =
     adds ∙ ap (λ o. normal (o ++ t ∷ [])) before ∙ normal-front (x ++ y) (t ∷ []) ∙ ap normal (append_assoc x y (t ∷ []))
 
 module _ (x terms : Combination) (i : ℕ) (t : ℕ × ℕ) (h : i < length terms) (read : t ≡ get_or terms i t) (out after : Combination) where
-  taken : take (i + 1) terms ≡ take i terms ++ t ∷ []
-  taken = take_more terms i t h ∙ ap (λ u. take i terms ++ u ∷ []) (sym read)
-
   pub added_term : out ≡ normal (x ++ take i terms) → after ≡ normal (out ++ t ∷ []) → after ≡ normal (x ++ take (i + 1) terms)
-  added_term before adds = added_more x (take i terms) out after t before adds ∙ ap (λ y. normal (x ++ y)) (sym taken)
+  added_term before adds = added_more x (take i terms) out after t before adds ∙ ap (λ y. normal (x ++ y)) (sym (taken terms i t h read))
 
   pub added_multiple : (k c : ℕ) → c ≡ k * t.0 % P → out ≡ normal (x ++ scaled k (take i terms)) → after ≡ normal (out ++ (c, t.1) ∷ [])
       → after ≡ normal (x ++ scaled k (take (i + 1) terms))
-  added_multiple k c is before adds = search (arith, added_more, take, map-append, ℕ, taken)
+  added_multiple k c is before adds =
+      added_more x (scaled k (take i terms)) out after (c, t.1) before adds ∙ ap (λ y. normal (x ++ y)) (sym (multiple terms i t h read k c is))
 
 -- what is known of a combination that was made normal
 pub normal_of : (x out : Combination) → out ≡ normal x → IsNormal out

@@ -1,5 +1,5 @@
 -- Multiples of normal combinations, and sums of combinations that have no wire in common.
-use Rattle.std.proofs.Common.{◌≡◌, ◌≢◌, ℕ, ◌+◌, ◌-◌, ◌*◌, ◌%◌, ◌<◌, [], ◌∷◌, ◌++◌, inl, inr, ap, ◌∙◌, arith, eqb, length, mod-lt, ltb, eqb-true}
+use Rattle.std.proofs.Common.{◌≡◌, ◌≢◌, ℕ, ◌+◌, ◌-◌, ◌*◌, ◌%◌, ◌<◌, [], ◌∷◌, ◌++◌, ap, ◌∙◌, arith, eqb, length, mod-lt, ltb, eqb-true}
 use Rattle.std.proofs.lemmas.Bool.{cases_eq, cond_both}
 use Rattle.std.proofs.lemmas.List.{length-map}
 use Rattle.tv_core.specs.Combinations.{less, scaled}

@@ -1,9 +1,10 @@
 -- The values of combinations, and what an assignment has at a wire.
-use Rattle.std.proofs.Common.{◌≡◌, ℕ, ◌+◌, ◌-◌, ◌*◌, ◌%◌, ◌<◌, List, [], ◌∷◌, ◌++◌, max, Some, length, slice_get, inl, inr, refl, sym, ◌∙◌, ap, arith, mod-lt}
+use Rattle.std.proofs.Common.{◌≡◌, ℕ, ◌+◌, ◌-◌, ◌*◌, ◌%◌, ◌<◌, List, [], ◌∷◌, ◌++◌, max, Some, length, slice_get, take, get_or, refl, sym, ◌∙◌, ap, arith}
+use Rattle.std.proofs.Common.{append_assoc, mod-lt}
 use Rattle.std.specs.Prelude.{slice_index}
 use Rattle.std.proofs.Math.Nat.{add-mod, add-mod-mod, mul_assoc}
 use Rattle.std.proofs.lemmas.Bool.{cases_lt}
-use Rattle.std.proofs.lemmas.List.{get_or_past}
+use Rattle.std.proofs.lemmas.List.{get_or_past, map-append, take_more}
 use Rattle.std.proofs.lemmas.List.Elements.{All-get_or, All-from_recursion, recursion_from_All}
 use Rattle.std.proofs.lemmas.List.Sums.{sum_by-cons, sum_by-append}
 use Rattle.std.proofs.lemmas.Nat.{mul-mod_first, mul-mod_second}
@@ -31,6 +32,26 @@ value-scaled k x z =
     ∙ sum_by-mod_same (λ t. (k * t.0 % P) * slice_index z t.1) (λ t. k * term t) P x each
     ∙ ap (λ n. n % P) (sum_by-mul k term x)
     ∙ sym (mul-mod_second k _ P)
+
+-- terms appended in turn
+module _ (terms : Combination) (i : ℕ) (t : ℕ × ℕ) (h : i < length terms) (read : t ≡ get_or terms i t) where
+  pub taken : take (i + 1) terms ≡ take i terms ++ t ∷ []
+  taken = take_more terms i t h ∙ ap (λ u. take i terms ++ u ∷ []) (sym read)
+
+  pub multiple : (k c : ℕ) → c ≡ k * t.0 % P → scaled k (take (i + 1) terms) ≡ scaled k (take i terms) ++ (c, t.1) ∷ []
+  multiple k c is =
+      ap (scaled k) taken ∙ map-append (λ (u : ℕ × ℕ). (k * u.0 % P, u.1)) (take i terms) (t ∷ [])
+      ∙ ap (λ n. scaled k (take i terms) ++ (n, t.1) ∷ []) (sym is)
+
+  module _ (x out after : Combination) where
+    pub appended_term : out ≡ x ++ take i terms → after ≡ out ++ t ∷ [] → after ≡ x ++ take (i + 1) terms
+    appended_term before adds =
+        adds ∙ ap (λ o. o ++ t ∷ []) before ∙ append_assoc x (take i terms) (t ∷ []) ∙ ap (λ y. x ++ y) (sym taken)
+
+    pub appended_multiple : (k c : ℕ) → c ≡ k * t.0 % P → out ≡ x ++ scaled k (take i terms) → after ≡ out ++ (c, t.1) ∷ []
+        → after ≡ x ++ scaled k (take (i + 1) terms)
+    appended_multiple k c is before adds =
+        adds ∙ ap (λ o. o ++ (c, t.1) ∷ []) before ∙ append_assoc x (scaled k (take i terms)) ((c, t.1) ∷ []) ∙ ap (λ y. x ++ y) (sym (multiple k c is))
 
 negated : (x y : ℕ) → y < P → (x + (P - 1) * y % P) % P ≡ (x + (P - y)) % P
 negated x y small = omega arith

@@ -1,5 +1,5 @@
 -- What an assignment has, from what it has at each wire.
-use Rattle.std.proofs.Common.{◌≡◌, ℕ, zero, suc, ◌+◌, ◌<◌, List, ◌++◌, length, map, sym, subst, ◌∙◌, ap, arith, add-zero, zero-add}
+use Rattle.std.proofs.Common.{◌≡◌, ℕ, zero, suc, ◌+◌, ◌<◌, List, ◌++◌, length, map, sym, ◌∙◌, ap, arith, add-zero, zero-add}
 use Rattle.std.specs.List.{range_with_len}
 use Rattle.std.specs.Prelude.{slice_index}
 use Rattle.tv_core.proofs.MeetsLaws.{HasFrom-split}

@@ -28,7 +28,8 @@ constraints-append : (terms more : Combination) (rows : List TermRow) → AllByR
 constraints-append terms more [] w = refl
 constraints-append terms more (row ∷ rows) w = ap₂ (λ x xs. x ∷ xs) (constraint_at-append terms more row w.0) (constraints-append terms more rows w.1)
 
-constraint_same : (x y z a b c : Combination) → x ≡ a → y ≡ b → z ≡ c → ◌≡◌ {A = Constraint} (record { a = x; b = y; c = z }) (record { a = a; b = b; c = c })
+pub constraint_same : (x y z a b c : Combination) → x ≡ a → y ≡ b → z ≡ c
+    → ◌≡◌ {A = Constraint} (record { a = x; b = y; c = z }) (record { a = a; b = b; c = c })
 constraint_same x y z a b c p q r = cc
 
 -- the row after the terms has the combinations that are appended

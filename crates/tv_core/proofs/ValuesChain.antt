@@ -1,7 +1,9 @@
 -- Calls one after another give their lists one after another. What each call did proves what the whole did; at the exit
 -- of a `?` it stands after `gives_refused`.
-use Rattle.std.proofs.Common.{◌≡◌, ℕ, List, [], ◌∷◌, ◌++◌, Result, Ok, Err, IsErrAnd, sym, ◌∙◌, ap, subst, append_assoc, arith}
-use Rattle.std.proofs.lemmas.List.{append-nil}
+use Rattle.std.proofs.Common.{◌≡◌, ℕ, suc, ◌+◌, ◌<◌, List, [], ◌∷◌, ◌++◌, length, take, drop, get_or, Result, Ok, Err, IsErrAnd, sym, ◌∙◌, ap, subst, arith}
+use Rattle.std.proofs.Common.{append_assoc}
+use Rattle.std.proofs.Math.Seq.{drop-cons}
+use Rattle.std.proofs.lemmas.List.{append-nil, take_more, take-append-drop}
 use Rattle.std.proofs.lemmas.Result.{err_from_is_err_and}
 use Rattle.tv_core.proofs.Chain.{IsCause-after}
 use Rattle.tv_core.specs.Values.{ValuesMeaning, GivesAll, GivesSome, GivesIn}
@@ -61,6 +63,20 @@ module _ {V : Type 0} (m : ValuesMeaning V) where
 
   pub gives_one_refused_then : (x : ℕ) (ys : List ℕ) (old new : V) (fault : SinkFault) → GivesSome m old new (x ∷ []) fault → GivesSome m old new (x ∷ ys) fault
   gives_one_refused_then x ys = gives_refused_then (x ∷ []) ys
+
+  -- number i of a list, after those before it
+  module _ (xs : List ℕ) (i x : ℕ) (h : i < length xs) (read : get_or xs i x ≡ x) (old mid new : V) where
+    pub gives_next : GivesAll m old mid (take i xs) → GivesAll m mid new (x ∷ []) → GivesAll m old new (take (i + 1) xs)
+    gives_next p q =
+        subst (λ l. GivesAll m old new l) (sym (take_more xs i x h ∙ ap (λ y. take i xs ++ y ∷ []) read)) (gives_then (take i xs) (x ∷ []) old mid new p q)
+
+    pub gives_next_refused : (fault : SinkFault) → GivesAll m old mid (take i xs) → GivesSome m mid new (x ∷ []) fault → GivesSome m old new xs fault
+    gives_next_refused fault p q =
+        let rest = drop (suc i) xs in
+        let parts : take i xs ++ x ∷ rest ≡ xs =
+        ap (λ l. take i xs ++ l) (ap (λ y. y ∷ rest) (sym read) ∙ sym (drop-cons xs i x h)) ∙ take-append-drop i xs in
+        subst (λ l. GivesSome m old new l fault) parts
+        (gives_then_refused (take i xs) (x ∷ rest) old mid new fault p (gives_one_refused_then x rest mid new fault q))
 
   -- the exit of a `?`
   pub gives_refused : (old new : V) (values : List ℕ) (result : Result (Unit {0}) SinkFault) {fault : SinkFault}

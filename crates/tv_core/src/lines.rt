@@ -6,7 +6,7 @@ use crate::field::F;
 
 /// A line of memory: an access to a cell at a time. The cell's word is `old` before and `new` from
 /// then on.
-#[derive(Clone, Copy, PartialEq, Eq, Debug)]
+#[derive(Clone, Copy, PartialEq, Eq)]
 pub struct Line {
     /// A word of memory, a word of the primary tape, or none, by its number, which is below 2^31.
     pub cell: u32,
@@ -32,7 +32,7 @@ pub struct LineLc {
 }
 
 /// The numbers of a `LineLc`.
-#[derive(Clone, Copy, PartialEq, Eq, Debug)]
+#[derive(Clone, Copy, PartialEq, Eq)]
 pub struct LineNum {
     /// The number of the cell.
     pub cell: F,
@@ -67,7 +67,7 @@ impl Pair {
 }
 
 /// The numbers of a `Pair`.
-#[derive(Clone, Copy, PartialEq, Eq, Debug)]
+#[derive(Clone, Copy, PartialEq, Eq)]
 pub struct PairNum {
     /// The number of the first.
     pub first: F,
@@ -76,7 +76,7 @@ pub struct PairNum {
 }
 
 /// The sizes of a constraint system.
-#[derive(Clone, Copy, PartialEq, Eq, Debug)]
+#[derive(Clone, Copy, PartialEq, Eq)]
 pub struct Counts {
     /// Its wires, with the constant wire 0.
     pub wires: u32,

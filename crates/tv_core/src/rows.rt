@@ -1,5 +1,6 @@
 //! The terms of a list of constraints in one vector, and where each constraint's terms stand.
-ghost use Rattle.std.specs.Prelude.{◌≡◌, ◌≤◌, [], ◌∷◌, ◌++◌, length, OnOk, OnErr};
+ghost use Rattle.std.specs.Prelude.{◌≡◌, ◌+◌, ◌≤◌, [], ◌∷◌, ◌++◌, length, vec_len, vec_capacity};
+ghost use Rattle.std.specs.Prelude.{OnOk, OnErr};
 ghost use Rattle.tv_core.specs.Rows.{constraint_at, row_after, Within};
 
 use crate::combination::Lc;
@@ -56,9 +57,20 @@ pub(crate) fn append(
     };
     rows.reserve(1)?;
     terms.reserve(a.len() + b.len() + c.len())?;
-    terms.extend_from_slice(a)?;
-    terms.extend_from_slice(b)?;
-    terms.extend_from_slice(c)?;
+    extend_reserved(terms, a);
+    extend_reserved(terms, b);
+    extend_reserved(terms, c);
     rows.push_reserved(row);
     Ok(())
+}
+
+// Appends terms for which there is room.
+#[inline]
+fn extend_reserved(terms: &mut Vec<(F, Wire)>, more: &[(F, Wire)])
+    requires { vec_len terms.old + length more.now ≤ vec_capacity terms.old }
+    ensures items { terms.new.items ≡ terms.old.items ++ more.now }
+    ensures len { vec_len terms.new ≡ vec_len terms.old + length more.now }
+    ensures capacity { vec_capacity terms.old ≤ vec_capacity terms.new }
+{
+    let _ = terms.extend_from_slice(more);
 }

@@ -1,17 +1,25 @@
-use Rattle.std.proofs.Common.{◌≡◌, ◌∷◌, ◌++◌, drop, take, suc, sym, ap, ◌∙◌, arith}
-use Rattle.std.proofs.lemmas.List.{take-append-drop}
-use Rattle.std.proofs.Math.Seq.{drop-cons}
-use Rattle.tv_core.proofs.ValuesChain.{gives_then_refused, gives_one_refused_then, gives_refused}
+use Rattle.std.proofs.Common.{sym, subst}
+use Rattle.std.proofs.lemmas.List.{take_all}
+use Rattle.tv_core.proofs.ValuesChain.{gives_next, gives_next_refused, gives_refused}
+use Rattle.tv_core.specs.Values.{GivesAll}
 use Rattle.tv_core.proofs.values.give_values.Goals as goal
 
 pub returns-in_err-give-clause-gives : goal.returns-in_err-give-clause-gives
 returns-in_err-give-clause-gives g c =
-    let m = g.V.Values.giving in
-    let xs = c.args.values.now in
-    let i = c.loop-value.value-index in
-    let x = c.value-item.result in
-    let parts : take i xs ++ x ∷ drop (suc i) xs ≡ xs =
-    ap (λ l. take i xs ++ l) (ap (λ y. y ∷ drop (suc i) xs) c.value-item.is ∙ sym (drop-cons xs i x (omega arith))) ∙ take-append-drop i xs in
-    gives_refused m _ _ _ c.from_residual.result c.from_residual.ensures.1
-    (rw parts at (gives_then_refused m (take i xs) (x ∷ drop (suc i) xs) _ _ _ _ c.loop-value.invariant.0
-    (gives_one_refused_then m x (drop (suc i) xs) _ _ _ c.in_err-give.ensures.gives)))
+    gives_refused g.V.Values.giving _ _ _ c.from_residual.result c.from_residual.ensures.1
+    (gives_next_refused g.V.Values.giving c.args.values.now c.loop-value.value-index c.value-item.result c.loop-value-test.true (sym c.value-item.is) _ _ _ _
+    c.loop-value.invariant.0 c.in_err-give.ensures.gives)
+
+pub loop-value-preserved : goal.loop-value-preserved
+loop-value-preserved g c = (
+  gives_next g.V.Values.giving c.args.values.now c.loop-value.value-index c.value-item.result c.loop-value-test.true (sym c.value-item.is) _ _ _
+      c.loop-value.invariant.0 c.in_ok-give.ensures.gives,
+  c.in_ok-give.ensures.whole,
+)
+
+pub returns : goal.returns
+returns g c = record {
+  gives = subst (λ l. GivesAll g.V.Values.giving c.args.v.now c.loop-value.v l) (take_all c.loop-value.value-index c.args.values.now c.loop-value-test.false)
+      c.loop-value.invariant.0;
+  whole = c.loop-value.invariant.1;
+}

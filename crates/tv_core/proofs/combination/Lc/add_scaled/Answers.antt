@@ -1,9 +1,8 @@
 use Rattle.std.proofs.lemmas.Grind.{common_steps}
-use Rattle.std.proofs.Common.{◌≡◌, ℕ, ◌*◌, ◌%◌, ◌++◌, ◌∙◌, length-take, take, ap, arith}
+use Rattle.std.proofs.Common.{ℕ, ◌*◌, ◌%◌, ◌++◌, length-take, take, arith}
 use Rattle.std.proofs.lemmas.List.{length-map, take_all}
 use Rattle.tv_core.specs.declared.field.TheConstants.{P}
 use Rattle.tv_core.specs.Combinations.{scaled}
-use Rattle.tv_core.specs.Normal.{normal}
 use Rattle.tv_core.proofs.Addition.{added_none, added_multiple, normal_of, length_of, top_of, short_of}
 use Rattle.tv_core.proofs.CombinationLaws.{top-scaled}
 use Rattle.tv_core.proofs.combination.Lc.add_scaled.Goals as goal

@@ -1,7 +1,6 @@
 use Rattle.std.proofs.lemmas.Grind.{common_steps}
-use Rattle.std.proofs.Common.{◌≡◌, ◌++◌, ◌∙◌, length-take, take, ap, arith}
+use Rattle.std.proofs.Common.{◌++◌, length-take, take, arith}
 use Rattle.std.proofs.lemmas.List.{take_all}
-use Rattle.tv_core.specs.Normal.{normal}
 use Rattle.tv_core.proofs.Addition.{added_none, added_term, normal_of, length_of, top_of, short_of}
 use Rattle.tv_core.proofs.combination.Lc.add_terms.Goals as goal
 
