@@ -1,6 +1,5 @@
 -- The laws of a bit.
-use Rattle.std.proofs.Common.{◌⊎◌, ◌≡◌, ℕ, ◌*◌, ◌%◌, inl, inr, refl, sym, ◌∙◌, ap, arith, eq-zero-or-pos}
-use Rattle.std.specs.Prelude.{slice_index}
+use Rattle.std.proofs.Common.{◌⊎◌, ◌≡◌, ℕ, ◌*◌, ◌%◌, inl, inr, refl, arith, eq-zero-or-pos}
 use Rattle.tv_core.proofs.CombinationLaws.{value-wire, wire-below}
 use Rattle.tv_core.proofs.PrimeLaws.{p_bit}
 use Rattle.tv_core.specs.Circuits.{put}

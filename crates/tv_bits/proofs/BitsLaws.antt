@@ -1,6 +1,5 @@
 -- The laws of new bits, and of a number's bits.
 use Rattle.std.proofs.Common.{◌≡◌, ℕ, ◌+◌, ◌*◌, ◌%◌, ◌<◌, List, [], refl, sym, ◌∙◌, ap, ap₂, arith, subst, mul-one, mod-eq_of_lt}
-use Rattle.std.specs.Int.{bit_at}
 use Rattle.std.specs.Prelude.{slice_index}
 use Rattle.std.proofs.lemmas.Nat.Bits.{bit_at-lt}
 use Rattle.tv_core.proofs.BelowLaws.{has_each}

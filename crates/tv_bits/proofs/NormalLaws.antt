@@ -1,5 +1,5 @@
 -- What the gadgets put is normal.
-use Rattle.std.proofs.Common.{◌≡◌, ◌≢◌, ℕ, zero, suc, ◌+◌, ◌-◌, ◌*◌, ◌%◌, ◌^◌, ◌<◌, ◌≤◌, [], ◌∷◌, inl, inr, sym, subst, ap, arith}
+use Rattle.std.proofs.Common.{◌≢◌, ℕ, zero, suc, ◌+◌, ◌-◌, ◌*◌, ◌%◌, ◌^◌, ◌<◌, ◌≤◌, [], ◌∷◌, sym, subst, arith}
 use Rattle.std.proofs.Math.Nat.{pow-le-pow_right}
 use Rattle.std.proofs.lemmas.Bool.{cases_eq}
 use Rattle.tv_core.proofs.BelowLaws.{below-power, weighted-zero, weighted-suc, top-weighted}
@@ -25,7 +25,7 @@ use Rattle.tv_bits.specs.DoubleRow.{row_number, row_wires_of, above_edge, double
 use Rattle.tv_bits.specs.Gate.{gated_of}
 use Rattle.tv_bits.specs.OneHot.{row_sum}
 use Rattle.tv_bits.specs.Ratio.{ratio_of}
-use Rattle.tv_bits.specs.Select.{wire_less, pick_of, SelectIsNormal}
+use Rattle.tv_bits.specs.Select.{pick_of, SelectIsNormal}
 use Rattle.tv_bits.specs.Times.{times_of, kept_of}
 use Rattle.tv_bits.specs.ZeroSign.{zero_sign_of}
 use Rattle.tv_bits.specs.declared.double_rows.DoubleRow.{DoubleRow}

@@ -1,5 +1,5 @@
 -- The laws of two ands in one constraint.
-use Rattle.std.proofs.Common.{◌≡◌, ℕ, ◌+◌, ◌-◌, ◌*◌, ◌/◌, ◌%◌, ◌++◌, List, inl, inr, refl, sym, ◌∙◌, ap, ap₂, arith, mod-eq_of_lt}
+use Rattle.std.proofs.Common.{◌≡◌, ℕ, ◌+◌, ◌-◌, ◌*◌, ◌%◌, ◌++◌, List, inl, inr, refl, sym, ◌∙◌, ap, ap₂, arith, mod-eq_of_lt}
 use Rattle.std.proofs.Math.Nat.{add-mod-mod, mod-add-mod}
 use Rattle.std.proofs.lemmas.Nat.{mul-mod, mul-mod_first}
 use Rattle.tv_core.proofs.CombinationLaws.{value-append, value-scaled, value-below, value-constant}

@@ -1,5 +1,5 @@
 -- The numbers of rows: a row's number is below P, and each number up to 2 ^ w * (2 ^ w - 1) is a row's.
-use Rattle.std.proofs.Common.{◌≡◌, ℕ, ◌+◌, ◌-◌, ◌*◌, ◌/◌, ◌%◌, ◌^◌, ◌<◌, ◌≤◌, sym, ◌∙◌, ap, arith, zero-mul, add_comm}
+use Rattle.std.proofs.Common.{◌≡◌, ℕ, ◌+◌, ◌-◌, ◌*◌, ◌/◌, ◌%◌, ◌^◌, ◌<◌, ◌≤◌, ◌∙◌, arith, zero-mul, add_comm}
 use Rattle.std.proofs.Math.Nat.{div-add-mod}
 use Rattle.tv_core.specs.declared.field.TheConstants.{P}
 use Rattle.tv_word.specs.Widths.{IsWidth}

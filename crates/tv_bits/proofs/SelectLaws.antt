@@ -1,5 +1,5 @@
 -- The laws of a choice.
-use Rattle.std.proofs.Common.{◌≡◌, mod-lt, ℕ, ◌+◌, ◌-◌, ◌*◌, ◌%◌, ◌<◌, List, inl, inr, refl, sym, ◌∙◌, ap, subst, arith}
+use Rattle.std.proofs.Common.{◌≡◌, mod-lt, ℕ, ◌+◌, ◌-◌, ◌*◌, ◌%◌, ◌<◌, List, refl, ◌∙◌, ap, arith}
 use Rattle.std.specs.Prelude.{slice_index}
 use Rattle.tv_core.proofs.CombinationLaws.{value-append, value-scaled, value-less, value-below, value-wire, wire-below}
 use Rattle.tv_core.proofs.DifferenceLaws.{same_of_minus, cancel_minus}

@@ -1,5 +1,5 @@
 -- The laws of a product, of a value kept, and of a ratio, as a new wire.
-use Rattle.std.proofs.Common.{◌≡◌, ℕ, ◌+◌, ◌*◌, ◌%◌, ◌<◌, [], inl, inr, refl, sym, ◌∙◌, ap, arith, mod-lt, zero-mul, mul_comm}
+use Rattle.std.proofs.Common.{◌≡◌, ℕ, ◌+◌, ◌*◌, ◌%◌, ◌<◌, [], refl, sym, ◌∙◌, ap, arith, mod-lt, zero-mul, mul_comm}
 use Rattle.std.proofs.Math.Nat.{mul_assoc}
 use Rattle.std.proofs.lemmas.Bool.{cases_eq}
 use Rattle.std.proofs.lemmas.Nat.{mul-mod_first, mul-mod_second}

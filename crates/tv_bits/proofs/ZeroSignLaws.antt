@@ -1,5 +1,5 @@
 -- The laws of the sign where a wire is 0.
-use Rattle.std.proofs.Common.{◌≡◌, ◌≢◌, ℕ, ◌+◌, ◌-◌, ◌*◌, ◌%◌, ◌<◌, [], ◌∷◌, inl, inr, refl, sym, ◌∙◌, ap, ap₂, arith, zero-mul, mul-zero}
+use Rattle.std.proofs.Common.{◌≡◌, ◌≢◌, ℕ, ◌+◌, ◌-◌, ◌*◌, ◌%◌, ◌<◌, [], ◌∷◌, refl, sym, ◌∙◌, ap, ap₂, arith, zero-mul, mul-zero}
 use Rattle.std.proofs.Common.{length, length-append}
 use Rattle.std.specs.Prelude.{slice_index}
 use Rattle.std.proofs.lemmas.Bool.{cases_eq}

@@ -14,7 +14,7 @@ pub(crate) const SHIFT: u64 = 1 << 32;
 
 /// A line of memory in compact form: the parts of its combinations. It takes a few bytes, and the
 /// combinations take 8 KB.
-#[derive(Clone, Copy, PartialEq, Eq, Debug)]
+#[derive(Clone, Copy)]
 pub struct CompactLine {
     /// The number of the cell.
     pub cell: Cell,
@@ -27,7 +27,7 @@ pub struct CompactLine {
 }
 
 /// The number of a cell. A constant number is a multiple of the constant wire.
-#[derive(Clone, Copy, PartialEq, Eq, Debug)]
+#[derive(Clone, Copy)]
 pub enum Cell {
     /// A multiple of a wire.
     Multiple(F, Wire),
@@ -36,7 +36,7 @@ pub enum Cell {
 }
 
 /// A word of a line.
-#[derive(Clone, Copy, PartialEq, Eq, Debug)]
+#[derive(Clone, Copy)]
 pub enum Word {
     /// 0, which has no term.
     Nothing,

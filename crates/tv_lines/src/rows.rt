@@ -2,7 +2,7 @@
 use tv_bits::Bits;
 
 /// The bits of a line's four numbers: 31 of its cell, 20 of its time, 32 of each word.
-#[derive(Clone, Copy, PartialEq, Eq, Debug)]
+#[derive(Clone, Copy)]
 pub struct LineBits {
     /// The bits of the cell's number.
     pub cell: Bits,

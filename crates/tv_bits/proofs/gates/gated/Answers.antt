@@ -1,3 +1,4 @@
+use Rattle.std.proofs.Common.{arith}
 use Rattle.std.proofs.Common.{◌++◌, ◌∙◌, ap, ap₂}
 use Rattle.tv_core.specs.Combinations.{scaled}
 use Rattle.tv_bits.specs.Gate.{gated_of}
@@ -9,3 +10,14 @@ returns-clause-puts g c =
     let first = c.plus_terms.ensures.terms ∙ ap (λ l. l ++ c.args.x.now) c.clear.ensures in
     let both = c.plus_scaled.ensures.terms ∙ ap₂ (λ l k. l ++ scaled k c.args.y.now) first c.neg.ensures in
     rw (both, c.clear-2.ensures) at c.put.ensures.puts
+
+pub put-requires : goal.put-requires
+put-requires g c =
+    let first = rw c.clear.ensures at c.plus_terms.ensures.top in
+    record {
+      whole = c.requires.room.whole;
+      room = omega (arith, c.requires.room.constraints);
+      a_made = c.requires.gate_made;
+      b_made = omega (arith, c.plus_scaled.ensures.top, first, c.requires.x_made, c.requires.y_made);
+      c_made = rw c.clear-2.ensures (omega arith);
+    }

@@ -14,3 +14,13 @@ returns-clause-puts g c =
     let base = c.set_side-3.ensures.terms ∙ ap₂ set_number squared c.of.ensures in
     let rest = c.plus_scaled.ensures.terms ∙ ap₂ (λ l k. plus_times l k c.args.m.now) base c.of-2.ensures in
     rw (c.set_side.ensures.terms, right, rest) at c.put.ensures.puts
+
+pub put-requires : goal.put-requires
+put-requires g c = record {
+  whole = c.requires.room.whole;
+  room = omega (arith, c.requires.room.constraints);
+  a_made = omega (arith, c.set_side.ensures.top, c.requires.a_made, c.requires.b_made, c.requires.room.constant);
+  b_made = omega (arith, c.set_side-2.ensures.top, c.requires.a_made, c.requires.b_made, c.requires.room.constant);
+  c_made =
+      omega (arith, c.plus_scaled.ensures.top, c.set_side-3.ensures.top, c.requires.a_made, c.requires.b_made, c.requires.m_made, c.requires.room.constant);
+}

@@ -44,3 +44,28 @@ returns-clause-puts g c =
     let factor : ℕ → Combination = λ j. prefix_less c.args.x.now c.args.y.now c.args.d.now (c.args.chunk * j) in
     let last = rw (c.set_prefix_less-2.ensures.terms, c.clear.ensures) at c.put.ensures.puts in
     last_product g.S.Sink.meaning factor c.args.count c.loop-i.i _ _ _ _ _ (omega arith) c.loop-i.invariant.puts last
+
+pub times_by-requires : goal.times_by-requires
+times_by-requires g c =
+    let grown = c.loop-i.invariant.grows in
+    record {
+      room = record {
+        whole = grown.whole;
+        constant = omega (arith, c.requires.room.constant, grown.wires);
+        wires = omega (arith, c.requires.room.wires, grown.wires);
+        constraints = omega (arith, c.requires.room.constraints, grown.constraints);
+      };
+      x_made = c.loop-i.invariant.made;
+      y_made = omega (arith, c.set_prefix_less-in-loop-i.ensures.top, c.requires.made, grown.wires);
+    }
+
+pub put-requires : goal.put-requires
+put-requires g c =
+    let grown = c.loop-i.invariant.grows in
+    record {
+      whole = grown.whole;
+      room = omega (arith, c.requires.room.constraints, grown.constraints);
+      a_made = c.loop-i.invariant.made;
+      b_made = omega (arith, c.set_prefix_less-2.ensures.top, c.requires.made, grown.wires);
+      c_made = rw c.clear.ensures (omega arith);
+    }

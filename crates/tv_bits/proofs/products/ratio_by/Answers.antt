@@ -1,3 +1,4 @@
+use Rattle.std.proofs.Common.{arith}
 use Rattle.tv_core.proofs.Chain.{refused, all_then, all_pure, some_then, some_first}
 use Rattle.tv_bits.specs.Ratio.{ratio_of}
 use Rattle.tv_bits.proofs.products.ratio_by.Goals as goal
@@ -13,3 +14,14 @@ unfolding ratio_of
 returns-clause-puts g c =
     let product = rw c.set_wire.ensures.terms at c.in_ok-put.ensures.puts in
     all_then _ c.fresh-w.ensures.puts (all_then _ product all_pure)
+
+pub put-requires : goal.put-requires
+put-requires g c =
+    let made = c.fresh-w.ensures.grows in
+    record {
+      whole = made.whole;
+      room = omega (arith, c.requires.room.constraints, made.constraints);
+      a_made = omega (arith, c.requires.x_made, made.wires);
+      b_made = omega (arith, c.set_wire.ensures.top, c.fresh-w.ensures.next, made.wires);
+      c_made = omega (arith, c.requires.y_made, made.wires);
+    }

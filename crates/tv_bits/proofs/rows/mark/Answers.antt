@@ -22,3 +22,14 @@ returns-clause-puts g c =
       minus,
     ) at c.put.ensures.puts in
     puts_in_then g.S.Sink.meaning _ _ _ _ _ _ _ c.fresh-w.ensures.puts zero
+
+pub put-requires : goal.put-requires
+put-requires g c =
+    let made = c.fresh-w.ensures.grows in
+    record {
+      whole = made.whole;
+      room = omega (arith, c.requires.room.constraints, made.constraints);
+      a_made = omega (arith, c.set_wire.ensures.top, c.fresh-w.ensures.next, made.wires);
+      b_made = omega (arith, c.plus.ensures.top, c.set_number.ensures.top, c.requires.x_made, c.requires.room.constant, made.wires);
+      c_made = rw c.clear.ensures (omega arith);
+    }

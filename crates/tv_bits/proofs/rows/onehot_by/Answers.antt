@@ -49,3 +49,36 @@ returns-clause-puts g c =
     let turns = rw all at c.loop-i.invariant.puts in
     let sum = rw (c.plus_row.ensures.terms, c.clear.ensures, c.row_len-count.ensures, c.set_wire.ensures.terms) at c.in_ok-put.ensures.puts in
     all_then _ first (all_then _ turns (all_then _ sum all_pure))
+
+pub mark-requires : goal.mark-requires
+mark-requires g c =
+    let grown = c.loop-i.invariant.grows in
+    record {
+      room = record {
+        whole = grown.whole;
+        constant = omega (arith, c.requires.room.constant, grown.wires);
+        wires = omega (arith, c.requires.room.wires, grown.wires, c.row_len-count.ensures);
+        constraints = omega (arith, c.requires.room.constraints, grown.constraints, c.row_len-count.ensures);
+      };
+      short = c.requires.short;
+      x_made = omega (arith, c.requires.x_made, grown.wires);
+    }
+
+pub put-requires : goal.put-requires
+put-requires g c =
+    let grown = c.loop-i.invariant.grows in
+    let sum = rw c.clear.ensures at c.plus_row.ensures.top in
+    record {
+      whole = grown.whole;
+      room = omega (arith, c.requires.room.constraints, grown.constraints, c.row_len-count.ensures);
+      a_made = omega (arith, sum, c.wires.ensures, c.requires.room.constant, grown.wires);
+      b_made = omega (arith, c.set_wire.ensures.top, c.requires.room.constant, grown.wires);
+      c_made = omega (arith, c.set_wire.ensures.top, c.requires.room.constant, grown.wires);
+    }
+
+pub returns-clause-grows : goal.returns-clause-grows
+returns-clause-grows g c =
+    let grown = c.loop-i.invariant.grows in
+    let added = c.in_ok-put.ensures.grows in
+    let all : c.loop-i.i ≡ 2 ^ c.args.x.now.n = omega arith in
+    record { wires = omega (arith, all, grown.wires, added.wires); constraints = omega (arith, all, grown.constraints, added.constraints); whole = added.whole }

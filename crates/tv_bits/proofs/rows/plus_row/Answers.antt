@@ -4,7 +4,6 @@ use Rattle.std.proofs.lemmas.List.{append-nil}
 use Rattle.tv_bits.specs.OneHot.{row_sum}
 use Rattle.tv_core.proofs.BelowLaws.{weighted-zero, weighted-suc, length-weighted, top-weighted}
 use Rattle.tv_core.proofs.CombinationLaws.{top-append}
-use Rattle.tv_core.specs.Combinations.{top}
 use Rattle.tv_bits.proofs.rows.plus_row.Goals as goal
 
 pub loop-i-init : goal.loop-i-init

@@ -1,3 +1,4 @@
+use Rattle.std.proofs.Common.{arith}
 use Rattle.tv_core.proofs.Chain.{refused, all_then, all_pure, some_then, some_first}
 use Rattle.tv_bits.specs.Select.{pick_of}
 use Rattle.tv_bits.proofs.selection.pick_by.Goals as goal
@@ -13,3 +14,23 @@ unfolding pick_of
 returns-clause-puts g c =
     let choice = rw (c.set_terms_less.ensures.terms, c.set_wire_less.ensures.terms) at c.in_ok-put.ensures.puts in
     all_then _ c.fresh-w.ensures.puts (all_then _ choice all_pure)
+
+pub put-requires : goal.put-requires
+put-requires g c =
+    let made = c.fresh-w.ensures.grows in
+    record {
+      whole = made.whole;
+      room = omega (arith, c.requires.room.constraints, made.constraints);
+      a_made = omega (arith, c.requires.b_made, made.wires);
+      b_made = omega (arith, c.set_terms_less.ensures.top, c.requires.made, made.wires);
+      c_made = omega (arith, c.set_wire_less.ensures.top, c.requires.made, c.fresh-w.ensures.next, made.wires);
+    }
+
+pub returns-clause-grows : goal.returns-clause-grows
+returns-clause-grows g c =
+    let made = c.fresh-w.ensures.grows in
+    let added = c.in_ok-put.ensures.grows in
+    record { wires = omega (arith, made.wires, added.wires); constraints = omega (arith, made.constraints, added.constraints); whole = added.whole }
+
+pub returns-clause-below : goal.returns-clause-below
+returns-clause-below g c = omega (arith, c.fresh-w.ensures.next, c.fresh-w.ensures.grows.wires, c.in_ok-put.ensures.grows.wires)

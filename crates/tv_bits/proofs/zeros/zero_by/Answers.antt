@@ -1,3 +1,4 @@
+use Rattle.std.proofs.Common.{arith}
 use Rattle.tv_core.proofs.Chain.{refused, all_then, all_pure, some_then, some_first}
 use Rattle.tv_bits.specs.Zero.{zero_of}
 use Rattle.tv_bits.proofs.zeros.zero_by.Goals as goal
@@ -22,3 +23,46 @@ returns-in_err-put-2-clause-puts g c =
     let second = rw (c.set_wire-2.ensures.terms, c.clear.ensures) at c.in_err-put-2.ensures.puts in
     refused _ _ _ _ _ c.from_residual-in_err-put-2.ensures.1 (some_then _ c.fresh-flag.ensures.puts (some_then _ c.fresh-hint.ensures.puts (some_then _ first
     (some_first _ second))))
+
+pub put-requires : goal.put-requires
+put-requires g c =
+    let flag = c.fresh-flag.ensures.grows in
+    let hint = c.fresh-hint.ensures.grows in
+    record {
+      whole = hint.whole;
+      room = omega (arith, c.requires.room.constraints, flag.constraints, hint.constraints);
+      a_made = omega (arith, c.requires.x_made, flag.wires, hint.wires);
+      b_made = omega (arith, c.set_wire.ensures.top, c.fresh-hint.ensures.next, hint.wires);
+      c_made = omega (arith, c.set_difference.ensures.top, c.fresh-flag.ensures.next, flag.wires, hint.wires);
+    }
+
+pub put-requires-2 : goal.put-requires-2
+put-requires-2 g c =
+    let flag = c.fresh-flag.ensures.grows in
+    let hint = c.fresh-hint.ensures.grows in
+    let grown = c.in_ok-put.ensures.grows in
+    record {
+      whole = grown.whole;
+      room = omega (arith, c.requires.room.constraints, flag.constraints, hint.constraints, grown.constraints);
+      a_made = omega (arith, c.requires.x_made, flag.wires, hint.wires, grown.wires);
+      b_made = omega (arith, c.set_wire-2.ensures.top, c.fresh-flag.ensures.next, flag.wires, hint.wires, grown.wires);
+      c_made = rw c.clear.ensures (omega arith);
+    }
+
+pub returns-clause-grows : goal.returns-clause-grows
+returns-clause-grows g c =
+    let flag = c.fresh-flag.ensures.grows in
+    let hint = c.fresh-hint.ensures.grows in
+    let one = c.in_ok-put.ensures.grows in
+    let two = c.in_ok-put-2.ensures.grows in
+    record {
+      wires = omega (arith, flag.wires, hint.wires, one.wires, two.wires);
+      constraints = omega (arith, flag.constraints, hint.constraints, one.constraints, two.constraints);
+      whole = two.whole;
+    }
+
+pub returns-clause-below : goal.returns-clause-below
+returns-clause-below g c =
+    let flag = c.fresh-flag.ensures.grows in
+    let hint = c.fresh-hint.ensures.grows in
+    omega (arith, c.fresh-flag.ensures.next, flag.wires, hint.wires, c.in_ok-put.ensures.grows.wires, c.in_ok-put-2.ensures.grows.wires)

@@ -42,3 +42,28 @@ returns-clause-puts g c =
     let factor : ℕ → Combination = λ j. less (prefix_less c.args.apart c.args.before.now c.args.after.now j) (wire c.args.size) in
     let last = rw (c.set_key_factor-2.ensures.terms, c.clear.ensures) at c.put.ensures.puts in
     last_product g.S.Sink.meaning factor 5 c.loop-i.i _ _ _ _ _ (omega arith) c.loop-i.invariant.puts last
+
+pub times_by-requires : goal.times_by-requires
+times_by-requires g c =
+    let grown = c.loop-i.invariant.grows in
+    record {
+      room = record {
+        whole = grown.whole;
+        constant = omega (arith, c.requires.room.constant, grown.wires);
+        wires = omega (arith, c.requires.room.wires, grown.wires);
+        constraints = omega (arith, c.requires.room.constraints, grown.constraints);
+      };
+      x_made = c.loop-i.invariant.made;
+      y_made = omega (arith, c.set_key_factor-in-loop-i.ensures.top, c.requires, grown.wires);
+    }
+
+pub put-requires : goal.put-requires
+put-requires g c =
+    let grown = c.loop-i.invariant.grows in
+    record {
+      whole = grown.whole;
+      room = omega (arith, c.requires.room.constraints, grown.constraints);
+      a_made = c.loop-i.invariant.made;
+      b_made = omega (arith, c.set_key_factor-2.ensures.top, c.requires, grown.wires);
+      c_made = rw c.clear.ensures (omega arith);
+    }

@@ -1,3 +1,4 @@
+use Rattle.std.proofs.Common.{arith}
 use Rattle.tv_core.proofs.Chain.{refused, some_first}
 use Rattle.tv_core.proofs.TailCalls.{puts_in_then}
 use Rattle.tv_lines.specs.Predecessor.{either_of}
@@ -15,3 +16,23 @@ returns-clause-puts g c =
     let cells = rw (c.set_either.ensures.a, c.set_either.ensures.b, c.set_either.ensures.c) at c.in_ok-put.ensures.puts in
     let times = rw (c.set_either.ensures.a, c.set_times.ensures.terms, c.set_either.ensures.c) at c.put-2.ensures.puts in
     puts_in_then g.S.Sink.meaning _ _ _ _ _ _ _ cells times
+
+pub put-requires : goal.put-requires
+put-requires g c = record {
+  whole = c.requires.room.whole;
+  room = omega (arith, c.requires.room.constraints);
+  a_made = rw c.set_either.ensures.a (omega (arith, c.requires.e_made));
+  b_made = omega (arith, c.set_either.ensures.top, c.requires.line.cell, c.requires.item.first);
+  c_made = rw c.set_either.ensures.c (omega arith);
+}
+
+pub put-requires-2 : goal.put-requires-2
+put-requires-2 g c =
+    let added = c.in_ok-put.ensures.grows in
+    record {
+      whole = added.whole;
+      room = omega (arith, c.requires.room.constraints, added.constraints);
+      a_made = rw c.set_either.ensures.a (omega (arith, c.requires.e_made, added.wires));
+      b_made = omega (arith, c.set_times.ensures.top, c.requires.e_made, c.requires.item.second, c.requires.room.constant, added.wires);
+      c_made = rw c.set_either.ensures.c (omega arith);
+    }

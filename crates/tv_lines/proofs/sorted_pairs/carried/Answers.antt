@@ -1,3 +1,4 @@
+use Rattle.std.proofs.Common.{arith}
 use Rattle.tv_core.proofs.Chain.{refused, some_first}
 use Rattle.tv_core.proofs.TailCalls.{puts_in_then}
 use Rattle.tv_lines.specs.SortedPair.{carried_of}
@@ -15,3 +16,25 @@ returns-clause-puts g c =
     let flag = rw c.set_wire.ensures.terms at c.in_ok-same.ensures.puts in
     let word = rw (c.set_wire-2.ensures.terms, c.set_number.ensures.terms, c.set_number-2.ensures.terms) at c.put.ensures.puts in
     puts_in_then g.S.Sink.meaning _ _ _ _ _ _ _ flag word
+
+pub zero_by-requires : goal.zero_by-requires
+zero_by-requires g c = record {
+  room = record {
+    whole = c.requires.room.whole;
+    constant = c.requires.room.constant;
+    wires = omega (arith, c.requires.room.wires);
+    constraints = omega (arith, c.requires.room.constraints);
+  };
+  x_made = omega (arith, c.set_wire.ensures.top, c.requires.apart_made);
+}
+
+pub put-requires : goal.put-requires
+put-requires g c =
+    let same = c.in_ok-same.ensures in
+    record {
+      whole = same.grows.whole;
+      room = omega (arith, c.requires.room.constraints, same.grows.constraints);
+      a_made = omega (arith, c.set_wire-2.ensures.top, same.below);
+      b_made = omega (arith, c.set_number.ensures.top, c.requires, same.grows.wires);
+      c_made = omega (arith, c.set_number-2.ensures.top, c.requires, same.grows.wires);
+    }

@@ -1,3 +1,4 @@
+use Rattle.std.proofs.Common.{arith}
 use Rattle.tv_core.proofs.Chain.{refused, all_then, all_pure, some_then, some_first}
 use Rattle.tv_lines.specs.UnpackedLines.{unpack_of}
 use Rattle.tv_lines.proofs.unpacked_lines.unpack.Goals as goal
@@ -15,3 +16,29 @@ returns-in_err-second-clause-puts g c =
 pub returns-clause-puts : goal.returns-clause-puts
 unfolding unpack_of
 returns-clause-puts g c = rw c.line_bits.ensures (all_then _ c.in_ok-first.ensures.puts (all_then _ c.in_ok-second.ensures.puts all_pure))
+
+pub bits_by-requires : goal.bits_by-requires
+bits_by-requires g c = record {
+  room = record {
+    whole = c.requires.room.whole;
+    constant = c.requires.room.constant;
+    wires = omega (arith, c.requires.room.wires);
+    constraints = omega (arith, c.requires.room.constraints);
+  };
+  x_made = c.requires.first_made;
+  short = omega arith;
+}
+
+pub bits_by-requires-2 : goal.bits_by-requires-2
+bits_by-requires-2 g c =
+    let first = c.in_ok-first.ensures.grows in
+    record {
+      room = record {
+        whole = first.whole;
+        constant = omega (arith, c.requires.room.constant, first.wires);
+        wires = omega (arith, c.requires.room.wires, first.wires);
+        constraints = omega (arith, c.requires.room.constraints, first.constraints);
+      };
+      x_made = omega (arith, c.requires.second_made, first.wires);
+      short = omega arith;
+    }

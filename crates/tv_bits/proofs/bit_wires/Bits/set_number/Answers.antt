@@ -1,8 +1,5 @@
 use Rattle.std.proofs.lemmas.Grind.{common_steps}
 use Rattle.std.proofs.Common.{arith}
-use Rattle.std.proofs.Common.{◌∙◌, ap, ◌++◌}
-use Rattle.tv_core.specs.Combinations.{scaled}
-use Rattle.tv_bits.specs.Bits.{bits_combination}
 use Rattle.tv_bits.proofs.BitNumbers.{scaled-bits-once}
 use Rattle.tv_bits.proofs.bit_wires.Bits.set_number.Goals as goal
 
