@@ -41,3 +41,19 @@ unfolding column_of
 returns-clause-puts g c =
     let all : c.loop-j.j ≡ c.args.n = omega arith in
     rw all at c.loop-j.invariant.puts
+
+pub open_switch-requires : goal.open_switch-requires
+open_switch-requires g c =
+    let grown = c.loop-j.invariant.grows in
+    let x = c.requires.made (2 * c.loop-j.j) (omega arith) in
+    let y = c.requires.made (2 * c.loop-j.j + 1) (omega arith) in
+    record {
+      room = record {
+        whole = grown.whole;
+        constant = omega (arith, c.requires.room.constant, grown.wires);
+        wires = omega (arith, c.requires.room.wires, grown.wires);
+        constraints = omega (arith, c.requires.room.constraints, grown.constraints);
+      };
+      x_made = rw c.at-x.ensures (omega (arith, x, grown.wires));
+      y_made = rw c.at-y.ensures (omega (arith, y, grown.wires));
+    }

@@ -1,3 +1,4 @@
+use Rattle.std.proofs.Common.{arith}
 use Rattle.tv_core.proofs.Chain.{refused, all_then, all_pure, some_then, some_first}
 use Rattle.tv_core.proofs.Unique.{normal-front}
 use Rattle.tv_benes.specs.Network.{remainder_of}
@@ -34,3 +35,16 @@ returns-clause-puts g c =
     ) at c.in_ok-put.ensures.puts in
     let put = rw (normal-front c.args.x.now c.args.y.now) at filled in
     all_then _ c.fresh-q.ensures.puts (all_then _ put all_pure)
+
+pub put-requires : goal.put-requires
+put-requires g c =
+    let made = c.fresh-q.ensures.grows in
+    let first = rw (c.terms.ensures.terms, c.clear.ensures) at c.add_terms.ensures.top in
+    let both = rw c.terms-2.ensures.terms at c.add_terms-2.ensures.top in
+    record {
+      whole = made.whole;
+      room = omega (arith, c.requires.room.constraints, made.constraints);
+      a_made = omega (arith, first, both, c.requires.x_made, c.requires.y_made, made.wires);
+      b_made = omega (arith, c.set_wire.ensures.top, c.requires.room.constant, made.wires);
+      c_made = omega (arith, c.plus.ensures.top, c.set_wire-2.ensures.top, c.requires.p_made, c.fresh-q.ensures.next, made.wires);
+    }

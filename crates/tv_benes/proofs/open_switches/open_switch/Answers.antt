@@ -1,3 +1,4 @@
+use Rattle.std.proofs.Common.{arith}
 use Rattle.tv_core.proofs.Chain.{refused, all_then, all_pure, some_then, some_first}
 use Rattle.tv_benes.specs.Network.{switch_of}
 use Rattle.tv_benes.proofs.open_switches.open_switch.Goals as goal
@@ -24,3 +25,32 @@ unfolding switch_of
 returns-clause-puts g c =
     all_then _ c.fresh-b.ensures.puts (all_then _ c.in_ok-bit_by.ensures.puts (all_then _ c.in_ok-product.ensures.puts
     (all_then _ (rw (c.offset.ensures, c.offset-2.ensures) at c.in_ok-product-2.ensures.puts) all_pure)))
+
+pub bit_by-requires : goal.bit_by-requires
+bit_by-requires g c =
+    let made = c.fresh-b.ensures.grows in
+    record {
+      room = record {
+        whole = made.whole;
+        constant = omega (arith, c.requires.room.constant, made.wires);
+        wires = omega (arith, c.requires.room.wires, made.wires);
+        constraints = omega (arith, c.requires.room.constraints, made.constraints);
+      };
+      made = omega (arith, c.fresh-b.ensures.next, made.wires);
+    }
+
+pub product-requires : goal.product-requires
+product-requires g c =
+    let made = c.fresh-b.ensures.grows in
+    let bit = c.in_ok-bit_by.ensures.grows in
+    record {
+      room = record {
+        whole = bit.whole;
+        constant = omega (arith, c.requires.room.constant, made.wires, bit.wires);
+        wires = omega (arith, c.requires.room.wires, made.wires, bit.wires);
+        constraints = omega (arith, c.requires.room.constraints, made.constraints, bit.constraints);
+      };
+      b_made = omega (arith, c.fresh-b.ensures.next, made.wires, bit.wires);
+      x_made = omega (arith, c.requires.x_made, made.wires, bit.wires);
+      y_made = omega (arith, c.requires.y_made, made.wires, bit.wires);
+    }

@@ -1,3 +1,4 @@
+use Rattle.std.proofs.Common.{arith}
 use Rattle.tv_core.proofs.Chain.{refused, all_then, all_pure, some_then, some_first}
 use Rattle.tv_bits.specs.Select.{pick_of}
 use Rattle.tv_benes.proofs.open_switches.product.Goals as goal
@@ -25,3 +26,14 @@ returns-clause-puts g c =
       c.set_wire-3.ensures.terms,
     ) at c.in_ok-put.ensures.puts in
     all_then _ c.fresh-m.ensures.puts (all_then _ held all_pure)
+
+pub put-requires : goal.put-requires
+put-requires g c =
+    let made = c.fresh-m.ensures.grows in
+    record {
+      whole = made.whole;
+      room = omega (arith, c.requires.room.constraints, made.constraints);
+      a_made = omega (arith, c.set_wire.ensures.top, c.requires.b_made, made.wires);
+      b_made = omega (arith, c.add.ensures.top, c.set_wire-2.ensures.top, c.requires.x_made, c.requires.y_made, made.wires);
+      c_made = omega (arith, c.set_wire-3.ensures.top, c.fresh-m.ensures.next, made.wires);
+    }

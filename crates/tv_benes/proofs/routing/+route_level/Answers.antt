@@ -1,4 +1,4 @@
-use Rattle.std.proofs.Common.{◌≡◌, ℕ, Bool, List, suc, ◌+◌, ◌-◌, ◌*◌, ◌^◌, length, ap, ◌∙◌, subst, arith}
+use Rattle.std.proofs.Common.{◌≡◌, ℕ, Bool, List, suc, ◌+◌, ◌-◌, ◌*◌, ◌^◌, length, length-append, ap, ◌∙◌, subst, arith}
 use Rattle.std.proofs.lemmas.Result.{on_ok_weaker}
 use Rattle.tv_benes.proofs.ColumnChain.{all_as, some_as, column_refused, upper_refused, lower_refused, level_given}
 use Rattle.tv_benes.proofs.Moved.{does_same, second_bits, third_bits, moved_values, moved_items, level_values-two, through-two}
@@ -134,3 +134,36 @@ returns-clause-moved g t c =
     let same = third_bits bit n_is s_is c.bits_from-bits.ensures c.bits_from-bits-2.ensures c.bits_from.ensures in
     let last = moved_items net c.args.form c.args.h (c.args.h - 1) below.level bit item to_u to_l same in
     on_ok_weaker c.last_column.result (λ joined. joined ∙ last) c.last_column.ensures.joined
+
+pub first_column-requires : goal.first_column-requires
+first_column-requires g t c =
+    let n = c.long_power-n.ensures.is in
+    let upper = c.split_at_mut-upper.ensures.front_len in
+    let twice : 2 ^ suc c.args.h ≡ 2 * 2 ^ c.args.h = omega arith in
+    record {
+      whole = c.requires.whole;
+      items = omega (arith, c.requires.items, upper, n, twice);
+      lower = omega (arith, c.requires.spare, upper, c.split_at_mut-upper.ensures.back_len, n, twice);
+    }
+
+pub split_at_mut-upper-requires : goal.split_at_mut-upper-requires
+split_at_mut-upper-requires g t c =
+    let twice : 2 ^ suc c.args.h ≡ 2 * 2 ^ c.args.h = omega arith in
+    omega (arith, c.requires.spare, c.long_power-n.ensures.is, twice)
+
+pub last_column-requires : goal.last_column-requires
+last_column-requires g t c =
+    let n = c.long_power-n.ensures.is in
+    let twice : 2 ^ suc c.args.h ≡ 2 * 2 ^ c.args.h = omega arith in
+    let upper : length c.route_level.new.items ≡ 2 ^ c.args.h =
+    omega (arith, c.route_level.auto.items, c.first_column.auto.upper, c.split_at_mut-upper.ensures.front_len, n) in
+    let lower : length c.route_level-2.new.items ≡ 2 ^ c.args.h =
+    omega (arith, c.route_level-2.auto.items, c.first_column.auto.lower, c.split_at_mut-upper.ensures.back_len, c.requires.spare, n, twice) in
+    let front : length c.route_level.new.spare ≡ 2 ^ c.args.h = omega (arith, c.route_level.auto.spare, c.split_at_mut-upper_spare.ensures.front_len, n) in
+    let back : length c.route_level-2.new.spare ≡ 2 ^ c.args.h =
+    omega (arith, c.route_level-2.auto.spare, c.split_at_mut-upper_spare.ensures.back_len, c.requires.items, n, twice) in
+    record {
+      whole = c.in_ok-route_level-2.ensures.whole;
+      items = omega (arith, length-append c.route_level.new.spare c.route_level-2.new.spare, upper, front, back);
+      lower = omega (arith, upper, lower);
+    }

@@ -64,3 +64,15 @@ returns-clause-lower g c =
     let bit = bit_at c.args.bits.now in
     is_places (length c.args.upper.now) (to_lower bit (pair_at c.args.items.now)) c.loop-j.lower (c.loop-j.auto.lower ∙ c.requires.lower)
     (λ k h. c.loop-j.invariant.lower k (omega arith))
+
+pub fill_switch-requires : goal.fill_switch-requires
+fill_switch-requires g c = record { whole = c.loop-j.invariant.whole }
+
+pub bounds-items-j : goal.bounds-items-j
+bounds-items-j g c = omega (arith, c.loop-j-test.true, c.requires.items)
+
+pub bounds-items-j-in-loop-j : goal.bounds-items-j-in-loop-j
+bounds-items-j-in-loop-j g c = omega (arith, c.loop-j-test.true, c.requires.items)
+
+pub bounds-lower-j : goal.bounds-lower-j
+bounds-lower-j g c = omega (arith, c.loop-j-test.true, c.loop-j.auto.lower, c.requires.lower)

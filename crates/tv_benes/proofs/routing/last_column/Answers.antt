@@ -1,4 +1,5 @@
 use Rattle.std.proofs.Common.{◌≡◌, ℕ, ◌+◌, ◌-◌, ◌*◌, List, [], if◌then◌else◌, length, ◌∙◌, ap₂, subst, arith}
+use Rattle.std.proofs.lemmas.List.{length-set}
 use Rattle.std.specs.Prelude.{nat_lt}
 use Rattle.tv_benes.proofs.ColumnChain.{no_switch, values_as}
 use Rattle.tv_benes.proofs.Moved.{is_places, join_more, read_item, last_given, last_refused}
@@ -68,3 +69,16 @@ returns-clause-joined g c =
     is_places (2 * length c.args.upper.now) (joined (last_bit c.args.net bit) (pair_at c.args.upper.now) (pair_at c.args.lower.now)) c.loop-j.items
     (c.loop-j.auto.items ∙ c.requires.items)
     (λ k h. c.loop-j.invariant.joined k (omega arith))
+
+pub bounds-lower-j : goal.bounds-lower-j
+bounds-lower-j g c = omega (arith, c.loop-j-test.true, c.requires.lower)
+
+pub bounds-items-j : goal.bounds-items-j
+bounds-items-j g c = omega (arith, c.loop-j-test.true, c.loop-j.auto.items, c.requires.items)
+
+pub fill_unless-requires : goal.fill_unless-requires
+fill_unless-requires g c = record { whole = c.loop-j.invariant.whole }
+
+pub bounds-items-j-in-loop-j : goal.bounds-items-j-in-loop-j
+bounds-items-j-in-loop-j g c =
+    omega (arith, length-set c.loop-j.items (2 * c.loop-j.j) c.passed.result, c.loop-j-test.true, c.loop-j.auto.items, c.requires.items)
