@@ -4,7 +4,7 @@ ghost use Rattle.tv_word.specs.Widths.{IsWidth};
 ghost use Rattle.tv_isa.specs.Instruction.{IsInstruction, decode, encode};
 
 /// An instruction's fields.
-#[derive(Clone, Copy, PartialEq, Eq, Debug)]
+#[derive(Clone, Copy)]
 pub struct Instr {
     /// The opcode, below 32.
     pub op: u8,

@@ -2,7 +2,7 @@
 use crate::opcode;
 
 /// The operands that an instruction names, in the order of its text.
-#[derive(Clone, Copy, PartialEq, Eq, Debug)]
+#[derive(Clone, Copy)]
 pub enum Shape {
     /// A destination register, a source register, and the operand A.
     DestSourceA,
@@ -19,7 +19,7 @@ pub enum Shape {
 }
 
 /// One of the machine's instructions: its opcode, its name in program text, and its operands.
-#[derive(Clone, Copy, PartialEq, Eq, Debug)]
+#[derive(Clone, Copy)]
 pub struct Operation {
     /// The opcode.
     pub op: u8,

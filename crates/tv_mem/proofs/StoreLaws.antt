@@ -7,6 +7,7 @@ use Rattle.std.proofs.lemmas.Bool.{eq-eqb}
 use Rattle.std.proofs.lemmas.Bool.Decides.{eqb_tells, leb_tells}
 use Rattle.std.proofs.lemmas.List.{get_or_append_left, get_or-append_right, get_or-take, get_or-drop, get_or-replicate, get_or_past, length-take-le}
 use Rattle.std.proofs.lemmas.List.{length-append, length-replicate}
+use Rattle.tv_word.proofs.WidthLaws.{for_widths}
 use Rattle.tv_word.specs.Widths.{IsWidth}
 use Rattle.tv_word.specs.Word.{word_bytes, low_bytes}
 use Rattle.tv_mem.specs.Bytes.{byte_of, with_byte, with_word}
@@ -167,3 +168,13 @@ bytes_unchanged old new same = λ i x. ap (λ found. byte_in found (x % 4096)) (
 
 pub held_unchanged : (old new : Found) → Same old new → (q : ℕ) → is_some (new q) ≡ is_some (old q)
 held_unchanged old new same q = ap is_some (same q)
+
+-- the word in which an address lies is in the address's page
+pub word_page : (w : ℕ) → IsWidth w → (at : ℕ) → at / (w / 8) * (w / 8) / 4096 ≡ at / 4096
+word_page w width at = for_widths (λ w. at / (w / 8) * (w / 8) / 4096 ≡ at / 4096) (omega arith) (omega arith) w width
+
+pub word_within : (w : ℕ) → IsWidth w → (at word : ℕ) (bytes : List ℕ) → bytes ≡ word_bytes w word
+    → at / (w / 8) * (w / 8) % 4096 + length bytes ≤ 4096
+word_within w width at word bytes same =
+    let long : length bytes ≡ w / 8 = ap length same ∙ length-low_bytes (w / 8) word in
+    rw long (for_widths (λ w. at / (w / 8) * (w / 8) % 4096 + w / 8 ≤ 4096) (omega arith) (omega arith) w width)

@@ -118,9 +118,3 @@ bytes_after_byte m at v small byte = λ x. cond_both (x == at) v (m x) (λ b. b 
 
 pub bytes_after_word : BytesAfterWord
 bytes_after_word w m j v small = λ x. cond_both (x / (w / 8) == j) (byte_of v (x % (w / 8))) (m x) (λ b. b < 256) (λ e. omega arith) (λ e. small x)
-
-pub ruleset read_laws = (words_are_small, byte_of_word)
-
-pub ruleset after_byte = (word_after_byte, others_after_byte, bytes_after_byte)
-
-pub ruleset after_word = (word_after_word, others_after_word, bytes_after_word)

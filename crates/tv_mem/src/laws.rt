@@ -4,14 +4,12 @@ ghost use Rattle.tv_mem.specs.Words.{OthersAfterByte, OthersAfterWord, BytesAfte
 ghost use Rattle.tv_mem.specs.Words.{BytesAfterWord};
 
 /// A word of memory is below 2^W, and each of its bytes is the byte at its address.
-#[tactic(auto, using(crate::proofs::WordLaws::read_laws))]
 pub fn words_are_of_bytes()
     ensures small { WordsAreSmall }
     ensures bytes { ByteOfWord }
 {}
 
 /// A byte that is written stands at its place of its word, and no other word changes.
-#[tactic(auto, using(crate::proofs::WordLaws::after_byte))]
 pub fn words_after_a_byte()
     ensures word { WordAfterByte }
     ensures others { OthersAfterByte }
@@ -19,7 +17,6 @@ pub fn words_after_a_byte()
 {}
 
 /// A word that is written is in its place, and no other word changes.
-#[tactic(auto, using(crate::proofs::WordLaws::after_word))]
 pub fn words_after_a_word()
     ensures word { WordAfterWord }
     ensures others { OthersAfterWord }

@@ -97,7 +97,6 @@ pub(crate) fn write(
 }
 
 // Makes tables up to the one with a number, if it isn't there.
-#[tactic(auto, using(crate::proofs::PageLaws::same_with_a_table))]
 fn make_tables(alloc: Global, tables: &mut Vec<Table>, number: usize) -> Result<(), AllocError>
     requires { number < 2 ^ 32 }
     ensures same { Same (page_in tables.old.items) (page_in tables.new.items) }
@@ -176,7 +175,6 @@ fn keep(table: &mut Table, place: usize, page: Box<[u8; 4096]>) -> Result<(), Al
 }
 
 // Makes places up to the one with a number.
-#[tactic(auto, using(crate::proofs::PageLaws::same_with_a_place))]
 fn make_places(table: &mut Table, place: usize) -> Result<(), AllocError>
     requires { place < 2 ^ 32 }
     ensures same { Same (page_of table.old) (page_of table.new) }

@@ -12,7 +12,6 @@ pub fn tapes_are_in_range()
 
 /// Words that are written as text are read again: each below the bound, and no more than are asked
 /// for.
-#[tactic(auto, using(crate::proofs::Texts::comes_back))]
 pub fn texts_come_back()
     ensures { (words : List ℕ) (below most : ℕ) → below ≤ 2 ^ 64 → All (λ word. word < below) words
         → length words ≤ most

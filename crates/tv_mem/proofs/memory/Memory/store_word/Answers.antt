@@ -1,7 +1,7 @@
-use Rattle.std.proofs.Common.{◌≡◌, ◌*◌, ◌/◌, sym, arith}
+use Rattle.std.proofs.Common.{◌*◌, ◌/◌, IsTrue, subst, sym}
+use Rattle.std.specs.Prelude.{is_some}
 use Rattle.std.proofs.lemmas.Result.{on_ok_weaker, on_err_weaker}
-use Rattle.tv_word.proofs.WidthLaws.{for_widths}
-use Rattle.tv_mem.proofs.StoreLaws.{word_stored, page_held, bytes_unchanged, held_unchanged}
+use Rattle.tv_mem.proofs.StoreLaws.{word_stored, word_page, word_within, page_held, bytes_unchanged, held_unchanged}
 use Rattle.tv_mem.specs.Pages.{page_in, bytes_in, is_held}
 use Rattle.tv_mem.proofs.memory.Memory.store_word.Goals as goal
 
@@ -15,8 +15,7 @@ pub returns-clause-held : goal.returns-clause-held
 unfolding is_held
 returns-clause-held g c =
     let size = g.row.W / 8 in
-    let same : c.args.at / size * size / 4096
-    ≡ c.args.at / 4096 = for_widths (λ w. c.args.at / (w / 8) * (w / 8) / 4096 ≡ c.args.at / 4096) (omega arith) (omega arith) g.row.W c.requires.width in
+    let same = word_page g.row.W c.requires.width c.args.at in
     on_ok_weaker c.write.result (λ writes page. rw same at
     (page_held (page_in c.args.self.now.tables.items) (page_in c.write.new.tables.items) (c.args.at / size * size) _ writes
     (page / 4096))) c.write.ensures.ok
@@ -30,3 +29,13 @@ pub returns-clause-kept : goal.returns-clause-kept
 unfolding is_held
 returns-clause-kept g c = on_err_weaker c.write.result
     (λ same page. held_unchanged (page_in c.args.self.now.tables.items) (page_in c.write.new.tables.items) same (page / 4096)) c.write.ensures.err
+
+pub write-requires : goal.write-requires
+write-requires g c = record {
+  within = word_within g.row.W c.requires.width c.args.at c.args.word c.low_bytes.result.now (c.low_bytes.ensures c.args.word c.word_bytes.ensures.bytes);
+}
+
+pub returns-clause-free : goal.returns-clause-free
+unfolding is_held
+returns-clause-free g c = λ held. c.write.ensures.free
+    (subst (λ page. IsTrue (is_some (page_in c.args.self.now.tables.items page))) (sym (word_page g.row.W c.requires.width c.args.at)) held)
