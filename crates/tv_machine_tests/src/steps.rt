@@ -148,7 +148,7 @@ fn step_of(alloc: Global, row: &Row) -> Result<Seen, AllocError> {
 fn each_instruction_does_what_it_should(rt: HostRuntime) -> Result<(), Fail> {
     for row in &ROWS {
         let seen = step_of(rt.alloc(), row)?;
-        assert_eq!(rt; seen, wanted(row), "{}", row.0);
+        assert!(rt; seen == wanted(row), "{}", row.0);
     }
     Ok(())
 }

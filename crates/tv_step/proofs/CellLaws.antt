@@ -167,5 +167,3 @@ olds_are_in_cells w width x st time on =
 
 pub step_writes_its_line : StepWritesItsLine
 step_writes_its_line w width x st time on = writes w width x st on time
-
-pub ruleset cells = (lines_in_range, olds_are_in_cells, step_writes_its_line)

@@ -101,7 +101,3 @@ steps_at_the_front w t st after e = let more : t + 1 ≡ suc t = omega arith in 
 
 pub answer_stays : AnswerStays
 answer_stays w t st v e = stays w t st v e
-
-pub ruleset end_laws = (answer_is_within, end_answers, last_answers)
-
-pub ruleset steps_follow = (steps_at_the_end, steps_at_the_front, answer_stays)

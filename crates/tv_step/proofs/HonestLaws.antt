@@ -188,5 +188,3 @@ lines_are_honest w image x aux t input =
     λ earlier line later e. Honest-from_HonestFrom (λ c. 0) (run_lines w image x aux t) earlier line later
     (HonestFrom-append (λ c. 0) (boot_lines image x) (lines_of w (length x) (length image + length x) (start w image x aux) t)
     (boot_lines_honest w image x aux input) (steps_honest w image x aux input t)) e
-
-pub ruleset honest = (boot_leaves_the_start, lines_leave_the_state, lines_are_honest)

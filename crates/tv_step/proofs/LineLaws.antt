@@ -1,5 +1,5 @@
 -- The data line of a step.
-use Rattle.std.proofs.Common.{◌≡◌, ℕ, ◌+◌, ◌-◌, ◌/◌, ◌^◌, ◌<◌, ◌==◌, false, cond, nat_lt, List, [], ◌∷◌, length, Option, Some, None, refl, ap}
+use Rattle.std.proofs.Common.{◌≡◌, ℕ, ◌+◌, ◌-◌, ◌*◌, ◌/◌, ◌%◌, ◌^◌, ◌<◌, ◌==◌, false, cond, nat_lt, List, [], ◌∷◌, length, Option, Some, None, refl, ap}
 use Rattle.std.proofs.Common.{arith, true≢false}
 use Rattle.std.specs.Prelude.{if◌then◌else◌, slice_get}
 use Rattle.std.proofs.lemmas.Bool.{lt-ltb, le-ltb}
@@ -21,6 +21,11 @@ use Rattle.tv_step.specs.declared.op.Op.TheVariants.{Cmov, Cjmp, Cnjmp, StoreB, 
 -- the word in which an address lies has a cell of memory
 pub cell_is_low : (w : ℕ) → IsWidth w → (a : ℕ) → a < 2 ^ w → a / (w / 8) < TAPE_CELLS
 cell_is_low w width a h = for_widths (λ w. a < 2 ^ w → a / (w / 8) < TAPE_CELLS) (λ h. omega (arith, h)) (λ h. omega (arith, h)) w width h
+
+-- the first word of an instruction
+pub first_word : (w : ℕ) → IsWidth w → (at pc : ℕ) → at ≡ pc → at % (w / 4) ≡ 0 → at / (w / 4) * 2 ≡ pc / (w / 8)
+first_word w width at pc same =
+    for_widths (λ w. at % (w / 4) ≡ 0 → at / (w / 4) * 2 ≡ pc / (w / 8)) (λ h. omega (arith, h)) (λ h. omega (arith, h)) w width
 
 -- a line, whose new word is that of its cell once the step is taken
 abbrev recorded : ℕ → State → ℕ → Line → Line

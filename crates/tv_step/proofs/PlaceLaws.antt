@@ -65,5 +65,3 @@ step_time w n st time (suc (suc (suc j))) past h = absurd (omega arith)
 pub times_follow : TimesFollow
 times_follow w n time st t i j past h k =
     ap (λ (l : Line). l.time) (lines_by_place w n time st t i j past h k) ∙ step_time w n (state_after w i st) (time + 3 * i) j past k ∙ omega arith
-
-pub ruleset by_place = (lines_are_three_a_step, states_are_one_more, lines_by_place, states_by_place, times_follow)

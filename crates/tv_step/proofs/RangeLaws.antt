@@ -176,5 +176,3 @@ start_in_range w width image x aux x_words aux_words = record {
   primary = x_words;
   aux = aux_words;
 }
-
-pub ruleset in_range = (start_in_range, step_keeps_range, run_keeps_range, answer_is_word, operand_is_word)

@@ -239,5 +239,3 @@ answering_takes_few w (suc t) st v step e =
     ∙ ap (λ words. length (words_taken w t st) + length words) none in
     let before = one_a_step w t st in
     omega (arith, long)
-
-pub ruleset taken_in_order = (tapes_are_left, taken_are_the_front, taken_by_counts, ended_stays, ended_takes_nothing, answering_takes_few)

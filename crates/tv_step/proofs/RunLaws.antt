@@ -58,5 +58,3 @@ state_next w (suc k) st =
 pub either : {A : Type 0} (P : A → Type 0) (b : Bool) (u v : A) → P u → P v → P (cond b u v)
 either P true u v h k = h
 either P false u v h k = k
-
-pub ruleset run_laws = (end_silent, end_stopped, state_stopped, state_reached, ran_none, ran_on)

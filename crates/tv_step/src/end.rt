@@ -1,7 +1,7 @@
 //! What a step leads to, and how a run ends.
 
 /// What a step leads to.
-#[derive(Clone, Copy, PartialEq, Eq, Debug)]
+#[derive(Clone, Copy, PartialEq, Eq)]
 pub enum Outcome {
     /// The machine has gone on to another state.
     Gone,

@@ -12,7 +12,6 @@ ghost use Rattle.tv_step.specs.Runs.{StepsAtTheFront, AnswerStays};
 
 /// The start on tapes of words is a state in range, a step keeps one, and so does a run. Its
 /// operand and an answered value are words.
-#[tactic(auto, using(crate::proofs::RangeLaws::in_range))]
 pub fn states_are_in_range()
     ensures start { StartInRange }
     ensures step { StepKeepsRange }
@@ -24,7 +23,6 @@ pub fn states_are_in_range()
 /// An answer comes at a step from the first to the last; where a run answers, each of its steps is
 /// of an opcode that is used, and the last answers the same; and where the last step answers, so
 /// does the run.
-#[tactic(auto, using(crate::proofs::EndLaws::end_laws))]
 pub fn runs_answer_at_their_end()
     ensures within { AnswerIsWithin }
     ensures steps { EndAnswers }
@@ -33,7 +31,6 @@ pub fn runs_answer_at_their_end()
 
 /// The state after n + 1 steps is that by one step from the state after n, and that after n steps
 /// from the state after one; where a step answers, the state stays.
-#[tactic(auto, using(crate::proofs::EndLaws::steps_follow))]
 pub fn steps_follow()
     ensures end { StepsAtTheEnd }
     ensures front { StepsAtTheFront }
@@ -43,7 +40,6 @@ pub fn steps_follow()
 /// What a run takes of its tapes: what is left is their end, and the auxiliary words taken are the
 /// front of theirs, both by how many words were taken; the ended bit never falls, and where it is
 /// set nothing is taken; and a run that answers takes fewer words than it may have steps.
-#[tactic(auto, using(crate::proofs::ReadLaws::taken_in_order))]
 pub fn tapes_are_taken_in_order()
     ensures left { TapesAreLeft }
     ensures front { TakenAreTheFront }
@@ -55,7 +51,6 @@ pub fn tapes_are_taken_in_order()
 
 /// A trace's lines and states, by index: three lines a step, at successive times, and one state
 /// more than steps.
-#[tactic(auto, using(crate::proofs::PlaceLaws::by_place))]
 pub fn traces_are_by_place()
     ensures lines { LinesAreThreeAStep }
     ensures states { StatesAreOneMore }
@@ -66,7 +61,6 @@ pub fn traces_are_by_place()
 
 /// A step's lines are in range, the old word of each is that of its cell before the step, and the
 /// step changes memory by its data line alone. Only a store's line changes its word.
-#[tactic(auto, using(crate::proofs::CellLaws::cells, crate::proofs::LineLaws::only_stores_write))]
 pub fn lines_determine_cells()
     ensures range { LinesInRange }
     ensures olds { OldsAreInCells }
@@ -76,7 +70,6 @@ pub fn lines_determine_cells()
 
 /// The lines of a run, after those of the image's and the primary tape's words, are honest, and the
 /// words that they leave in the cells are those of the state.
-#[tactic(auto, using(crate::proofs::HonestLaws::honest))]
 pub fn runs_are_honest()
     ensures boot { BootLeavesTheStart }
     ensures steps { LinesLeaveTheState }

@@ -5,7 +5,7 @@ use std::marker::Model;
 use tv_core::Line;
 
 /// A state as the trace has it, with the number of words taken of each tape.
-#[derive(Clone, Copy, PartialEq, Eq, Debug)]
+#[derive(Clone, Copy, PartialEq, Eq)]
 pub struct TraceState {
     /// The program counter.
     pub pc: u32,

@@ -114,7 +114,6 @@ impl<const W: u32> Machine<W> {
 
     /// Takes at most `t` steps, which count from 1, and stops at an answer or an opcode that isn't
     /// used. Where memory is refused, the state is one that the run reaches.
-    #[tactic(auto, using(crate::proofs::RunLaws::run_laws))]
     pub fn run(&mut self, t: u64) -> Result<End, AllocError>
         requires width { IsWidth W }
         ensures end { IfOk result (λ end. end ≡ end_of W t (state_of self.old)) }

@@ -5,7 +5,7 @@ ghost use Rattle.tv_step.specs.Ops.{op_of};
 use tv_isa::opcode;
 
 /// What an instruction does, by its opcode.
-#[derive(Clone, Copy, PartialEq, Eq, Debug)]
+#[derive(Clone, Copy)]
 pub enum Op {
     And,
     Or,

@@ -7,7 +7,7 @@ use tv_word::arithmetic::sum;
 
 /// The program counter: an address of an instruction, so a multiple of its size, `W / 4` bytes.
 /// Contracts see the address.
-#[derive(Clone, Copy, PartialEq, Eq, Debug)]
+#[derive(Clone, Copy)]
 pub struct Counter<const W: u32> {
     address: u32,
 }

@@ -2,6 +2,7 @@
 ghost use Rattle.std.specs.Prelude.{◌≡◌, ◌+◌, ◌*◌, ◌≤◌, ◌<◌, ◌^◌, ◌/◌, All, length, max, IfOk};
 ghost use Rattle.std.specs.Prelude.{IfErr};
 ghost use Rattle.tv_word.specs.Widths.{IsWidth};
+ghost use Rattle.tv_step.specs.Machine.{start, end_of};
 ghost use Rattle.tv_step.specs.Trace.{lines_of, states_of};
 ghost use Rattle.tv_step.specs.RunTrace.{IsTrace, IsRefused};
 ghost use Rattle.tv_step.specs.Views.{state_of};
@@ -37,7 +38,6 @@ impl From<AllocError> for TraceFault {
 
 // The lines and states of `t` steps of a machine, the tapes having had `n` and `m` words, the first
 // line at a time. Room for all of them is made at once, and so nothing is copied later.
-#[tactic(auto, using(crate::proofs::RunLaws::state_next))]
 fn record<const W: u32>(
     alloc: Global,
     machine: &mut Machine<W>,
@@ -68,6 +68,48 @@ fn record<const W: u32>(
     Ok((lines.into(), states.into()))
 }
 
+// How the run of at most `t` steps on an image and two tapes ends.
+fn end_of_run<const W: u32>(
+    alloc: Global,
+    image: &[u32],
+    tape: &[u32],
+    aux: &[u32],
+    t: u32,
+) -> Result<End, AllocError>
+    requires width { IsWidth W }
+    requires image { length image.now * (W / 8) ≤ 2 ^ W }
+    requires tape { All (λ v. v < 2 ^ W) tape.now }
+    requires aux { All (λ v. v < 2 ^ W) aux.now }
+    ensures { IfOk result (λ end. end ≡ end_of W t (start W image.now tape.now aux.now)) }
+{
+    Machine::<W>::start_on(alloc, image, tape, aux)?.run(u64::from(t))
+}
+
+// The lines and states of `t` steps of that run.
+fn record_run<const W: u32>(
+    alloc: Global,
+    image: &[u32],
+    tape: &[u32],
+    aux: &[u32],
+    t: u32,
+) -> Result<(Lines, States), AllocError>
+    requires width { IsWidth W }
+    requires tape_words { All (λ v. v < 2 ^ W) tape.now }
+    requires aux_words { All (λ v. v < 2 ^ W) aux.now }
+    requires image { length image.now * (W / 8) ≤ 2 ^ W }
+    requires tape { length tape.now < 2 ^ 29 }
+    requires counts { max (length aux.now) (length image.now + length tape.now + 3 * t) < 2 ^ 32 }
+    ensures lines { IfOk result (λ recorded. recorded.0
+        ≡ lines_of W (length tape.now) (length image.now + length tape.now)
+        (start W image.now tape.now aux.now) t) }
+    ensures states { IfOk result (λ recorded. recorded.1
+        ≡ states_of W (length tape.now) (length aux.now) (start W image.now tape.now aux.now) t) }
+{
+    let mut machine = Machine::<W>::start_on(alloc, image, tape, aux)?;
+    let (n, m) = (tape.len() as u32, aux.len() as u32);
+    record::<W>(alloc, &mut machine, n, m, image.len() as u32 + n, t)
+}
+
 /// Returns the trace of the run of at most `t` steps on an image and two tapes: the value that it
 /// answers, three lines a step, whose times begin after those of the image's words and the primary
 /// tape's, and `t + 1` states. An answering step comes again until step `t`. `NoRun` comes exactly
@@ -92,14 +134,12 @@ pub fn trace<const W: u32>(
     ensures trace { IfOk result (IsTrace W image.now tape.now aux.now t) }
     ensures fault { IfErr result (IsRefused W image.now tape.now aux.now t) }
 {
-    let end = Machine::<W>::start_on(alloc, image, tape, aux)?.run(u64::from(t))?;
+    let end = end_of_run::<W>(alloc, image, tape, aux, t)?;
     let answer = match end {
         End::Answer { value, .. } => value,
         End::Undefined { .. } | End::Silent { .. } => return Err(TraceFault::NoRun { end }),
     };
-    let mut machine = Machine::<W>::start_on(alloc, image, tape, aux)?;
-    let (n, m) = (tape.len() as u32, aux.len() as u32);
-    let (lines, states) = record::<W>(alloc, &mut machine, n, m, image.len() as u32 + n, t)?;
+    let (lines, states) = record_run::<W>(alloc, image, tape, aux, t)?;
     Ok(Trace {
         answer,
         lines,

@@ -1,4 +1,4 @@
-use Rattle.std.proofs.Common.{◌≡◌, ◌+◌, ◌*◌, ap, ap₂, sym, ◌∙◌, ◌++◌, ◌∷◌, [], ℕ, suc, arith}
+use Rattle.std.proofs.Common.{◌≡◌, ◌+◌, ◌*◌, refl, ap, ap₂, sym, ◌∙◌, ◌++◌, ◌∷◌, [], ℕ, suc, arith}
 use Rattle.std.specs.Prelude.{◌||◌}
 use Rattle.tv_step.specs.Machine.{state_after}
 use Rattle.tv_step.specs.Reads.{ended_after, finds_end}
@@ -7,6 +7,16 @@ use Rattle.tv_step.specs.Trace.{step_lines, lines_of, states_of, traced_state}
 use Rattle.tv_step.specs.Views.{state_of}
 use Rattle.tv_step.proofs.RunLaws.{state_next}
 use Rattle.tv_step.proofs.run_trace.record.Goals as goal
+
+pub loop-taken-init : goal.loop-taken-init
+loop-taken-init g c = record {
+  state = refl;
+  ended = refl;
+  lines = c.in_ok-lines.ensures.items;
+  states = c.in_ok-push.ensures.items
+      ∙ ap (λ xs. xs ++ c.recorded.result ∷ []) c.in_ok-states.ensures.items
+      ∙ ap (λ s. s ∷ []) c.recorded.ensures;
+}
 
 pub loop-taken-preserved : goal.loop-taken-preserved
 loop-taken-preserved g c =
@@ -34,3 +44,13 @@ loop-taken-preserved g c =
           ∙ ap (λ s. states_of w c.args.n c.args.m first k ++ s ∷ []) recorded
           ∙ ap (states_of w c.args.n c.args.m first) more;
     }
+
+pub returns-clause-lines : goal.returns-clause-lines
+returns-clause-lines g c =
+    let all : c.loop-taken.taken ≡ c.args.t = omega arith in
+    c.into.ensures ∙ c.loop-taken.invariant.lines ∙ ap (lines_of g.row.W c.args.n c.args.time (state_of c.args.machine.now)) all
+
+pub returns-clause-states : goal.returns-clause-states
+returns-clause-states g c =
+    let all : c.loop-taken.taken ≡ c.args.t = omega arith in
+    c.into-2.ensures ∙ c.loop-taken.invariant.states ∙ ap (states_of g.row.W c.args.n c.args.m (state_of c.args.machine.now)) all
