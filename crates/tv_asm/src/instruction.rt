@@ -43,7 +43,9 @@ fn raw_words<const W: u32>(text: &[u8]) -> Result<[u32; 2], AsmWhy>
 {
     check_count(text, 2)?;
     let (h, a, _) = operands(text);
-    Ok([number::<W>(h)?, number::<W>(a)?])
+    let h = number::<W>(h)?;
+    let a = number::<W>(a)?;
+    Ok([h, a])
 }
 
 /// Returns the words of an instruction of the table.
@@ -120,17 +122,30 @@ fn fields<const W: u32>(
     let op = operation.op;
     let (first, second, third) = operands(text);
     let (dest, source, last) = match operation.shape {
-        Shape::DestSourceA => (
-            register(first)?,
-            register(second)?,
-            Operand::of::<W>(third, labels)?,
-        ),
-        Shape::DestA => (register(first)?, 0, Operand::of::<W>(second, labels)?),
-        Shape::SourceA => (0, register(first)?, Operand::of::<W>(second, labels)?),
-        Shape::OnlyA => (0, 0, Operand::of::<W>(first, labels)?),
+        Shape::DestSourceA => {
+            let dest = register(first)?;
+            let source = register(second)?;
+            let last = Operand::of::<W>(third, labels)?;
+            (dest, source, last)
+        }
+        Shape::DestA => {
+            let dest = register(first)?;
+            let last = Operand::of::<W>(second, labels)?;
+            (dest, 0, last)
+        }
+        Shape::SourceA => {
+            let source = register(first)?;
+            let last = Operand::of::<W>(second, labels)?;
+            (0, source, last)
+        }
+        Shape::OnlyA => {
+            let last = Operand::of::<W>(first, labels)?;
+            (0, 0, last)
+        }
         Shape::ADest => {
             let last = Operand::of::<W>(first, labels)?;
-            (register(second)?, 0, last)
+            let dest = register(second)?;
+            (dest, 0, last)
         }
         Shape::Unused => return Err(AsmWhy::UnknownName),
     };

@@ -1,9 +1,11 @@
 //! Operands: registers, addresses of labels, and numbers.
 ghost use Rattle.std.specs.Prelude.{◌≡◌, ◌^◌, ◌<◌, ◌≤◌, IfOk, IfSome};
+ghost use Rattle.std.specs.Option.{ok_or};
 ghost use Rattle.tv_word.specs.Numeral.{numeral};
 ghost use Rattle.tv_word.specs.Widths.{IsWidth};
 ghost use Rattle.tv_asm.specs.Operand.{register, number, operand};
 ghost use Rattle.tv_asm.specs.Views.{address_in};
+ghost use Rattle.tv_asm.specs.declared.fault.AsmWhy.TheVariants.{BadNumber};
 
 use crate::fault::AsmWhy;
 use crate::labels::Labels;
@@ -63,12 +65,20 @@ pub(crate) fn number<const W: u32>(text: &[u8]) -> Result<u32, AsmWhy>
     requires { IsWidth W }
     ensures { result ≡ number W text.now }
 {
-    let bound = 1 << W;
-    let number = match text {
-        [b'0', b'x', digits @ ..] => numeral_below(digits, 16, bound),
-        _ => numeral_below(text, 10, bound),
-    };
-    number.ok_or(AsmWhy::BadNumber)
+    match text {
+        [b'0', b'x', digits @ ..] => word::<W>(digits, 16),
+        _ => word::<W>(text, 10),
+    }
+}
+
+/// Returns the value of digits, where it is below 2^W.
+fn word<const W: u32>(digits: &[u8], base: u32) -> Result<u32, AsmWhy>
+    requires width { IsWidth W }
+    requires least { 2 ≤ base }
+    requires greatest { base ≤ 36 }
+    ensures { result ≡ ok_or (numeral base (2 ^ W) digits.now) BadNumber }
+{
+    numeral_below(digits, base, 1 << W).ok_or(AsmWhy::BadNumber)
 }
 
 /// Returns the value of digits, where it is below a bound.
