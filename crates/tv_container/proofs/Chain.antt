@@ -1,5 +1,5 @@
 -- Steps that may refuse, one after another.
-use Rattle.std.proofs.Common.{◌≡◌, ℕ, List, Result, Ok, Err, inl, refl, rules}
+use Rattle.std.proofs.Common.{◌≡◌, ℕ, List, Some, Result, Ok, Err, inl, refl, rules, ap, subst, ◌∙◌}
 use Rattle.std.specs.Prelude.{IfErr}
 use Rattle.tv_files.specs.Outside.{Outside}
 use Rattle.tv_container.specs.declared.why.ReadRefusal.{ReadRefusal}
@@ -7,7 +7,7 @@ use Rattle.tv_container.specs.declared.why.ReadRefusal.TheVariants.{Bad, Fault, 
 use Rattle.tv_container.specs.declared.why.ReadWhy.{ReadWhy}
 use Rattle.tv_container.specs.Places as places
 use Rattle.tv_container.specs.Places.{wrong, ◌>>=◌}
-use Rattle.tv_container.specs.Reading.{Refuses, IsNotFault, Stopped, Looks}
+use Rattle.tv_container.specs.Reading.{bytes_of, Refuses, IsNotFault, IsPiece, Looks, Piece, ReadsIn, Stopped}
 
 -- a step that was made gave what the answer was made of
 pub made : {A B : Type 0} (first : Result A places.Fault) (next : A → Result B places.Fault) (value : B) → first >>= next ≡ Ok value →
@@ -34,7 +34,69 @@ stopped_here outside name (Bad at what) known = record { only = search rules; th
 stopped_here outside name Fault known = absurd (known.known refl)
 stopped_here outside name Memory known = record { only = search rules; there = search rules; leaves = inl refl }
 
+pub stopped_bad : (outside : Outside) (name : List ℕ) (at : ℕ) (what : ReadWhy) → Stopped outside outside name (Bad at what)
+stopped_bad outside name at what = stopped_here outside name (Bad at what) (record { known = λ e. cc })
+
 -- and so may a step that read nothing
 pub looks_here : {A : Type 0} (outside : Outside) (name : List ℕ) (result : Result A ReadRefusal) → IfErr result IsNotFault → Looks outside outside name result
 looks_here outside name (Ok value) known = refl
 looks_here outside name (Err why) known = stopped_here outside name why known
+
+-- what a step of reading gave, the piece that it left, and what the steps after it gave
+pub record Both (So : List ℕ → Type 0) (piece : Piece) (Then : List ℕ → Type 0) (file : List ℕ) : Type 0 where
+  pub first : So file
+  pub held : IsPiece piece file
+  pub rest : Then file
+
+-- a step that was made, and those after it
+pub reads_on : {A B : Type 0} {old mid new : Outside} {name : List ℕ} {before between after : Piece} {value : A} {result : Result B ReadRefusal}
+    {So Then : List ℕ → Type 0} → ReadsIn old mid name before between (Ok value) So → ReadsIn mid new name between after result Then →
+    ReadsIn old new name before after result (Both So between Then)
+reads_on {A} {B} {old} {mid} {new} {name} {before} {between} {after} {value} {result} first rest = record {
+  looks = subst (λ outside. Looks outside new name result) first.looks rest.looks;
+  piece = λ file known piece. rest.piece file (seen file known) (first.piece file known piece);
+  gives = λ file known piece.
+      let held = first.piece file known piece in
+      record { first = first.gives file known piece; held = held; rest = rest.gives file (seen file known) held };
+}
+  where
+    seen : (file : List ℕ) → bytes_of old name ≡ Some file → bytes_of mid name ≡ Some file
+    seen file known = ap (λ outside. bytes_of outside name) first.looks ∙ known
+
+-- a refusal ends all
+pub reads_off : {A B : Type 0} {old new : Outside} {name : List ℕ} {before after last : Piece} {why : ReadRefusal} {So : List ℕ → Type 0} →
+    ReadsIn {A = A} old new name before after (Err why) So → ReadsIn {A = B} old new name before last (Err why) So
+reads_off step = record { looks = step.looks; piece = λ file known piece. tt; gives = step.gives }
+
+-- so does one that says what is wrong, with no read
+pub reads_bad : {B : Type 0} {outside : Outside} {name : List ℕ} {before after : Piece} {at : ℕ} {what : ReadWhy} →
+    ReadsIn {A = B} outside outside name before after (Err (Bad at what)) (λ file. Unit {0})
+reads_bad {B} {outside} {name} {before} {after} {at} {what} = record {
+  looks = stopped_bad outside name at what;
+  piece = λ file seen piece. tt;
+  gives = λ file seen piece. tt;
+}
+
+-- nothing more is read
+pub reads_done : {A : Type 0} {outside : Outside} {name : List ℕ} {piece : Piece} {value : A} →
+    ReadsIn outside outside name piece piece (Ok value) (λ file. Unit {0})
+reads_done = record { looks = refl; piece = λ file known held. held; gives = λ file known held. tt }
+
+-- it doesn't matter which value was given
+pub reads_past : {A B : Type 0} {old new : Outside} {name : List ℕ} {before after : Piece} {value : A} {other : B} {So : List ℕ → Type 0} →
+    ReadsIn old new name before after (Ok value) So → ReadsIn old new name before after (Ok other) So
+reads_past step = record { looks = step.looks; piece = step.piece; gives = step.gives }
+
+-- what the steps gave is what the call does
+pub reads_as : {A : Type 0} {old new : Outside} {name : List ℕ} {before after : Piece} {result : Result A ReadRefusal} {So All : List ℕ → Type 0} →
+    ReadsIn old new name before after result So → ((file : List ℕ) → bytes_of old name ≡ Some file → So file → All file)
+    → ReadsIn old new name before after result All
+reads_as steps all = record { looks = steps.looks; piece = steps.piece; gives = λ file known piece. all file known (steps.gives file known piece) }
+
+-- a value is no refusal
+pub not_refused : {A E X : Type 0} {value : A} {why : E} → Ok value ≡ Err why → X
+not_refused is = cc
+
+-- nor does it matter which value was refused
+pub same_refusal : {A B E : Type 0} {why other : E} → ◌≡◌ {A = Result A E} (Err why) (Err other) → ◌≡◌ {A = Result B E} (Err why) (Err other)
+same_refusal {A} {B} {E} {why} {other} is = let same : why ≡ other = cc in ap Err same

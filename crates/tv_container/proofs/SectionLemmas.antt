@@ -1,5 +1,5 @@
 -- Sections, one after the others.
-use Rattle.std.proofs.Common.{◌≡◌, ℕ, zero, suc, ◌+◌, ◌≤◌, ◌<◌, List, [], ◌∷◌, ◌++◌, length, Bool, true, false, cond, eqb, Option, Some, None, Result, Ok}
+use Rattle.std.proofs.Common.{◌≡◌, ◌≢◌, ℕ, zero, suc, ◌+◌, ◌≤◌, ◌<◌, List, [], ◌∷◌, ◌++◌, length, Bool, true, false, cond, eqb, Option, Some, None, Result, Ok}
 use Rattle.std.proofs.Common.{Err, refl, ◌∙◌, add-one, nat_lt, nat_le, not, ◌==◌, arith}
 use Rattle.std.proofs.lemmas.Bool.Decides.{nat_tests}
 use Rattle.std.specs.Option.{option_or}
@@ -7,7 +7,7 @@ use Rattle.tv_core.specs.declared.field.TheConstants.{P}
 use Rattle.tv_container.specs.declared.sections.Section.{Section}
 use Rattle.tv_container.specs.declared.why.ReadRefusal.{ReadRefusal}
 use Rattle.tv_container.specs.declared.why.ReadWhy.{ReadWhy}
-use Rattle.tv_container.specs.declared.why.ReadWhy.TheVariants.{BadVersion, Doubled, OtherPrime, Truncated, Trailing}
+use Rattle.tv_container.specs.declared.why.ReadWhy.TheVariants.{BadCount, BadVersion, Doubled, OtherPrime, Truncated, Trailing}
 use Rattle.tv_container.specs.Places.{Fault, ◌>>=◌, wrong, unless, number, places, fit}
 use Rattle.tv_container.specs.Field.{this_field}
 use Rattle.tv_container.specs.Found.{AllFit}
@@ -94,7 +94,21 @@ unfolding section_at
 section_at-read singles at kind size file sections done true fits kind_is size_is once ends = rw (fits, kind_is, size_is, once) (grind (arith, nat_tests))
 section_at-read singles at kind size file sections done false fits kind_is size_is once ends = rw (fits, kind_is, size_is, once) (grind (arith, nat_tests))
 
--- once its size and the size of a number are seen, section 1 says which field it is
+-- a field is looked at in this order: that there is one, the size of a number, how many bytes section 1 has, and the prime
+pub this_field-short : (file : List ℕ) (wants : ℕ) (one : Section) → one.size < 4 → this_field file wants one ≡ wrong one.at (BadCount one.size wants)
+unfolding this_field
+this_field-short file wants one short = grind (arith, nat_tests)
+
+pub this_field-other : (file : List ℕ) (wants : ℕ) (one : Section) → 4 ≤ one.size → number file 4 one.at ≢ 8 →
+    this_field file wants one ≡ wrong one.at OtherPrime
+unfolding this_field
+this_field-other file wants one some other = grind (arith, nat_tests)
+
+pub this_field-sized : (file : List ℕ) (wants : ℕ) (one : Section) → 4 ≤ one.size → number file 4 one.at ≡ 8 → one.size ≢ wants →
+    this_field file wants one ≡ wrong one.at (BadCount one.size wants)
+unfolding this_field
+this_field-sized file wants one some of_eight size = rw of_eight (grind (arith, nat_tests))
+
 pub this_field-prime : (file : List ℕ) (wants : ℕ) (one : Section) → 4 ≤ one.size → number file 4 one.at ≡ 8 → one.size ≡ wants →
     this_field file wants one ≡ unless (not (number file 8 (one.at + 4) == P)) one.at OtherPrime
 unfolding this_field

@@ -15,7 +15,7 @@ use tv_files::Files;
 
 /// A section of a container: its type, the place of its content in the file, and how many bytes
 /// that has.
-#[derive(Clone, Copy, Debug, PartialEq, Eq)]
+#[derive(Clone, Copy)]
 pub struct Section {
     /// The type.
     pub kind: u32,
@@ -36,7 +36,7 @@ impl Section {
 
 /// How a kind of container begins, and that its sections of types 1 to `singles`, at most 3, may
 /// stand once.
-#[derive(Clone, Copy, Debug, PartialEq, Eq)]
+#[derive(Clone, Copy)]
 pub struct Form {
     /// The file's first four bytes, as a number whose lowest byte comes first.
     pub magic: u32,
@@ -47,7 +47,7 @@ pub struct Form {
 }
 
 /// The first sections of types 1, 2 and 3.
-#[derive(Clone, Copy, Debug, PartialEq, Eq)]
+#[derive(Clone, Copy)]
 pub struct Found {
     /// That of type 1.
     pub one: Option<Section>,

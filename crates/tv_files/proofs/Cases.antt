@@ -9,8 +9,3 @@ OnErr-map (Err _) f h = f h
 pub OnOk-map : {T E P Q : Type 0} (result : Result T E) → (P → Q) → OnOk result P → OnOk result Q
 OnOk-map (Ok _) f h = f h
 OnOk-map (Err _) f h = tt
-
--- what holds in any case
-pub OnErr-always : {T E P : Type 0} (result : Result T E) → P → OnErr result P
-OnErr-always (Ok _) p = tt
-OnErr-always (Err _) p = p

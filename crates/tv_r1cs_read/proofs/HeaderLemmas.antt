@@ -1,8 +1,13 @@
 -- What comes before the constraints, step by step.
-use Rattle.std.proofs.Common.{◌≡◌, ℕ, List, Ok, ap}
+use Rattle.std.proofs.Common.{◌≡◌, ℕ, List, Result, Ok, Err, ap}
+use Rattle.std.specs.Prelude.{IfErr, IfOk, OnOk}
+use Rattle.tv_files.specs.Outside.{Outside}
+use Rattle.tv_container.proofs.Chain.{reads_done, stopped_here}
+use Rattle.tv_container.specs.declared.why.ReadRefusal.{ReadRefusal}
+use Rattle.tv_container.specs.Reading.{IsNotFault, Piece, ReadsIn}
 use Rattle.tv_container.specs.declared.sections.Section.{Section}
 use Rattle.tv_r1cs_read.specs.declared.header.Header.{Header}
-use Rattle.tv_r1cs_read.specs.R1cs.{counted, checked, header_in}
+use Rattle.tv_r1cs_read.specs.R1cs.{HasRoom, counted, checked, header_in}
 use Rattle.tv_container.specs.Field.{this_field}
 use Rattle.tv_container.specs.Sections.{section_of, wanted}
 
@@ -13,3 +18,24 @@ pub header_in-checked : (file : List ℕ) (sections : List Section) (one two : S
 unfolding header_in
 header_in-checked file sections one two done header one_is two_is field counts =
     rw (one_is, two_is, field) (ap (λ fields. checked fields one (section_of 3 sections)) counts)
+
+-- what a check of the header returns is the header
+pub checked_has : (result : Result Header ReadRefusal) (header : Header) (P : Header → Type 0) → IfOk result (λ checked. checked ≡ header) → P header →
+    IfOk result P
+checked_has (Ok checked) header P same holds = rw same holds
+checked_has (Err why) header P same holds = tt
+
+pub checked_room : (result : Result Header ReadRefusal) (header : Header) → IfOk result (λ checked. checked ≡ header) → OnOk result (HasRoom header) →
+    IfOk result HasRoom
+checked_room (Ok checked) header same room = rw same room
+checked_room (Err why) header same room = tt
+
+-- which reads nothing
+pub reads_by : {outside : Outside} {name : List ℕ} {piece : Piece} (result : Result Header ReadRefusal) → IfErr result IsNotFault →
+    ReadsIn outside outside name piece piece result (λ file. Unit {0})
+reads_by (Ok checked) known = reads_done
+reads_by {outside} {name} (Err why) known = record {
+  looks = stopped_here outside name why known;
+  piece = λ file seen piece. tt;
+  gives = λ file seen piece. tt;
+}

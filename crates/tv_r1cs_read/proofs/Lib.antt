@@ -5,3 +5,5 @@ pub mod HeaderLemmas
 pub mod Vectors
 pub mod Sums
 pub mod Failures
+pub mod StepLemmas
+pub mod HeldLemmas

@@ -13,7 +13,7 @@ use tv_container::{
 use tv_files::Files;
 
 /// What section 1 counts, and section 2.
-#[derive(Clone, Copy, Debug, PartialEq, Eq)]
+#[derive(Clone, Copy)]
 pub struct Header {
     /// The wires, that of the constant 1 among them.
     pub wires: u32,

@@ -1,54 +1,69 @@
-use Rattle.std.proofs.Common.{refl, sym, ◌∙◌, rules}
+use Rattle.std.proofs.Common.{refl, sym, ◌∙◌, arith}
+use Rattle.std.proofs.lemmas.Bool.Decides.{nat_tests}
 use Rattle.std.proofs.lemmas.Result.{err_from_is_err_and}
-use Rattle.tv_container.proofs.Chain.{refuses_first}
-use Rattle.tv_container.proofs.SectionLemmas.{sections_in-magic, sections_in-version}
+use Rattle.tv_container.proofs.Chain.{not_refused, reads_as, reads_bad, reads_done, reads_off, reads_on, refuses_first, refuses_wrong, same_refusal}
+use Rattle.tv_container.proofs.SectionLemmas.{fit-is, sections_in-magic, sections_in-version}
+use Rattle.tv_container.specs.Sections.{sections_in}
 use Rattle.tv_container.proofs.sections.section_count.Goals as goal
 
-pub returns-in_err-fit-2-clause-reads : goal.returns-in_err-fit-2-clause-reads
-returns-in_err-fit-2-clause-reads g c = record {
-  looks = search rules;
-  piece = search rules;
-  gives = λ file known piece.
-      let fits = c.in_ok-fit.ensures.reads.gives file known piece in
-      let held = c.in_ok-fit.ensures.reads.piece file known piece in
-      let refuses = c.in_err-fit-2.ensures.reads.gives file (rw (← c.in_ok-fit.ensures.reads.looks) at known) held in
-      let p = err_from_is_err_and c.from_residual-in_err-fit-2.result c.from_residual-in_err-fit-2.ensures.1 in
-      rw (p.1, p.2, sections_in-magic _ _ file _ fits (sym (c.word.ensures file held) ∙ c.if-word-form.false)) (refuses_first _ _ _ refuses);
+pub returns-in_err-fit : goal.returns-in_err-fit
+unfolding sections_in
+returns-in_err-fit g c =
+    let p = err_from_is_err_and c.from_residual.result c.from_residual.ensures.1 in
+    rw (p.1, p.2) (record {
+      reads = reads_as (reads_off c.in_err-fit.ensures.reads) (λ file known refuses. refuses_first _ _ _ refuses);
+      start = λ file known piece. tt;
+      missing = λ missing none. same_refusal (c.in_err-fit.ensures.missing missing none (omega arith));
+    })
+
+pub returns-then-word-form : goal.returns-then-word-form
+unfolding sections_in
+returns-then-word-form g c = record {
+  reads = reads_as (reads_on c.in_ok-fit.ensures.reads reads_bad) (λ file known is.
+      refuses_wrong _ _ _ (rw (is.first, ← c.word.ensures file is.held) (grind (arith, nat_tests))));
+  start = λ file known piece. tt;
+  missing = λ missing none. not_refused (c.in_ok-fit.ensures.missing missing none (omega arith));
 }
 
-pub returns-in_err-fit-3-clause-reads : goal.returns-in_err-fit-3-clause-reads
-returns-in_err-fit-3-clause-reads g c = record {
-  looks = search rules;
-  piece = search rules;
-  gives = λ file known piece.
-      let fits = c.in_ok-fit.ensures.reads.gives file known piece in
-      let held = c.in_ok-fit.ensures.reads.piece file known piece in
-      let same = rw (← c.in_ok-fit.ensures.reads.looks) at known in
-      let too = c.in_ok-fit-2.ensures.reads.gives file same held in
-      let more = c.in_ok-fit-2.ensures.reads.piece file same held in
-      let refuses = c.in_err-fit-3.ensures.reads.gives file (rw (← c.in_ok-fit-2.ensures.reads.looks) at same) more in
-      let p = err_from_is_err_and c.from_residual-in_err-fit-3.result c.from_residual-in_err-fit-3.ensures.1 in
-      rw (
-        p.1,
-        p.2,
-        sections_in-version _ _ file _ _ fits (sym (c.word.ensures file held) ∙ c.if-word-form.false)
-            too (sym (c.word-found.ensures file more) ∙ c.if-found-form.false),
-      ) (refuses_first _ _ _ refuses);
+pub returns-in_err-fit-2 : goal.returns-in_err-fit-2
+returns-in_err-fit-2 g c =
+    let p = err_from_is_err_and c.from_residual-in_err-fit-2.result c.from_residual-in_err-fit-2.ensures.1 in
+    rw (p.1, p.2) (record {
+      reads = reads_as (reads_on c.in_ok-fit.ensures.reads (reads_off c.in_err-fit-2.ensures.reads)) (λ file known is.
+          rw (sections_in-magic _ _ file _ is.first (sym (c.word.ensures file is.held) ∙ c.if-word-form.false)) (refuses_first _ _ _ is.rest));
+      start = λ file known piece. tt;
+      missing = λ missing none. not_refused (c.in_ok-fit.ensures.missing missing none (omega arith));
+    })
+
+pub returns-then-found-form : goal.returns-then-found-form
+returns-then-found-form g c = record {
+  reads = reads_as (reads_on c.in_ok-fit.ensures.reads (reads_on c.in_ok-fit-2.ensures.reads reads_bad)) (λ file known is.
+      refuses_wrong _ _ _ (sections_in-magic _ _ file _ is.first (sym (c.word.ensures file is.held) ∙ c.if-word-form.false)
+      ∙ rw (is.rest.first, ← c.word-found.ensures file is.rest.held) (grind (arith, nat_tests))));
+  start = λ file known piece. tt;
+  missing = λ missing none. not_refused (c.in_ok-fit.ensures.missing missing none (omega arith));
 }
 
-pub returns-clause-reads : goal.returns-clause-reads
-returns-clause-reads g c = record {
-  looks = search rules;
-  piece = search rules;
-  gives = λ file known piece.
-      let fits = c.in_ok-fit.ensures.reads.gives file known piece in
-      let held = c.in_ok-fit.ensures.reads.piece file known piece in
-      let same = rw (← c.in_ok-fit.ensures.reads.looks) at known in
-      let too = c.in_ok-fit-2.ensures.reads.gives file same held in
-      let more = c.in_ok-fit-2.ensures.reads.piece file same held in
-      let still = rw (← c.in_ok-fit-2.ensures.reads.looks) at same in
-      let last = c.in_ok-fit-3.ensures.reads.gives file still more in
-      sections_in-version _ _ file _ _ fits (sym (c.word.ensures file held) ∙ c.if-word-form.false)
-      too (sym (c.word-found.ensures file more) ∙ c.if-found-form.false)
-      ∙ rw (last, sym (c.word-2.ensures file (c.in_ok-fit-3.ensures.reads.piece file still more))) refl;
-}
+pub returns-in_err-fit-3 : goal.returns-in_err-fit-3
+returns-in_err-fit-3 g c =
+    let p = err_from_is_err_and c.from_residual-in_err-fit-3.result c.from_residual-in_err-fit-3.ensures.1 in
+    rw (p.1, p.2) (record {
+      reads = reads_as (reads_on c.in_ok-fit.ensures.reads (reads_on c.in_ok-fit-2.ensures.reads (reads_off c.in_err-fit-3.ensures.reads)))
+          (λ file known is.
+          rw (sections_in-version _ _ file _ _ is.first (sym (c.word.ensures file is.held) ∙ c.if-word-form.false)
+          is.rest.first (sym (c.word-found.ensures file is.rest.held) ∙ c.if-found-form.false)) (refuses_first _ _ _ is.rest.rest));
+      start = λ file known piece. tt;
+      missing = λ missing none. not_refused (c.in_ok-fit.ensures.missing missing none (omega arith));
+    })
+
+pub returns : goal.returns
+returns g c =
+    let steps = reads_on c.in_ok-fit.ensures.reads (reads_on c.in_ok-fit-2.ensures.reads (reads_on c.in_ok-fit-3.ensures.reads reads_done)) in
+    record {
+      reads = reads_as steps (λ file known is.
+          sections_in-version _ _ file _ _ is.first (sym (c.word.ensures file is.held) ∙ c.if-word-form.false)
+          is.rest.first (sym (c.word-found.ensures file is.rest.held) ∙ c.if-found-form.false)
+          ∙ rw (is.rest.rest.first, sym (c.word-2.ensures file is.rest.rest.held)) refl);
+      start = λ file known piece. fit-is 4 8 _ _ (steps.gives file known piece).rest.rest.first;
+      missing = λ missing none. not_refused (c.in_ok-fit.ensures.missing missing none (omega arith));
+    }

@@ -1,21 +1,31 @@
-use Rattle.std.proofs.Common.{rules}
-use Rattle.tv_r1cs_read.specs.R1cs.{header_of}
+use Rattle.std.proofs.lemmas.Result.{err_from_is_err_and}
+use Rattle.tv_container.proofs.Chain.{not_refused, reads_as, reads_off, reads_on, refuses_first, same_refusal}
 use Rattle.tv_container.proofs.SectionLemmas.{sections_of-fit}
+use Rattle.tv_r1cs_read.specs.R1cs.{header_of}
 use Rattle.tv_r1cs_read.proofs.header.read_header.Goals as goal
 
-pub returns-clause-reads : goal.returns-clause-reads
+pub returns-in_err-found : goal.returns-in_err-found
 unfolding header_of
-returns-clause-reads g c = record {
-  looks = search rules;
-  piece = search rules;
-  gives = λ file known piece.
-      let found = c.in_ok-found.ensures.reads.gives file known piece in
-      let gives = c.header_in.ensures.reads.gives file (rw (← c.in_ok-found.ensures.reads.looks) at known) (c.in_ok-found.ensures.reads.piece file known piece)
-      found.3 found.0 found.2 (sections_of-fit _ _ _ file found.0 found.1) in
-      rw found.1 gives;
-}
+returns-in_err-found g c =
+    let p = err_from_is_err_and c.from_residual.result c.from_residual.ensures.1 in
+    rw (p.1, p.2) (record {
+      reads = reads_as (reads_off c.in_err-found.ensures.reads) (λ file known refuses. refuses_first _ _ _ refuses);
+      within = λ file known piece. tt;
+      ends = tt;
+      room = tt;
+      missing = λ missing none. same_refusal (c.in_err-found.ensures.missing missing none);
+    })
 
-pub returns-clause-within : goal.returns-clause-within
-returns-clause-within g c = λ file known piece.
-    let found = c.in_ok-found.ensures.reads.gives file known piece in
-    c.header_in.ensures.within file found.0 found.2 (sections_of-fit _ _ _ file found.0 found.1)
+pub returns : goal.returns
+unfolding header_of
+returns g c = record {
+  reads = reads_as (reads_on c.in_ok-found.ensures.reads c.header_in.ensures.reads) (λ file known is.
+      let found = is.first in
+      rw found.1 (is.rest found.3 found.0 found.2 (sections_of-fit _ _ _ file found.0 found.1)));
+  within = λ file known piece.
+      let found = c.in_ok-found.ensures.reads.gives file known piece in
+      c.header_in.ensures.within file found.0 found.2 (sections_of-fit _ _ _ file found.0 found.1);
+  ends = c.header_in.ensures.ends;
+  room = c.header_in.ensures.room;
+  missing = λ missing none. not_refused (c.in_ok-found.ensures.missing missing none);
+}

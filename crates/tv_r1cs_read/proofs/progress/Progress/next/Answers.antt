@@ -1,6 +1,5 @@
-use Rattle.std.proofs.Common.{◌≡◌, ◌+◌, ◌-◌, ◌<◌, refl, sym, ◌∙◌, arith, rules}
-use Rattle.tv_r1cs_read.proofs.Constraints.{constraints_from-refuses, constraints_from-next}
-use Rattle.tv_r1cs_read.proofs.Done.{is_on, next_at, refuses_ahead, terms_rise}
+use Rattle.std.proofs.Common.{◌≡◌, ◌<◌, ◌∙◌, None, sym, arith, rules}
+use Rattle.tv_r1cs_read.proofs.StepLemmas.{read_steps, refused_steps}
 use Rattle.tv_r1cs_read.proofs.progress.Progress.next.Goals as goal
 
 pub returns-in-Some-stopped-clause-steps : goal.returns-in-Some-stopped-clause-steps
@@ -18,32 +17,17 @@ pub returns-in-None-clause-steps : goal.returns-in-None-clause-steps
 returns-in-None-clause-steps g c = c.end.ensures.steps _ _
 
 pub returns-in-Ok-clause-steps : goal.returns-in-Ok-clause-steps
-returns-in-Ok-clause-steps g c = record {
-  header = search rules;
-  again = search rules;
-  looks = search rules;
-  gives = λ rows file known is.
-      let some : 0 < c.self.inside.left = omega arith in
-      let place = rw (← c.self.view_is) at is in
-      let on = place.follows in
-      let left : c.self.inside.left ≡ c.self.inside.left - 1 + 1 = omega arith in
-      let read = rw (c.bounds-bounds.ensures.wires, c.bounds-bounds.ensures.end, ← c.self.view_is) at (c.in-Ok.ensures.reads.gives file known on.piece) in
-      is_on file _ on.on (next_at file _ _ rows _ place
-      (record { piece = c.in-Ok.ensures.reads.piece file known on.piece; within = on.within; on = on.on })
-      refl
-      (rw c.in-Ok.ensures.size (terms_rise c.self.inside.header c.self.inside.at c.self.inside.left _ c.self.invariant some))
-      (constraints_from-next file _ _ _ _ _ _ left (read on.within)));
-}
+returns-in-Ok-clause-steps g c =
+    let on : c.self.inside.stopped ≡ None = search rules in
+    let some : 0 < c.self.inside.left = omega (arith, c.if-self-eq0.false) in
+    rw (← c.self.view_is) (read_steps c.self.inside.header _ _ c.self.inside.at c.self.inside.left c.self.inside.stopped on c.self.invariant some
+    c.bounds-bounds.result (rw (← c.self.view_is) at c.bounds-bounds.ensures.wires) (rw (← c.self.view_is) at c.bounds-bounds.ensures.end) c.read_row.new.row _
+    c.in-Ok.ensures.reads c.in-Ok.ensures.size)
 
 pub returns-in-Err-clause-steps : goal.returns-in-Err-clause-steps
-returns-in-Err-clause-steps g c = record {
-  header = search rules;
-  again = search rules;
-  looks = search rules;
-  gives = λ rows file known is.
-      let place = rw (← c.self.view_is) at is in
-      let left : c.self.inside.left ≡ c.self.inside.left - 1 + 1 = omega arith in
-      let refuses = rw (c.bounds-bounds.ensures.wires, c.bounds-bounds.ensures.end, ← c.self.view_is) at
-      (c.in-Err.ensures.reads.gives file known place.follows.piece) in
-      refuses_ahead file _ rows _ place (constraints_from-refuses file _ _ _ _ _ _ left (refuses place.follows.within));
-}
+returns-in-Err-clause-steps g c =
+    let on : c.self.inside.stopped ≡ None = search rules in
+    let some : 0 < c.self.inside.left = omega (arith, c.if-self-eq0.false) in
+    rw (← c.self.view_is) (refused_steps c.self.inside.header _ _ c.self.inside.at c.self.inside.left c.self.inside.stopped on c.self.invariant some
+    c.bounds-bounds.result (rw (← c.self.view_is) at c.bounds-bounds.ensures.wires) (rw (← c.self.view_is) at c.bounds-bounds.ensures.end)
+    c.in-Err.ensures.reads)
