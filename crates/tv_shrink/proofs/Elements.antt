@@ -1,5 +1,5 @@
 -- What holds of each element of a list.
-use Rattle.std.proofs.Common.{ℕ, zero, suc, List, [], ◌∷◌, ◌++◌, get_or, set}
+use Rattle.std.proofs.Common.{◌≡◌, true, false, ℕ, zero, suc, List, [], ◌∷◌, ◌++◌, get_or, set}
 use Rattle.std.specs.List.{AllByRecursion}
 use Rattle.std.proofs.lemmas.List.Elements.{recursion_from_All, All-from_recursion, All-push, All-set}
 
@@ -21,3 +21,7 @@ module _ {A : Type 0} (R : A → Type 0) where
 pub each_weaker : {A : Type 0} (R S : A → Type 0) → ((x : A) → R x → S x) → (xs : List A) → AllByRecursion R xs → AllByRecursion S xs
 each_weaker R S weaker [] h = tt
 each_weaker R S weaker (x ∷ xs) h = (weaker x h.0, each_weaker R S weaker xs h.1)
+
+-- a test does not answer both ways
+pub never : false ≡ true → ⊥
+never e = cc

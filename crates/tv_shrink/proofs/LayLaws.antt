@@ -1,11 +1,11 @@
 -- Terms put over others, and the constraints whose terms are not among those.
 use Rattle.std.proofs.Common.{◌≡◌, ◌⊎◌, ℕ, zero, suc, ◌+◌, ◌-◌, ◌<◌, ◌≤◌, List, [], ◌∷◌, ◌++◌, Option, Some, None, refl, sym, ◌∙◌, ap, ap₂, subst, arith, inl}
-use Rattle.std.proofs.Common.{inr, map, length, get_or, set, take, drop, take-append-drop}
+use Rattle.std.proofs.Common.{inr, map, length, get_or, set, take, drop, take-append-drop, take_all, append-nil}
 use Rattle.std.specs.List.{AllByRecursion}
 use Rattle.std.specs.Option.{option_map}
 use Rattle.std.specs.Prelude.{slice_range}
 use Rattle.std.proofs.Math.Seq.{drop-append-add}
-use Rattle.std.proofs.lemmas.List.{append_assoc, get_or_read, length-append, length-drop, length-take-le, map-append}
+use Rattle.std.proofs.lemmas.List.{append_assoc, drop_all, get_or_read, length-append, length-drop, length-take-le, map-append}
 use Rattle.tv_core.specs.Constraints.{Combination, Constraint}
 use Rattle.tv_shrink.specs.Spans.{end_of, laid, row_at, row_terms, span_of, AreApart, AreInside, AreLaid, IsClear, IsFree, IsInside}
 use Rattle.tv_shrink.specs.declared.arena.Span.{Span}
@@ -217,3 +217,17 @@ rows_added xs ys spans more row span h is at pushed =
           ∙ ap₂ (λ rows last. rows ++ Some last ∷ []) (rows_kept xs (row_terms row) spans h.inside)
           (ap (row_at (xs ++ row_terms row)) at ∙ row_appended xs row),
     )
+
+-- or one that was dropped
+pub none_added : (xs : Combination) (spans more : List (Option Span)) → AreLaid (length xs) spans → more ≡ spans ++ None ∷ [] →
+    AreLaid (length xs) more × (map (option_map (row_at xs)) more ≡ map (option_map (row_at xs)) spans ++ None ∷ [])
+none_added xs spans more h pushed = (
+  subst (AreLaid (length xs)) (sym pushed) (laid_none (length xs) spans h),
+  ap (map (option_map (row_at xs))) pushed ∙ map-append (option_map (row_at xs)) spans (None ∷ []),
+)
+
+-- terms put after all others
+pub laid_behind : (start : ℕ) (put xs : Combination) → start ≡ length xs → xs ++ put ≡ laid start put xs
+laid_behind start put xs e =
+    sym (ap₂ (λ front back. front ++ (put ++ back)) (take_all start xs (omega arith)) (drop_all (start + length put) xs (omega arith))
+    ∙ ap (λ back. xs ++ back) (append-nil put))

@@ -4,7 +4,8 @@ use Rattle.std.proofs.Common.{subst, arith, eqb, true, false, inl, inr, cond, ma
 use Rattle.std.proofs.Common.{eqb-true, eq-eqb, ne_eqb, take_all, add-one}
 use Rattle.std.specs.List.{fold, list_any, list_all, range_with_len}
 use Rattle.std.specs.Option.{option_map}
-use Rattle.std.proofs.lemmas.Bool.{cond_both, cases_Bool, cases_eq, or_cases, or_parts, or_from, or_left, or_right, and_from, and_parts, false_from_ne_true}
+use Rattle.std.proofs.lemmas.Bool.{cond_both, cases_Bool, cases_eq, or_cases, or_parts, or_from, or_left, or_right, and_from, and_parts}
+use Rattle.std.proofs.lemmas.Bool.{and_right, false_from_ne_true}
 use Rattle.std.proofs.lemmas.List.{ext_get_or, get_or-map, length-map, get_or-set_other}
 use Rattle.std.proofs.lemmas.List.Elements.{All-from_get_or}
 use Rattle.std.proofs.lemmas.List.Folds.{list_any_more}
@@ -34,6 +35,13 @@ lacks_over w (t ∷ x) h = or_from (eqb t.1 w) (has_wire w x) (ne_eqb t.1 w h.0.
 
 pub lacks_below : (w : ℕ) (x : Combination) → Over (λ v. v < w) x → has_wire w x ≡ false
 lacks_below w x h = lacks_over w x (Over-weaker (λ v. v < w) (λ v. Unit {0} × (v ≢ w)) x (λ v l. (tt, λ e. omega arith)) h)
+
+-- one constraint that has too many terms
+pub not-all_fit : (w : ℕ) (r : Combination) (rows : List (Option Constraint)) (i : ℕ) → row_fits w r (get_or rows i None) ≡ false
+    → false ≡ list_all (row_fits w r) rows
+not-all_fit w r [] i e = absurd (let no : true ≡ false = e in cc)
+not-all_fit w r (row ∷ rows) zero e = ap (λ b. b && list_all (row_fits w r) rows) (sym e)
+not-all_fit w r (row ∷ rows) (suc i) e = sym (and_right (row_fits w r row) (list_all (row_fits w r) rows) (sym (not-all_fit w r rows i e)))
 
 -- a constraint without the wire
 module _ (w : ℕ) (r : Combination) where

@@ -25,7 +25,7 @@ use Rattle.tv_r1cs_read.specs.Survey.{survey_of}
 use Rattle.tv_core.specs.Constraints.{Combination, Constraint, System}
 use Rattle.tv_r1cs_read.specs.Rows.{combination_of, constraint_of, IsOver}
 use Rattle.tv_r1cs_read.specs.declared.rows.Row.{Row}
-use Rattle.tv_shrink.specs.Answers.{first_wide, read_fault, start_rows, wide, wide_in, all_terms, most, Halted, IsLong, IsSmall, IsTooWide, FaultMeans}
+use Rattle.tv_shrink.specs.Answers.{first_wide, read_fault, start_rows, wide, wide_in, all_terms, most, Halted, IsLong, IsSmall, IsTooWide, FaultMeans, Leaves}
 use Rattle.tv_core.specs.Normal.{normal, normal_constraint}
 use Rattle.tv_core.proofs.NormalLaws.{Over, Over-normal, IsNormalFrom-normal}
 use Rattle.tv_shrink.specs.Tidy.{RowsAreNormal, IsWithin, RowIsNormal}
@@ -97,6 +97,13 @@ unfolding first_wide
 wide_front [] more n e = absurd (cc)
 wide_front (d ∷ list) more n e = first_stays (wide_in d) (first_wide list) (first_wide (list ++ more)) n (λ k. wide_front list more n k) e
 
+-- an answer is one of both, and a refusal has one cause
+pub ok_not_err : {T E : Type 0} (value : T) (why : E) → Ok value ≡ Err why → ⊥
+ok_not_err value why e = cc
+
+pub same_cause : {T E : Type 0} (why cause : E) → (let refused : Result T E = Err why in refused) ≡ Err cause → why ≡ cause
+same_cause why cause e = cc
+
 -- what a refusal to read says of the file
 pub read_means : (why : ReadRefusal) (file : List ℕ) → Refuses why (r1cs_system file) → FaultMeans (read_fault why) file
 read_means (refusal.Bad at what) file refuses = refuses.bad at what refl
@@ -108,16 +115,55 @@ halted old new name (refusal.Bad at what) stopped = record { only = stopped.only
 halted old new name refusal.Fault stopped = record { only = stopped.only; there = stopped.there; leaves = stopped.leaves }
 halted old new name refusal.Memory stopped = record { only = stopped.only; there = stopped.there; leaves = stopped.leaves }
 
+-- a row that was read, by its combinations
+pub narrow_row : (row : Row) (a b c : List (ℕ × ℕ)) → a ≡ row.a → b ≡ row.b → c ≡ row.c → wide (combination_of a) ≡ None → wide (combination_of b) ≡ None
+    → wide (combination_of c) ≡ None → wide_in (constraint_of row) ≡ None
+narrow_row row a b c p q r first second third =
+    let size : List (ℕ × ℕ) → Option ℕ = λ terms. wide (combination_of terms) in
+    ap (λ o. option_or o (option_or (size row.b) (size row.c))) (ap size (sym p) ∙ first)
+    ∙ ap (λ o. option_or o (size row.c)) (ap size (sym q) ∙ second)
+    ∙ ap size (sym r) ∙ third
+
+too_wide_front : (why : ShrinkFault) (o p : Option ℕ) → IsTooWide why o → IsTooWide why (option_or o p)
+too_wide_front (fault.Bad at what) o p e = e
+too_wide_front (fault.Terms has) o p e = e
+too_wide_front (fault.Combination has) o p e = ap (λ q. option_or q p) e
+too_wide_front fault.Fault o p e = e
+too_wide_front fault.Memory o p e = tt
+
+pub wide_first : (why : ShrinkFault) (row : Row) (a : List (ℕ × ℕ)) → a ≡ row.a → IsTooWide why (wide (combination_of a))
+    → IsTooWide why (wide_in (constraint_of row))
+wide_first why row a p e =
+    too_wide_front why (wide (combination_of row.a)) _ (subst (λ terms. IsTooWide why (wide (combination_of terms))) p e)
+
+pub wide_second : (why : ShrinkFault) (row : Row) (a b : List (ℕ × ℕ)) → a ≡ row.a → b ≡ row.b → wide (combination_of a) ≡ None
+    → IsTooWide why (wide (combination_of b)) → IsTooWide why (wide_in (constraint_of row))
+wide_second why row a b p q first e =
+    let others = option_or (wide (combination_of row.b)) (wide (combination_of row.c)) in
+    subst (λ o. IsTooWide why (option_or o others)) (sym first ∙ ap (λ terms. wide (combination_of terms)) p)
+    (too_wide_front why (wide (combination_of row.b)) _ (subst (λ terms. IsTooWide why (wide (combination_of terms))) q e))
+
+pub wide_third : (why : ShrinkFault) (row : Row) (a b c : List (ℕ × ℕ)) → a ≡ row.a → b ≡ row.b → c ≡ row.c → wide (combination_of a) ≡ None
+    → wide (combination_of b) ≡ None → IsTooWide why (wide (combination_of c)) → IsTooWide why (wide_in (constraint_of row))
+wide_third why row a b c p q r first second e =
+    let last = wide (combination_of row.c) in
+    subst (λ o. IsTooWide why (option_or o (option_or (wide (combination_of row.b)) last))) (sym first ∙ ap (λ terms. wide (combination_of terms)) p)
+    (subst (λ o. IsTooWide why (option_or o last)) (sym second ∙ ap (λ terms. wide (combination_of terms)) q)
+    (subst (λ terms. IsTooWide why (wide (combination_of terms))) r e))
+
+-- a refusal that says what is wrong leaves all as it was
+pub still_halted : (old new : Outside) (name : List ℕ) (why : ShrinkFault) → new ≡ old → Leaves why old old → Halted old new name why
+still_halted old new name why is leaves =
+    let here = stopped_here old name refusal.Memory (record { known = λ same. absurd (cc) }) in
+    subst (λ outside. Halted old outside name why) (sym is) (record { only = here.only; there = here.there; leaves = leaves })
+
 -- a constraint that is too wide leaves all as it was
 pub wide_halted : (outside : Outside) (name : List ℕ) (why : ShrinkFault) (found : Option ℕ) → IsTooWide why found → Halted outside outside name why
 wide_halted outside name (fault.Bad at why) found e = absurd e
 wide_halted outside name (fault.Terms has) found e = absurd e
-wide_halted outside name (fault.Combination has) found e =
-    let here = stopped_here outside name refusal.Memory (record { known = λ is. absurd (cc) }) in
-    record { only = here.only; there = here.there; leaves = refl }
+wide_halted outside name (fault.Combination has) found e = still_halted outside outside name (fault.Combination has) refl refl
 wide_halted outside name fault.Fault found e = absurd e
-wide_halted outside name fault.Memory found e = halted outside outside name refusal.Memory
-    (stopped_here outside name refusal.Memory (record { known = λ is. absurd (cc) }))
+wide_halted outside name fault.Memory found e = still_halted outside outside name fault.Memory refl (inl refl)
 
 -- where reading has returned some constraints, they are the system's first
 is_front : (reached : Reached) (file : List ℕ) (done : List Constraint) (system : System) → IsAt reached file done → r1cs_system file ≡ Ok system

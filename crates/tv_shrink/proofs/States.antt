@@ -27,12 +27,18 @@ unchanged s w at r lacks =
     sym (ap (set s.pass.rows at) (row-lacking-same w r (get_or s.pass.rows at None) lacks) ∙ set-get_or s.pass.rows at None) in
     ap (λ rows. record { publics = s.publics; pass = record { rows = rows; gone = s.pass.gone } }) same
 
+-- once more is filed
+pub kept_more : (publics : ℕ) (rows : List (Option Constraint)) (may next : ℕ → ℕ → Bool) → IsKept publics rows may
+    → ((v i : ℕ) → may v i ≡ true → next v i ≡ true) → IsKept publics rows next
+kept_more publics rows may next kept more =
+    record { normal = kept.normal; covers = λ i v above has. more v i (kept.covers i v above has); few = kept.few }
+
 -- once a wire is replaced in a constraint, or memory ran out, all are normal, and filed
 module _ (publics w at : ℕ) (r : Combination) (rows : List (Option Constraint)) (may next : ℕ → ℕ → Bool)
     (kept : IsKept publics rows may) (lacks : has_wire w r ≡ false) (more : (v i : ℕ) → may v i ≡ true → next v i ≡ true)
     (added : (v : ℕ) → publics ≤ v → has_wire v r ≡ true → next v at ≡ true) where
   kept_filed : IsKept publics rows next
-  kept_filed = record { normal = kept.normal; covers = λ i v above has. more v i (kept.covers i v above has); few = kept.few }
+  kept_filed = kept_more publics rows may next kept more
 
   kept_changed : IsKept publics (set rows at (option_map (replaced_in w r) (get_or rows at None))) next
   kept_changed =

@@ -2,10 +2,11 @@
 
 ghost use Rattle.std.specs.Prelude.{◌≡◌, ◌+◌, ◌≤◌, ◌<◌, ◌++◌, true, length, None};
 ghost use Rattle.std.specs.Prelude.{OnOk, OnErr, IfOk, IfErr};
-ghost use Rattle.tv_r1cs_read.specs.Rows.{combination_of};
-ghost use Rattle.tv_shrink.specs.Answers.{wide, IsTooWide};
+ghost use Rattle.tv_r1cs_read.specs.Rows.{combination_of, constraint_of};
+ghost use Rattle.tv_shrink.specs.Answers.{wide, wide_in, IsTooWide};
 ghost use Rattle.tv_shrink.specs.Renumbering.{moved};
-ghost use Rattle.tv_core.specs.Normal.{normal, IsNormalFrom, IsNormalConstraint};
+ghost use Rattle.tv_core.specs.Normal.{normal, normal_constraint, IsNormalFrom};
+ghost use Rattle.tv_core.specs.Normal.{IsNormalConstraint};
 ghost use Rattle.tv_shrink.specs.Substitution.{fits, fits_in, replaced, replaced_in};
 ghost use Rattle.tv_shrink.specs.Spans.{end_of, laid, row_at, row_terms, span_of, IsFree};
 
@@ -35,9 +36,9 @@ impl Span {
         ensures few { (length result.a < 256) × (length result.b < 256) × (length result.c < 256) }
     {
         let start = self.start as usize;
-        let b = start + usize::from(self.a);
-        let c = b + usize::from(self.b);
-        let end = c + usize::from(self.c);
+        let b = start + self.a as usize;
+        let c = b + self.b as usize;
+        let end = c + self.c as usize;
         Row {
             a: &terms[start..b],
             b: &terms[b..c],
@@ -69,6 +70,29 @@ pub(crate) fn append_narrow(
         return Err(ShrinkFault::Combination { has: has as u64 });
     }
     Ok(has as u8)
+}
+
+/// Appends a constraint that was read, made normal, and returns where its terms lie; refused where
+/// a combination has more than 128 terms then. `scratch` is for its use.
+#[inline(always)]
+pub(crate) fn append_read(
+    scratch: &mut Vec<(u32, F)>,
+    out: &mut Vec<(F, Wire)>,
+    row: &tv_r1cs_read::Row,
+) -> Result<Span, ShrinkFault>
+    ensures out { OnOk result (out.new.items
+        ≡ out.old.items ++ row_terms (normal_constraint (constraint_of row.now))) }
+    ensures made { IfOk result (λ made. made
+        ≡ span_of (length out.old.items) (normal_constraint (constraint_of row.now))) }
+    ensures longer { length out.old.items ≤ length out.new.items }
+    ensures narrow { OnOk result (wide_in (constraint_of row.now) ≡ None) }
+    ensures err { IfErr result (λ fault. IsTooWide fault (wide_in (constraint_of row.now))) }
+{
+    let start = place_behind(out)?;
+    let a = append_narrow(scratch, out, row.a.as_slice())?;
+    let b = append_narrow(scratch, out, row.b.as_slice())?;
+    let c = append_narrow(scratch, out, row.c.as_slice())?;
+    Ok(Span { start, a, b, c })
 }
 
 // Appends a combination after a substitution, and returns how many terms it has then.
@@ -116,7 +140,10 @@ pub(crate) fn put_replaced(
 pub(crate) fn place_behind(terms: &[(F, Wire)]) -> Result<u32, AllocError>
     ensures { IfOk result (λ place. place ≡ length terms.now) }
 {
-    u32::try_from(terms.len()).map_err(|_| AllocError)
+    match u32::try_from(terms.len()) {
+        Ok(place) => Ok(place),
+        Err(_) => Err(AllocError),
+    }
 }
 
 /// Puts terms over those of a constraint, if they are no more, or else after all others, and
@@ -132,7 +159,7 @@ pub(crate) fn lay(
         (length new.now)) }
     ensures err { OnErr result (terms.new.items ≡ terms.old.items) }
 {
-    let size = usize::from(span.a) + usize::from(span.b) + usize::from(span.c);
+    let size = span.a as usize + span.b as usize + span.c as usize;
     if new.len() <= size {
         let start = span.start as usize;
         terms[start..start + new.len()].copy_from_slice(new);
@@ -143,15 +170,24 @@ pub(crate) fn lay(
     Ok(start)
 }
 
-/// Appends the terms of a constraint.
-pub(crate) fn append_terms(out: &mut Vec<(F, Wire)>, row: &Row<'_>) -> Result<(), AllocError>
-    ensures out { OnOk result (out.new.items ≡ out.old.items ++ row_terms row.now) }
-    ensures longer { length out.old.items ≤ length out.new.items }
+/// Appends the terms of a constraint that lie among others, and returns where they lie then.
+pub(crate) fn append_copy(
+    out: &mut Vec<(F, Wire)>,
+    span: &Span,
+    terms: &[(F, Wire)],
+) -> Result<Span, AllocError>
+    requires { end_of span.now ≤ length terms.now }
+    ensures out { OnOk result (out.new.items
+        ≡ out.old.items ++ row_terms (row_at terms.now span.now)) }
+    ensures made { IfOk result (λ made. made
+        ≡ span_of (length out.old.items) (row_at terms.now span.now)) }
 {
-    out.extend_from_slice(row.a)?;
-    out.extend_from_slice(row.b)?;
-    out.extend_from_slice(row.c)?;
-    Ok(())
+    let start = place_behind(out)?;
+    let Row { a, b, c } = span.row(terms);
+    out.extend_from_slice(a)?;
+    out.extend_from_slice(b)?;
+    out.extend_from_slice(c)?;
+    Ok(Span { start, ..*span })
 }
 
 /// Gives each wire its new number.

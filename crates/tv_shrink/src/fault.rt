@@ -8,7 +8,7 @@ use thiserror::Error;
 use tv_container::{ReadRefusal, ReadWhy};
 
 /// Why a system is not shrunk.
-#[derive(Clone, Copy, PartialEq, Eq, Debug, Error)]
+#[derive(Clone, Copy, Debug, Error)]
 pub enum ShrinkFault {
     /// The file's first fault, at this byte.
     #[error("byte {at}: {why}")]

@@ -193,12 +193,13 @@ impl Row<'_> {
         ensures { IfOk result (λ linear. linear_form self.now
             ≡ (if linear then Some out.new.items else None)) }
     {
-        if let Some(factor) = constant_in(self.a) {
-            subtract(out, factor, self.b, self.c)?;
+        let (a, b, c) = (self.a, self.b, self.c);
+        if let Some(factor) = constant_in(a) {
+            subtract(out, factor, b, c)?;
             return Ok(true);
         }
-        if let Some(factor) = constant_in(self.b) {
-            subtract(out, factor, self.a, self.c)?;
+        if let Some(factor) = constant_in(b) {
+            subtract(out, factor, a, c)?;
             return Ok(true);
         }
         Ok(false)

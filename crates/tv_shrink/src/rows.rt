@@ -1,6 +1,6 @@
 //! The constraints of a pass.
 
-ghost use Rattle.std.specs.Prelude.{◌≡◌, ◌+◌, ◌<◌, ◌++◌, [], ◌∷◌, true, length, None, Some};
+ghost use Rattle.std.specs.Prelude.{◌≡◌, ◌+◌, ◌<◌, ◌++◌, [], ◌∷◌, true, length, map, None, Some};
 ghost use Rattle.std.specs.Prelude.{slice_index_or, slice_set, OnOk, OnErr, IfOk, IfErr};
 ghost use Rattle.std.specs.Option.{option_map};
 ghost use Rattle.tv_r1cs_read.specs.Rows.{constraint_of};
@@ -9,12 +9,10 @@ ghost use Rattle.tv_shrink.specs.Renumbering.{moved_rows};
 ghost use Rattle.tv_core.specs.Normal.{normal_constraint};
 ghost use Rattle.tv_shrink.specs.Pass.{row_fits};
 ghost use Rattle.tv_shrink.specs.Substitution.{replaced_in};
-ghost use Rattle.tv_shrink.specs.Spans.{row_at, IsInside};
+ghost use Rattle.tv_shrink.specs.Spans.{row_at, AreLaid, IsInside};
 ghost use Rattle.tv_shrink.specs.Tidy.{RowsAreNormal, RowIsNormal};
 
-use crate::arena::{
-    Span, append_narrow, append_terms, lay, place_behind, put_replaced, renumber_terms,
-};
+use crate::arena::{Span, append_copy, append_read, lay, put_replaced, renumber_terms};
 use crate::fault::ShrinkFault;
 use crate::numbers::Numbers;
 use crate::row::Row;
@@ -106,33 +104,8 @@ impl Rows {
         ensures narrow { OnOk result (wide_in (constraint_of row.now) ≡ None) }
         ensures err { IfErr result (λ fault. IsTooWide fault (wide_in (constraint_of row.now))) }
     {
-        let start = place_behind(&self.terms)?;
-        let a = append_narrow(scratch, &mut self.terms, row.a.as_slice())?;
-        let b = append_narrow(scratch, &mut self.terms, row.b.as_slice())?;
-        let c = append_narrow(scratch, &mut self.terms, row.c.as_slice())?;
-        self.spans.push(Some(Span { start, a, b, c }))?;
-        self.wanted = self.terms.len();
-        Ok(())
-    }
-
-    // Appends a constraint whose terms lie among these, or one that was dropped.
-    fn push(&mut self, span: &Option<Span>, terms: &[(F, Wire)]) -> Result<(), AllocError>
-        requires { IsInside (length terms.now) span.now }
-        ensures { OnOk result (self.new ≡ self.old
-            ++ option_map (row_at terms.now) span.now ∷ []) }
-    {
-        let Some(span) = span else {
-            self.spans.push(None)?;
-            return Ok(());
-        };
-        let start = place_behind(&self.terms)?;
-        append_terms(&mut self.terms, &span.row(terms))?;
-        self.spans.push(Some(Span {
-            start,
-            a: span.a,
-            b: span.b,
-            c: span.c,
-        }))?;
+        let span = append_read(scratch, &mut self.terms, row)?;
+        self.spans.push(Some(span))?;
         self.wanted = self.terms.len();
         Ok(())
     }
@@ -141,11 +114,17 @@ impl Rows {
     fn compacted(&self) -> Result<Rows, AllocError>
         ensures { IfOk result (λ rows. rows ≡ self.now) }
     {
-        let mut rows = Rows::new(self.alloc);
+        let mut spans = Vec::new(self.alloc);
+        let mut terms = Vec::new(self.alloc);
         for span in &self.spans {
-            rows.push(span, &self.terms)?;
+            copy(&mut spans, &mut terms, span, &self.terms)?;
         }
-        Ok(rows)
+        Ok(Rows {
+            alloc: self.alloc,
+            spans,
+            wanted: terms.len(),
+            terms,
+        })
     }
 
     /// Leaves out the terms that no constraint has any more, once there may be more of them than of
@@ -215,4 +194,27 @@ impl Rows {
     {
         renumber_terms(&mut self.terms, numbers);
     }
+}
+
+// Appends a constraint whose terms lie among others, or one that was dropped.
+fn copy(
+    spans: &mut Vec<Option<Span>>,
+    terms: &mut Vec<(F, Wire)>,
+    span: &Option<Span>,
+    from: &[(F, Wire)],
+) -> Result<(), AllocError>
+    requires inside { IsInside (length from.now) span.now }
+    requires laid { AreLaid (length terms.old.items) spans.old.items }
+    ensures laid { OnOk result (AreLaid (length terms.new.items) spans.new.items) }
+    ensures rows { OnOk result (map (option_map (row_at terms.new.items)) spans.new.items
+        ≡ map (option_map (row_at terms.old.items)) spans.old.items
+        ++ option_map (row_at from.now) span.now ∷ []) }
+{
+    let Some(span) = span else {
+        spans.push(None)?;
+        return Ok(());
+    };
+    let made = append_copy(terms, span, from)?;
+    spans.push(Some(made))?;
+    Ok(())
 }

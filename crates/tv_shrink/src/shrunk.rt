@@ -16,7 +16,7 @@ use tv_core::Wire;
 /// A system with fewer private wires, as `shrink` makes it of another one. Contracts see it as the
 /// shrunk system, the old number of each of its wires, and how many wires the old system had.
 ///
-/// Its memory is that of its terms, of as many more at most that replacements left behind, and of
+/// Its memory is that of its terms, of at most as many places that replacements left empty, and of
 /// one number for each wire that is gone.
 #[derive(Drop)]
 pub struct Shrunk {

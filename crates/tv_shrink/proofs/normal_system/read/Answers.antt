@@ -1,4 +1,4 @@
-use Rattle.std.proofs.Common.{◌≡◌, ◌++◌, ◌∷◌, [], Some, Ok, arith, sym, ap, subst, ◌∙◌, rules, length}
+use Rattle.std.proofs.Common.{◌≡◌, ◌++◌, ◌∷◌, [], Some, Ok, arith, sym, ap, subst, ◌∙◌, refl, rules, length}
 use Rattle.std.proofs.lemmas.Result.{err_from_is_err_and}
 use Rattle.std.proofs.lemmas.List.{length_push}
 use Rattle.std.proofs.lemmas.Option.{MatchOption-at_none, MatchOption-at_some}
@@ -7,7 +7,7 @@ use Rattle.tv_files.specs.Outside.{Outside}
 use Rattle.tv_r1cs_read.specs.Places.{system_with}
 use Rattle.tv_r1cs_read.specs.R1cs.{r1cs_system}
 use Rattle.tv_r1cs_read.specs.Rows.{constraint_of, IsOver}
-use Rattle.tv_shrink.specs.Answers.{counted_system, wide_in, HaltsBy}
+use Rattle.tv_shrink.specs.Answers.{counted_system, wide_in, FaultMeans, HaltsBy}
 use Rattle.tv_core.specs.Normal.{normal_constraint}
 use Rattle.tv_shrink.specs.Tidy.{RowsAreNormal, AreWithin, RowIsWithin}
 use Rattle.tv_shrink.proofs.Elements.{each_pushed}
@@ -17,16 +17,20 @@ use Rattle.tv_shrink.proofs.normal_system.read.Goals as goal
 
 pub loop-scratch-init : goal.loop-scratch-init
 loop-scratch-init g c = record {
-  same = search rules;
-  outside = search rules;
-  name = search rules;
+  same = refl;
+  outside = refl;
+  name = refl;
   on = c.in-Ok.ensures.begun.stopped;
-  header = search rules;
+  header = refl;
   counted = omega (arith, ap length c.new-rows.ensures);
   within = subst (AreWithin c.in-Ok.reader.progress.header.wires) (sym c.new-rows.ensures) tt;
   normal = subst RowsAreNormal (sym c.new-rows.ensures) tt;
   place = λ file begun start. ([], start, c.new-rows.ensures, no_wide);
 }
+
+pub returns-in-Err-clause-gives : goal.returns-in-Err-clause-gives
+returns-in-Err-clause-gives g c = λ file known.
+    subst (λ why. FaultMeans why file) (sym c.from.ensures) (read_means c.in-Err.unread.why file (c.in-Err.ensures.gives file known).1)
 
 pub returns-in_err-next_into-clause-gives : goal.returns-in_err-next_into-clause-gives
 returns-in_err-next_into-clause-gives g c = λ file known.
@@ -53,10 +57,10 @@ loop-scratch-preserved g c =
     let counts = rw c.if-branch.true at c.in_ok-next_into.ensures.counts in
     let one = constraint_of c.next_into.new.row in
     record {
-      same = search rules;
+      same = c.in_ok-next_into.ensures.same ∙ c.loop-scratch.invariant.same;
       outside = MatchOption-at_none _ _ c.in_ok-next_into.ensures.reports (c.in_ok-next_into.ensures.steps.looks c.loop-scratch.invariant.on)
           ∙ c.loop-scratch.invariant.outside;
-      name = search rules;
+      name = c.in_ok-next_into.ensures.name ∙ c.loop-scratch.invariant.name;
       on = c.in_ok-next_into.ensures.reports;
       header = c.in_ok-next_into.ensures.steps.header ∙ c.loop-scratch.invariant.header;
       counted = omega (

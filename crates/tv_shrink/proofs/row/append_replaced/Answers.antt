@@ -1,4 +1,4 @@
-use Rattle.std.proofs.Common.{◌≡◌, ◌++◌, is_some, sym, ◌∙◌, ap, append_assoc, subst}
+use Rattle.std.proofs.Common.{◌++◌, is_some, sym, ◌∙◌, ap, append_assoc, subst}
 use Rattle.std.proofs.lemmas.Result.{on_ok_weaker}
 use Rattle.tv_core.specs.Normal.{IsNormalFrom}
 use Rattle.tv_shrink.specs.Substitution.{replaced}

@@ -1,4 +1,4 @@
-use Rattle.std.proofs.Common.{ℕ, ◌≡◌, ◌≤◌, ◌%◌, ◌∙◌, None, true, false, inl, inr, sym, ap, subst, arith, eqb, eqb-true, get_or, length, set, reverse}
+use Rattle.std.proofs.Common.{ℕ, ◌≡◌, ◌≤◌, ◌%◌, ◌∙◌, None, true, inl, inr, sym, ap, subst, arith, eqb, eqb-true, get_or, length, set, reverse}
 use Rattle.std.specs.List.{list_any}
 use Rattle.std.proofs.lemmas.Bool.{or_cases}
 use Rattle.tv_shrink.specs.Pass.{row_fits}
@@ -6,6 +6,7 @@ use Rattle.tv_shrink.specs.Substitution.{Replacement}
 use Rattle.tv_shrink.specs.declared.substitution.Substitution.TheInside.{Inside}
 use Rattle.std.proofs.lemmas.Nat.{mod_below}
 use Rattle.tv_shrink.specs.Occurrences.{has_row, rows_from}
+use Rattle.tv_shrink.proofs.Elements.{never}
 use Rattle.tv_shrink.proofs.OccurrenceLaws.{head_inside, rows_from-at, rows_from-none, seen}
 use Rattle.tv_shrink.proofs.occurrences.Occurrences.misfit.Goals as goal
 use Rattle.tv_shrink.proofs.occurrences.Occurrences.misfit.Goals.{After-index-number}
@@ -59,7 +60,7 @@ returns-clause-none c e i any =
     let end : c.loop-number.number ≡ 0 = omega (arith, c.loop-number-test.false) in
     elim (c.loop-number.invariant.seen i (sym ((head (goal.at.returns-clause-none c).After-index-number).1 i) ∙ any)) [
       | inl fits ↦ fits
-      | inr later ↦ absurd (let no : false ≡ true = sym
+      | inr later ↦ absurd (never (sym
           (ap (list_any (λ p. eqb p i)) (ap (rows_from (reverse c.self.inside.entries.items)) end ∙ rows_from-none (reverse c.self.inside.entries.items)))
-          ∙ later in cc)
+          ∙ later))
     ]

@@ -1,5 +1,7 @@
-use Rattle.std.proofs.Common.{◌≡◌, ◌+◌, ◌-◌, ◌∙◌, ℕ, refl, sym, rules, arith, ap, ap₂, length}
+use Rattle.std.proofs.Common.{◌≡◌, ◌+◌, ◌-◌, ◌∙◌, ℕ, refl, sym, rules, arith, ap, ap₂, length, subst}
 use Rattle.std.specs.List.{filter_map}
+use Rattle.std.specs.List.Sorted.{IsStrictlyIncreasing}
+use Rattle.std.specs.Prelude.{is_err}
 use Rattle.std.proofs.lemmas.Result.{err_from_is_err_and}
 use Rattle.tv_container.proofs.Streamed.{not_created}
 use Rattle.tv_core.proofs.Chain.{puts_then, puts_then_refused}
@@ -12,6 +14,7 @@ use Rattle.tv_r1cs_write.specs.Streams.{begun, stream, stream_meaning, SystemPro
 use Rattle.tv_r1cs_write.specs.declared.stream.StreamSink.{StreamSink}
 use Rattle.tv_shrink.specs.Emission.{rows_circuit, wires_circuit}
 use Rattle.tv_r1cs_write.specs.Shrunken.{shrunken_bytes}
+use Rattle.tv_shrink.specs.Tidy.{AreWithin}
 use Rattle.tv_shrink.proofs.Puts.{circuit_of, circuit_list, circuit_next}
 use Rattle.tv_shrink.proofs.shrunk.Shrunk.write.Given as given
 use Rattle.tv_shrink.proofs.shrunk.Shrunk.write.Goals as goal
@@ -55,6 +58,53 @@ is_begun g c =
       wires_fit = omega arith;
       constraints_fit = omega (arith, c.count_rows-tally.ensures.few, c.self.invariant.4);
     }
+
+-- the wires and constraints that the sink begins with
+first_wire : (g : given.Over) (c : In-Ok g) → (stream g.D.Files.seen c.in-Ok.sink).progress.wires ≡ 1 + c.self.inside.outputs + c.self.inside.inputs
+first_wire g c = ap (λ (p : SystemProgress). p.wires) c.in-Ok.ensures.begins.begun
+
+no_constraint : (g : given.Over) (c : In-Ok g) → (stream g.D.Files.seen c.in-Ok.sink).progress.constraints ≡ 0
+no_constraint g c = ap (λ (p : SystemProgress). p.constraints) c.in-Ok.ensures.begins.begun
+
+pub begin_labelled-requires-clause-wires : goal.begin_labelled-requires-clause-wires
+begin_labelled-requires-clause-wires g c = c.self.invariant.0
+
+pub begin_labelled-requires-clause-terms : goal.begin_labelled-requires-clause-terms
+begin_labelled-requires-clause-terms g c = omega (arith, c.count_rows-tally.ensures.bound, c.self.invariant.4)
+
+pub make_wires-requires : goal.make_wires-requires
+make_wires-requires g c =
+    let ok = (goal.at.make_wires-requires g c).In-Ok in
+    record {
+      room = record {
+        whole = ap (λ (p : SystemProgress). is_err p.outcome) c.in-Ok.ensures.begins.begun;
+        constant = omega (arith, first_wire g ok);
+        wires = omega (arith, first_wire g ok, c.self.invariant.0);
+        constraints = omega (arith, no_constraint g ok);
+      };
+    }
+
+pub put_rows-requires-clause-room : goal.put_rows-requires-clause-room
+put_rows-requires-clause-room g c =
+    let ok = (goal.at.put_rows-requires-clause-room g c).In-Ok in
+    let grown = c.make_wires.ensures.grows in
+    record {
+      whole = grown.whole;
+      constant = omega (arith, first_wire g ok, grown.wires);
+      wires = omega (arith, first_wire g ok, grown.wires, c.self.invariant.0);
+      constraints = omega (arith, no_constraint g ok, grown.constraints, c.self.invariant.4);
+    }
+
+pub put_rows-requires-clause-within : goal.put_rows-requires-clause-within
+put_rows-requires-clause-within g c =
+    let ok = (goal.at.put_rows-requires-clause-within g c).In-Ok in
+    subst (λ n. AreWithin n c.self.inside.rows) (omega (arith, first_wire g ok, c.make_wires.ensures.grows.wires, c.self.invariant.0)) c.self.invariant.3
+
+pub finish_without-requires-clause-whole : goal.finish_without-requires-clause-whole
+finish_without-requires-clause-whole g c = c.in_ok-put_rows.ensures.whole
+
+pub finish_without-requires-clause-rising : goal.finish_without-requires-clause-rising
+finish_without-requires-clause-rising g c = subst IsStrictlyIncreasing (sym c.deref.ensures.value) c.self.invariant.2
 
 pub returns-in-Err : goal.returns-in-Err
 returns-in-Err g c =

@@ -1,10 +1,29 @@
-use Rattle.std.proofs.Common.{◌∙◌, None, ap, get_or, sym}
+use Rattle.std.proofs.Common.{◌∙◌, None, ap, arith, get_or, length, subst, sym}
+use Rattle.std.proofs.lemmas.List.{get_or_past}
+use Rattle.tv_shrink.specs.Pass.{row_fits}
 use Rattle.tv_shrink.specs.Substitution.{Replacement}
 use Rattle.tv_shrink.specs.Occurrences.{has_row}
-use Rattle.tv_shrink.specs.Tidy.{row_has, State}
+use Rattle.tv_shrink.specs.Tidy.{row_has, RowIsNormal, State}
+use Rattle.tv_shrink.proofs.Elements.{each_at}
 use Rattle.tv_shrink.proofs.Passes.{lacks_below}
-use Rattle.tv_shrink.proofs.States.{kept_replaced, unchanged}
+use Rattle.tv_shrink.proofs.States.{kept_more, kept_replaced, unchanged}
 use Rattle.tv_shrink.proofs.state.State.replace_at.Goals as goal
+
+pub row_has-requires : goal.row_has-requires
+row_has-requires c = subst RowIsNormal (sym c.get.ensures) (each_at RowIsNormal c.self.inside.rows c.args.at None tt c.self.invariant.normal)
+
+pub replace-requires-clause-normal : goal.replace-requires-clause-normal
+replace-requires-clause-normal c = each_at RowIsNormal c.self.inside.rows c.args.at None tt c.self.invariant.normal
+
+pub replace-requires-clause-fits : goal.replace-requires-clause-fits
+replace-requires-clause-fits c =
+    ap (λ (s : State). row_fits c.args.by.now.wire c.args.by.now.terms (get_or s.pass.rows c.args.at None)) c.self.view_is ∙ c.requires
+
+pub returns-then-at-len : goal.returns-then-at-len
+returns-then-at-len c =
+    unchanged c.args.self.now c.args.by.now.wire c.args.at c.args.by.now.terms
+    (ap (row_has c.args.by.now.wire) (get_or_past c.args.self.now.pass.rows c.args.at None
+    (omega (arith, c.if-at-len.true, c.len.ensures, ap (λ (s : State). length s.pass.rows) c.self.view_is))))
 
 pub returns-then-not-row_has : goal.returns-then-not-row_has
 returns-then-not-row_has c =
@@ -12,6 +31,10 @@ returns-then-not-row_has c =
     (ap (λ (s : State). row_has c.args.by.now.wire (get_or s.pass.rows c.args.at None)) (sym c.self.view_is)
     ∙ ap (row_has c.args.by.now.wire) (sym c.get.ensures)
     ∙ ap (λ (s : Replacement). row_has s.wire c.get.result) (sym c.by.view_is) ∙ sym c.row_has.ensures ∙ c.if-not-row_has.true)
+
+pub invariant_of-self : goal.invariant_of-self
+invariant_of-self c =
+    kept_more c.self.inside.publics c.self.inside.rows (has_row c.self.inside.occurrences) (has_row c.file.new.self) c.self.invariant c.file.ensures.more
 
 pub invariant_of-self-2 : goal.invariant_of-self-2
 invariant_of-self-2 c =

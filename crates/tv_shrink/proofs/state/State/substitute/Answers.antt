@@ -14,6 +14,15 @@ use Rattle.tv_shrink.proofs.state.State.substitute.Goals as goal
 lacks : {w : ℕ} {r : Combination} {s : Replacement} → record { wire = w; terms = r } ≡ s → IsReplacement w r → has_wire s.wire s.terms ≡ false
 lacks {w = w} {r = r} view is = ap (λ (s : Replacement). has_wire s.wire s.terms) (sym view) ∙ lacks_below w r is.below
 
+pub loop-at-init : goal.loop-at-init
+loop-at-init c = record { publics = refl; gone = refl; each = refl; so_far = λ i. refl }
+
+pub invariant_of-self : goal.invariant_of-self
+invariant_of-self c = c.self-2.invariant
+
+pub invariant_of-self-2 : goal.invariant_of-self-2
+invariant_of-self-2 c = c.self-2.invariant
+
 pub replace_at-requires : goal.replace_at-requires
 replace_at-requires c =
     let at = get_or c.deref-at-items.result.now c.loop-at.at-index 0 in
