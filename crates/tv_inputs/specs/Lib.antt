@@ -2,6 +2,7 @@ pub mod Accumulation
 pub mod Inputs
 pub mod OpcodeSums
 pub mod Operand
+pub mod Results
 pub mod Rows
 pub mod States
 pub mod Tapes

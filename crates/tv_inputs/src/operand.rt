@@ -1,7 +1,9 @@
 //! The operand of an instruction.
 ghost use Rattle.std.specs.Prelude.{◌≡◌, ◌+◌, ◌-◌, ◌≤◌, ◌<◌, ◌^◌, ◌++◌, false, length, max, IfOk};
 ghost use Rattle.std.specs.Prelude.{OnOk, [], ◌∷◌};
-ghost use Rattle.tv_core.specs.Combinations.{top, wire};
+ghost use Rattle.tv_bits.specs.Bits.{bits_combination};
+ghost use Rattle.tv_core.specs.Circuits.{put};
+ghost use Rattle.tv_core.specs.Combinations.{constant, top, wire};
 ghost use Rattle.tv_core.specs.Values.{GivesIn};
 ghost use Rattle.tv_core.specs.Sinks.{PutsIn, Grows, Room};
 ghost use Rattle.tv_core.specs.declared.field.TheConstants.{P};
@@ -39,11 +41,25 @@ pub fn put_operand<const W: u32, S: Sink>(
 {
     let word = put_word(s, scratch, imm, tail, register)?;
     let bits = new_bits_by(s, &mut scratch.a, W)?;
+    put_number(s, scratch, &bits, word)?;
+    Ok(OperandWires { word, bits })
+}
+
+// Holds a word to the number of its bits.
+#[inline]
+fn put_number<S: Sink>(s: &mut S, scratch: &mut Scratch, bits: &Bits, word: Wire) -> Put<()>
+    requires room { Room S.meaning s.old 0 1 }
+    requires short { bits.now.n ≤ 63 }
+    requires bits_made { bits.now.first + bits.now.n ≤ S.meaning.wires s.old }
+    requires word_made { word < S.meaning.wires s.old }
+    ensures puts { PutsIn S.meaning s.old s.new
+        (put (bits_combination bits.now.first bits.now.n) (constant 1) (wire word)) result }
+    ensures grows { IfOk result (λ _. Grows S.meaning s.old s.new 0 1) }
+{
     bits.set_number(&mut scratch.a);
     scratch.b.set_wire(Wire(0));
     scratch.c.set_wire(word);
-    s.put(&scratch.a, &scratch.b, &scratch.c)?;
-    Ok(OperandWires { word, bits })
+    s.put(&scratch.a, &scratch.b, &scratch.c)
 }
 
 // Constrains the word of an operand.

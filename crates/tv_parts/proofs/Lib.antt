@@ -4,8 +4,5 @@ pub mod MemoryFills
 pub mod MemoryLaws
 pub mod NormalFlag
 pub mod NormalMemory
-pub mod NormalPc
 pub mod NormalWritten
-pub mod PcFills
-pub mod PcLaws
 pub mod WrittenFills

@@ -1,4 +1,3 @@
 pub mod Flag
 pub mod Memory
-pub mod Pc
 pub mod Written

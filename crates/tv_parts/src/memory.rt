@@ -21,6 +21,7 @@ ghost use Rattle.tv_parts.specs.Memory.{line_values, byte_values, gained, new_va
 ghost use Rattle.tv_parts.specs.Memory.{memory_values};
 ghost use Rattle.tv_inputs.specs.Traced.{traced_view, traced_input, AreNumbers};
 ghost use Rattle.tv_isa.specs.Opcodes.{among, memory_ops};
+ghost use Rattle.tv_isa.specs.declared.opcode.TheConstants.{STORE_B, STORE_W};
 ghost use Rattle.tv_mem.specs.Bytes.{byte_of};
 ghost use Rattle.tv_numbers.specs.Numbers.{with_byte_in};
 ghost use Rattle.tv_word.specs.Widths.{IsWidth};
@@ -90,12 +91,33 @@ fn put_line<const W: u32, S: Sink>(
     let before = state.taken_of_primary;
     let located = put_located::<W, S>(s, scratch, op, a)?;
     let cell = put_cell(s, scratch, before, located, tapes.taken)?;
+    let old = put_old(s, scratch, op, before, tapes.taken, word)?;
+    Ok(LineWires { cell, old })
+}
+
+// Constrains the word in the cell before the step: `word`, or 0 where the step has no cell.
+#[inline]
+fn put_old<S: Sink>(
+    s: &mut S,
+    scratch: &mut Scratch,
+    op: Wire,
+    before: Wire,
+    taken: Wire,
+    word: Wire,
+) -> Put<Wire>
+    requires room { Room S.meaning s.old 1 1 }
+    requires op_made { op + 29 ≤ S.meaning.wires s.old }
+    requires wires_made { max before (max taken word) < S.meaning.wires s.old }
+    ensures puts { PutsIn S.meaning s.old s.new (times_of ((P - 1, before) ∷ (opcode_sum op
+        memory_ops ++ wire taken)) (wire word)) result }
+    ensures grows { IfOk result (λ _. Grows S.meaning s.old s.new 1 1) }
+    ensures below { IfOk result (λ w. w < S.meaning.wires s.new) }
+{
     set_minus(&mut scratch.a, before);
     plus_opcodes(&mut scratch.a, F::ONE, op, &MEMORY_OPS);
-    scratch.a.plus(F::ONE, tapes.taken);
+    scratch.a.plus(F::ONE, taken);
     scratch.b.set_wire(word);
-    let old = times_by(s, &mut scratch.c, &scratch.a, &scratch.b)?;
-    Ok(LineWires { cell, old })
+    times_by(s, &mut scratch.c, &scratch.a, &scratch.b)
 }
 
 // Constrains the cell of a load or store.
@@ -232,12 +254,48 @@ fn put_new<const W: u32, S: Sink>(
     ensures below { IfOk result (λ w. w < S.meaning.wires s.new) }
 {
     let change = put_change::<W, S>(s, scratch, d, a.bits.first, byte)?;
+    let changed = put_changed(s, scratch, op, change)?;
+    put_after(s, scratch, op, d, line.old, changed)
+}
+
+// Constrains what the word gains at store.b, else 0.
+#[inline]
+fn put_changed<S: Sink>(s: &mut S, scratch: &mut Scratch, op: Wire, change: Wire) -> Put<Wire>
+    requires room { Room S.meaning s.old 1 1 }
+    requires op_made { op + 29 ≤ S.meaning.wires s.old }
+    requires change_made { change < S.meaning.wires s.old }
+    ensures puts { PutsIn S.meaning s.old s.new (times_of (opcode_sum op (STORE_B ∷ []))
+        (wire change)) result }
+    ensures grows { IfOk result (λ _. Grows S.meaning s.old s.new 1 1) }
+    ensures below { IfOk result (λ w. w < S.meaning.wires s.new) }
+{
     scratch.a.set_wire(opcode_wire(op, STORE_B));
     scratch.b.set_wire(change);
-    let changed = times_by(s, &mut scratch.c, &scratch.a, &scratch.b)?;
+    times_by(s, &mut scratch.c, &scratch.a, &scratch.b)
+}
+
+// Constrains the word after the step: the other word at store.w, else what it was and gains.
+#[inline]
+fn put_after<S: Sink>(
+    s: &mut S,
+    scratch: &mut Scratch,
+    op: Wire,
+    d: &DataWires,
+    old: Wire,
+    changed: Wire,
+) -> Put<Wire>
+    requires room { Room S.meaning s.old 1 1 }
+    requires op_made { op + 29 ≤ S.meaning.wires s.old }
+    requires wires_made { max (max d.now.other d.now.word) (max old changed)
+        < S.meaning.wires s.old }
+    ensures puts { PutsIn S.meaning s.old s.new (accumulated_of (wire old ++ wire changed)
+        (opcode_sum op (STORE_W ∷ [])) ((1, d.now.other) ∷ (P - 1, d.now.word) ∷ [])) result }
+    ensures grows { IfOk result (λ _. Grows S.meaning s.old s.new 1 1) }
+    ensures below { IfOk result (λ w. w < S.meaning.wires s.new) }
+{
     scratch.a.set_wire(opcode_wire(op, STORE_W));
     scratch.b.set_difference(d.other, d.word);
-    set_minus(&mut scratch.c, line.old);
+    set_minus(&mut scratch.c, old);
     scratch.c.plus(-F::ONE, changed);
     accumulated(s, &mut scratch.c, &scratch.a, &scratch.b)
 }

@@ -1,6 +1,9 @@
 //! The registers after a step.
 ghost use Rattle.std.specs.Prelude.{◌≡◌, ◌+◌, ◌≤◌, ◌<◌, ◌^◌, ◌==◌, if◌then◌else◌, false};
-ghost use Rattle.std.specs.Prelude.{IfOk, OnOk};
+ghost use Rattle.std.specs.Prelude.{IfOk, OnOk, [], ◌∷◌};
+ghost use Rattle.tv_core.specs.Combinations.{wire};
+ghost use Rattle.tv_inputs.specs.Accumulation.{accumulated_of};
+ghost use Rattle.tv_inputs.specs.OpcodeSums.{opcode_sum};
 ghost use Rattle.tv_core.specs.Values.{GivesIn};
 ghost use Rattle.tv_core.specs.Sinks.{PutsIn, Grows, Room};
 ghost use Rattle.tv_parts.specs.Written.{written_of};
@@ -50,8 +53,29 @@ pub fn put_written<S: Sink>(
     ensures grows { IfOk result (λ _. Grows S.meaning s.old s.new 17 18) }
     ensures below { IfOk result (λ made. wires_top made ≤ S.meaning.wires s.new) }
 {
+    let on = put_on(s, scratch, op, state.flag)?;
+    let write = Write {
+        on,
+        dest: regs.dest,
+        word: regs.dest_word,
+        value: result_word,
+    };
+    update_register(s, scratch, &write, &state.regs)
+}
+
+// Constrains whether the destination is written.
+#[inline]
+fn put_on<S: Sink>(s: &mut S, scratch: &mut Scratch, op: Wire, flag: Wire) -> Put<Wire>
+    requires room { Room S.meaning s.old 1 1 }
+    requires op_made { op + 29 ≤ S.meaning.wires s.old }
+    requires flag_made { flag < S.meaning.wires s.old }
+    ensures puts { PutsIn S.meaning s.old s.new (accumulated_of (opcode_sum op writer_ops)
+        (opcode_sum op (CMOV ∷ [])) (wire flag)) result }
+    ensures grows { IfOk result (λ _. Grows S.meaning s.old s.new 1 1) }
+    ensures below { IfOk result (λ w. w < S.meaning.wires s.new) }
+{
     scratch.a.set_wire(opcode_wire(op, CMOV));
-    scratch.b.set_wire(state.flag);
+    scratch.b.set_wire(flag);
     scratch.c.clear();
     plus_opcodes(
         &mut scratch.c,
@@ -62,14 +86,7 @@ pub fn put_written<S: Sink>(
             LOAD_W, READ,
         ],
     );
-    let on = accumulated(s, &mut scratch.c, &scratch.a, &scratch.b)?;
-    let write = Write {
-        on,
-        dest: regs.dest,
-        word: regs.dest_word,
-        value: result_word,
-    };
-    update_register(s, scratch, &write, &state.regs)
+    accumulated(s, &mut scratch.c, &scratch.a, &scratch.b)
 }
 
 /// Assigns the 17 values of the wires that `put_written` makes.

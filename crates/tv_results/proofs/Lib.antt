@@ -1,10 +1,6 @@
-pub mod ArithmeticCounts
-pub mod ArithmeticFills
-pub mod ArithmeticLaws
-pub mod ArithmeticNumbers
-pub mod NormalArithmetic
+pub mod NormalPc
 pub mod NormalResults
-pub mod OpcodeCases
+pub mod PcFills
+pub mod PcLaws
 pub mod ResultFills
 pub mod ResultLaws
-pub mod ShiftTests

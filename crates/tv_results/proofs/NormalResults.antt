@@ -20,7 +20,7 @@ use Rattle.tv_results.proofs.ResultFills.{result_answer, result_next}
 use Rattle.tv_inputs.proofs.UpperLaws.{upper_normal, upper_top}
 use Rattle.tv_inputs.specs.OpcodeSums.{opcode_terms, opcode_sum}
 use Rattle.tv_inputs.specs.Operand.{upper_of}
-use Rattle.tv_results.specs.Results.{low_ops, high_ops, parts_in, signs_in, result_of, tested_of, results_of, sign_of}
+use Rattle.tv_inputs.specs.Results.{low_ops, high_ops, parts_in, signs_in, result_of, tested_of, results_of, sign_of}
 use Rattle.tv_inputs.specs.TestNumbers.{zero_ops, carry_ops, place_bits}
 use Rattle.tv_inputs.specs.declared.records.OperandWires.{OperandWires}
 use Rattle.tv_inputs.specs.declared.records.Sources.{Sources}

@@ -38,10 +38,10 @@ use Rattle.tv_inputs.specs.Inputs.{input_of}
 use Rattle.tv_inputs.specs.OpcodeSums.{opcode_sum}
 use Rattle.tv_inputs.specs.Operand.{upper_of}
 use Rattle.tv_inputs.specs.Rows.{covers}
-use Rattle.tv_results.specs.Results.{low_ops, high_ops, parts_in, signs_in, result_of, tested_of, results_of}
+use Rattle.tv_inputs.specs.Results.{low_ops, high_ops, parts_in, signs_in, result_of, tested_of, results_of}
 use Rattle.tv_inputs.specs.TestNumbers.{zero_ops, carry_ops, place_bits, tested_numbers}
-use Rattle.tv_results.specs.Results.{HasSources, ResultsAreSound, low_part, high_part, moved_part, result_number, tested_number, results_values}
-use Rattle.tv_results.specs.Results.{ResultsAreComplete, ResultsSizes, ResultsCosts}
+use Rattle.tv_inputs.specs.Results.{HasSources, ResultsAreSound, low_part, high_part, moved_part, result_number, tested_number, results_values}
+use Rattle.tv_inputs.specs.Results.{ResultsAreComplete, ResultsSizes, ResultsCosts}
 use Rattle.tv_inputs.specs.Tapes.{took}
 use Rattle.tv_inputs.specs.declared.records.OperandWires.{OperandWires}
 use Rattle.tv_inputs.specs.declared.records.ResultWires.{ResultWires}

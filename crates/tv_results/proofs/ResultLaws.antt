@@ -1,10 +1,10 @@
 -- The numbers of a step's result.
 use Rattle.std.proofs.Common.{◌≡◌, ℕ, ◌+◌, ◌-◌, ◌*◌, ◌/◌, ◌%◌, ◌^◌, ◌<◌, ◌==◌, Bool, true, false, if◌then◌else◌, [], ◌∷◌, drop, refl, sym, ◌∙◌, ap}
-use Rattle.std.proofs.Common.{ap₂, subst, arith}
+use Rattle.std.proofs.Common.{ap₂, subst, arith, bit_and, bit_or, bit_xor}
 use Rattle.std.specs.Int.{bit_at}
+use Rattle.std.specs.Int.Bits.{or_add_and, xor_add_and}
 use Rattle.tv_core.specs.declared.field.TheConstants.{P}
 use Rattle.tv_isa.specs.Opcodes.{among, chosen, writer_ops}
-use Rattle.tv_rows.proofs.DigitNumbers.{or_sum}
 use Rattle.tv_mem.specs.Bytes.{byte_of}
 use Rattle.tv_numbers.proofs.Cases.{EachOf, each_of}
 use Rattle.tv_numbers.specs.Tables.{results}
@@ -13,7 +13,7 @@ use Rattle.tv_word.proofs.WidthLaws.{for_widths}
 use Rattle.tv_word.specs.Widths.{IsWidth}
 use Rattle.tv_inputs.proofs.FieldNumbers.{small_word, byte_small, either}
 use Rattle.tv_inputs.specs.TestNumbers.{zero_ops, carry_ops, place_bits}
-use Rattle.tv_results.specs.Results.{result_number, tested_number}
+use Rattle.tv_inputs.specs.Results.{result_number, tested_number}
 use Rattle.tv_inputs.specs.Rows.{covers, low_halves, high_halves, AreHalves}
 
 two_words : (w : ℕ) → IsWidth w → (u v : ℕ) → u < 2 ^ w → v < 2 ^ w → (u + v + 0 + 0) % P ≡ u + v
@@ -22,6 +22,9 @@ two_words w width = for_widths (λ w. (u v : ℕ) → u < 2 ^ w → v < 2 ^ w �
 complement : (w : ℕ) → IsWidth w → (a : ℕ) → a < 2 ^ w → (0 + 0 + (P - a) % P + (2 ^ w - 1)) % P ≡ 2 ^ w - 1 - a
 complement w width = for_widths (λ w. (a : ℕ) → a < 2 ^ w → (0 + 0 + (P - a) % P + (2 ^ w - 1)) % P ≡ 2 ^ w - 1 - a) (λ a h. omega arith)
     (λ a h. omega arith) w width
+
+or_sum : (a b : ℕ) → bit_or a b ≡ bit_and a b + bit_xor a b
+or_sum a b = omega (arith, or_add_and a b, xor_add_and a b)
 
 one_low : (u : ℕ) → u < P → (u + 0 + 0 + 0) % P ≡ u
 one_low u h = omega arith

@@ -1,2 +1,1 @@
-pub mod Arithmetic
-pub mod Results
+pub mod Pc

@@ -1,11 +1,10 @@
-//! The arithmetic of a step, one row of bits that holds what its operation makes, and the step's
-//! result, which is chosen from that row. Each has its circuit, its code, its values and its laws.
+//! The result of a step, which is chosen from the row that its arithmetic made, the number whose
+//! test for 0 is its flag, and the program counter. Each has its code, its values and its laws; the
+//! circuit of the result stands in `tv_inputs`.
 #![tactic(auto)]
 
-mod arithmetic;
+mod pc;
 mod results;
 
-pub use arithmetic::{
-    arithmetic_laws, decomposed_word, fill_arithmetic, put_arithmetic, row_halves,
-};
+pub use pc::{fill_pc, pc_laws, put_pc};
 pub use results::{put_results, results_laws, results_values, set_sign};

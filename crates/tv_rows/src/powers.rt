@@ -15,7 +15,7 @@ use tv_core::{F, Lc, Put, Scratch, Sink, Values, Wire, give_values};
 use tv_word::arithmetic::power;
 
 /// Two to the power of a distance's remainder by the width of a word.
-#[derive(Clone, Copy, PartialEq, Eq, Debug)]
+#[derive(Clone, Copy)]
 pub struct ShiftPower {
     /// The product of the distance's two lowest bits.
     pub both: Wire,

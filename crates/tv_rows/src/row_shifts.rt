@@ -1,7 +1,8 @@
 //! The shift of a word to the right in a row of twice its width.
 ghost use Rattle.std.specs.Prelude.{◌≡◌, ◌+◌, ◌*◌, ◌≤◌, ◌<◌, false, IfOk, OnOk};
 ghost use Rattle.tv_bits.specs.DoubleRow.{row_number};
-ghost use Rattle.tv_core.specs.Combinations.{top};
+ghost use Rattle.tv_bits.specs.Times.{times_of};
+ghost use Rattle.tv_core.specs.Combinations.{wire, top};
 ghost use Rattle.tv_core.specs.Values.{GivesIn};
 ghost use Rattle.tv_core.specs.Sinks.{PutsIn, Grows, Room};
 ghost use Rattle.tv_rows.specs.RowShift.{right_shift_of, right_shift_values};
@@ -35,10 +36,7 @@ pub fn right_shift<const W: u32, S: Sink>(
     ensures puts { PutsIn S.meaning s.old s.new (right_shift_of W gate.now v power row.now) result }
     ensures grows { IfOk result (λ _. Grows S.meaning s.old s.new 1 2) }
 {
-    scratch.a.clear();
-    scratch.a.plus_terms(&row.number::<W>());
-    scratch.b.set_wire(power);
-    let product = times_by(s, &mut scratch.c, &scratch.a, &scratch.b)?;
+    let product = row_times::<W, S>(s, scratch, power, row)?;
     gated(
         s,
         scratch,
@@ -46,6 +44,29 @@ pub fn right_shift<const W: u32, S: Sink>(
         &[(F::of(1 << W), v)],
         &[(F::ONE, product)],
     )
+}
+
+// Makes a wire that is the product of the row's number and the wire `power`.
+#[inline]
+fn row_times<const W: u32, S: Sink>(
+    s: &mut S,
+    scratch: &mut Scratch,
+    power: Wire,
+    row: &DoubleRow,
+) -> Put<Wire>
+    requires width { IsWidth W }
+    requires room { Room S.meaning s.old 1 1 }
+    requires power_made { power < S.meaning.wires s.old }
+    requires row_made { top (row_number W row.now) ≤ S.meaning.wires s.old }
+    ensures puts { PutsIn S.meaning s.old s.new (times_of (row_number W row.now) (wire power))
+        result }
+    ensures grows { IfOk result (λ _. Grows S.meaning s.old s.new 1 1) }
+    ensures below { IfOk result (λ product. product < S.meaning.wires s.new) }
+{
+    scratch.a.clear();
+    scratch.a.plus_terms(&row.number::<W>());
+    scratch.b.set_wire(power);
+    times_by(s, &mut scratch.c, &scratch.a, &scratch.b)
 }
 
 /// Assigns the value of the wire that `right_shift` makes for a row's halves and a power.

@@ -13,15 +13,13 @@ unfolding operand_of bits_of
 returns-in_err-bits-clause-puts g c =
     refused _ _ _ _ _ c.from_residual-in_err-bits.ensures.1 (some_then _ c.in_ok-word.ensures.puts (some_first _ (some_first _ c.in_err-bits.ensures.puts)))
 
-pub returns-in_err-put-clause-puts : goal.returns-in_err-put-clause-puts
+pub returns-in_err-put_number-clause-puts : goal.returns-in_err-put_number-clause-puts
 unfolding operand_of bits_of
-returns-in_err-put-clause-puts g c =
-    let p2 = rw (c.set_number.ensures.terms, c.set_wire.ensures.terms, c.set_wire-2.ensures.terms) at c.in_err-put.ensures.puts in
-    refused _ _ _ _ _ c.from_residual-in_err-put.ensures.1
-    (some_then _ c.in_ok-word.ensures.puts (some_first _ (some_then _ c.in_ok-bits.ensures.puts (some_first _ p2))))
+returns-in_err-put_number-clause-puts g c =
+    refused _ _ _ _ _ c.from_residual-in_err-put_number.ensures.1
+    (some_then _ c.in_ok-word.ensures.puts (some_first _ (some_then _ c.in_ok-bits.ensures.puts (some_first _ c.in_err-put_number.ensures.puts))))
 
 pub returns-clause-puts : goal.returns-clause-puts
 unfolding operand_of bits_of
 returns-clause-puts g c =
-    let p2 = rw (c.set_number.ensures.terms, c.set_wire.ensures.terms, c.set_wire-2.ensures.terms) at c.in_ok-put.ensures.puts in
-    all_then _ c.in_ok-word.ensures.puts (all_then _ (all_then _ c.in_ok-bits.ensures.puts (all_then _ p2 all_pure)) all_pure)
+    all_then _ c.in_ok-word.ensures.puts (all_then _ (all_then _ c.in_ok-bits.ensures.puts (all_then _ c.in_ok-put_number.ensures.puts all_pure)) all_pure)

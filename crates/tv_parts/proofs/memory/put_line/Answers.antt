@@ -14,12 +14,10 @@ returns-in_err-cell-clause-puts g c =
 pub returns-in_err-old-clause-puts : goal.returns-in_err-old-clause-puts
 unfolding located_line
 returns-in_err-old-clause-puts g c =
-    let p2 = rw (c.plus.ensures.terms, c.plus_opcodes.ensures.terms, c.set_minus.ensures.terms, c.set_wire.ensures.terms) at c.in_err-old.ensures.puts in
     refused _ _ _ _ _ c.from_residual-in_err-old.ensures.1 (some_then _ c.in_ok-located.ensures.puts (some_then _ c.in_ok-cell.ensures.puts
-    (some_first _ p2)))
+    (some_first _ c.in_err-old.ensures.puts)))
 
 pub returns-clause-puts : goal.returns-clause-puts
 unfolding located_line
 returns-clause-puts g c =
-    let p2 = rw (c.plus.ensures.terms, c.plus_opcodes.ensures.terms, c.set_minus.ensures.terms, c.set_wire.ensures.terms) at c.in_ok-old.ensures.puts in
-    all_then _ c.in_ok-located.ensures.puts (all_then _ c.in_ok-cell.ensures.puts (all_then _ p2 all_pure))
+    all_then _ c.in_ok-located.ensures.puts (all_then _ c.in_ok-cell.ensures.puts (all_then _ c.in_ok-old.ensures.puts all_pure))

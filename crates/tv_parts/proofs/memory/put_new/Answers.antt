@@ -11,13 +11,9 @@ returns-in_err-change-clause-puts g c =
 pub returns-in_err-changed-clause-puts : goal.returns-in_err-changed-clause-puts
 unfolding new_of
 returns-in_err-changed-clause-puts g c =
-    let p1 = rw (c.set_wire.ensures.terms, c.set_wire-2.ensures.terms, c.opcode_wire.ensures) at c.in_err-changed.ensures.puts in
-    refused _ _ _ _ _ c.from_residual-in_err-changed.ensures.1 (some_then _ c.in_ok-change.ensures.puts (some_first _ p1))
+    refused _ _ _ _ _ c.from_residual-in_err-changed.ensures.1 (some_then _ c.in_ok-change.ensures.puts (some_first _ c.in_err-changed.ensures.puts))
 
 pub returns-clause-puts : goal.returns-clause-puts
 unfolding new_of
 returns-clause-puts g c =
-    let p1 = rw (c.set_wire.ensures.terms, c.set_wire-2.ensures.terms, c.opcode_wire.ensures) at c.in_ok-changed.ensures.puts in
-    let sum = rw (c.set_wire-3.ensures.terms, c.opcode_wire-2.ensures, c.set_difference.ensures.terms) at c.accumulated.ensures.puts in
-    let last = rw (c.plus.ensures.terms, c.set_minus.ensures.terms, c.neg.ensures) at sum in
-    puts_in_then _ _ _ _ _ _ _ _ c.in_ok-change.ensures.puts (puts_in_then _ _ _ _ _ _ _ _ p1 last)
+    puts_in_then _ _ _ _ _ _ _ _ c.in_ok-change.ensures.puts (puts_in_then _ _ _ _ _ _ _ _ c.in_ok-changed.ensures.puts c.put_after.ensures.puts)

@@ -1,6 +1,6 @@
 use Rattle.tv_core.proofs.Chain.{some_then, some_first, refused}
 use Rattle.tv_core.proofs.TailCalls.{puts_in_then}
-use Rattle.tv_results.specs.Results.{result_of}
+use Rattle.tv_inputs.specs.Results.{result_of}
 use Rattle.tv_results.proofs.results.put_result.Goals as goal
 
 pub returns-in_err-low-clause-puts : goal.returns-in_err-low-clause-puts

@@ -1,5 +1,5 @@
 use Rattle.tv_core.proofs.Chain.{all_then, some_then, some_first, all_pure, refused}
-use Rattle.tv_results.specs.Results.{results_of}
+use Rattle.tv_inputs.specs.Results.{results_of}
 use Rattle.tv_results.proofs.results.put_results.Goals as goal
 
 pub returns-in_err-word-clause-puts : goal.returns-in_err-word-clause-puts

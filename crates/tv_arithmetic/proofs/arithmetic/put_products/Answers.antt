@@ -1,0 +1,17 @@
+use Rattle.tv_core.proofs.Chain.{some_first, refused}
+use Rattle.tv_core.proofs.TailCalls.{puts_in_then}
+use Rattle.tv_arithmetic.specs.Arithmetic.{products_of}
+use Rattle.tv_arithmetic.proofs.arithmetic.put_products.Goals as goal
+
+pub returns-in_err-row_product-clause-puts : goal.returns-in_err-row_product-clause-puts
+unfolding products_of
+returns-in_err-row_product-clause-puts g c =
+    let p0 = rw c.set_opcodes.ensures.terms at c.in_err-row_product.ensures.puts in
+    refused _ _ _ _ _ c.from_residual.ensures.1 (some_first _ p0)
+
+pub returns-clause-puts : goal.returns-clause-puts
+unfolding products_of
+returns-clause-puts g c =
+    let p0 = rw c.set_opcodes.ensures.terms at c.in_ok-row_product.ensures.puts in
+    let p1 = rw (c.set_opcodes-2.ensures.terms, c.with_sign-left.ensures, c.with_sign-right.ensures) at c.row_signed_product.ensures.puts in
+    puts_in_then _ _ _ _ _ _ _ _ p0 p1

@@ -1,0 +1,23 @@
+use Rattle.tv_core.proofs.Chain.{some_then, some_first, refused}
+use Rattle.tv_core.proofs.TailCalls.{puts_in_then}
+use Rattle.tv_arithmetic.specs.Arithmetic.{sums_of}
+use Rattle.tv_arithmetic.proofs.arithmetic.put_sums.Goals as goal
+
+pub returns-in_err-row_sum-clause-puts : goal.returns-in_err-row_sum-clause-puts
+unfolding sums_of
+returns-in_err-row_sum-clause-puts g c =
+    let p0 = rw c.set_opcodes.ensures.terms at c.in_err-row_sum.ensures.puts in
+    refused _ _ _ _ _ c.from_residual.ensures.1 (some_first _ p0)
+
+pub returns-in_err-put_difference-clause-puts : goal.returns-in_err-put_difference-clause-puts
+unfolding sums_of
+returns-in_err-put_difference-clause-puts g c =
+    let p0 = rw c.set_opcodes.ensures.terms at c.in_ok-row_sum.ensures.puts in
+    refused _ _ _ _ _ c.from_residual-in_err-put_difference.ensures.1 (some_then _ p0 (some_first _ c.in_err-put_difference.ensures.puts))
+
+pub returns-clause-puts : goal.returns-clause-puts
+unfolding sums_of
+returns-clause-puts g c =
+    let p0 = rw c.set_opcodes.ensures.terms at c.in_ok-row_sum.ensures.puts in
+    let p2 = rw c.set_opcodes-2.ensures.terms at c.bitwise.ensures.puts in
+    puts_in_then _ _ _ _ _ _ _ _ p0 (puts_in_then _ _ _ _ _ _ _ _ c.in_ok-put_difference.ensures.puts p2)

@@ -1,0 +1,24 @@
+use Rattle.tv_core.proofs.Chain.{some_then, some_first, refused}
+use Rattle.tv_core.proofs.TailCalls.{puts_in_then}
+use Rattle.tv_results.specs.Pc.{pc_of}
+use Rattle.tv_results.proofs.pc.put_pc.Goals as goal
+
+pub returns-in_err-wraps-clause-puts : goal.returns-in_err-wraps-clause-puts
+unfolding pc_of
+returns-in_err-wraps-clause-puts g c =
+    let p0 = rw c.opcode_wire-answers.ensures at c.in_err-wraps.ensures.puts in
+    refused _ _ _ _ _ c.from_residual.ensures.1 (some_first _ p0)
+
+pub returns-in_err-by_flag-clause-puts : goal.returns-in_err-by_flag-clause-puts
+unfolding pc_of
+returns-in_err-by_flag-clause-puts g c =
+    let p0 = rw c.opcode_wire-answers.ensures at c.in_ok-wraps.ensures.puts in
+    refused _ _ _ _ _ c.from_residual-in_err-by_flag.ensures.1 (some_then _ p0 (some_first _ c.in_err-by_flag.ensures.puts))
+
+pub returns-clause-puts : goal.returns-clause-puts
+unfolding pc_of
+returns-clause-puts g c =
+    let p0 = rw c.opcode_wire-answers.ensures at c.in_ok-wraps.ensures.puts in
+    let q2 = rw (c.set_taken.ensures.terms, c.set_jump.ensures.terms, c.set_after.ensures.terms) at c.accumulated.ensures.puts in
+    let p2 = rw c.opcode_wire-answers.ensures at q2 in
+    puts_in_then _ _ _ _ _ _ _ _ p0 (puts_in_then _ _ _ _ _ _ _ _ c.in_ok-by_flag.ensures.puts p2)
