@@ -1,3 +1,4 @@
 pub mod FieldsLaws
 pub mod InstructionLaws
 pub mod NormalLaws
+mod Rooms

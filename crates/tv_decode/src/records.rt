@@ -3,7 +3,7 @@ use tv_bits::Bits;
 use tv_core::Wire;
 
 /// The fields of an instruction: a bit, and the first wires of rows of which one wire is 1.
-#[derive(Clone, Copy, PartialEq, Eq, Debug)]
+#[derive(Clone, Copy)]
 pub struct Fields {
     /// The opcode's row, of 32 wires.
     pub op: Wire,
@@ -18,7 +18,7 @@ pub struct Fields {
 }
 
 /// The wires of an instruction of two words of `W` bits.
-#[derive(Clone, Copy, PartialEq, Eq, Debug)]
+#[derive(Clone, Copy)]
 pub struct InstructionWires {
     /// The bits of the first word below its opcode, `W - 5`.
     pub low: Bits,

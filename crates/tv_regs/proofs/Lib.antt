@@ -1,3 +1,5 @@
+mod Alike
+mod Rooms
 pub mod Gates
 pub mod NormalLaws
 pub mod ReadLaws

@@ -26,7 +26,7 @@ use tv_bits::{Bits, kept_by, pick_by, ratio_by, times_by};
 use tv_core::{F, Lc, Put, Scratch, Sink, Values, Wire, give_values, give_words};
 
 /// The numbers of three registers, four bits each. Contracts see their numbers.
-#[derive(Clone, Copy, PartialEq, Eq, Debug)]
+#[derive(Clone, Copy)]
 pub struct Names {
     /// The destination's.
     pub dest: Bits,
@@ -38,7 +38,7 @@ pub struct Names {
 
 /// Three registers, of sixteen: the one that a store or another instruction takes its word from,
 /// the one that the second word names, and the destination. Contracts see their numbers.
-#[derive(Clone, Copy, PartialEq, Eq, Debug)]
+#[derive(Clone, Copy)]
 pub struct Triple {
     /// The destination's number.
     pub dest: Wire,

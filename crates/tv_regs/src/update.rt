@@ -17,7 +17,7 @@ use tv_bits::plus_row;
 use tv_core::{F, Lc, Put, Scratch, Sink, Values, Wire, give_words};
 
 /// The wires of a write to one register. Contracts see their numbers.
-#[derive(Clone, Copy, PartialEq, Eq, Debug)]
+#[derive(Clone, Copy)]
 pub struct Write {
     /// 1 where the register is written, 0 where none is.
     pub on: Wire,

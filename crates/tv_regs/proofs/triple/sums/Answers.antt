@@ -1,5 +1,7 @@
 use Rattle.tv_core.proofs.Chain.{refused, all_then, all_pure, some_then, some_first}
 use Rattle.tv_regs.specs.Triple.{sums_of}
+use Rattle.tv_regs.proofs.Rooms.{top_number, top_more, top_wire, short_number, short_more, low, high, first_room, second_room, third_room, fourth_room}
+use Rattle.tv_regs.proofs.Rooms.{rise1, rise2, rise3, pair_rises, sums_grow, roots_under}
 use Rattle.tv_regs.proofs.triple.sums.Goals as goal
 
 pub returns-in_err-sum-clause-puts : goal.returns-in_err-sum-clause-puts
@@ -40,3 +42,68 @@ returns-clause-puts g c =
     let pairs = rw (c.plus-3.ensures.terms, c.set_number-2.ensures.terms) at c.in_ok-pairs.ensures.puts in
     let product = rw (c.set_wire-2.ensures.terms, c.set_wire-3.ensures.terms) at c.in_ok-product.ensures.puts in
     all_then _ sum (all_then _ pair (all_then _ pairs (all_then _ product all_pure)))
+
+pub plus-requires : goal.plus-requires
+plus-requires g c = short_number c.set_number.ensures.len c.requires.named_short
+
+pub plus-requires-2 : goal.plus-requires-2
+plus-requires-2 g c = short_more c.plus.ensures.len c.set_number.ensures.len c.requires.named_short
+
+pub kept_by-requires : goal.kept_by-requires
+kept_by-requires g c =
+    let r = c.requires in
+    let number = top_number _ c.set_number.ensures.top r.named_short r.named_made in
+    record {
+      room = first_room r.room;
+      x_made = top_more c.plus-2.ensures.top (top_more c.plus.ensures.top number r.dest_made) r.other_made;
+    }
+
+pub times_by-requires : goal.times_by-requires
+times_by-requires g c =
+    let r = c.requires in
+    let g1 = c.in_ok-sum.ensures.grows in
+    let rise = rise1 r.room g1 in
+    record {
+      room = second_room r.room g1;
+      x_made = top_wire c.set_wire.ensures.top (low r.other_made rise);
+      y_made = top_number _ c.set_number-2.ensures.top r.named_short (high r.named_made rise);
+    }
+
+pub plus-requires-3 : goal.plus-requires-3
+plus-requires-3 g c = short_number c.set_number-2.ensures.len c.requires.named_short
+
+pub pairs-requires : goal.pairs-requires
+pairs-requires g c =
+    let r = c.requires in
+    let g1 = c.in_ok-sum.ensures.grows in
+    let g2 = c.in_ok-pair.ensures.grows in
+    let rise = rise2 r.room g1 g2 in
+    let number = top_number _ c.set_number-2.ensures.top r.named_short (high r.named_made rise) in
+    record {
+      room = third_room r.room g1 g2;
+      x_made = top_more c.plus-3.ensures.top number (low r.other_made rise);
+      dest_made = low r.dest_made rise;
+      pair_made = c.in_ok-pair.ensures.below;
+    }
+
+pub times_by-requires-2 : goal.times_by-requires-2
+times_by-requires-2 g c =
+    let r = c.requires in
+    let g1 = c.in_ok-sum.ensures.grows in
+    let g2 = c.in_ok-pair.ensures.grows in
+    let g3 = c.in_ok-pairs.ensures.grows in
+    record {
+      room = fourth_room r.room g1 g2 g3;
+      x_made = top_wire c.set_wire-2.ensures.top (low c.in_ok-pair.ensures.below (pair_rises r.room g1 g2 g3));
+      y_made = top_wire c.set_wire-3.ensures.top (low r.dest_made (rise3 r.room g1 g2 g3));
+    }
+
+pub returns-clause-grows : goal.returns-clause-grows
+returns-clause-grows g c =
+    sums_grow c.requires.room c.in_ok-sum.ensures.grows c.in_ok-pair.ensures.grows c.in_ok-pairs.ensures.grows c.in_ok-product.ensures.grows
+
+pub returns-clause-below : goal.returns-clause-below
+returns-clause-below g c =
+    let r = c.requires in
+    roots_under r.room c.in_ok-sum.ensures.grows c.in_ok-pair.ensures.grows c.in_ok-pairs.ensures.grows c.in_ok-product.ensures.grows
+    r.dest_made r.other_made c.in_ok-sum.ensures.below c.in_ok-pairs.ensures.below c.in_ok-product.ensures.below
