@@ -11,24 +11,24 @@ use Rattle.tv_isa.specs.Opcodes.{store_ops}
 use Rattle.tv_regs.proofs.TripleLaws.{triple_sizes}
 use Rattle.tv_regs.specs.declared.triple.Triple.{Triple}
 use Rattle.tv_word.specs.Widths.{IsWidth}
-use Rattle.tv_results.proofs.ArithmeticCounts.{arithmetic_sizes}
+use Rattle.tv_arithmetic.proofs.ArithmeticCounts.{arithmetic_sizes}
 use Rattle.tv_parts.proofs.FlagFills.{flag_sizes}
 use Rattle.tv_parts.proofs.MemoryFills.{memory_sizes}
 use Rattle.tv_inputs.proofs.OperandLaws.{operand_sizes}
-use Rattle.tv_parts.proofs.PcFills.{pc_sizes}
+use Rattle.tv_results.proofs.PcFills.{pc_sizes}
 use Rattle.tv_results.proofs.ResultFills.{results_sizes}
 use Rattle.tv_inputs.proofs.TapeFills.{tapes_sizes}
 use Rattle.tv_parts.proofs.WrittenFills.{written_sizes}
-use Rattle.tv_results.specs.Arithmetic.{arithmetic_of}
+use Rattle.tv_arithmetic.specs.Arithmetic.{arithmetic_of}
 use Rattle.tv_block.specs.Block.{registers_of, computed_of, data_of, sources_of, effects_of, block_of}
 use Rattle.tv_block.specs.Complete.{block_made}
 use Rattle.tv_parts.specs.Flag.{next_flag_of}
 use Rattle.tv_parts.specs.Memory.{memory_of}
 use Rattle.tv_inputs.specs.OpcodeSums.{opcode_sum}
 use Rattle.tv_inputs.specs.Operand.{operand_of}
-use Rattle.tv_parts.specs.Pc.{pc_of}
+use Rattle.tv_results.specs.Pc.{pc_of}
 use Rattle.tv_block.specs.Places.{registers_at, operand_at, arithmetic_at, tapes_at, memory_at, results_at, written_at, flag_at, pc_at}
-use Rattle.tv_results.specs.Results.{sign_of, results_of}
+use Rattle.tv_inputs.specs.Results.{sign_of, results_of}
 use Rattle.tv_inputs.specs.Tapes.{tapes_of}
 use Rattle.tv_parts.specs.Written.{written_of}
 use Rattle.tv_inputs.specs.declared.records.ArithmeticWires.{ArithmeticWires}

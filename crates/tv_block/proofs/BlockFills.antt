@@ -26,27 +26,27 @@ use Rattle.tv_regs.proofs.TripleLaws.{triple_complete, triple_sizes}
 use Rattle.tv_regs.specs.Triple.{AreNumbers, other_number, triple_values}
 use Rattle.tv_word.proofs.FlagLaws.{flag_small}
 use Rattle.tv_word.specs.Widths.{IsWidth}
-use Rattle.tv_results.proofs.ArithmeticCounts.{arithmetic_sizes}
-use Rattle.tv_results.proofs.ArithmeticFills.{arithmetic_complete, decomposed_below}
-use Rattle.tv_results.proofs.ArithmeticLaws.{arithmetic_sound}
+use Rattle.tv_arithmetic.proofs.ArithmeticCounts.{arithmetic_sizes}
+use Rattle.tv_arithmetic.proofs.ArithmeticFills.{arithmetic_complete, decomposed_below}
+use Rattle.tv_arithmetic.proofs.ArithmeticLaws.{arithmetic_sound}
 use Rattle.tv_parts.proofs.FlagFills.{flag_complete, flag_sizes}
 use Rattle.tv_parts.proofs.MemoryFills.{memory_complete, memory_sizes}
 use Rattle.tv_inputs.proofs.OpcodeLaws.{opcode_sum_sound}
 use Rattle.tv_inputs.proofs.OperandLaws.{operand_complete, operand_sizes}
-use Rattle.tv_parts.proofs.PcFills.{pc_complete}
+use Rattle.tv_results.proofs.PcFills.{pc_complete}
 use Rattle.tv_results.proofs.ResultFills.{results_complete, results_sizes}
 use Rattle.tv_inputs.proofs.TapeFills.{tapes_filled, tapes_sizes}
 use Rattle.tv_parts.proofs.WrittenFills.{written_complete, written_sizes}
-use Rattle.tv_results.specs.Arithmetic.{shift_ops, division_ops, decomposed_word, arithmetic_values, sums_values, products_values, shifts_values}
-use Rattle.tv_results.specs.Arithmetic.{HasArithmetic, IsArithmetic}
+use Rattle.tv_arithmetic.specs.Arithmetic.{shift_ops, division_ops, decomposed_word, arithmetic_values, sums_values, products_values, shifts_values}
+use Rattle.tv_arithmetic.specs.Arithmetic.{HasArithmetic, IsArithmetic}
 use Rattle.tv_parts.specs.Flag.{sign_at, flag_values}
 use Rattle.tv_inputs.specs.Inputs.{input_of, operation_of}
 use Rattle.tv_parts.specs.Memory.{memory_values}
 use Rattle.tv_inputs.specs.OpcodeSums.{opcode_sum, IsOpcode}
 use Rattle.tv_inputs.specs.Operand.{operand_values, IsOperand}
-use Rattle.tv_parts.specs.Pc.{pc_values}
+use Rattle.tv_results.specs.Pc.{pc_values}
 use Rattle.tv_inputs.specs.TestNumbers.{place_bits}
-use Rattle.tv_results.specs.Results.{sign_of, result_number, tested_number, results_values}
+use Rattle.tv_inputs.specs.Results.{sign_of, result_number, tested_number, results_values}
 use Rattle.tv_inputs.specs.States.{state_in}
 use Rattle.tv_inputs.specs.Tapes.{took, tapes_values}
 use Rattle.tv_parts.specs.Written.{written_values}
@@ -57,7 +57,7 @@ use Rattle.tv_block.proofs.BlockLaws.{state_sixteen, other_below, Before, has_op
 use Rattle.tv_block.proofs.BlockLaws.{has_sources, results_in, has_flag, step_in}
 use Rattle.tv_block.proofs.PartLaws.{used_again, opcode_of_row, op_below, dest_below, source_below, among_each, AreRegisters, registers_sound}
 use Rattle.tv_block.proofs.PartLaws.{sign_value}
-use Rattle.tv_results.proofs.ShiftTests.{below_width}
+use Rattle.tv_arithmetic.proofs.ShiftTests.{below_width}
 use Rattle.tv_block.specs.Block.{computed_of, data_of, sources_of, effects_of, block_of, transition_in, IsStep}
 use Rattle.tv_block.specs.Complete.{BlockIsComplete}
 use Rattle.tv_block.specs.Values.{row_low, row_high, tested_in, test_in, effects_values, other_register, block_values}

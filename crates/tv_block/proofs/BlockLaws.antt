@@ -34,24 +34,24 @@ use Rattle.tv_numbers.specs.Views.{View, ViewInRange}
 use Rattle.tv_step.specs.Rows.{word_size}
 use Rattle.tv_word.proofs.WidthLaws.{for_widths}
 use Rattle.tv_word.specs.Widths.{IsWidth}
-use Rattle.tv_results.proofs.ArithmeticLaws.{arithmetic_sound}
+use Rattle.tv_arithmetic.proofs.ArithmeticLaws.{arithmetic_sound}
 use Rattle.tv_parts.proofs.FlagFills.{flag_sound}
 use Rattle.tv_parts.proofs.MemoryFills.{memory_sound}
 use Rattle.tv_inputs.proofs.OpcodeLaws.{opcode_wire_is}
 use Rattle.tv_inputs.proofs.OperandLaws.{operand_sound}
-use Rattle.tv_parts.proofs.PcFills.{pc_sound}
+use Rattle.tv_results.proofs.PcFills.{pc_sound}
 use Rattle.tv_results.proofs.ResultFills.{results_sound}
-use Rattle.tv_results.proofs.ShiftTests.{shift_test_sound}
+use Rattle.tv_arithmetic.proofs.ShiftTests.{shift_test_sound}
 use Rattle.tv_inputs.proofs.TapeFills.{flag_test}
 use Rattle.tv_inputs.proofs.TapeLaws.{tapes_sound}
-use Rattle.tv_results.specs.Arithmetic.{shift_ops, division_ops, arithmetic_of, IsArithmetic}
+use Rattle.tv_arithmetic.specs.Arithmetic.{shift_ops, division_ops, arithmetic_of, IsArithmetic}
 use Rattle.tv_parts.specs.Flag.{sign_at, next_flag_of, HasFlag}
 use Rattle.tv_inputs.specs.Inputs.{StepInput, input_of, operation_of}
 use Rattle.tv_parts.specs.Memory.{memory_of, AreStored}
 use Rattle.tv_inputs.specs.OpcodeSums.{IsOpcode}
 use Rattle.tv_inputs.specs.Operand.{operand_of, IsOperand, HasOperand}
-use Rattle.tv_parts.specs.Pc.{pc_of, HasPc}
-use Rattle.tv_results.specs.Results.{sign_of, results_of, HasSources, AreResults}
+use Rattle.tv_results.specs.Pc.{pc_of, HasPc}
+use Rattle.tv_inputs.specs.Results.{sign_of, results_of, HasSources, AreResults}
 use Rattle.tv_inputs.specs.TestNumbers.{zero_ops}
 use Rattle.tv_inputs.specs.States.{state_in}
 use Rattle.tv_inputs.specs.Tapes.{tapes_of, took, HasTapes, AreTapes}

@@ -15,22 +15,22 @@ use Rattle.tv_isa.specs.Opcodes.{store_ops}
 use Rattle.tv_regs.proofs.TripleLaws.{triple_sizes, triple_costs}
 use Rattle.tv_word.proofs.WidthLaws.{for_widths}
 use Rattle.tv_word.specs.Widths.{IsWidth}
-use Rattle.tv_results.proofs.ArithmeticCounts.{arithmetic_sizes, arithmetic_cost_laws}
+use Rattle.tv_arithmetic.proofs.ArithmeticCounts.{arithmetic_sizes, arithmetic_cost_laws}
 use Rattle.tv_parts.proofs.FlagFills.{flag_sizes, flag_costs}
 use Rattle.tv_parts.proofs.MemoryFills.{memory_sizes, memory_costs}
 use Rattle.tv_inputs.proofs.OperandLaws.{operand_sizes, operand_cost_laws}
-use Rattle.tv_parts.proofs.PcFills.{pc_sizes, pc_costs}
+use Rattle.tv_results.proofs.PcFills.{pc_sizes, pc_costs}
 use Rattle.tv_results.proofs.ResultFills.{results_sizes, results_costs}
 use Rattle.tv_inputs.proofs.Sized.{Sized, SizedAt, sized_then, sized_to, sized_from, sized_pure, sized_as}
 use Rattle.tv_inputs.proofs.TapeFills.{tapes_sizes, tapes_costs}
 use Rattle.tv_parts.proofs.WrittenFills.{written_sizes, written_costs}
-use Rattle.tv_results.specs.Arithmetic.{arithmetic_of}
+use Rattle.tv_arithmetic.specs.Arithmetic.{arithmetic_of}
 use Rattle.tv_parts.specs.Flag.{next_flag_of}
 use Rattle.tv_parts.specs.Memory.{memory_of}
 use Rattle.tv_inputs.specs.OpcodeSums.{opcode_sum}
 use Rattle.tv_inputs.specs.Operand.{operand_of}
-use Rattle.tv_parts.specs.Pc.{pc_of}
-use Rattle.tv_results.specs.Results.{sign_of, results_of}
+use Rattle.tv_results.specs.Pc.{pc_of}
+use Rattle.tv_inputs.specs.Results.{sign_of, results_of}
 use Rattle.tv_inputs.specs.Tapes.{tapes_of}
 use Rattle.tv_parts.specs.Written.{written_of}
 use Rattle.tv_inputs.specs.declared.records.OperandWires.{OperandWires}

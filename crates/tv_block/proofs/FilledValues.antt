@@ -1,21 +1,24 @@
 -- That the values made from a step's numbers are those of the step.
-use Rattle.std.proofs.Common.{◌≡◌, ℕ, ◌%◌, Bool, List, ◌∷◌, ◌++◌, ◌∙◌, ap, ap₂, append_assoc}
-use Rattle.tv_bits.specs.ZeroSign.{sign_at_zero}
+use Rattle.std.proofs.Common.{◌≡◌, ℕ, ◌%◌, Bool, List, ◌∷◌, ◌++◌, get_or, ◌∙◌, ap, ap₂, subst, append_assoc}
+use Rattle.tv_bits.specs.ZeroSign.{sign_at_zero, zero_sign_values}
+use Rattle.tv_core.specs.Values.{ValuesMeaning, GivesAll, GivesSome}
+use Rattle.tv_core.specs.declared.sink.SinkFault.{SinkFault}
 use Rattle.tv_decode.specs.Instructions.{instruction_values}
 use Rattle.tv_isa.specs.Instruction.{decode}
 use Rattle.tv_isa.specs.declared.instr.Instr.{Instr}
 use Rattle.tv_numbers.specs.Numbers.{operand_word, other_word, found, step_words}
 use Rattle.tv_numbers.specs.Views.{View}
-use Rattle.tv_results.specs.Arithmetic.{arithmetic_values}
+use Rattle.tv_parts.specs.Memory.{memory_values}
+use Rattle.tv_arithmetic.specs.Arithmetic.{decomposed_word, arithmetic_values}
 use Rattle.tv_parts.specs.Flag.{sign_at}
-use Rattle.tv_inputs.specs.Inputs.{input_of, operation_of}
+use Rattle.tv_inputs.specs.Inputs.{StepInput, input_of, operation_of}
 use Rattle.tv_inputs.specs.Operand.{operand_values}
-use Rattle.tv_results.specs.Results.{result_number, tested_number}
+use Rattle.tv_inputs.specs.Results.{result_number, tested_number, results_values}
 use Rattle.tv_inputs.specs.Tapes.{tapes_values}
 use Rattle.tv_inputs.specs.Traced.{AreNumbers}
 use Rattle.tv_inputs.specs.declared.step_numbers.StepNumbers.{StepNumbers}
 use Rattle.tv_regs.specs.Triple.{triple_values}
-use Rattle.tv_block.specs.Values.{row_low, row_high, other_register, effects_values, block_values}
+use Rattle.tv_block.specs.Values.{AreStepNumbers, row_low, row_high, tested_in, other_register, effects_values, block_values}
 
 -- four lists, the third before a number, as one list in front of a fifth
 joined : (i t o : List ℕ) (f : ℕ) (a rest : List ℕ) → (i ++ (t ++ (o ++ f ∷ a))) ++ rest ≡ i ++ (t ++ (o ++ f ∷ (a ++ rest)))
@@ -65,3 +68,34 @@ module _ (w n : ℕ) (v : View) (head tail word : ℕ) (takes : Bool) (step : St
       ∙ (ap₂ (λ (a x : ℕ). all step.n step.instr step.aux step.low step.high a x (test_at step.n step.instr step.aux step.low step.high))
       numbers.operand numbers.other
       ∙ alike (λ (m : ℕ) (i : Instr) (b : Bool) (l h : ℕ). all m i b l h (operand_word v i) (other_word v i) (test_at m i b l h)) count instr aux low high))
+
+-- ---- what a call gave, as the same list in other words
+module _ {V : Type 0} {m : ValuesMeaning V} {old new : V} {xs ys : List ℕ} (same : xs ≡ ys) where
+  pub all_as : GivesAll m old new xs → GivesAll m old new ys
+  all_as p = subst (λ (l : List ℕ). GivesAll m old new l) same p
+
+  pub some_as : {fault : SinkFault} → GivesSome m old new xs fault → GivesSome m old new ys fault
+  some_as {fault} p = subst (λ (l : List ℕ). GivesSome m old new l fault) same p
+
+-- three registers by two of their numbers
+pub registers_are : (b : ℕ) (words : List ℕ) {o k d i : ℕ} → o ≡ k → d ≡ i → triple_values o b d words ≡ triple_values k b i words
+registers_are b words p q = ap₂ (λ (x y : ℕ). triple_values x b y words) p q
+
+-- memory, the result and the sign of the test, by the numbers of a step
+module _ {w : ℕ} {v : View} {step : StepNumbers} (are : AreStepNumbers w v step) where
+  abbrev input : StepInput
+  input = input_of step.n v step.instr step.low
+
+  pub memory_is : memory_values w input step.decomposed
+      ≡ memory_values w input (decomposed_word w step.instr.op (other_word v step.instr) (operand_word v step.instr))
+  memory_is = ap (λ (x : ℕ). memory_values w input x)
+      (are.decomposed ∙ ap₂ (λ (x a : ℕ). decomposed_word w step.instr.op x a) are.numbers.other are.numbers.operand)
+
+  module _ {results : List ℕ} (by : results ≡ results_values w step.instr.op step.operand step.low step.high step.found) where
+    pub results_are : results
+        ≡ results_values w step.instr.op (operand_word v step.instr) step.low step.high (found w step.n v step.instr step.low step.aux)
+    results_are = by ∙ ap₂ (λ (a : ℕ) (b : Bool). results_values w step.instr.op a step.low step.high b) are.numbers.operand are.numbers.finds
+
+    pub signs_are : (other : ℕ) {sign : ℕ} → sign ≡ sign_at step.instr.op
+        → zero_sign_values (get_or results 4 other) sign ≡ zero_sign_values (tested_in w input step.high step.aux) (sign_at step.instr.op)
+    signs_are other q = ap₂ (λ (y s : ℕ). zero_sign_values y s) (ap (λ l. get_or l 4 other) results_are) q

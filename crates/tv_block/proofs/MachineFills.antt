@@ -22,7 +22,7 @@ use Rattle.tv_step.specs.Range.{AreWords}
 use Rattle.tv_step.specs.Reads.{reads_aux, word_taken}
 use Rattle.tv_step.specs.State.{State}
 use Rattle.tv_step.specs.Trace.{data_line as traced_line}
-use Rattle.tv_results.specs.Arithmetic.{low_number}
+use Rattle.tv_arithmetic.specs.Arithmetic.{low_number}
 use Rattle.tv_inputs.specs.States.{state_in}
 use Rattle.tv_inputs.specs.declared.records.StateWires.{StateWires}
 use Rattle.tv_block.proofs.BlockFills.{block_complete}

@@ -17,13 +17,13 @@ use Rattle.tv_regs.proofs.TripleLaws.{triple_sizes}
 use Rattle.tv_regs.specs.Triple.{triple_wires}
 use Rattle.tv_regs.specs.declared.triple.Triple.{Triple}
 use Rattle.tv_word.specs.Widths.{IsWidth}
-use Rattle.tv_results.proofs.ArithmeticCounts.{arithmetic_sizes}
-use Rattle.tv_results.proofs.NormalArithmetic.{arithmetic_normal}
+use Rattle.tv_arithmetic.proofs.ArithmeticCounts.{arithmetic_sizes}
+use Rattle.tv_arithmetic.proofs.NormalArithmetic.{arithmetic_normal}
 use Rattle.tv_parts.proofs.NormalFlag.{flag_normal}
 use Rattle.tv_parts.proofs.NormalMemory.{memory_normal}
 use Rattle.tv_inputs.proofs.NormalOpcodes.{opcode_sum_normal}
 use Rattle.tv_inputs.proofs.NormalOperand.{operand_normal}
-use Rattle.tv_parts.proofs.NormalPc.{pc_normal}
+use Rattle.tv_results.proofs.NormalPc.{pc_normal}
 use Rattle.tv_results.proofs.NormalResults.{SourcesRise, results_normal, sign_normal, sign_top}
 use Rattle.tv_inputs.proofs.NormalStates.{row_at}
 use Rattle.tv_inputs.proofs.NormalTapes.{tapes_normal}
@@ -32,7 +32,7 @@ use Rattle.tv_inputs.proofs.OperandLaws.{operand_sizes}
 use Rattle.tv_results.proofs.ResultFills.{results_sizes}
 use Rattle.tv_inputs.proofs.TapeFills.{tapes_sizes}
 use Rattle.tv_inputs.specs.OpcodeSums.{opcode_sum}
-use Rattle.tv_results.specs.Results.{sign_of}
+use Rattle.tv_inputs.specs.Results.{sign_of}
 use Rattle.tv_inputs.specs.States.{StateUnder, StateIsApart}
 use Rattle.tv_inputs.specs.declared.records.ArithmeticWires.{ArithmeticWires}
 use Rattle.tv_inputs.specs.declared.records.OperandWires.{OperandWires}

@@ -37,10 +37,10 @@ use Rattle.tv_inputs.proofs.TapeFills.{flag_test}
 use Rattle.tv_inputs.proofs.TapeLaws.{among_one}
 use Rattle.tv_parts.proofs.WrittenFills.{on_number, writes_among, regs_where, none_of}
 use Rattle.tv_inputs.specs.Accumulation.{accumulated_of}
-use Rattle.tv_results.specs.Arithmetic.{shift_ops, division_ops}
+use Rattle.tv_arithmetic.specs.Arithmetic.{shift_ops, division_ops}
 use Rattle.tv_parts.specs.Flag.{sign_at}
 use Rattle.tv_inputs.specs.OpcodeSums.{opcode_sum, opcode_terms, distinct, IsOpcode}
-use Rattle.tv_results.specs.Results.{sign_of}
+use Rattle.tv_inputs.specs.Results.{sign_of}
 use Rattle.tv_inputs.specs.States.{state_in}
 use Rattle.tv_parts.specs.Written.{written_of}
 use Rattle.tv_inputs.specs.declared.records.StateWires.{StateWires}

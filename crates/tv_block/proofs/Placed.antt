@@ -9,11 +9,11 @@ use Rattle.tv_decode.proofs.InstructionLaws.{instruction_sizes}
 use Rattle.tv_decode.specs.Instructions.{imm_wire}
 use Rattle.tv_decode.specs.declared.records.InstructionWires.{InstructionWires}
 use Rattle.tv_word.specs.Widths.{IsWidth}
-use Rattle.tv_results.proofs.ArithmeticCounts.{arithmetic_sizes}
+use Rattle.tv_arithmetic.proofs.ArithmeticCounts.{arithmetic_sizes}
 use Rattle.tv_parts.proofs.FlagFills.{flag_sizes}
 use Rattle.tv_parts.proofs.MemoryFills.{memory_sizes}
 use Rattle.tv_inputs.proofs.OperandLaws.{operand_sizes}
-use Rattle.tv_parts.proofs.PcFills.{pc_sizes}
+use Rattle.tv_results.proofs.PcFills.{pc_sizes}
 use Rattle.tv_inputs.proofs.TapeFills.{tapes_sizes}
 use Rattle.tv_parts.proofs.WrittenFills.{written_sizes}
 use Rattle.tv_inputs.specs.declared.records.ArithmeticWires.{ArithmeticWires}

@@ -25,24 +25,24 @@ use Rattle.tv_regs.specs.Triple.{triple_of, triple_values}
 use Rattle.tv_regs.specs.declared.triple.Triple.{Triple}
 use Rattle.tv_step.proofs.RangeLaws.{word_at}
 use Rattle.tv_word.specs.Widths.{IsWidth}
-use Rattle.tv_results.proofs.ArithmeticCounts.{arithmetic_sizes}
-use Rattle.tv_results.proofs.ArithmeticNumbers.{numbers_are_words}
+use Rattle.tv_arithmetic.proofs.ArithmeticCounts.{arithmetic_sizes}
+use Rattle.tv_arithmetic.proofs.ArithmeticNumbers.{numbers_are_words}
 use Rattle.tv_inputs.proofs.FieldNumbers.{small_word}
 use Rattle.tv_parts.proofs.FlagFills.{flag_sizes}
 use Rattle.tv_parts.proofs.MemoryFills.{memory_sizes}
 use Rattle.tv_inputs.proofs.OperandLaws.{operand_sizes}
-use Rattle.tv_parts.proofs.PcFills.{pc_sizes}
+use Rattle.tv_results.proofs.PcFills.{pc_sizes}
 use Rattle.tv_results.proofs.ResultFills.{results_sizes}
 use Rattle.tv_inputs.proofs.TapeFills.{tapes_sizes}
 use Rattle.tv_parts.proofs.WrittenFills.{written_sizes}
-use Rattle.tv_results.specs.Arithmetic.{decomposed_word, arithmetic_of, arithmetic_values}
+use Rattle.tv_arithmetic.specs.Arithmetic.{decomposed_word, arithmetic_of, arithmetic_values}
 use Rattle.tv_parts.specs.Flag.{sign_at, next_flag_of, flag_values}
 use Rattle.tv_inputs.specs.Inputs.{input_of, operation_of}
 use Rattle.tv_parts.specs.Memory.{memory_of, memory_values}
 use Rattle.tv_inputs.specs.Operand.{operand_of, operand_values}
-use Rattle.tv_parts.specs.Pc.{pc_of, pc_values}
+use Rattle.tv_results.specs.Pc.{pc_of, pc_values}
 use Rattle.tv_inputs.specs.TestNumbers.{plus_ops, minus_ops}
-use Rattle.tv_results.specs.Results.{results_of, results_values}
+use Rattle.tv_inputs.specs.Results.{results_of, results_values}
 use Rattle.tv_inputs.specs.Tapes.{tapes_of, tapes_values}
 use Rattle.tv_parts.specs.Written.{written_of, written_values}
 use Rattle.tv_inputs.specs.declared.records.ArithmeticWires.{ArithmeticWires}

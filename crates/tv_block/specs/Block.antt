@@ -21,19 +21,21 @@ use Rattle.tv_numbers.specs.Views.{ViewInRange}
 use Rattle.tv_regs.specs.Triple.{triple_of}
 use Rattle.tv_regs.specs.declared.triple.Triple.{Triple}
 use Rattle.tv_word.specs.Widths.{IsWidth}
-use Rattle.tv_results.specs.Arithmetic.{arithmetic_of}
+use Rattle.tv_arithmetic.specs.Arithmetic.{arithmetic_of}
 use Rattle.tv_parts.specs.Flag.{next_flag_of}
 use Rattle.tv_parts.specs.Memory.{memory_of}
 use Rattle.tv_inputs.specs.OpcodeSums.{opcode_sum}
 use Rattle.tv_inputs.specs.Operand.{operand_of}
-use Rattle.tv_parts.specs.Pc.{pc_of}
-use Rattle.tv_results.specs.Results.{sign_of, results_of}
+use Rattle.tv_results.specs.Pc.{pc_of}
+use Rattle.tv_inputs.specs.Results.{sign_of, results_of}
 use Rattle.tv_inputs.specs.States.{state_in}
 use Rattle.tv_inputs.specs.Tapes.{tapes_of}
 use Rattle.tv_parts.specs.Written.{written_of}
 use Rattle.tv_inputs.specs.declared.records.ArithmeticWires.{ArithmeticWires}
 use Rattle.tv_inputs.specs.declared.records.DataWires.{DataWires}
 use Rattle.tv_inputs.specs.declared.records.Sources.{Sources}
+use Rattle.tv_inputs.specs.declared.records.StoreWires.{StoreWires}
+use Rattle.tv_inputs.specs.declared.records.TapeWires.{TapeWires}
 use Rattle.tv_block.specs.declared.records.Block.{Block}
 use Rattle.tv_block.specs.declared.records.Computed.{Computed}
 use Rattle.tv_block.specs.declared.records.Effects.{Effects}
@@ -64,6 +66,14 @@ data_of m other = record { bits = m.row.first; word = m.row.low; x = m.x; other 
 
 abbrev pub sources_of : ℕ → ArithmeticWires → ℕ → Sources
 sources_of w m byte = record { low = m.row.low; high = m.row.high; top = m.row.first + (w - 1); byte = byte }
+
+-- the last of what it does: to the registers, the flag and the program counter
+abbrev pub left_of : ℕ → StateWires → Computed → TapeWires → StoreWires → ℕ → Circuit Effects
+left_of w state c tapes memory word = do
+  written ← written_of c.instruction.op state c.regs word
+  flag ← next_flag_of w state c.instruction.op c.made.x c.test tapes
+  pc ← pc_of w state c.instruction.op c.operand
+  pure (record { tapes = tapes; memory = memory; regs = written; flag = flag; pc = pc })
 
 -- what it does: to the tapes, memory, the registers, the flag and the program counter
 unfoldable pub effects_of : ℕ → ℕ → StateWires → Computed → Circuit Effects

@@ -8,6 +8,8 @@ use Rattle.tv_inputs.specs.States.{StateUnder, OperandUnder, ArithmeticUnder, Ta
 use Rattle.tv_parts.specs.Written.{TripleUnder}
 use Rattle.tv_inputs.specs.declared.records.Spot.{Spot}
 use Rattle.tv_inputs.specs.declared.records.StateWires.{StateWires}
+use Rattle.tv_inputs.specs.declared.records.StoreWires.{StoreWires}
+use Rattle.tv_inputs.specs.declared.records.TapeWires.{TapeWires}
 use Rattle.tv_block.specs.declared.records.Block.{Block}
 use Rattle.tv_block.specs.declared.records.Computed.{Computed}
 use Rattle.tv_block.specs.declared.records.Effects.{Effects}
@@ -49,6 +51,12 @@ pub record ComputedUnder (w wires : ℕ) (c : Computed) : Type 0 where
 pub record BeforeUnder (w wires : ℕ) (from : StateWires) (c : Computed) : Type 0 where
   pub state : StateUnder wires from
   pub computed : ComputedUnder w wires c
+
+-- what it does to the tapes and memory, and its result
+pub record DoneUnder (wires : ℕ) (t : TapeWires) (stored : StoreWires) (result : ℕ) : Type 0 where
+  pub tapes : TapesUnder wires t
+  pub memory : StoreUnder wires stored
+  pub word : result < wires
 
 -- what it does
 pub record EffectsUnder (wires : ℕ) (e : Effects) : Type 0 where

@@ -9,13 +9,13 @@ use Rattle.tv_isa.specs.declared.instr.Instr.{Instr}
 use Rattle.tv_numbers.specs.Numbers.{operand_word, other_word, found, StepWords}
 use Rattle.tv_numbers.specs.Views.{View}
 use Rattle.tv_regs.specs.Triple.{triple_values}
-use Rattle.tv_results.specs.Arithmetic.{decomposed_word, low_number, high_number, arithmetic_values}
+use Rattle.tv_arithmetic.specs.Arithmetic.{decomposed_word, low_number, high_number, arithmetic_values}
 use Rattle.tv_parts.specs.Flag.{sign_at, flag_values}
 use Rattle.tv_inputs.specs.Inputs.{StepInput, input_of, operation_of}
 use Rattle.tv_parts.specs.Memory.{memory_values}
 use Rattle.tv_inputs.specs.Operand.{operand_values}
-use Rattle.tv_parts.specs.Pc.{pc_values}
-use Rattle.tv_results.specs.Results.{result_number, tested_number, results_values}
+use Rattle.tv_results.specs.Pc.{pc_values}
+use Rattle.tv_inputs.specs.Results.{result_number, tested_number, results_values}
 use Rattle.tv_inputs.specs.Tapes.{tapes_values}
 use Rattle.tv_inputs.specs.Traced.{AreNumbers}
 use Rattle.tv_parts.specs.Written.{written_values}

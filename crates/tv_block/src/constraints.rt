@@ -1,15 +1,15 @@
 //! A step's constraints.
 ghost use Rattle.std.specs.Prelude.{◌+◌, ◌/◌, ◌≤◌, ◌<◌, ◌^◌, ℕ, IfOk};
 ghost use Rattle.tv_bits.specs.ZeroSign.{zero_sign_of};
-ghost use Rattle.tv_block.specs.Block.{registers_of, computed_of, data_of, sources_of, effects_of};
-ghost use Rattle.tv_block.specs.Block.{block_of, reached_of};
+ghost use Rattle.tv_block.specs.Block.{registers_of, computed_of, data_of, sources_of, left_of};
+ghost use Rattle.tv_block.specs.Block.{effects_of, block_of, reached_of};
 ghost use Rattle.tv_block.specs.Complete.{computed_made, computed_added};
 ghost use Rattle.tv_block.specs.Complete.{effects_made, effects_added, block_made, block_added};
 ghost use Rattle.tv_block.specs.Under.{BlockUnder, InstructionUnder, ComputedUnder, BeforeUnder};
-ghost use Rattle.tv_block.specs.Under.{EffectsUnder};
+ghost use Rattle.tv_block.specs.Under.{DoneUnder, EffectsUnder};
 ghost use Rattle.tv_core.specs.Sinks.{PutsIn, Grows, Room};
 ghost use Rattle.tv_parts.specs.Memory.{memory_of};
-ghost use Rattle.tv_results.specs.Results.{sign_of, results_of};
+ghost use Rattle.tv_inputs.specs.Results.{sign_of, results_of};
 ghost use Rattle.tv_inputs.specs.States.{StateUnder, TapesUnder, StoreUnder};
 ghost use Rattle.tv_parts.specs.Written.{TripleUnder};
 ghost use Rattle.tv_inputs.specs.States.{ResultUnder};
@@ -17,6 +17,7 @@ ghost use Rattle.tv_word.specs.Widths.{IsWidth};
 
 use crate::places::block_wires;
 use crate::records::{Block, Computed, Effects, Reached};
+use tv_arithmetic::put_arithmetic;
 use tv_bits::zero_sign;
 use tv_core::{Lc, Put, Scratch, Sink, Wire};
 use tv_decode::{InstructionWires, instruction};
@@ -25,9 +26,9 @@ use tv_inputs::{
     put_tapes, set_opcodes,
 };
 use tv_isa::opcode::{ANSWER, STORE_B, STORE_W};
-use tv_parts::{put_flag, put_memory, put_pc, put_written};
+use tv_parts::{put_flag, put_memory, put_written};
 use tv_regs::{Names, Triple, read_triple};
-use tv_results::{put_arithmetic, put_results, set_sign};
+use tv_results::{put_pc, put_results, set_sign};
 
 /// Constrains one step of the machine from a state, the primary tape having `n` words; its lines of
 /// memory have `time` and the two times after it. Makes as many wires and constraints as
@@ -155,12 +156,36 @@ fn act<const W: u32, S: Sink>(
     let memory = store::<W, S>(s, scratch, state, c, &tapes)?;
     let results = results::<W, S>(s, scratch, state, c, memory.byte, &tapes)?;
     put_test(s, scratch, op, results.tested, c.test)?;
-    let regs = put_written(s, scratch, op, state, &c.regs, results.word)?;
-    let flag = put_flag::<W, S>(s, scratch, state, op, &c.made.x, c.test, &tapes)?;
-    let pc = put_pc::<W, S>(s, scratch, state, op, a)?;
+    leave::<W, S>(s, scratch, state, c, &tapes, &memory, results.word)
+}
+
+// Constrains the registers, the flag and the program counter after the step.
+#[inline(always)]
+fn leave<const W: u32, S: Sink>(
+    s: &mut S,
+    scratch: &mut Scratch,
+    state: &StateWires,
+    c: &Computed,
+    tapes: &TapeWires,
+    memory: &StoreWires,
+    word: Wire,
+) -> Put<Effects>
+    requires width { IsWidth W }
+    requires room { Room S.meaning s.old 24 25 }
+    requires before_made { BeforeUnder W (S.meaning.wires s.old) state.now c.now }
+    requires done_made { DoneUnder (S.meaning.wires s.old) tapes.now memory.now word }
+    ensures puts { PutsIn S.meaning s.old s.new
+        (left_of W state.now c.now tapes.now memory.now word) result }
+    ensures grows { IfOk result (λ _. Grows S.meaning s.old s.new 24 25) }
+    ensures below { IfOk result (λ made. EffectsUnder (S.meaning.wires s.new) made) }
+{
+    let op = c.instruction.op;
+    let regs = put_written(s, scratch, op, state, &c.regs, word)?;
+    let flag = put_flag::<W, S>(s, scratch, state, op, &c.made.x, c.test, tapes)?;
+    let pc = put_pc::<W, S>(s, scratch, state, op, &c.operand)?;
     Ok(Effects {
-        tapes,
-        memory,
+        tapes: *tapes,
+        memory: *memory,
         regs,
         flag,
         pc,

@@ -4,7 +4,7 @@ ghost use Rattle.tv_block.specs.Costs.{block_terms, step_costs, terms_are, IsChe
 ghost use Rattle.tv_word.specs.Widths.{IsWidth};
 
 /// How many terms the combinations of a line have, beside its time, which has one.
-#[derive(Clone, Copy, PartialEq, Eq, Debug)]
+#[derive(Clone, Copy)]
 pub struct LineTerms {
     /// The terms of its cell.
     pub cell: u32,
@@ -15,7 +15,7 @@ pub struct LineTerms {
 }
 
 /// What a step costs by the width alone; `step_terms` has the terms of its constraints.
-#[derive(Clone, Copy, PartialEq, Eq, Debug)]
+#[derive(Clone, Copy)]
 pub struct StepCosts {
     /// The wires that it makes.
     pub wires: u32,

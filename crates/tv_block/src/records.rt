@@ -5,7 +5,7 @@ use tv_inputs::{ArithmeticWires, OperandWires, Spot, StateWires, StoreWires, Tap
 use tv_regs::Triple;
 
 /// The numbers of a state: all of it but memory and the auxiliary tape.
-#[derive(Clone, Copy, PartialEq, Eq, Debug)]
+#[derive(Clone, Copy)]
 pub struct StateNum {
     /// The program counter.
     pub pc: u32,

@@ -9,11 +9,11 @@ ghost use Rattle.tv_inputs.specs.Traced.{traced_view};
 ghost use Rattle.tv_step.specs.Range.{AreWords};
 ghost use Rattle.tv_word.specs.Widths.{IsWidth};
 
+use tv_arithmetic::{decomposed_word, row_halves};
 use tv_inputs::StepNumbers;
 use tv_isa::opcode::{READ, STORE_B, STORE_W};
 use tv_isa::{Instr, decode};
 use tv_parts::touches;
-use tv_results::{decomposed_word, row_halves};
 use tv_step::TraceState;
 
 /// Returns the numbers of a step from a state: `n` is the number of the primary tape's words,

@@ -9,11 +9,11 @@ ghost use Rattle.tv_decode.specs.Instructions.{instruction_values};
 ghost use Rattle.tv_numbers.specs.Numbers.{step_words};
 ghost use Rattle.tv_numbers.specs.Shown.{data_word_of};
 ghost use Rattle.tv_numbers.specs.Views.{ViewInRange};
-ghost use Rattle.tv_results.specs.Arithmetic.{arithmetic_values};
+ghost use Rattle.tv_arithmetic.specs.Arithmetic.{arithmetic_values};
 ghost use Rattle.tv_parts.specs.Flag.{sign_at};
 ghost use Rattle.tv_inputs.specs.Inputs.{operation_of};
 ghost use Rattle.tv_inputs.specs.Operand.{operand_values};
-ghost use Rattle.tv_results.specs.Results.{results_values};
+ghost use Rattle.tv_inputs.specs.Results.{results_values};
 ghost use Rattle.tv_inputs.specs.Tapes.{tapes_values};
 ghost use Rattle.tv_inputs.specs.Traced.{traced_view, traced_input, AreNumbers};
 ghost use Rattle.tv_regs.specs.Triple.{triple_values};
@@ -21,6 +21,7 @@ ghost use Rattle.tv_word.specs.Widths.{IsWidth};
 
 use crate::records::StateNum;
 use crate::step_numbers::{other_register, step_numbers};
+use tv_arithmetic::fill_arithmetic;
 use tv_bits::fill_zero_sign;
 use tv_core::{F, Put, Values, give_values};
 use tv_decode::fill_instruction;
@@ -29,9 +30,9 @@ use tv_isa::opcode::{
     ADD, AND, CMPA, CMPAE, CMPE, CMPG, CMPGE, MULL, NOT, OR, SHL, SHR, SMULH, SUB, UDIV, UMOD,
     UMULH, XOR,
 };
-use tv_parts::{fill_flag, fill_memory, fill_pc, fill_written};
+use tv_parts::{fill_flag, fill_memory, fill_written};
 use tv_regs::fill_triple;
-use tv_results::{fill_arithmetic, results_values};
+use tv_results::{fill_pc, results_values};
 use tv_step::TraceState;
 
 /// Assigns the values of the wires that a step makes, from the state before it: `n` is the number

@@ -8,7 +8,7 @@ use tv_argument::{Kind, check_added, check_made};
 use tv_core::limits::CELL_BITS;
 
 /// What checks of lines cost, in wires or in constraints.
-#[derive(Clone, Copy, PartialEq, Eq, Debug)]
+#[derive(Clone, Copy)]
 pub(crate) struct CheckCosts {
     /// The line of the image's first word.
     pub(crate) image_word: u32,

@@ -1,9 +1,40 @@
+use Rattle.std.proofs.Common.{◌≡◌, ℕ, ◌+◌, ◌≤◌, ◌<◌, arith}
 use Rattle.tv_core.proofs.Chain.{refused_then, refused}
 use Rattle.tv_core.proofs.TailCalls.{puts_in_then}
 use Rattle.tv_core.specs.Circuits.{put}
-use Rattle.tv_core.specs.Combinations.{wire, constant}
+use Rattle.tv_core.specs.Combinations.{wire, constant, top}
+use Rattle.tv_core.specs.Constraints.{Combination}
 use Rattle.tv_layout.specs.Layout.{tie_of}
 use Rattle.tv_layout.proofs.system.tie.Goals as goal
+
+top_wire : {lc : Combination} {w n : ℕ} → lc ≡ wire w → w < n → top lc ≤ n
+top_wire e h = rw e (omega arith)
+
+top_one : {lc : Combination} {n : ℕ} → lc ≡ constant 1 → 0 < n → top lc ≤ n
+top_one e h = rw e (omega arith)
+
+stays : {w a b : ℕ} → b ≡ a + 0 → w < a → w < b
+stays e h = omega arith
+
+pub put-requires : goal.put-requires
+put-requires g c =
+    let room = c.requires.room in
+    record {
+      whole = room.whole;
+      room = omega (arith, room.constraints);
+      a_made = top_wire c.wire.ensures c.requires.last_made.answers;
+      b_made = top_one c.constant-one.ensures room.constant;
+      c_made = top_one c.constant-one.ensures room.constant;
+    }
+
+pub put-requires-2-clause-room : goal.put-requires-2-clause-room
+put-requires-2-clause-room g c = let room = c.requires.room in let grown = c.in_ok-put.ensures.grows in omega (arith, room.constraints, grown.constraints)
+
+pub put-requires-2-clause-a_made : goal.put-requires-2-clause-a_made
+put-requires-2-clause-a_made g c = top_wire c.wire-2.ensures (stays c.in_ok-put.ensures.grows.wires c.requires.last_made.value)
+
+pub put-requires-2-clause-b_made : goal.put-requires-2-clause-b_made
+put-requires-2-clause-b_made g c = top_one c.constant-one.ensures (stays c.in_ok-put.ensures.grows.wires c.requires.room.constant)
 
 pub returns-in_err-put-clause-puts : goal.returns-in_err-put-clause-puts
 unfolding tie_of
