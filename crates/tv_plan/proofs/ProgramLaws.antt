@@ -1,5 +1,5 @@
 -- What holds of a program and of tapes that files hold.
-use Rattle.std.proofs.Common.{◌≡◌, ◌≤◌, ◌^◌, ℕ, ◌+◌, nat_le, List, length, Option, Result, Ok, Err, inl, inr, refl, arith}
+use Rattle.std.proofs.Common.{◌≡◌, ◌≤◌, ◌^◌, ℕ, ◌+◌, nat_le, List, length, Option, Result, Ok, Err, inl, inr, refl}
 use Rattle.std.specs.Prelude.{IfOk}
 use Rattle.std.proofs.lemmas.Bool.{cond_both}
 use Rattle.tv_asm.proofs.RangeLemmas.{images_short, images_words}

@@ -15,7 +15,7 @@ use tv_files::Files;
 use tv_word::Words;
 
 /// How many bits a word has.
-#[derive(Clone, Copy, Debug, PartialEq, Eq)]
+#[derive(Clone, Copy)]
 pub enum Width {
     /// 16 bits, which are two bytes.
     Bits16,

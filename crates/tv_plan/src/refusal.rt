@@ -14,7 +14,7 @@ use tv_disasm::DisFault;
 use tv_step::{End, NotRun};
 
 /// The quantities that have a limit.
-#[derive(Clone, Copy, Debug, PartialEq, Eq)]
+#[derive(Clone, Copy)]
 pub enum What {
     /// The words of the image that a program text has.
     ImageWords,

@@ -9,7 +9,7 @@ use tv_container::ReadWhy;
 use tv_step::{End, NotRun};
 
 /// Why `check` or `run` says no.
-#[derive(Clone, Copy, Debug, PartialEq, Eq)]
+#[derive(Clone, Copy)]
 pub enum NoWhy {
     /// The public wire with this number, 0 for the constant 1, has another value than the tape has,
     /// or is missing on one side.
@@ -23,7 +23,7 @@ pub enum NoWhy {
 }
 
 /// How a command ended.
-#[derive(Clone, Copy, Debug, PartialEq, Eq)]
+#[derive(Clone, Copy)]
 pub enum Status {
     /// The command did what its words say.
     Done,

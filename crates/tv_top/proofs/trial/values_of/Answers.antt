@@ -7,6 +7,7 @@ use Rattle.tv_fill.specs.declared.fault.FillFault.TheVariants.{NoRun, Failed, Me
 use Rattle.tv_layout.specs.RunInputs.{run_on}
 use Rattle.tv_layout.specs.Systems.{run_values}
 use Rattle.tv_step.specs.Machine.{Accepts}
+use Rattle.tv_step.specs.declared.end.End.{End}
 use Rattle.tv_step.specs.declared.end.End.TheVariants.{Answer}
 use Rattle.tv_top.proofs.trial.values_of.Goals as goal
 
@@ -23,19 +24,21 @@ refused image x aux t old new (NoRun end) accepts fills = absurd (fills.0.1 0 ac
 refused image x aux t old new Failed accepts fills = absurd (let cause = fills.2.cause in omega (arith, cause))
 refused image x aux t old new Memory accepts fills = refl
 
+ran : (fault : FillFault) (end : End) → fault ≡ Memory → ¬ (fault ≡ NoRun end)
+ran fault end is other = cc
+
+gave : (fault : FillFault) → fault ≡ Memory → ¬ (fault ≡ Failed)
+gave fault is other = cc
+
 pub unreachable-requires : goal.unreachable-requires
 unreachable-requires c =
-    let is = refused c.args.image.now c.args.tape.now c.args.aux.now c.args.t c.new-values.result c.fill_system.new.v c.in-Err-NoRun.field-0 c.requires.accepts
-    c.in-Err-NoRun.ensures.fills in
-    let other = c.in-Err-NoRun.field-0-is in
-    cc
+    ran _ _ (refused c.args.image.now c.args.tape.now c.args.aux.now c.args.t c.new-values.result c.fill_system.new.v c.in-Err-NoRun.field-0 c.requires.accepts
+    c.in-Err-NoRun.ensures.fills) c.in-Err-NoRun.field-0-is
 
 pub unreachable-requires-in-Err-Failed : goal.unreachable-requires-in-Err-Failed
 unreachable-requires-in-Err-Failed c =
-    let is = refused c.args.image.now c.args.tape.now c.args.aux.now c.args.t c.new-values.result c.fill_system.new.v c.in-Err-Failed.field-0 c.requires.accepts
-    c.in-Err-Failed.ensures.fills in
-    let other = c.in-Err-Failed.field-0-is in
-    cc
+    gave _ (refused c.args.image.now c.args.tape.now c.args.aux.now c.args.t c.new-values.result c.fill_system.new.v c.in-Err-Failed.field-0 c.requires.accepts
+    c.in-Err-Failed.ensures.fills) c.in-Err-Failed.field-0-is
 
 pub returns-in-Ok : goal.returns-in-Ok
 returns-in-Ok c =

@@ -1,0 +1,15 @@
+use Rattle.std.proofs.Common.{arith}
+use Rattle.std.proofs.lemmas.Grind.{common_steps}
+use Rattle.tv_plan.proofs.disasm.DisasmArgsJob.read.Goals as goal
+
+pub returns-in_default : goal.returns-in_default
+returns-in_default c = grind (arith, common_steps)
+
+pub returns-in_err-width : goal.returns-in_err-width
+returns-in_err-width c = grind (arith, common_steps)
+
+pub returns-in_err-keep_apart : goal.returns-in_err-keep_apart
+returns-in_err-keep_apart c = grind (arith, common_steps)
+
+pub returns : goal.returns
+returns c = grind (arith, common_steps)
