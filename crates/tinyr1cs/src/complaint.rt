@@ -2,8 +2,8 @@
 ghost use Rattle.std.specs.Prelude.{◌≡◌, map, option_map, Some, string_bytes};
 ghost use Rattle.tinyr1cs.specs.Complaint.{text_of, complaint_text};
 
-use crate::escaped::Escaped;
 use std::fmt;
+use tv_disk::Escaped;
 use tv_top::Status;
 
 /// Why a command printed no line of its own.

@@ -10,14 +10,12 @@ ghost use Rattle.std.specs.Process.{exit_status};
 ghost use Rattle.tv_plan.specs.Status.{code_of};
 
 mod complaint;
-mod escaped;
-mod standard;
 mod words;
 
 use complaint::Complaint;
 use std::io::{ErrorKind, IsTerminal};
 use std::process::ExitCode;
-use tv_disk::DiskFiles;
+use tv_disk::{DiskFiles, occupy};
 use tv_top::{Status, command};
 
 /// The exit code where a word isn't UTF-8. The others are those of `Status`.
@@ -27,7 +25,7 @@ const NOT_UTF8: u8 = 14;
 const FILE_FAULT: u8 = 8;
 
 fn main(rt: HostRuntime) -> ExitCode {
-    match standard::occupy(&rt) {
+    match occupy(&rt) {
         Ok(_held) => run(rt),
         Err(_) => {
             complain(&rt, Complaint::FileFault("/"));

@@ -1,8 +1,8 @@
-//! Names as complaints show them.
+//! Names as they are shown on standard error.
 ghost use Rattle.std.specs.Prelude.{Some, ◌≡◌, ◌<◌};
 ghost use Rattle.std.specs.Char.{digit_char};
 ghost use Rattle.std.specs.Fmt.{WritesOnOk};
-ghost use Rattle.tinyr1cs.specs.Complaint.{escaped, shown_char};
+ghost use Rattle.tv_disk.specs.Escaped.{escaped, shown_char};
 
 use std::fmt;
 

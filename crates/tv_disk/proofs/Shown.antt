@@ -6,7 +6,7 @@ use Rattle.std.proofs.lemmas.Grind.{flat_map-append}
 use Rattle.std.proofs.lemmas.List.{append-nil}
 use Rattle.std.proofs.lemmas.Str.{encode_ascii}
 use lib.Dec.{ltb}
-use Rattle.tinyr1cs.specs.Complaint.{shown, shown_char, escaped, hex_shown}
+use Rattle.tv_disk.specs.Escaped.{shown, shown_char, escaped, hex_shown}
 
 high : (byte : ℕ) → 128 ≤ byte → is_ascii_control byte ≡ false
 high byte most = grind arith

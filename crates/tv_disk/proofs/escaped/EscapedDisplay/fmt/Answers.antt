@@ -1,8 +1,8 @@
 use Rattle.std.proofs.Common.{◌++◌, sym, ap, ◌∙◌, append_assoc, rules}
 use Rattle.std.proofs.Output.{has_written_append}
-use Rattle.tinyr1cs.specs.Complaint.{escaped, shown_char}
-use Rattle.tinyr1cs.proofs.Shown.{escaped_more}
-use Rattle.tinyr1cs.proofs.escaped.EscapedDisplay.fmt.Goals as goal
+use Rattle.tv_disk.specs.Escaped.{escaped, shown_char}
+use Rattle.tv_disk.proofs.Shown.{escaped_more}
+use Rattle.tv_disk.proofs.escaped.EscapedDisplay.fmt.Goals as goal
 
 pub loop-c-preserved : goal.loop-c-preserved
 loop-c-preserved g c =

@@ -1,7 +1,7 @@
 use Rattle.std.proofs.Common.{◌≡◌, ℕ, List, ◌++◌}
 use Rattle.std.specs.Fmt.{HasWritten, IsPlainFormatter}
-use Rattle.tinyr1cs.specs.Complaint.{escaped}
-use Rattle.tinyr1cs.proofs.escaped.EscapedDisplay.fmt.Given as goal
+use Rattle.tv_disk.specs.Escaped.{escaped}
+use Rattle.tv_disk.proofs.escaped.EscapedDisplay.fmt.Given as goal
 
 abbrev pub invariant-loop-c : goal.invariant-loop-c
 invariant-loop-c g l =
