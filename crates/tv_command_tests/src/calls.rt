@@ -1,6 +1,6 @@
 //! Files in memory, and what commands return over them.
 
-use std::alloc::Global;
+use std::alloc::{AllocError, Global};
 use std::test::*;
 use tv_files::MemFiles;
 use tv_top::{Status, command};
@@ -11,13 +11,29 @@ pub(crate) const BEFORE: &[u8] = b"before";
 /// The names that are written.
 pub(crate) const WRITTEN: [&str; 6] = ["out", "system", "witness", "tape.out", "aux.out", "lines"];
 
+/// Makes each name stand for its contents.
+pub(crate) fn set_all(
+    files: &mut MemFiles,
+    contents: &[(&str, &[u8]); 3],
+) -> Result<(), AllocError> {
+    for (name, bytes) in contents {
+        files.set(name, bytes)?;
+    }
+    Ok(())
+}
+
 /// Files of a program and its tapes, of which the first is empty, beside names that are to be
 /// written.
-pub(crate) fn files_of(alloc: Global, text: &str, aux: &str) -> Result<MemFiles, Fail> {
+pub(crate) fn files_of<'x>(alloc: Global, text: &'x str, aux: &'x str) -> Result<MemFiles, Fail> {
     let mut files = MemFiles::new(alloc);
-    files.set("text", text.as_bytes())?;
-    files.set("tape", b"")?;
-    files.set("aux", aux.as_bytes())?;
+    set_all(
+        &mut files,
+        &[
+            ("text", text.as_bytes()),
+            ("tape", b""),
+            ("aux", aux.as_bytes()),
+        ],
+    )?;
     for name in WRITTEN {
         files.set(name, BEFORE)?;
     }

@@ -10,7 +10,7 @@ use std::test::Fail;
 use tv_asm::{assemble, width};
 use tv_step::{Trace, TraceState, trace};
 
-// The trace of so many steps of a program at a width.
+// The trace of a program at a width, of at most this many steps.
 fn run_of<const W: u32>(alloc: Global, lines: &str, steps: u32) -> Result<Trace, Fail>
     requires width { IsWidth W }
     requires few { steps ≤ 64 }

@@ -1,8 +1,7 @@
 //! Calls of `DiskFiles` on files of a folder, and of another program on the same files.
 
-use std::path::PathBuf;
 use std::test::Fail;
-use std::{env, fs, process};
+use std::{fs, process};
 use tv_disk::{DiskFiles, RefusalCounts};
 use tv_files::{FileRefusal, Files};
 
@@ -30,12 +29,14 @@ fn answer(
         Step::Append(bytes) => files.append(name, bytes)?,
         Step::Read(at, most) => return files.read(name, at, &mut into[..most.min(32)]),
         Step::Say => files.say(b"")?,
-        Step::Remove => return fs::remove_file(&rt, name).map(|()| 0).or(GONE),
+        Step::Remove => {
+            if fs::remove_file(&rt, name).is_err() {
+                return Err(FileRefusal::Failed);
+            }
+        }
     }
     Ok(0)
 }
-
-const GONE: Result<usize, FileRefusal> = Err(FileRefusal::Failed);
 
 const FAILED: Result<&[u8], FileRefusal> = Err(FileRefusal::Failed);
 
@@ -43,7 +44,7 @@ const DONE: Result<&[u8], FileRefusal> = Ok(b"");
 
 // Whether another program does it; what is done to which name in a folder, of which `` is the
 // folder's own; and what is read.
-const STEPS: [(bool, Step, &str, Result<&[u8], FileRefusal>); 32] = [
+static STEPS: [(bool, Step, &str, Result<&[u8], FileRefusal>); 32] = [
     // What was appended is read back from any place, also between two appends.
     (false, Step::Create, "file", DONE),
     (false, Step::Append(b"six of "), "file", DONE),
@@ -84,11 +85,9 @@ const STEPS: [(bool, Step, &str, Result<&[u8], FileRefusal>); 32] = [
 ];
 
 // A folder of this process alone.
-fn new_folder(rt: HostRuntime) -> Result<PathBuf, Fail> {
-    let alloc = rt.alloc();
-    let name = format!(in alloc; "tv_disk-{}", process::id(rt.process()))?;
-    let folder = env::temp_dir(&rt)?.join(alloc, name.as_str())?;
-    fs::create_dir_all(&rt, folder.as_path())?;
+fn new_folder(rt: HostRuntime) -> Result<String, Fail> {
+    let folder = format!(in rt.alloc(); "/tmp/tv_disk-{}", process::id(rt.process()))?;
+    fs::create_dir(&rt, folder.as_str())?;
     Ok(folder)
 }
 
@@ -97,16 +96,16 @@ fn calls_see_what_the_system_has(rt: HostRuntime) -> Result<(), Fail> {
     let folder = new_folder(rt)?;
     let mut own = DiskFiles::new(rt.alloc(), rt, false);
     let mut others = DiskFiles::new(rt.alloc(), rt, false);
-    for (is_other, step, name, wanted) in STEPS {
-        let file = folder.join(rt.alloc(), name)?;
+    for (is_other, step, name, wanted) in &STEPS {
+        let file = format!(in rt.alloc(); "{folder}/{name}")?;
         let mut into = [0; 32];
-        let count = if is_other {
-            answer(rt, &mut others, step, file.as_str(), &mut into)
+        let count = if *is_other {
+            answer(rt, &mut others, *step, file.as_str(), &mut into)
         } else {
-            answer(rt, &mut own, step, file.as_str(), &mut into)
+            answer(rt, &mut own, *step, file.as_str(), &mut into)
         };
         let read = count.map(|count| &into[..count.min(32)]);
-        assert_eq!(rt; read, wanted, "{step:?} {name}");
+        assert_eq!(rt; read, *wanted, "{step:?} {name}");
     }
     let none = RefusalCounts::new();
     let counts = RefusalCounts {
@@ -115,5 +114,5 @@ fn calls_see_what_the_system_has(rt: HostRuntime) -> Result<(), Fail> {
         ..none
     };
     assert_eq!(rt; (own.counts(), others.counts()), (counts, none));
-    Ok(fs::remove_dir_all(&rt, folder.as_path())?)
+    Ok(fs::remove_dir_all(&rt, folder.as_str())?)
 }
