@@ -18,6 +18,7 @@ use Rattle.tv_core.specs.declared.sink.SinkFault.{SinkFault}
 use Rattle.tv_core.specs.declared.sink.SinkFault.TheVariants as sink
 use Rattle.tv_files.proofs.Cases.{OnErr-map, OnOk-map}
 use Rattle.tv_files.proofs.NamedFiles.{with_more-none, known-with_more-with_more, with_more-none_before}
+use Rattle.tv_files.proofs.Written as written
 use Rattle.tv_files.specs.Calls.{Appends}
 use Rattle.tv_files.specs.Outside.{Outside, Names, RanOut, SameCounts, with_more}
 use Rattle.tv_files.specs.declared.calls.FileRefusal.{FileRefusal}
@@ -149,18 +150,12 @@ counts_then p q = record {
 
 -- counts that stayed, and then memory ran out
 pub ran_out_since : {old mid new : Outside} → SameCounts old mid → RanOut mid new → RanOut old new
-ran_out_since {old} {mid} {new} p q = record {
-  wants = subst (λ n. Rose n new.wants) p.wants q.wants;
-  read_faults = q.read_faults ∙ p.read_faults;
-  write_faults = q.write_faults ∙ p.write_faults;
-  say_faults = q.say_faults ∙ p.say_faults;
-  absent = q.absent ∙ p.absent;
-}
+ran_out_since {old} {mid} {new} p q = written.ran_out_since old mid new p q
 
 -- what called bytes to be refused is the cause after calls that left the counts
 pub cause_then : (old mid new : Outside) (outcome : Result (Unit {0}) SinkFault) → SameCounts old mid → HasCause mid new outcome → HasCause old new outcome
 cause_then old mid new (Ok unit) p same = counts_then p same
-cause_then old mid new (Err sink.Failed) p rose = subst (λ n. Rose n new.write_faults) p.write_faults rose
+cause_then old mid new (Err sink.Failed) p rose = written.rose_since old mid new p rose
 cause_then old mid new (Err sink.Memory) p ran_out = ran_out_since p ran_out
 
 -- bytes are passed on, and then others

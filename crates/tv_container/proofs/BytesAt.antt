@@ -66,24 +66,16 @@ length-eight_bytes v = refl
 
 -- how many bytes the heads of a container have
 pub length-front_bytes : (magic version count : ℕ) → length (front_bytes magic version count) ≡ 12
-length-front_bytes magic version count =
-    omega (
-      arith,
-      length-append (four_bytes magic) (four_bytes version ++ four_bytes count),
-      length-append (four_bytes version) (four_bytes count),
-      length-four_bytes magic,
-      length-four_bytes version,
-      length-four_bytes count,
-    )
+length-front_bytes magic version count = simp (length-append, length-four_bytes)
 
 pub length-section_head : (kind size : ℕ) → length (section_head kind size) ≡ 12
-length-section_head kind size = omega (arith, length-append (four_bytes kind) (eight_bytes size), length-four_bytes kind, length-eight_bytes size)
+length-section_head kind size = simp (length-append, length-four_bytes, length-eight_bytes)
 
 pub length-section_bytes : (kind : ℕ) (content : List ℕ) → length (section_bytes kind content) ≡ 12 + length content
-length-section_bytes kind content = omega (arith, length-append (section_head kind (length content)) content, length-section_head kind (length content))
+length-section_bytes kind content = simp (length-append, length-four_bytes, length-eight_bytes)
 
 pub length-field_bytes : length field_bytes ≡ 12
-length-field_bytes = omega (arith, length-append (four_bytes 8) (eight_bytes P), length-four_bytes 8, length-eight_bytes P)
+length-field_bytes = simp (length-append, length-four_bytes, length-eight_bytes)
 
 -- numbers that were written are read
 pub number_of_four : (file : List ℕ) (at v : ℕ) → At file at (four_bytes v) → v < 2 ^ 32 → number file 4 at ≡ v

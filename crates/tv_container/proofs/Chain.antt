@@ -1,6 +1,6 @@
 -- Steps that may refuse, one after another.
-use Rattle.std.proofs.Common.{◌≡◌, ℕ, List, Some, Result, Ok, Err, inl, refl, rules, ap, subst, ◌∙◌}
-use Rattle.std.specs.Prelude.{IfErr}
+use Rattle.std.proofs.Common.{◌≡◌, ℕ, Bool, true, false, List, Option, None, Some, Result, Ok, Err, inl, refl, rules, ap, subst, ◌∙◌}
+use Rattle.std.specs.Prelude.{IfErr, IfOk, IsErrAnd, MatchOption}
 use Rattle.tv_files.specs.Outside.{Outside}
 use Rattle.tv_container.specs.declared.why.ReadRefusal.{ReadRefusal}
 use Rattle.tv_container.specs.declared.why.ReadRefusal.TheVariants.{Bad, Fault, Memory}
@@ -14,6 +14,22 @@ pub made : {A B : Type 0} (first : Result A places.Fault) (next : A → Result B
     (part : A) × (first ≡ Ok part) × (next part ≡ Ok value)
 made (Ok part) next value e = (part, refl, e)
 made (Err fault) next value e = cc
+
+-- what follows of what all steps give from what the first gives
+pub bind_if : {A B : Type 0} (read : Result A places.Fault) (f : A → Result B places.Fault) (P : A → Type 0) (Q : B → Type 0) → IfOk read P
+    → ((x : A) → P x → IfOk (f x) Q) → IfOk (read >>= f) Q
+bind_if (Ok x) f P Q is h = h x is
+bind_if (Err fault) f P Q is h = tt
+
+pub bind_any : {A B : Type 0} (read : Result A places.Fault) (f : A → Result B places.Fault) (Q : B → Type 0) → ((x : A) → IfOk (f x) Q)
+    → IfOk (read >>= f) Q
+bind_any (Ok x) f Q h = h x
+bind_any (Err fault) f Q h = tt
+
+-- a test that was passed
+pub passed : (test : Bool) (at : ℕ) (why : ReadWhy) → IfOk (places.unless test at why) (λ _. test ≡ false)
+passed true at why = tt
+passed false at why = refl
 
 -- a refusal of the first step is one of all
 pub refuses_first : {A B : Type 0} (why : ReadRefusal) (first : Result A places.Fault) (next : A → Result B places.Fault) → Refuses why first
@@ -92,6 +108,17 @@ pub reads_as : {A : Type 0} {old new : Outside} {name : List ℕ} {before after 
     ReadsIn old new name before after result So → ((file : List ℕ) → bytes_of old name ≡ Some file → So file → All file)
     → ReadsIn old new name before after result All
 reads_as steps all = record { looks = steps.looks; piece = steps.piece; gives = λ file known piece. all file known (steps.gives file known piece) }
+
+-- what follows from what is so where reading goes on, or has stopped
+pub either_way : {A P Q : Type 0} {R S : A → Type 0} (stopped : Option A) → MatchOption stopped P R → (P → Q) → ((why : A) → R why → S why)
+    → MatchOption stopped Q S
+either_way None p on off = on p
+either_way (Some why) r on off = off why r
+
+-- the exit of a `?` is a refusal, of what its cause was turned into
+pub err_is : {T E : Type 0} {why : E} (result : Result T E) → IsErrAnd result (λ e. e ≡ why) → result ≡ Err why
+err_is (Ok value) is = absurd is
+err_is (Err e) is = ap Err is
 
 -- a value is no refusal
 pub not_refused : {A E X : Type 0} {value : A} {why : E} → Ok value ≡ Err why → X

@@ -1,8 +1,7 @@
 use Rattle.std.proofs.Common.{◌+◌, ◌≤◌, sym, ◌∙◌, arith}
 use Rattle.std.proofs.lemmas.Bool.Decides.{nat_tests}
-use Rattle.std.proofs.lemmas.Result.{err_from_is_err_and}
 use Rattle.tv_container.specs.Places.{places}
-use Rattle.tv_container.proofs.Chain.{reads_as, reads_bad, reads_done, reads_off, reads_on, refuses_any, refuses_wrong}
+use Rattle.tv_container.proofs.Chain.{err_is, reads_as, reads_bad, reads_done, reads_off, reads_on, refuses_any, refuses_wrong}
 use Rattle.tv_container.proofs.SectionLemmas.{fit-within, this_field-other, this_field-prime, this_field-short, this_field-sized}
 use Rattle.tv_container.proofs.field.this_field.Goals as goal
 
@@ -14,8 +13,7 @@ returns-then-one-lt4 g c = record {
 
 pub returns-in_err-fit : goal.returns-in_err-fit
 returns-in_err-fit g c =
-    let p = err_from_is_err_and c.from_residual.result c.from_residual.ensures.1 in
-    rw (p.1, p.2) (record {
+    rw (err_is c.from_residual.result c.from_residual.ensures.1) (record {
       reads = reads_as (reads_off c.in_err-fit.ensures.reads) (λ file known refuses within.
           let room : c.args.one.now.at + 4 ≤ places file = omega (arith, within, c.if-one-lt4.false) in
           refuses_any _ _ _ (rw (fit-within 4 c.args.one.now.at (places file) room) at refuses));
@@ -39,8 +37,7 @@ returns-then-one-wants g c = record {
 
 pub returns-in_err-fit-2 : goal.returns-in_err-fit-2
 returns-in_err-fit-2 g c =
-    let p = err_from_is_err_and c.from_residual-in_err-fit-2.result c.from_residual-in_err-fit-2.ensures.1 in
-    rw (p.1, p.2) (record {
+    rw (err_is c.from_residual-in_err-fit-2.result c.from_residual-in_err-fit-2.ensures.1) (record {
       reads = reads_as (reads_on c.in_ok-fit.ensures.reads (reads_off c.in_err-fit-2.ensures.reads)) (λ file known is within.
           let room : c.args.one.now.at + 12 ≤ places file = omega (arith, within, c.if-one-wants.false, c.requires.room) in
           refuses_any _ _ _ (rw (fit-within 12 c.args.one.now.at (places file) room) at is.rest));

@@ -1,5 +1,4 @@
-use Rattle.std.proofs.lemmas.Result.{err_from_is_err_and}
-use Rattle.tv_container.proofs.Chain.{not_refused, reads_as, reads_off, reads_on, refuses_first, same_refusal}
+use Rattle.tv_container.proofs.Chain.{err_is, not_refused, reads_as, reads_off, reads_on, refuses_first, same_refusal}
 use Rattle.tv_container.proofs.SectionLemmas.{sections_of-counted}
 use Rattle.tv_container.specs.Sections.{sections_of}
 use Rattle.tv_container.proofs.sections.find_sections.Goals as goal
@@ -7,8 +6,7 @@ use Rattle.tv_container.proofs.sections.find_sections.Goals as goal
 pub returns-in_err-count : goal.returns-in_err-count
 unfolding sections_of
 returns-in_err-count g c =
-    let p = err_from_is_err_and c.from_residual.result c.from_residual.ensures.1 in
-    rw (p.1, p.2) (record {
+    rw (err_is c.from_residual.result c.from_residual.ensures.1) (record {
       reads = reads_as (reads_off c.in_err-count.ensures.reads) (λ file known refuses. refuses_first _ _ _ refuses);
       ends = tt;
       missing = λ missing none. same_refusal (c.in_err-count.ensures.missing missing none);

@@ -1,16 +1,14 @@
 use Rattle.std.proofs.Common.{true, false, refl, sym, ◌∙◌}
-use Rattle.std.proofs.lemmas.Result.{err_from_is_err_and}
 use Rattle.tv_container.specs.Places.{places}
 use Rattle.tv_container.specs.Sections.{section_at}
-use Rattle.tv_container.proofs.Chain.{reads_as, reads_bad, reads_done, reads_off, reads_on, refuses_any, refuses_first, refuses_wrong}
+use Rattle.tv_container.proofs.Chain.{err_is, reads_as, reads_bad, reads_done, reads_off, reads_on, refuses_any, refuses_first, refuses_wrong}
 use Rattle.tv_container.proofs.SectionLemmas.{fit-is, section_at-read}
 use Rattle.tv_container.proofs.sections.next_section.Goals as goal
 
 pub returns-in_err-fit : goal.returns-in_err-fit
 unfolding section_at
 returns-in_err-fit g c =
-    let p = err_from_is_err_and c.from_residual.result c.from_residual.ensures.1 in
-    rw (p.1, p.2) (record {
+    rw (err_is c.from_residual.result c.from_residual.ensures.1) (record {
       reads = reads_as (reads_off c.in_err-fit.ensures.reads) (λ file known refuses sections found. refuses_first _ _ _ refuses);
       place = tt;
     })
@@ -25,8 +23,7 @@ returns-then-doubles g c = record {
 
 pub returns-in_err-reaches_end : goal.returns-in_err-reaches_end
 returns-in_err-reaches_end g c =
-    let p = err_from_is_err_and c.from_residual-in_err-reaches_end.result c.from_residual-in_err-reaches_end.ensures.1 in
-    rw (p.1, p.2) (record {
+    rw (err_is c.from_residual-in_err-reaches_end.result c.from_residual-in_err-reaches_end.ensures.1) (record {
       reads = reads_as (reads_on c.in_ok-fit.ensures.reads (reads_off c.in_err-reaches_end.ensures.reads)) (λ file known is sections found.
           refuses_any _ _ _ (is.rest (fit-is 12 c.args.at (places file) _ is.first)));
       place = tt;

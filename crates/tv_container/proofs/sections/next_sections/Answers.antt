@@ -1,7 +1,6 @@
 use Rattle.std.proofs.Common.{◌≡◌, ◌-◌, ◌+◌, ◌<◌, ◌≤◌, [], ◌∷◌, ◌++◌, length, arith, ◌∙◌, refl}
 use Rattle.std.proofs.lemmas.Bool.Decides.{nat_tests}
-use Rattle.std.proofs.lemmas.Result.{err_from_is_err_and}
-use Rattle.tv_container.proofs.Chain.{reads_as, reads_off, reads_on, reads_past, refuses_any, refuses_wrong, stopped_bad}
+use Rattle.tv_container.proofs.Chain.{err_is, reads_as, reads_off, reads_on, reads_past, refuses_any, refuses_wrong, stopped_bad}
 use Rattle.tv_container.proofs.SectionLemmas.{sections_from-next, sections_from-refuses, sections_from-end, sections_from-trailing, section_at-fits}
 use Rattle.tv_container.proofs.sections.next_sections.Goals as goal
 
@@ -17,9 +16,8 @@ loop-init g c = record {
 
 pub returns-in_err-section : goal.returns-in_err-section
 returns-in_err-section g c =
-    let p = err_from_is_err_and c.from_residual.result c.from_residual.ensures.1 in
     let left : c.args.count - c.loop.counter ≡ c.args.count - (c.loop.counter + 1) + 1 = omega (arith, c.loop-test.true) in
-    rw (p.1, p.2) (record {
+    rw (err_is c.from_residual.result c.from_residual.ensures.1) (record {
       reads = reads_as (reads_on c.loop.invariant.reads (reads_off c.in_err-section.ensures.reads)) (λ file known is starts.
           let so_far = is.first starts in
           rw so_far.1.2 (sections_from-refuses _ _ _ _ _ _ _ left (is.rest so_far.1.0 so_far.1.1)));
@@ -45,9 +43,8 @@ loop-preserved g c =
 
 pub returns-in_err-ends : goal.returns-in_err-ends
 returns-in_err-ends g c =
-    let p = err_from_is_err_and c.from_residual-in_err-ends.result c.from_residual-in_err-ends.ensures.1 in
     let step = c.loop.invariant.reads in
-    rw (p.1, p.2) (record {
+    rw (err_is c.from_residual-in_err-ends.result c.from_residual-in_err-ends.ensures.1) (record {
       reads = record {
         looks = rw step.looks at c.in_err-ends.ensures.looks;
         piece = λ file known piece. tt;

@@ -1,7 +1,6 @@
 use Rattle.std.proofs.Common.{refl, sym, ◌∙◌, arith}
 use Rattle.std.proofs.lemmas.Bool.Decides.{nat_tests}
-use Rattle.std.proofs.lemmas.Result.{err_from_is_err_and}
-use Rattle.tv_container.proofs.Chain.{not_refused, reads_as, reads_bad, reads_done, reads_off, reads_on, refuses_first, refuses_wrong, same_refusal}
+use Rattle.tv_container.proofs.Chain.{err_is, not_refused, reads_as, reads_bad, reads_done, reads_off, reads_on, refuses_first, refuses_wrong, same_refusal}
 use Rattle.tv_container.proofs.SectionLemmas.{fit-is, sections_in-magic, sections_in-version}
 use Rattle.tv_container.specs.Sections.{sections_in}
 use Rattle.tv_container.proofs.sections.section_count.Goals as goal
@@ -9,8 +8,7 @@ use Rattle.tv_container.proofs.sections.section_count.Goals as goal
 pub returns-in_err-fit : goal.returns-in_err-fit
 unfolding sections_in
 returns-in_err-fit g c =
-    let p = err_from_is_err_and c.from_residual.result c.from_residual.ensures.1 in
-    rw (p.1, p.2) (record {
+    rw (err_is c.from_residual.result c.from_residual.ensures.1) (record {
       reads = reads_as (reads_off c.in_err-fit.ensures.reads) (λ file known refuses. refuses_first _ _ _ refuses);
       start = λ file known piece. tt;
       missing = λ missing none. same_refusal (c.in_err-fit.ensures.missing missing none (omega arith));
@@ -27,8 +25,7 @@ returns-then-word-form g c = record {
 
 pub returns-in_err-fit-2 : goal.returns-in_err-fit-2
 returns-in_err-fit-2 g c =
-    let p = err_from_is_err_and c.from_residual-in_err-fit-2.result c.from_residual-in_err-fit-2.ensures.1 in
-    rw (p.1, p.2) (record {
+    rw (err_is c.from_residual-in_err-fit-2.result c.from_residual-in_err-fit-2.ensures.1) (record {
       reads = reads_as (reads_on c.in_ok-fit.ensures.reads (reads_off c.in_err-fit-2.ensures.reads)) (λ file known is.
           rw (sections_in-magic _ _ file _ is.first (sym (c.word.ensures file is.held) ∙ c.if-word-form.false)) (refuses_first _ _ _ is.rest));
       start = λ file known piece. tt;
@@ -46,8 +43,7 @@ returns-then-found-form g c = record {
 
 pub returns-in_err-fit-3 : goal.returns-in_err-fit-3
 returns-in_err-fit-3 g c =
-    let p = err_from_is_err_and c.from_residual-in_err-fit-3.result c.from_residual-in_err-fit-3.ensures.1 in
-    rw (p.1, p.2) (record {
+    rw (err_is c.from_residual-in_err-fit-3.result c.from_residual-in_err-fit-3.ensures.1) (record {
       reads = reads_as (reads_on c.in_ok-fit.ensures.reads (reads_on c.in_ok-fit-2.ensures.reads (reads_off c.in_err-fit-3.ensures.reads)))
           (λ file known is.
           rw (sections_in-version _ _ file _ _ is.first (sym (c.word.ensures file is.held) ∙ c.if-word-form.false)
