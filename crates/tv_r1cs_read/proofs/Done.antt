@@ -1,5 +1,5 @@
 -- Constraints that were read, and those ahead.
-use Rattle.std.proofs.Common.{◌≡◌, ℕ, ◌+◌, ◌-◌, ◌*◌, ◌<◌, Bool, true, false, cond, eqb, zero, suc, List, [], ◌∷◌, ◌++◌, length, Option, Some, None}
+use Rattle.std.proofs.Common.{◌≡◌, ℕ, ◌+◌, ◌-◌, ◌*◌, ◌<◌, Bool, true, false, cond, eqb, zero, suc, List, ◌∷◌, ◌++◌, length, Option, None, []}
 use Rattle.std.proofs.Common.{MatchOption, Result, Ok, Err, append_assoc, append-nil, arith, ap, refl, sym, ◌∙◌}
 use Rattle.std.proofs.lemmas.List.{length-map}
 use Rattle.std.proofs.lemmas.List.Sums.{sum_by_push}
@@ -18,7 +18,7 @@ use Rattle.tv_container.specs.Reading.{Refuses}
 use Rattle.tv_r1cs_read.specs.Rows.{constraint_of, terms_in}
 use Rattle.tv_r1cs_read.specs.Steps.{Failed, Passed}
 use Rattle.tv_r1cs_read.specs.Survey.{survey_of}
-use Rattle.tv_container.proofs.Chain.{made, refuses_first}
+use Rattle.tv_container.proofs.Chain.{either_way, made, refuses_first}
 
 -- the next one goes after those that were read
 read_more : (done : List Constraint) (all before after : Result (List Constraint) Fault) (next : Constraint) → HasRead done all before →
@@ -62,13 +62,7 @@ constraints_from-length file wires (suc n) at rows list is =
 
 -- a row has the terms of its constraint
 terms_of_row : (row : Row) → terms_of (constraint_of row) ≡ terms_in row
-terms_of_row row =
-    omega (
-      arith,
-      length-map {B = ℕ × ℕ} row.a (λ (t : ℕ × ℕ). (t.1, t.0)),
-      length-map {B = ℕ × ℕ} row.b (λ (t : ℕ × ℕ). (t.1, t.0)),
-      length-map {B = ℕ × ℕ} row.c (λ (t : ℕ × ℕ). (t.1, t.0)),
-    )
+terms_of_row row = simp length-map
 
 -- one constraint more was read
 pub one_more : (file : List ℕ) (old new : Reached) (rows : List Constraint) (next : Constraint) → IsAt old file rows → Follows new file →
@@ -111,21 +105,12 @@ all_at file reached rows place none =
       counts = rw (place.header, all, count, place.terms) refl;
     }
 
--- no constraint was passed
-pub passed_none : (file : List ℕ) (reached : Reached) (rows : List Constraint) → IsAt reached file rows →
-    (more : List Constraint) × IsAt reached file (rows ++ more)
-passed_none file reached rows place = ([], rw append-nil place)
-
 -- those that were tried last were passed too
 pub passed_all : (file : List ℕ) (z : List ℕ) (reached : Reached) (rows more : List Constraint) →
     MatchOption reached.stopped (Failed None z reached file (rows ++ more)) (λ why. Refuses why (r1cs_system file)) →
     MatchOption reached.stopped (Passed reached file rows) (λ why. Refuses why (r1cs_system file))
-passed_all file z reached rows more ended = by_stop reached.stopped ended
-  where
-    by_stop : (stopped : Option ReadRefusal) → MatchOption stopped (Failed None z reached file (rows ++ more)) (λ why. Refuses why (r1cs_system file)) →
-        MatchOption stopped (Passed reached file rows) (λ why. Refuses why (r1cs_system file))
-    by_stop None all = (more ++ all.0, rw (← append_assoc rows more all.0) all.1)
-    by_stop (Some why) refuses = refuses
+passed_all file z reached rows more ended = either_way {Q = Passed reached file rows} reached.stopped ended
+    (λ all. (more ++ all.0, rw (← append_assoc rows more all.0) all.1)) (λ why refuses. refuses)
 
 -- what is given where reading is on
 pub is_on : {Gives : Type 0} (file : List ℕ) (stopped : Option ReadRefusal) → stopped ≡ None → Gives

@@ -4,8 +4,8 @@ use Rattle.std.proofs.Common.{sym, ap, ◌∙◌, add-zero, append_assoc, append
 use Rattle.std.proofs.lemmas.List.{length_push}
 use Rattle.tv_core.specs.Constraints.{Constraint}
 use Rattle.tv_core.specs.Meanings.{holds, first_failure}
+use Rattle.tv_container.proofs.Chain.{either_way}
 use Rattle.tv_container.specs.Reading.{Refuses}
-use Rattle.tv_container.specs.declared.why.ReadRefusal.{ReadRefusal}
 use Rattle.tv_r1cs_read.specs.Places.{IsAll, IsAt}
 use Rattle.tv_r1cs_read.specs.Progress.{Reached}
 use Rattle.tv_r1cs_read.specs.R1cs.{r1cs_system}
@@ -77,28 +77,13 @@ pub failed : (z : List ℕ) (old new : Reached) (file : List ℕ) (rows more : L
 failed z old new file rows more all before none over count place = (
   more ++ over.more,
   rw (← append_assoc rows more over.more) over.place,
-  omega (
-    arith,
-    count,
-    place,
-    over.count,
-    length-append more over.more,
-  ),
-  after_all z 0 more over.more none ∙ over.is (0 + length more) ∙ ap (λ (n : ℕ). Some n) (omega (
-    arith,
-    count,
-    place,
-    over.count,
-  )),
+  omega (arith, over.count, length-append more over.more),
+  after_all z 0 more over.more none ∙ over.is (0 + length more) ∙ ap (λ (n : ℕ). Some n) (omega (arith, over.count)),
 )
 
 -- all hold, or reading stopped
 pub none_failed : (z : List ℕ) (reached : Reached) (file : List ℕ) (rows more : List Constraint) → first_failure z 0 more ≡ None →
     MatchOption reached.stopped (IsAll reached file (rows ++ more)) (λ why. Refuses why (r1cs_system file)) →
     MatchOption reached.stopped (Failed None z reached file rows) (λ why. Refuses why (r1cs_system file))
-none_failed z reached file rows more none ended = by_stop reached.stopped ended
-  where
-    by_stop : (stopped : Option ReadRefusal) → MatchOption stopped (IsAll reached file (rows ++ more)) (λ why. Refuses why (r1cs_system file)) →
-        MatchOption stopped (Failed None z reached file rows) (λ why. Refuses why (r1cs_system file))
-    by_stop None all = (more, all, none)
-    by_stop (Some why) refuses = refuses
+none_failed z reached file rows more none ended =
+    either_way {Q = Failed None z reached file rows} reached.stopped ended (λ all. (more, all, none)) (λ why refuses. refuses)

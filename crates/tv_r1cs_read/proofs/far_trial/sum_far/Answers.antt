@@ -1,14 +1,12 @@
 use Rattle.std.proofs.Common.{◌≡◌, ◌+◌, ◌-◌, ◌*◌, arith, refl}
-use Rattle.std.proofs.lemmas.Result.{err_from_is_err_and}
-use Rattle.tv_container.proofs.Chain.{reads_as, reads_done, reads_off, reads_on, reads_past}
+use Rattle.tv_container.proofs.Chain.{err_is, reads_as, reads_done, reads_off, reads_on, reads_past}
 use Rattle.tv_r1cs_read.proofs.Ahead.{combination_at-counted, combination_at-uncounted, refused}
 use Rattle.tv_r1cs_read.proofs.Sums.{adds, comes_to, counted, starts, valued}
 use Rattle.tv_r1cs_read.proofs.far_trial.sum_far.Goals as goal
 
 pub returns-in_err-terms : goal.returns-in_err-terms
 returns-in_err-terms g c =
-    let p = err_from_is_err_and c.from_residual.result c.from_residual.ensures.1 in
-    rw (p.1, p.2) (record {
+    rw (err_is c.from_residual.result c.from_residual.ensures.1) (record {
       within = tt;
       size = tt;
       reads = reads_as (reads_off c.in_err-terms.ensures.reads) (λ file known refuses end. combination_at-uncounted file _ _ _ _ (refuses end));
@@ -27,9 +25,8 @@ loop-left-init g c = record {
 
 pub returns-in_err-wire : goal.returns-in_err-wire
 returns-in_err-wire g c =
-    let p = err_from_is_err_and c.from_residual-in_err-wire.result c.from_residual-in_err-wire.ensures.1 in
     let left : c.loop-left.left ≡ c.loop-left.left - 1 + 1 = omega (arith, c.loop-left-test.true) in
-    rw (p.1, p.2) (record {
+    rw (err_is c.from_residual-in_err-wire.result c.from_residual-in_err-wire.ensures.1) (record {
       within = tt;
       size = tt;
       reads = reads_as (reads_on c.in_ok-terms.ensures.reads (reads_on c.loop-left.invariant.reads (reads_off c.in_err-wire.ensures.reads)))

@@ -1,14 +1,12 @@
 use Rattle.std.proofs.Common.{◌≡◌, ◌==◌, ◌∙◌, ap, arith, rules}
-use Rattle.std.proofs.lemmas.Result.{err_from_is_err_and}
-use Rattle.tv_container.proofs.Chain.{reads_as, reads_done, reads_off, reads_on}
+use Rattle.tv_container.proofs.Chain.{err_is, reads_as, reads_done, reads_off, reads_on}
 use Rattle.tv_r1cs_read.proofs.Ahead.{constraint_at-first, constraint_at-second, constraint_at-third}
 use Rattle.tv_r1cs_read.proofs.Sums.{three}
 use Rattle.tv_r1cs_read.proofs.far_trial.try_far.Goals as goal
 
 pub returns-in_err-a : goal.returns-in_err-a
 returns-in_err-a g c =
-    let p = err_from_is_err_and c.from_residual.result c.from_residual.ensures.1 in
-    rw (p.1, p.2) (record {
+    rw (err_is c.from_residual.result c.from_residual.ensures.1) (record {
       within = tt;
       size = tt;
       reads = reads_as (reads_off c.in_err-a.ensures.reads) (λ file known refuses end. constraint_at-first file _ _ _ _ (refuses end));
@@ -16,8 +14,7 @@ returns-in_err-a g c =
 
 pub returns-in_err-b : goal.returns-in_err-b
 returns-in_err-b g c =
-    let p = err_from_is_err_and c.from_residual-in_err-b.result c.from_residual-in_err-b.ensures.1 in
-    rw (p.1, p.2) (record {
+    rw (err_is c.from_residual-in_err-b.result c.from_residual-in_err-b.ensures.1) (record {
       within = tt;
       size = tt;
       reads = reads_as (reads_on c.in_ok-a.ensures.reads (reads_off c.in_err-b.ensures.reads)) (λ file known is end.
@@ -26,8 +23,7 @@ returns-in_err-b g c =
 
 pub returns-in_err-c : goal.returns-in_err-c
 returns-in_err-c g c =
-    let p = err_from_is_err_and c.from_residual-in_err-c.result c.from_residual-in_err-c.ensures.1 in
-    rw (p.1, p.2) (record {
+    rw (err_is c.from_residual-in_err-c.result c.from_residual-in_err-c.ensures.1) (record {
       within = tt;
       size = tt;
       reads = reads_as (reads_on c.in_ok-a.ensures.reads (reads_on c.in_ok-b.ensures.reads (reads_off c.in_err-c.ensures.reads))) (λ file known is end.

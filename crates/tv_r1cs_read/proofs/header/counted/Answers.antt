@@ -1,14 +1,12 @@
 use Rattle.std.proofs.Common.{refl}
-use Rattle.std.proofs.lemmas.Result.{err_from_is_err_and}
-use Rattle.tv_container.proofs.Chain.{reads_as, reads_done, reads_off, reads_on, refuses_any}
+use Rattle.tv_container.proofs.Chain.{err_is, reads_as, reads_done, reads_off, reads_on, refuses_any}
 use Rattle.tv_container.proofs.SectionLemmas.{fit-within}
 use Rattle.tv_container.specs.Places.{places}
 use Rattle.tv_r1cs_read.proofs.header.counted.Goals as goal
 
 pub returns-in_err-fit : goal.returns-in_err-fit
 returns-in_err-fit g c =
-    let p = err_from_is_err_and c.from_residual.result c.from_residual.ensures.1 in
-    rw (p.1, p.2) (record {
+    rw (err_is c.from_residual.result c.from_residual.ensures.1) (record {
       reads = reads_as (reads_off c.in_err-fit.ensures.reads) (λ file known refuses within.
           refuses_any _ _ _ (rw (fit-within 40 c.args.one.now.at (places file) within) at refuses));
       rows = tt;

@@ -1,7 +1,6 @@
 use Rattle.std.proofs.Common.{◌+◌, ◌≤◌, ◌<◌, ◌^◌, ap, sym, ◌∙◌, arith}
-use Rattle.std.proofs.lemmas.Result.{err_from_is_err_and}
 use Rattle.tv_container.specs.Places.{places}
-use Rattle.tv_container.proofs.Chain.{reads_as, reads_off, reads_on, refuses_any, refuses_first, stopped_here}
+use Rattle.tv_container.proofs.Chain.{err_is, reads_as, reads_off, reads_on, refuses_any, refuses_first, stopped_here}
 use Rattle.tv_r1cs_read.specs.R1cs.{header_in}
 use Rattle.tv_r1cs_read.proofs.HeaderLemmas.{checked_has, checked_room, header_in-checked, reads_by}
 use Rattle.tv_r1cs_read.proofs.header.header_in.Goals as goal
@@ -9,8 +8,7 @@ use Rattle.tv_r1cs_read.proofs.header.header_in.Goals as goal
 pub returns-in_err-one : goal.returns-in_err-one
 unfolding header_in
 returns-in_err-one g c =
-    let p = err_from_is_err_and c.from_residual.result c.from_residual.ensures.1 in
-    rw (p.1, p.2) (record {
+    rw (err_is c.from_residual.result c.from_residual.ensures.1) (record {
       reads = record {
         looks = stopped_here _ _ _ c.in_err-one.ensures.no_fault;
         piece = λ file known piece. tt;
@@ -25,8 +23,7 @@ returns-in_err-one g c =
 pub returns-in_err-rows : goal.returns-in_err-rows
 unfolding header_in
 returns-in_err-rows g c =
-    let p = err_from_is_err_and c.from_residual-in_err-rows.result c.from_residual-in_err-rows.ensures.1 in
-    rw (p.1, p.2) (record {
+    rw (err_is c.from_residual-in_err-rows.result c.from_residual-in_err-rows.ensures.1) (record {
       reads = record {
         looks = stopped_here _ _ _ c.in_err-rows.ensures.no_fault;
         piece = λ file known piece. tt;
@@ -42,8 +39,7 @@ returns-in_err-rows g c =
 pub returns-in_err-this_field : goal.returns-in_err-this_field
 unfolding header_in
 returns-in_err-this_field g c =
-    let p = err_from_is_err_and c.from_residual-in_err-this_field.result c.from_residual-in_err-this_field.ensures.1 in
-    rw (p.1, p.2) (record {
+    rw (err_is c.from_residual-in_err-this_field.result c.from_residual-in_err-this_field.ensures.1) (record {
       reads = reads_as (reads_off c.in_err-this_field.ensures.reads) (λ file known refuses end sections found fit.
           let one_is = ap (λ fields. fields.one) found in
           rw (c.in_ok-one.ensures.gives file end sections one_is, c.in_ok-rows.ensures.gives file end sections (ap (λ fields. fields.two) found))
@@ -55,8 +51,7 @@ returns-in_err-this_field g c =
 
 pub returns-in_err-header : goal.returns-in_err-header
 returns-in_err-header g c =
-    let p = err_from_is_err_and c.from_residual-in_err-header.result c.from_residual-in_err-header.ensures.1 in
-    rw (p.1, p.2) (record {
+    rw (err_is c.from_residual-in_err-header.result c.from_residual-in_err-header.ensures.1) (record {
       reads = reads_as (reads_on c.in_ok-this_field.ensures.reads (reads_off c.in_err-header.ensures.reads)) (λ file known is end sections found fit.
           let within = fit.fits 1 c.in_ok-one.one (sym (ap (λ fields. fields.one) found) ∙ c.in_ok-one.ensures.same) in
           let room : c.in_ok-one.one.at + 40 ≤ places file = omega (arith, within, c.in_ok-this_field.ensures.size) in

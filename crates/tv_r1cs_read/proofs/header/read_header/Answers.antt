@@ -1,5 +1,4 @@
-use Rattle.std.proofs.lemmas.Result.{err_from_is_err_and}
-use Rattle.tv_container.proofs.Chain.{not_refused, reads_as, reads_off, reads_on, refuses_first, same_refusal}
+use Rattle.tv_container.proofs.Chain.{err_is, not_refused, reads_as, reads_off, reads_on, refuses_first, same_refusal}
 use Rattle.tv_container.proofs.SectionLemmas.{sections_of-fit}
 use Rattle.tv_r1cs_read.specs.R1cs.{header_of}
 use Rattle.tv_r1cs_read.proofs.header.read_header.Goals as goal
@@ -7,8 +6,7 @@ use Rattle.tv_r1cs_read.proofs.header.read_header.Goals as goal
 pub returns-in_err-found : goal.returns-in_err-found
 unfolding header_of
 returns-in_err-found g c =
-    let p = err_from_is_err_and c.from_residual.result c.from_residual.ensures.1 in
-    rw (p.1, p.2) (record {
+    rw (err_is c.from_residual.result c.from_residual.ensures.1) (record {
       reads = reads_as (reads_off c.in_err-found.ensures.reads) (λ file known refuses. refuses_first _ _ _ refuses);
       within = λ file known piece. tt;
       ends = tt;

@@ -1,15 +1,13 @@
 use Rattle.std.proofs.Common.{◌≡◌, ℕ, ◌+◌, ◌-◌, ◌<◌, length, ap, arith}
 use Rattle.std.proofs.lemmas.List.{length_push}
 use Rattle.std.proofs.lemmas.List.Elements.{All-nil, All-push}
-use Rattle.std.proofs.lemmas.Result.{err_from_is_err_and}
-use Rattle.tv_container.proofs.Chain.{reads_as, reads_done, reads_off, reads_on, reads_past}
+use Rattle.tv_container.proofs.Chain.{err_is, reads_as, reads_done, reads_off, reads_on, reads_past}
 use Rattle.tv_r1cs_read.proofs.Ahead.{begins, combination_at-counted, combination_at-uncounted, ends, goes_on, refused}
 use Rattle.tv_r1cs_read.proofs.rows.read_combination.Goals as goal
 
 pub returns-in_err-count : goal.returns-in_err-count
 returns-in_err-count g c =
-    let p = err_from_is_err_and c.from_residual.result c.from_residual.ensures.1 in
-    rw (p.1, p.2) (record {
+    rw (err_is c.from_residual.result c.from_residual.ensures.1) (record {
       within = tt;
       size = tt;
       wires = tt;
@@ -29,9 +27,8 @@ loop-init g c = record {
 
 pub returns-in_err-wire : goal.returns-in_err-wire
 returns-in_err-wire g c =
-    let p = err_from_is_err_and c.from_residual-in_err-wire.result c.from_residual-in_err-wire.ensures.1 in
     let left : c.in_ok-count.count - c.loop.counter ≡ c.in_ok-count.count - (c.loop.counter + 1) + 1 = omega (arith, c.loop-test.true) in
-    rw (p.1, p.2) (record {
+    rw (err_is c.from_residual-in_err-wire.result c.from_residual-in_err-wire.ensures.1) (record {
       within = tt;
       size = tt;
       wires = tt;

@@ -1,13 +1,11 @@
 use Rattle.std.proofs.Common.{arith}
-use Rattle.std.proofs.lemmas.Result.{err_from_is_err_and}
-use Rattle.tv_container.proofs.Chain.{reads_as, reads_done, reads_off, reads_on}
+use Rattle.tv_container.proofs.Chain.{err_is, reads_as, reads_done, reads_off, reads_on}
 use Rattle.tv_r1cs_read.proofs.Ahead.{constraint_at-first, constraint_at-read, constraint_at-second, constraint_at-third}
 use Rattle.tv_r1cs_read.proofs.rows.read_row.Goals as goal
 
 pub returns-in_err-next : goal.returns-in_err-next
 returns-in_err-next g c =
-    let p = err_from_is_err_and c.from_residual.result c.from_residual.ensures.1 in
-    rw (p.1, p.2) (record {
+    rw (err_is c.from_residual.result c.from_residual.ensures.1) (record {
       within = tt;
       size = tt;
       wires = tt;
@@ -16,8 +14,7 @@ returns-in_err-next g c =
 
 pub returns-in_err-next-2 : goal.returns-in_err-next-2
 returns-in_err-next-2 g c =
-    let p = err_from_is_err_and c.from_residual-in_err-next-2.result c.from_residual-in_err-next-2.ensures.1 in
-    rw (p.1, p.2) (record {
+    rw (err_is c.from_residual-in_err-next-2.result c.from_residual-in_err-next-2.ensures.1) (record {
       within = tt;
       size = tt;
       wires = tt;
@@ -27,8 +24,7 @@ returns-in_err-next-2 g c =
 
 pub returns-in_err-next-3 : goal.returns-in_err-next-3
 returns-in_err-next-3 g c =
-    let p = err_from_is_err_and c.from_residual-in_err-next-3.result c.from_residual-in_err-next-3.ensures.1 in
-    rw (p.1, p.2) (record {
+    rw (err_is c.from_residual-in_err-next-3.result c.from_residual-in_err-next-3.ensures.1) (record {
       within = tt;
       size = tt;
       wires = tt;

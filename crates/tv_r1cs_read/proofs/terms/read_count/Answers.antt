@@ -1,6 +1,5 @@
 use Rattle.std.proofs.Common.{sym}
-use Rattle.std.proofs.lemmas.Result.{err_from_is_err_and}
-use Rattle.tv_container.proofs.Chain.{reads_as, reads_bad, reads_done, reads_off, reads_on, refuses_first, refuses_wrong}
+use Rattle.tv_container.proofs.Chain.{err_is, reads_as, reads_bad, reads_done, reads_off, reads_on, refuses_first, refuses_wrong}
 use Rattle.tv_r1cs_read.specs.R1cs.{count_at}
 use Rattle.tv_r1cs_read.proofs.Ahead.{count_at-good, count_at-wide}
 use Rattle.tv_r1cs_read.proofs.terms.read_count.Goals as goal
@@ -8,8 +7,7 @@ use Rattle.tv_r1cs_read.proofs.terms.read_count.Goals as goal
 pub returns-in_err-fit_below : goal.returns-in_err-fit_below
 unfolding count_at
 returns-in_err-fit_below g c =
-    let p = err_from_is_err_and c.from_residual.result c.from_residual.ensures.1 in
-    rw (p.1, p.2) (record {
+    rw (err_is c.from_residual.result c.from_residual.ensures.1) (record {
       narrow = tt;
       within = tt;
       place = tt;

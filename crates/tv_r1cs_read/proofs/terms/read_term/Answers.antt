@@ -1,8 +1,7 @@
 use Rattle.std.proofs.Common.{◌<◌, sym, ⊎_elim}
 use Rattle.std.proofs.lemmas.Bool.{cases_lt}
-use Rattle.std.proofs.lemmas.Result.{err_from_is_err_and}
 use Rattle.tv_core.specs.declared.field.TheConstants.{P}
-use Rattle.tv_container.proofs.Chain.{reads_as, reads_bad, reads_done, reads_off, reads_on, refuses_first, refuses_wrong}
+use Rattle.tv_container.proofs.Chain.{err_is, reads_as, reads_bad, reads_done, reads_off, reads_on, refuses_first, refuses_wrong}
 use Rattle.tv_r1cs_read.specs.R1cs.{term_at}
 use Rattle.tv_r1cs_read.proofs.Ahead.{term_at-far, term_at-good}
 use Rattle.tv_r1cs_read.proofs.terms.read_term.Goals as goal
@@ -10,8 +9,7 @@ use Rattle.tv_r1cs_read.proofs.terms.read_term.Goals as goal
 pub returns-in_err-fit_below : goal.returns-in_err-fit_below
 unfolding term_at
 returns-in_err-fit_below g c =
-    let p = err_from_is_err_and c.from_residual.result c.from_residual.ensures.1 in
-    rw (p.1, p.2) (record {
+    rw (err_is c.from_residual.result c.from_residual.ensures.1) (record {
       held = tt;
       within = tt;
       wire = tt;

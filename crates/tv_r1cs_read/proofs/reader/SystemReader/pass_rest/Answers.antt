@@ -1,6 +1,6 @@
-use Rattle.std.proofs.Common.{[], ◌++◌, ◌∙◌, append_assoc, sym, rules, refl}
+use Rattle.std.proofs.Common.{[], ◌++◌, ◌∙◌, append_assoc, append-nil, sym, rules, refl}
 use Rattle.std.proofs.lemmas.Option.{MatchOption-at_none}
-use Rattle.tv_r1cs_read.proofs.Done.{passed_all, passed_none}
+use Rattle.tv_r1cs_read.proofs.Done.{passed_all}
 use Rattle.tv_r1cs_read.proofs.reader.SystemReader.pass_rest.Goals as goal
 
 pub loop-init : goal.loop-init
@@ -10,7 +10,7 @@ loop-init g c = record {
   name = refl;
   header = refl;
   on = sym c.stopped.ensures ∙ c.in-None.is;
-  place = λ rows file known start. passed_none file _ rows start;
+  place = λ rows file known start. ([], rw append-nil start);
 }
 
 pub loop-preserved : goal.loop-preserved
