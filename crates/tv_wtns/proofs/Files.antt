@@ -21,8 +21,7 @@ use Rattle.tv_wtns.specs.Wtns.{assignment_in, assignment_of, counted, fills, val
 
 length-values_bytes : (values : List ℕ) → length (values_bytes values) ≡ 8 * length values
 length-values_bytes [] = refl
-length-values_bytes (value ∷ values) =
-    omega (arith, length-append (eight_bytes value) (values_bytes values), length-eight_bytes value, length-values_bytes values)
+length-values_bytes (value ∷ values) = simp (length-append, length-eight_bytes, length-values_bytes values) (omega arith)
 
 -- section 2 is as long as its header says
 pub files_of_assignments : FilesAreOfAssignments
@@ -94,16 +93,7 @@ come_back values few all =
     let first = section_bytes 1 one in
     let second = section_bytes 2 two in
     let one_size = length-count_bytes count in
-    let long : length file ≡ 52 + length two =
-    omega (
-      arith,
-      one_size,
-      length-append front (first ++ second),
-      length-front_bytes 0x736e7477 2 2,
-      length-append first second,
-      length-section_bytes 1 one,
-      length-section_bytes 2 two,
-    ) in
+    let long : length file ≡ 52 + length two = simp (length-append, length-four_bytes, length-eight_bytes) (omega arith) in
     let short : length file < 2 ^ 64 - 1 = omega (arith, long, few, length-values_bytes values) in
     let a = at_rest file 0 12 12 front (first ++ second) (at_start file) (length-front_bytes 0x736e7477 2 2) refl in
     let b = at_rest file 12 28 40 first second a (omega (arith, length-section_bytes 1 one, one_size)) refl in

@@ -1,7 +1,6 @@
 use Rattle.std.proofs.Common.{◌≡◌, ◌+◌, ◌*◌, ◌≤◌, ap, sym, ◌∙◌, arith}
-use Rattle.std.proofs.lemmas.Result.{err_from_is_err_and}
 use Rattle.tv_container.specs.Places.{places}
-use Rattle.tv_container.proofs.Chain.{refuses_any, refuses_first}
+use Rattle.tv_container.proofs.Chain.{err_is, refuses_any, refuses_first}
 use Rattle.tv_wtns.specs.Wtns.{counted}
 use Rattle.tv_wtns.proofs.Sections.{filled, misfilled}
 use Rattle.tv_wtns.proofs.assignment.read_assignment.Goals as goal
@@ -12,8 +11,8 @@ returns-in_err-count-clause-gives g c = λ file known piece end sections found f
     let size = c.in_ok-this_field.ensures.size in
     let within = fit.fits 1 c.in_ok-one.one (sym one_is ∙ c.in_ok-one.ensures.same) in
     let room : c.in_ok-one.one.at + 16 ≤ places file = omega (arith, within, size) in
-    let p = err_from_is_err_and c.from_residual-in_err-count.result c.from_residual-in_err-count.ensures.1 in
-    rw (p.1, p.2) (refuses_any _ _ _ (c.in_err-count.ensures.reads.gives file (rw (← c.in_ok-this_field.ensures.reads.looks) at known)
+    rw (err_is c.from_residual-in_err-count.result c.from_residual-in_err-count.ensures.1)
+    (refuses_any _ _ _ (c.in_err-count.ensures.reads.gives file (rw (← c.in_ok-this_field.ensures.reads.looks) at known)
     (c.in_ok-this_field.ensures.reads.piece file known piece) room))
 
 pub returns-in_err-fills-clause-gives : goal.returns-in_err-fills-clause-gives
@@ -25,8 +24,7 @@ returns-in_err-fills-clause-gives g c = λ file known piece end sections found f
     let counts : counted file c.in_ok-one.one ≡ c.in_ok-count.count =
     cc (c.in_ok-count.ensures.reads.gives file (rw (← c.in_ok-this_field.ensures.reads.looks) at known)
     (c.in_ok-this_field.ensures.reads.piece file known piece) room) in
-    let p = err_from_is_err_and c.from_residual-in_err-fills.result c.from_residual-in_err-fills.ensures.1 in
-    rw (p.1, p.2) (refuses_first _ _ _ (misfilled file sections _ _ _ _ _
+    rw (err_is c.from_residual-in_err-fills.result c.from_residual-in_err-fills.ensures.1) (refuses_first _ _ _ (misfilled file sections _ _ _ _ _
     (c.in_ok-one.ensures.gives file end sections one_is)
     (c.in_ok-two.ensures.gives file end sections (ap (λ fields. fields.two) found))
     (c.in_ok-this_field.ensures.reads.gives file known piece within)

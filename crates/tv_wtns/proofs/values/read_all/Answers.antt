@@ -1,7 +1,6 @@
 use Rattle.std.proofs.Common.{◌≡◌, ◌/◌, ◌≤◌, length, take, arith, ◌∙◌}
 use Rattle.std.proofs.lemmas.List.{length-take-le}
-use Rattle.std.proofs.lemmas.Result.{err_from_is_err_and}
-use Rattle.tv_container.proofs.Chain.{refuses_first}
+use Rattle.tv_container.proofs.Chain.{err_is, refuses_first}
 use Rattle.tv_wtns.specs.Values.{AreWords}
 use Rattle.tv_wtns.proofs.Ahead.{begins, are_words, ends}
 use Rattle.tv_wtns.proofs.values.read_all.Goals as goal
@@ -14,8 +13,8 @@ returns-in_err-take_values-clause-gives g c = λ file known piece room.
     (c.bytes_from.ensures.bytes file held) c.as_chunks.ensures.front enough in
     let n : length (take c.min-some.result c.as_chunks.result.0.now) ≡ c.min-some.result = length-take-le _ _ (omega (arith, c.min-some.ensures)) in
     let before = c.loop-left.invariant.ahead file known piece room _ (begins file _ _ _) in
-    let p = err_from_is_err_and c.from_residual-in_err-take_values.result c.from_residual-in_err-take_values.ensures.1 in
-    rw (p.1, p.2) (refuses_first _ _ _ (c.in_err-take_values.ensures.gives file words _ c.loop-left.left (omega (arith, n, c.min-some.ensures)) before))
+    rw (err_is c.from_residual-in_err-take_values.result c.from_residual-in_err-take_values.ensures.1)
+    (refuses_first _ _ _ (c.in_err-take_values.ensures.gives file words _ c.loop-left.left (omega (arith, n, c.min-some.ensures)) before))
 
 pub loop-left-preserved : goal.loop-left-preserved
 loop-left-preserved g c = record {
