@@ -1,40 +1,16 @@
 -- The numbers below another one, but for those of a list.
-use Rattle.std.proofs.Common.{◌≡◌, ◌≢◌, ℕ, suc, ◌+◌, ◌-◌, ◌<◌, ◌≤◌, not, ◌||◌, List, [], ◌∷◌, ◌++◌, refl, sym, ◌∙◌, ap, arith, append-nil, eqb, inl, inr}
-use Rattle.std.proofs.Common.{true, false, cond, drop, length, get_or, eq-eqb, ne_eqb, subst}
-use Rattle.std.proofs.Math.Seq.{drop-cons}
-use Rattle.std.proofs.lemmas.List.{get_or-drop, length-drop}
-use Rattle.std.specs.List.{filter, list_any, range_with_len}
+use Rattle.std.proofs.Common.{◌≡◌, ◌≢◌, ℕ, ◌+◌, ◌-◌, ◌<◌, ◌≤◌, not, List, [], ◌∷◌, ◌++◌, refl, sym, ◌∙◌, ap, arith, append-nil, eqb, inl, inr}
+use Rattle.std.proofs.Common.{true, false, cond, length, get_or, eq-eqb, ne_eqb}
+use Rattle.std.specs.List.{AllPairs, filter, list_any, range_with_len}
 use Rattle.std.specs.List.Sorted.{IsStrictlyIncreasing}
-use Rattle.std.specs.Prelude.{slice_index}
-use Rattle.std.proofs.lemmas.Bool.{cases_lt, or_from, or_left}
+use Rattle.std.proofs.lemmas.Bool.{cases_eq, cases_lt}
 use Rattle.std.proofs.lemmas.Grind.{flat_map-append}
-use Rattle.std.proofs.lemmas.List.Elements.{filter-append}
+use Rattle.std.proofs.lemmas.List.Elements.{All-from_get_or, filter-append}
+use Rattle.std.proofs.lemmas.List.Folds.{list_any_at, list_any_none}
+use Rattle.std.proofs.lemmas.List.Kept.{AllPairs-from_increasing}
 use Rattle.tv_container.specs.Bytes.{eight_bytes}
 use Rattle.tv_core.proofs.BelowLaws.{range-append}
 use Rattle.tv_r1cs_write.specs.Bytes.{label_bytes, others}
-
--- the numbers rise from a number on
-abbrev pub Rising : ℕ → List ℕ → Type 0
-Rising least [] = Unit {0}
-Rising least (x ∷ xs) = (least ≤ x) × Rising (x + 1) xs
-
-rising_later : (x : ℕ) (xs : List ℕ) → IsStrictlyIncreasing (x ∷ xs) → Rising (x + 1) xs
-rising_later x [] h = tt
-rising_later x (y ∷ xs) h =
-    let first : x < y = h 0 (omega arith) in
-    let rest : IsStrictlyIncreasing (y ∷ xs) = λ k l.
-    let next : suc k + 1 ≡ suc (k + 1) = omega arith in subst (λ n. slice_index (y ∷ xs) k < slice_index (x ∷ y ∷ xs) n) next (h (suc k) (omega arith)) in
-    (omega arith, rising_later y xs rest)
-
-pub rising_from : (xs : List ℕ) → IsStrictlyIncreasing xs → Rising 0 xs
-rising_from [] h = tt
-rising_from (x ∷ xs) h = (omega arith, rising_later x xs h)
-
--- a number below all of them is none of them
-pub none_before : (least n : ℕ) (xs : List ℕ) → n < least → Rising least xs → list_any (λ m. eqb m n) xs ≡ false
-none_before least n [] h r = refl
-none_before least n (x ∷ xs) h r =
-    or_from (eqb x n) (list_any (λ m. eqb m n) xs) (ne_eqb x n (λ e. absurd (omega (arith, r.0)))) (none_before (x + 1) n xs (omega (arith, r.0)) r.1)
 
 -- one number more
 pub others_more : (n : ℕ) (but : List ℕ) → others (n + 1) but ≡ others n but ++ cond (not (list_any (λ m. eqb m n) but)) (n ∷ []) []
@@ -52,47 +28,52 @@ others_none n = all_of (range_with_len 0 n)
     all_of [] = refl
     all_of (x ∷ xs) = ap (λ rest. x ∷ rest) (all_of xs)
 
--- from a place on the numbers rise from n on, and none before it is n or greater
+-- the numbers rise; those before a place are below n, and those from it on are not
 pub record AreAhead (n : ℕ) (but : List ℕ) (next : ℕ) : Type 0 where
-  pub rising : Rising n (drop next but)
-  pub same : (w : ℕ) → n ≤ w → list_any (λ m. eqb m w) but ≡ list_any (λ m. eqb m w) (drop next but)
+  pub pairs : AllPairs (λ x y. x < y) but
+  pub within : next ≤ length but
+  pub before : (k : ℕ) → k < next → get_or but k 0 < n
+  pub after : next < length but → n ≤ get_or but next 0
 
 pub all_ahead : (but : List ℕ) → IsStrictlyIncreasing but → AreAhead 0 but 0
-all_ahead but h = record { rising = rising_from but h; same = λ w l. refl }
+all_ahead but h =
+    record { pairs = AllPairs-from_increasing but h; within = omega arith; before = λ k l. absurd (omega arith); after = λ l. omega arith }
 
 -- one number on
 module _ (n : ℕ) (but : List ℕ) (next : ℕ) (ahead : AreAhead n but next) where
   -- where the first is the number
   pub there : next < length but → get_or but next 0 ≡ n → list_any (λ m. eqb m n) but ≡ true
-  there h e =
-      ahead.same n (omega arith) ∙ ap (list_any (λ m. eqb m n)) (drop-cons but next 0 h)
-      ∙ or_left (eqb (get_or but next 0) n) (list_any (λ m. eqb m n) (drop (suc next) but)) (eq-eqb (get_or but next 0) n e)
+  there h e = list_any_at (λ m. eqb m n) but next 0 h (eq-eqb (get_or but next 0) n e)
 
   pub passed : next < length but → get_or but next 0 ≡ n → AreAhead (n + 1) but (next + 1)
-  passed h e =
-      let rising : Rising n (get_or but next 0 ∷ drop (suc next) but) = subst (Rising n) (drop-cons but next 0 h) ahead.rising in
-      let one : suc next ≡ next + 1 = omega arith in
-      subst (AreAhead (n + 1) but) one (record {
-        rising = subst (λ k. Rising (k + 1) (drop (suc next) but)) e rising.1;
-        same = λ w l.
-            ahead.same w (omega arith) ∙ ap (list_any (λ m. eqb m w)) (drop-cons but next 0 h)
-            ∙ ap (λ b. b || list_any (λ m. eqb m w) (drop (suc next) but)) (ne_eqb (get_or but next 0) w (λ same. absurd (omega arith)));
-      })
+  passed h e = record {
+    pairs = ahead.pairs;
+    within = omega arith;
+    before = λ k l. elim (cases_lt k next) [
+      | inl low ↦ omega (arith, ahead.before k low)
+      | inr last ↦ let here : k ≡ next = omega arith in omega (arith, ap (λ i. get_or but i 0) here)
+    ];
+    after = λ l. omega (arith, ahead.pairs next (next + 1) 0 (omega arith) l);
+  }
 
   -- where it is not, or there is none
-  later : (xs : List ℕ) → Rising n xs → (0 < length xs → get_or xs 0 0 ≢ n) → Rising (n + 1) xs
-  later [] r apart = tt
-  later (x ∷ xs) r apart = elim (cases_lt n x) [ inl below ↦ (omega arith, r.1) | inr le ↦ absurd (apart (omega arith) (omega (arith, r.0))) ]
-
-  above : (next < length but → get_or but next 0 ≢ n) → Rising (n + 1) (drop next but)
-  above apart = later (drop next but) ahead.rising (λ some e. apart (omega (arith, length-drop next but))
-      (ap (λ k. get_or but k 0) (omega arith) ∙ sym (get_or-drop next but 0 0) ∙ e))
-
   pub absent : (next < length but → get_or but next 0 ≢ n) → list_any (λ m. eqb m n) but ≡ false
-  absent apart = ahead.same n (omega arith) ∙ none_before (n + 1) n (drop next but) (omega arith) (above apart)
+  absent apart = list_any_none (λ m. eqb m n) but (All-from_get_or (λ m. eqb m n ≡ false) but 0 (λ k l.
+      ne_eqb (get_or but k 0) n (λ same. elim (cases_lt k next) [
+        | inl below ↦ absurd (omega (arith, ahead.before k below))
+        | inr from ↦ elim (cases_eq k next) [
+          | inl here ↦ apart (omega arith) (ap (λ i. get_or but i 0) (sym here) ∙ same)
+          | inr other ↦ absurd (omega (arith, ahead.pairs next k 0 (omega arith) l, ahead.after (omega arith)))
+        ]
+      ])))
 
   pub waiting : (next < length but → get_or but next 0 ≢ n) → AreAhead (n + 1) but next
-  waiting apart = record { rising = above apart; same = λ w l. ahead.same w (omega arith) }
+  waiting apart = record {
+    pairs = ahead.pairs;
+    within = ahead.within;
+    before = λ k l. omega (arith, ahead.before k l);
+    after = λ l. let isnt = apart l in omega (arith, ahead.after l);
+  }
 
 -- the bytes of the labels with one more, or without it
 pub bytes_stay : (n : ℕ) (but : List ℕ) → list_any (λ m. eqb m n) but ≡ true → label_bytes (others (n + 1) but) ≡ label_bytes (others n but)

@@ -37,24 +37,7 @@ terms_few wires (row ∷ list) all =
     )
 
 length-counts_bytes : (counts : Counts) (labels : ℕ) → length (counts_bytes counts labels) ≡ 40
-length-counts_bytes counts labels =
-    let last = eight_bytes labels ++ four_bytes counts.constraints in
-    omega (
-      arith,
-      length-field_bytes,
-      length-append field_bytes (numbers_bytes counts labels),
-      length-append (four_bytes counts.wires) (four_bytes counts.outputs ++ (four_bytes counts.inputs ++ (four_bytes 0 ++ last))),
-      length-append (four_bytes counts.outputs) (four_bytes counts.inputs ++ (four_bytes 0 ++ last)),
-      length-append (four_bytes counts.inputs) (four_bytes 0 ++ last),
-      length-append (four_bytes 0) last,
-      length-append (eight_bytes labels) (four_bytes counts.constraints),
-      length-four_bytes counts.wires,
-      length-four_bytes counts.outputs,
-      length-four_bytes counts.inputs,
-      length-four_bytes 0,
-      length-eight_bytes labels,
-      length-four_bytes counts.constraints,
-    )
+length-counts_bytes counts labels = simp (length-append, length-four_bytes, length-eight_bytes)
 
 -- the content of a section stands after its header
 content_at : (kind at : ℕ) (content rest file : List ℕ) → At file at (section_bytes kind content ++ rest) → At file (at + 12) content
@@ -84,17 +67,7 @@ are_read magic version one two three file is magic_short version_short short =
     let b = at_rest file 12 (12 + length one) (24 + length one) first (second ++ third) a (length-section_bytes 1 one) (omega arith) in
     let c = at_rest file (24 + length one) (12 + length two) (36 + length one + length two) second third b (length-section_bytes 2 two) (omega arith) in
     let end : 36 + length one + length two + 12 + length three ≡ length file =
-    omega (
-      arith,
-      ap length is,
-      length-append (front_bytes magic version 3) (first ++ (second ++ third)),
-      length-front_bytes magic version 3,
-      length-append first (second ++ third),
-      length-append second third,
-      length-section_bytes 1 one,
-      length-section_bytes 2 two,
-      length-section_bytes 3 three,
-    ) in
+    rw is (simp (length-append, length-four_bytes, length-eight_bytes) (omega arith)) in
     let s1 : Section = record { kind = 1; at = 24; size = length one } in
     let s2 : Section = record { kind = 2; at = 24 + length one + 12; size = length two } in
     let s3 : Section = record { kind = 3; at = 36 + length one + length two + 12; size = length three } in
@@ -159,16 +132,7 @@ systems_come_back system count labels is each =
     let few = terms_few system.wires list is.narrow in
     let one_size = length-counts_bytes counts count in
     let long : length file ≡ 48 + length one + length two + length three =
-    omega (
-      arith,
-      length-append (front_bytes 0x73633172 1 3) (section_bytes 1 one ++ (section_bytes 2 two ++ section_bytes 3 three)),
-      length-front_bytes 0x73633172 1 3,
-      length-append (section_bytes 1 one) (section_bytes 2 two ++ section_bytes 3 three),
-      length-append (section_bytes 2 two) (section_bytes 3 three),
-      length-section_bytes 1 one,
-      length-section_bytes 2 two,
-      length-section_bytes 3 three,
-    ) in
+    simp (length-append, length-four_bytes, length-eight_bytes) (omega arith) in
     let short : length file < 2 ^ 64 - 1 = omega
     (arith, long, one_size, few, is.constraints, is.wires, length-rows_bytes list, length-label_bytes labels, each) in
     let read = are_read 0x73633172 1 one two three file refl (omega arith) (omega arith) short in

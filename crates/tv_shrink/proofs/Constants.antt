@@ -1,5 +1,5 @@
 -- Looking into a normal combination.
-use Rattle.std.proofs.Common.{◌≡◌, ℕ, zero, suc, ◌+◌, ◌*◌, ◌%◌, ◌<◌, ◌≤◌, ◌&&◌, [], ◌∷◌, Some, None, refl, sym, ◌∙◌, ap, ap₂, subst, arith, eqb, ltb}
+use Rattle.std.proofs.Common.{◌≡◌, ℕ, zero, suc, ◌+◌, ◌*◌, ◌%◌, ◌<◌, ◌≤◌, ◌&&◌, ◌∷◌, Some, None, refl, sym, ◌∙◌, ap, ap₂, subst, arith, eqb, ltb, []}
 use Rattle.std.proofs.Common.{◌++◌, not, true, false, inl, inr, cond, length, get_or, eq-eqb, ne_eqb, ltb-true, one-mul, mod-eq_of_lt}
 use Rattle.std.specs.List.{list_all}
 use Rattle.std.specs.Prelude.{Option, IfSome, is_some}

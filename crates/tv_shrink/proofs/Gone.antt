@@ -1,110 +1,90 @@
 -- The wires that are gone, and the numbers of the others.
-use Rattle.std.proofs.Common.{◌≡◌, ℕ, zero, suc, ◌+◌, ◌-◌, ◌<◌, ◌≤◌, Bool, not, ◌||◌, List, [], ◌∷◌, ◌++◌, refl, sym, ◌∙◌, ap, arith, eqb, ltb}
-use Rattle.std.proofs.Common.{true, false, inl, inr, cond, length, get_or, eqb-true, eq-eqb, ne_eqb, lt-ltb, le-ltb}
-use Rattle.std.proofs.Common.{ltb-true, append-nil}
-use Rattle.std.specs.List.{dedup, dedup_from, filter, list_any}
-use Rattle.std.specs.List.Sorted.{IsNonDecreasingBy, IsPartitionPoint}
-use Rattle.std.proofs.lemmas.Bool.{cases_Bool, cases_eq, cases_lt, or_left}
-use Rattle.std.proofs.lemmas.List.{length-append}
+use Rattle.std.proofs.Common.{◌≡◌, ◌≢◌, ℕ, zero, suc, ◌+◌, ◌-◌, ◌<◌, ◌≤◌, Bool, not, ◌||◌, List, ◌∷◌, ◌++◌, refl, sym, ◌∙◌, ap, arith, eqb, ltb, []}
+use Rattle.std.proofs.Common.{true, false, inl, inr, cond, length, get_or, eqb-true, add-one, append-nil, subst}
+use Rattle.std.specs.List.{dedup, dedup_from, list_any}
+use Rattle.std.specs.List.Sorted.{IsNonDecreasingBy, IsPartitionPoint, IsStrictlyIncreasing}
+use Rattle.std.proofs.lemmas.Bool.{cases_Bool, cases_eq, cases_lt, ltb-false, ltb-true}
+use Rattle.std.proofs.lemmas.List.{get_or_append_left, get_or_push, length-append}
+use Rattle.std.proofs.lemmas.List.Kept.{AllPairs-from_increasing}
 use Rattle.tv_r1cs_write.specs.Bytes.{others}
-use Rattle.tv_r1cs_write.proofs.Others.{none_before, others_more, Rising}
-use Rattle.tv_shrink.proofs.Labels.{Rising-at}
-
--- how many of the numbers are below one
-abbrev below : ℕ → List ℕ → ℕ
-below w xs = length (filter (λ v. ltb v w) xs)
-
-below_first : (w x : ℕ) (xs : List ℕ) → x < w → below w (x ∷ xs) ≡ 1 + below w xs
-below_first w x xs h = ap (λ b. length (cond b (x ∷ filter (λ v. ltb v w) xs) (filter (λ v. ltb v w) xs))) (lt-ltb x w h) ∙ omega arith
-
-below_rest : (w x : ℕ) (xs : List ℕ) → w ≤ x → below w (x ∷ xs) ≡ below w xs
-below_rest w x xs h = ap (λ b. length (cond b (x ∷ filter (λ v. ltb v w) xs) (filter (λ v. ltb v w) xs))) (le-ltb x w h)
-
-none_below : (least w : ℕ) (xs : List ℕ) → w ≤ least → Rising least xs → below w xs ≡ 0
-none_below least w [] h r = refl
-none_below least w (x ∷ xs) h r = below_rest w x xs (omega (arith, r.0)) ∙ none_below (x + 1) w xs (omega (arith, r.0)) r.1
-
-below_more : (least w : ℕ) (xs : List ℕ) → Rising least xs → below (w + 1) xs ≡ below w xs + cond (list_any (λ m. eqb m w) xs) 1 0
-below_more least w [] r = refl
-below_more least w (x ∷ xs) r =
-    elim (cases_lt x w) [
-      | inl before ↦
-          let none : list_any (λ m. eqb m w) (x ∷ xs) ≡ list_any (λ m. eqb m w) xs =
-          ap (λ b. b || list_any (λ m. eqb m w) xs) (ne_eqb x w (λ e. absurd (omega arith))) in
-          omega (arith, below_first (w + 1) x xs (omega arith), below_first w x xs before, below_more (x + 1) w xs r.1, ap {B = ℕ} (λ b. cond b 1 0) none)
-      | inr from ↦ elim (cases_eq x w) [
-        | inl same ↦
-            omega (
-              arith,
-              below_first (w + 1) x xs (omega arith),
-              below_rest w x xs from,
-              none_below (x + 1) (w + 1) xs (omega arith) r.1,
-              none_below (x + 1) w xs (omega arith) r.1,
-              ap {B = ℕ} (λ b. cond b 1 0) (or_left (eqb x w) (list_any (λ m. eqb m w) xs) (eq-eqb x w same)),
-            )
-        | inr apart ↦
-            let above : w < x = elim (cases_lt w x) [ inl lt ↦ lt | inr le ↦ absurd (apart (omega arith)) ] in
-            omega (
-              arith,
-              below_rest (w + 1) x xs (omega arith),
-              below_rest w x xs from,
-              none_below (x + 1) (w + 1) xs (omega arith) r.1,
-              none_below (x + 1) w xs (omega arith) r.1,
-              ap {B = ℕ} (λ b. cond b 1 0) (none_before x w (x ∷ xs) above (omega arith, r.1)),
-            )
-      ]
-    ]
+use Rattle.tv_r1cs_write.proofs.Others.{absent, others_more, there, AreAhead}
 
 left_one : (n w : ℕ) (xs : List ℕ) (b : Bool) → length (xs ++ cond (not b) (w ∷ []) []) ≡ length xs + cond b 0 1
 left_one n w xs true = ap length (append-nil xs) ∙ omega arith
 left_one n w xs false = length-append xs (w ∷ [])
 
-one_of : (b : Bool) → cond b 0 1 + cond b 1 0 ≡ 1
-one_of true = refl
-one_of false = refl
-
 -- how many are left of the numbers with one more
 pub length_more : (n : ℕ) (gone : List ℕ) → length (others (n + 1) gone) ≡ length (others n gone) + cond (list_any (λ m. eqb m n) gone) 0 1
 length_more n gone = ap length (others_more n gone) ∙ left_one n n (others n gone) (list_any (λ m. eqb m n) gone)
 
--- they and those that are not among them are all
-below_others : (gone : List ℕ) → Rising 0 gone → (w : ℕ) → below w gone + length (others w gone) ≡ w
+-- one number back
+module _ (n : ℕ) (gone : List ℕ) (i : ℕ) (ahead : AreAhead (n + 1) gone i) where
+  passed_by : 0 < i → get_or gone (i - 1) 0 ≡ n → AreAhead n gone (i - 1)
+  passed_by some e = record {
+    pairs = ahead.pairs;
+    within = omega (arith, ahead.within);
+    before = λ k l. omega (arith, ahead.pairs k (i - 1) 0 l (omega (arith, ahead.within)));
+    after = λ l. omega arith;
+  }
+
+  still_ahead : (0 < i → get_or gone (i - 1) 0 ≢ n) → AreAhead n gone i
+  still_ahead apart = record {
+    pairs = ahead.pairs;
+    within = ahead.within;
+    before = λ k l. elim (cases_lt k (i - 1)) [
+      | inl low ↦ omega (arith, ahead.pairs k (i - 1) 0 low (omega (arith, ahead.within)), ahead.before (i - 1) (omega arith))
+      | inr last ↦
+          let here : k ≡ i - 1 = omega arith in
+          let isnt = apart (omega arith) in omega (arith, ap (λ j. get_or gone j 0) here, ahead.before k l)
+    ];
+    after = λ l. omega (arith, ahead.after l);
+  }
+
+  module _ (rest : (j : ℕ) → AreAhead n gone j → j + length (others n gone) ≡ n) where
+    stays : (0 < i → get_or gone (i - 1) 0 ≢ n) → i + length (others (n + 1) gone) ≡ n + 1
+    stays apart =
+        let before = still_ahead apart in
+        let none = absent n gone i before (λ l same. absurd (omega (arith, ahead.after l))) in
+        omega (arith, length_more n gone, rest i before, ap {B = ℕ} (λ b. cond b 0 1) none)
+
+    step : i + length (others (n + 1) gone) ≡ n + 1
+    step =
+        elim (cases_lt 0 i) [
+          | inl some ↦ elim (cases_eq (get_or gone (i - 1) 0) n) [
+            | inl same ↦
+                let before = passed_by some same in
+                let is = there n gone (i - 1) before (omega (arith, ahead.within)) same in
+                omega (arith, length_more n gone, rest (i - 1) before, ap {B = ℕ} (λ b. cond b 0 1) is)
+            | inr other ↦ stays (λ _. other)
+          ]
+          | inr none ↦ stays (λ l. absurd (omega arith))
+        ]
+
+-- those below a number and those that are not among them are all
+pub lowered_by : (gone : List ℕ) (w i : ℕ) → AreAhead w gone i → i + length (others w gone) ≡ w
 unfolding others
-below_others gone r zero = omega (arith, none_below 0 0 gone (omega arith) r)
-below_others gone r (suc w) =
-    let next : suc w ≡ w + 1 = omega arith in
-    let there = list_any (λ m. eqb m w) gone in
-    omega (
-      arith,
-      below_others gone r w,
-      below_more 0 w gone r,
-      ap (λ n. below n gone) next,
-      ap (λ n. length (others n gone)) next,
-      length_more w gone,
-      one_of there,
-    )
+lowered_by gone zero i ahead =
+    elim (cases_lt 0 i) [ inl some ↦ absurd (omega (arith, ahead.before 0 some)) | inr none ↦ omega arith ]
+lowered_by gone (suc w) i ahead =
+    subst (λ m. i + length (others m gone) ≡ m) (add-one w)
+    (step w gone i (subst (λ m. AreAhead m gone i) (sym (add-one w)) ahead) (λ j before. lowered_by gone w j before))
 
-point_below : (w : ℕ) (xs : List ℕ) (i : ℕ) → i ≤ length xs → IsPartitionPoint (λ v. ltb v w ≡ true) (λ v. ltb v w ≡ false) xs i → below w xs ≡ i
-point_below w [] i h point = omega arith
-point_below w (x ∷ xs) zero h point =
-    ap (λ b. length (cond b (x ∷ filter (λ v. ltb v w) xs) (filter (λ v. ltb v w) xs))) (point.1 0 0 (omega arith) (omega arith))
-    ∙ point_below w xs 0 (omega arith) (λ k d l u. absurd (omega arith), λ k d l u. point.1 (suc k) d (omega arith) (omega arith))
-point_below w (x ∷ xs) (suc i) h point =
-    let rest = point_below w xs i (omega arith)
-    (λ k d l u. point.0 (suc k) d (omega arith) (omega arith), λ k d l u. point.1 (suc k) d (omega arith) (omega arith)) in
-    omega (arith, rest, below_first w x xs (ltb-true x w (point.0 0 0 (omega arith) (omega arith))))
+pub non-decreasing : (xs : List ℕ) → IsStrictlyIncreasing xs → IsNonDecreasingBy (λ v. v) xs
+non-decreasing xs rising i j d le l =
+    elim (cases_lt i j) [
+      | inl less ↦ omega (arith, AllPairs-from_increasing xs rising i j d less l)
+      | inr from ↦ let same : i ≡ j = omega arith in omega (arith, ap (λ k. get_or xs k d) same)
+    ]
 
--- where they rise, the place between those below a wire and the others is how many are below it
-pub lowered_by : (gone : List ℕ) (w i : ℕ) → Rising 0 gone → i ≤ length gone → IsPartitionPoint (λ v. ltb v w ≡ true) (λ v. ltb v w ≡ false) gone i
-    → i + length (others w gone) ≡ w
-lowered_by gone w i r h point = omega (arith, point_below w gone i h point, below_others gone r w)
-
-pub non-decreasing : (least : ℕ) (xs : List ℕ) → Rising least xs → IsNonDecreasingBy (λ v. v) xs
-non-decreasing least [] r i j d le lt = absurd (omega arith)
-non-decreasing least (x ∷ xs) r zero zero d le lt = omega arith
-non-decreasing least (x ∷ xs) r zero (suc j) d le lt = omega (arith, Rising-at (x + 1) xs j d r.1 (omega arith))
-non-decreasing least (x ∷ xs) r (suc i) zero d le lt = absurd (omega arith)
-non-decreasing least (x ∷ xs) r (suc i) (suc j) d le lt = non-decreasing (x + 1) xs r.1 i j d (omega arith) (omega arith)
+-- the place between those below a number and the others
+pub at_point : (w : ℕ) (xs : List ℕ) (i : ℕ) → IsStrictlyIncreasing xs → i ≤ length xs
+    → IsPartitionPoint (λ v. ltb v w ≡ true) (λ v. ltb v w ≡ false) xs i → AreAhead w xs i
+at_point w xs i rising h point = record {
+  pairs = AllPairs-from_increasing xs rising;
+  within = h;
+  before = λ k l. ltb-true (get_or xs k 0) w (point.0 k 0 (omega arith) l);
+  after = λ l. ltb-false (get_or xs i 0) w (point.1 i 0 (omega arith) l);
+}
 
 -- each number once
 or_again : (b c : Bool) → (b || (b || c)) ≡ (b || c)
@@ -129,8 +109,8 @@ any-dedup p (x ∷ xs) = any-dedup_from p x xs
 -- a list of values with one more
 pub values_more : (f : ℕ → ℕ) (values : List ℕ) (n v k : ℕ) → length values ≡ n → ((u : ℕ) → u < n → get_or values u 0 ≡ f u) → k ≡ f n → v < n + 1
     → get_or (values ++ (k ∷ [])) v 0 ≡ f v
-values_more f [] n v k each before is h =
-    let first : v ≡ 0 = omega arith in let none : n ≡ 0 = omega arith in ap (λ u. get_or (k ∷ []) u 0) first ∙ is ∙ ap f (none ∙ sym first)
-values_more f (x ∷ values) n zero k each before is h = before 0 (omega arith)
-values_more f (x ∷ values) n (suc v) k each before is h =
-    values_more (λ u. f (suc u)) values (n - 1) v k (omega arith) (λ u l. before (suc u) (omega arith)) (is ∙ ap f (omega arith)) (omega arith)
+values_more f values n v k each before is h =
+    elim (cases_lt v n) [
+      | inl low ↦ get_or_append_left values (k ∷ []) 0 v (omega arith) ∙ before v low
+      | inr last ↦ let same : v ≡ n = omega arith in ap (λ u. get_or (values ++ k ∷ []) u 0) same ∙ get_or_push values k 0 n each ∙ is ∙ ap f (sym same)
+    ]

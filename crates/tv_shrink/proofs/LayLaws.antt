@@ -1,11 +1,11 @@
 -- Terms put over others, and the constraints whose terms are not among those.
-use Rattle.std.proofs.Common.{◌≡◌, ◌⊎◌, ℕ, zero, suc, ◌+◌, ◌-◌, ◌<◌, ◌≤◌, List, [], ◌∷◌, ◌++◌, Option, Some, None, refl, sym, ◌∙◌, ap, ap₂, subst, arith, inl}
+use Rattle.std.proofs.Common.{◌≡◌, ◌⊎◌, ℕ, zero, suc, ◌+◌, ◌-◌, ◌<◌, ◌≤◌, List, ◌∷◌, ◌++◌, Option, Some, None, refl, sym, ◌∙◌, ap, ap₂, subst, arith, inl, []}
 use Rattle.std.proofs.Common.{inr, map, length, get_or, set, take, drop, take-append-drop, take_all, append-nil}
 use Rattle.std.specs.List.{AllByRecursion}
 use Rattle.std.specs.Option.{option_map}
 use Rattle.std.specs.Prelude.{slice_range}
 use Rattle.std.proofs.Math.Seq.{drop-append-add}
-use Rattle.std.proofs.lemmas.List.{append_assoc, drop_all, get_or_read, length-append, length-drop, length-take-le, map-append}
+use Rattle.std.proofs.lemmas.List.{append_assoc, drop_all, get_or_read, length-append, length-drop, length-take-le, map_push}
 use Rattle.tv_core.specs.Constraints.{Combination, Constraint}
 use Rattle.tv_shrink.specs.Spans.{end_of, laid, row_at, row_terms, span_of, AreApart, AreInside, AreLaid, IsClear, IsFree, IsInside}
 use Rattle.tv_shrink.specs.declared.arena.Span.{Span}
@@ -59,32 +59,16 @@ laid_longer start put xs h =
     ∙ ap₂ (λ m n. m + n) (length-take-le start xs h) (length-append put (drop (start + length put) xs)) in
     (omega (arith, length-drop (start + length put) xs), omega arith)
 
--- what holds of all constraints but the one at a place
-abbrev pub OthersAre : (Option Span → Type 0) → ℕ → List (Option Span) → Type 0
-OthersAre R i [] = Unit {0}
-OthersAre R zero (span ∷ spans) = AllByRecursion R spans
-OthersAre R (suc i) (span ∷ spans) = R span × OthersAre R i spans
-
-module _ (R S : Option Span → Type 0) (weaker : (span : Option Span) → R span → S span) where
-  others_weaker : (spans : List (Option Span)) (i : ℕ) → OthersAre R i spans → OthersAre S i spans
-  others_weaker [] i h = tt
-  others_weaker (span ∷ spans) zero h = each_weaker R S weaker spans h
-  others_weaker (span ∷ spans) (suc i) h = (weaker span h.0, others_weaker spans i h.1)
-
-  each_other : (spans : List (Option Span)) (i : ℕ) → AllByRecursion R spans → OthersAre S i spans
-  each_other [] i h = tt
-  each_other (span ∷ spans) zero h = each_weaker R S weaker spans h.1
-  each_other (span ∷ spans) (suc i) h = (weaker span h.0, each_other spans i h.1)
-
 -- all others are apart from a constraint
 apart_back : (s t : Span) → IsClear s.start (end_of s) (Some t) → IsClear t.start (end_of t) (Some s)
 apart_back s t (inl h) = inr h
 apart_back s t (inr h) = inl h
 
 others_apart : (spans : List (Option Span)) (i : ℕ) (span : Span) → AreApart spans → i < length spans → get_or spans i None ≡ Some span
-    → OthersAre (IsClear span.start (end_of span)) i spans
+    → AllByRecursion (IsClear span.start (end_of span)) (set spans i None)
 others_apart [] i span apart h at = tt
-others_apart (first ∷ spans) zero span apart h at = let here : AreApart (Some span ∷ spans) = subst (λ s. AreApart (s ∷ spans)) at apart in here.0
+others_apart (first ∷ spans) zero span apart h at =
+    let here : AreApart (Some span ∷ spans) = subst (λ s. AreApart (s ∷ spans)) at apart in (tt, here.0)
 others_apart (None ∷ spans) (suc i) span apart h at = (tt, others_apart spans i span apart (omega arith) at)
 others_apart (Some first ∷ spans) (suc i) span apart h at =
     let inside : i < length spans = omega arith in (
@@ -94,26 +78,27 @@ others_apart (Some first ∷ spans) (suc i) span apart h at =
 
 -- so a free place is apart from all others
 free_clear : (n : ℕ) (spans : List (Option Span)) (i : ℕ) (span : Span) (start size : ℕ) → AreLaid n spans → i < length spans → get_or spans i None ≡ Some span
-    → IsFree n span start size → OthersAre (IsClear start (start + size)) i spans
-free_clear n spans i span start size h inside at (inl over) = others_weaker (IsClear span.start (end_of span)) (IsClear start (start + size)) narrower spans i
-    (others_apart spans i span h.apart inside at)
+    → IsFree n span start size → AllByRecursion (IsClear start (start + size)) (set spans i None)
+free_clear n spans i span start size h inside at (inl over) =
+    each_weaker (IsClear span.start (end_of span)) (IsClear start (start + size)) narrower (set spans i None) (others_apart spans i span h.apart inside at)
   where
     narrower : (s : Option Span) → IsClear span.start (end_of span) s → IsClear start (start + size) s
     narrower None clear = tt
     narrower (Some s) (inl before) = inl (omega (arith, over.0))
     narrower (Some s) (inr behind) = inr (omega (arith, over.1))
-free_clear n spans i span start size h inside at (inr last) = each_other (IsInside n) (IsClear start (start + size)) before spans i h.inside
+free_clear n spans i span start size h inside at (inr last) =
+    each_weaker (IsInside n) (IsClear start (start + size)) before (set spans i None) (each_set (IsInside n) spans i None tt h.inside)
   where
     before : (s : Option Span) → IsInside n s → IsClear start (start + size) s
     before None is = tt
     before (Some s) is = inl (omega arith)
 
 -- constraints stay apart with one more, one fewer, or one that was put
-pub apart_set : (spans : List (Option Span)) (i : ℕ) (span : Span) → AreApart spans → OthersAre (IsClear span.start (end_of span)) i spans
-    → AreApart (set spans i (Some span))
+pub apart_set : (spans : List (Option Span)) (i : ℕ) (span : Span) → AreApart spans
+    → AllByRecursion (IsClear span.start (end_of span)) (set spans i None) → AreApart (set spans i (Some span))
 apart_set [] i span apart others = tt
-apart_set (None ∷ spans) zero span apart others = (others, apart)
-apart_set (Some first ∷ spans) zero span apart others = (others, apart.1)
+apart_set (None ∷ spans) zero span apart others = (others.1, apart)
+apart_set (Some first ∷ spans) zero span apart others = (others.1, apart.1)
 apart_set (None ∷ spans) (suc i) span apart others = apart_set spans i span apart others.1
 apart_set (Some first ∷ spans) (suc i) span apart others =
     (each_set (IsClear first.start (end_of first)) spans i (Some span) (apart_back span first others.0) apart.0, apart_set spans i span apart.1 others.1)
@@ -166,10 +151,10 @@ module _ (xs put : Combination) (start : ℕ) (h : start ≤ length xs) where
   all_kept (span ∷ spans) inside clear = ap₂ (λ row rows. row ∷ rows) (one_kept span inside.0 clear.0) (all_kept spans inside.1 clear.1)
 
   others_kept : (spans : List (Option Span)) (i : ℕ) (made : Span) (row : Constraint) → AreInside (length xs) spans
-      → OthersAre (IsClear start (start + length put)) i spans → row_at (laid start put xs) made ≡ row →
+      → AllByRecursion (IsClear start (start + length put)) (set spans i None) → row_at (laid start put xs) made ≡ row →
       map (option_map (row_at (laid start put xs))) (set spans i (Some made)) ≡ set (map (option_map (row_at xs)) spans) i (Some row)
   others_kept [] i made row inside clear is = refl
-  others_kept (span ∷ spans) zero made row inside clear is = ap₂ (λ first rows. Some first ∷ rows) is (all_kept spans inside.1 clear)
+  others_kept (span ∷ spans) zero made row inside clear is = ap₂ (λ first rows. Some first ∷ rows) is (all_kept spans inside.1 clear.1)
   others_kept (span ∷ spans) (suc i) made row inside clear is = ap₂ (λ first rows. first ∷ rows) (one_kept span inside.0 clear.0)
       (others_kept spans i made row inside.1 clear.1 is)
 
@@ -177,54 +162,50 @@ pub held_at : (spans : List (Option Span)) (i : ℕ) (span : Option Span) (held 
     → get_or spans i None ≡ Some held
 held_at spans i span held h at is = sym (get_or_read spans i span h at None) ∙ is
 
+laid_over : (xs : Combination) (spans : List (Option Span)) (rows : List (Option Constraint)) (i start : ℕ) (old : Span) (row : Constraint)
+    → AreLaid (length xs) spans → map (option_map (row_at xs)) spans ≡ rows → i < length spans → get_or spans i None ≡ Some old
+    → IsFree (length xs) old start (length (row_terms row)) →
+    AreLaid (length (laid start (row_terms row) xs)) (set spans i (Some (span_of start row)))
+    × (map (option_map (row_at (laid start (row_terms row) xs))) (set spans i (Some (span_of start row))) ≡ set rows i (Some row))
+laid_over xs spans rows i start old row h view inside at free =
+    let put = row_terms row in
+    let before : IsInside (length xs) (Some old) = subst (IsInside (length xs)) at (each_at (IsInside (length xs)) spans i None tt h.inside) in
+    let low : start ≤ length xs = elim free [ inl over ↦ omega (arith, over.0) | inr last ↦ omega arith ] in
+    let clear = free_clear (length xs) spans i old start (length put) h inside at free in
+    let longer = laid_longer start put xs low in
+    let ends : end_of (span_of start row) ≡ start + length put = omega (arith, length-append row.a (row.b ++ row.c), length-append row.b row.c) in (
+      record {
+        inside = each_set (IsInside (length (laid start put xs))) spans i (Some (span_of start row)) (omega (arith, longer.1, ends))
+            (inside_more (length xs) (length (laid start put xs)) spans longer.0 h.inside);
+        apart = apart_set spans i (span_of start row) h.apart
+            (subst (λ m. AllByRecursion (IsClear start m) (set spans i None)) (sym ends) clear);
+      },
+      others_kept xs put start low spans i (span_of start row) row h.inside clear (row_laid xs row start low) ∙ ap (λ rows. set rows i (Some row)) view,
+    )
+
 pub rows_laid : (xs ys put : Combination) (spans : List (Option Span)) (rows : List (Option Constraint)) (i start : ℕ) (old made : Span) (row : Constraint)
     → AreLaid (length xs) spans → map (option_map (row_at xs)) spans ≡ rows → i < length spans → get_or spans i None ≡ Some old →
     put ≡ row_terms row → IsFree (length xs) old start (length put) → ys ≡ laid start put xs → made ≡ span_of start row →
     AreLaid (length ys) (set spans i (Some made)) × (map (option_map (row_at ys)) (set spans i (Some made)) ≡ set rows i (Some row))
 rows_laid xs ys put spans rows i start old made row h view inside at terms free is made_is =
-    let before : IsInside (length xs) (Some old) = subst (IsInside (length xs)) at (each_at (IsInside (length xs)) spans i None tt h.inside) in
-    let low : start ≤ length xs = elim free [ inl over ↦ omega (arith, over.0) | inr last ↦ omega arith ] in
-    let clear = free_clear (length xs) spans i old start (length put) h inside at free in
-    let longer = laid_longer start put xs low in
-    let size : length put ≡ length row.a + (length row.b + length row.c) = ap length terms ∙ length-append row.a (row.b ++ row.c)
-    ∙ ap (λ n. length row.a + n) (length-append row.b row.c) in
-    let ends : end_of made ≡ start + length put = ap end_of made_is ∙ omega arith in
-    let first : made.start ≡ start = ap (λ (s : Span). s.start) made_is in
-    let others : OthersAre (IsClear made.start (end_of made)) i spans = subst (λ m. OthersAre (IsClear m (end_of made)) i spans) (sym first)
-    (subst (λ m. OthersAre (IsClear start m) i spans) (sym ends) clear) in
-    let here : row_at (laid start put xs) made ≡ row = ap₂ (λ p m. row_at (laid start p xs) m) terms made_is ∙ row_laid xs row start low in (
-      record {
-        inside = each_set (IsInside (length ys)) spans i (Some made) (omega (arith, longer.1, ends, ap length is))
-            (inside_more (length xs) (length ys) spans (omega (arith, longer.0, ap length is)) h.inside);
-        apart = apart_set spans i made h.apart others;
-      },
-      ap (λ terms. map (option_map (row_at terms)) (set spans i (Some made))) is
-          ∙ others_kept xs put start low spans i made row h.inside clear here
-          ∙ ap (λ rows. set rows i (Some row)) view,
-    )
+    rw (is, made_is, terms) (laid_over xs spans rows i start old row h view inside at (rw terms at free))
 
 -- one more constraint, whose terms are appended
 pub rows_added : (xs ys : Combination) (spans more : List (Option Span)) (row : Constraint) (span : Span) → AreLaid (length xs) spans → ys ≡ xs ++ row_terms row
     → span ≡ span_of (length xs) row → more ≡ spans ++ Some span ∷ [] →
     AreLaid (length ys) more × (map (option_map (row_at ys)) more ≡ map (option_map (row_at xs)) spans ++ Some row ∷ [])
 rows_added xs ys spans more row span h is at pushed =
-    let ends : end_of span ≡ length ys = ap end_of at ∙ row_end xs row ∙ ap length (sym is) in
-    let longer : length xs ≤ length ys = omega (arith, ap length is, length-append xs (row_terms row)) in
-    let first : span.start ≡ length xs = ap (λ (s : Span). s.start) at in (
-      subst (AreLaid (length ys)) (sym pushed) (laid_pushed (length xs) (length ys) spans span h longer (omega arith) (omega (arith, ends))),
-      ap₂ (λ terms list. map (option_map (row_at terms)) list) is pushed
-          ∙ map-append (option_map (row_at (xs ++ row_terms row))) spans (Some span ∷ [])
-          ∙ ap₂ (λ rows last. rows ++ Some last ∷ []) (rows_kept xs (row_terms row) spans h.inside)
-          (ap (row_at (xs ++ row_terms row)) at ∙ row_appended xs row),
+    let long = length-append xs (row_terms row) in
+    rw (pushed, at, is) (
+      laid_pushed (length xs) (length (xs ++ row_terms row)) spans (span_of (length xs) row) h (omega arith) (omega arith) (omega (arith, row_end xs row)),
+      map_push (option_map (row_at (xs ++ row_terms row))) spans (Some (span_of (length xs) row))
+          ∙ ap₂ (λ rows last. rows ++ Some last ∷ []) (rows_kept xs (row_terms row) spans h.inside) (row_appended xs row),
     )
 
 -- or one that was dropped
 pub none_added : (xs : Combination) (spans more : List (Option Span)) → AreLaid (length xs) spans → more ≡ spans ++ None ∷ [] →
     AreLaid (length xs) more × (map (option_map (row_at xs)) more ≡ map (option_map (row_at xs)) spans ++ None ∷ [])
-none_added xs spans more h pushed = (
-  subst (AreLaid (length xs)) (sym pushed) (laid_none (length xs) spans h),
-  ap (map (option_map (row_at xs))) pushed ∙ map-append (option_map (row_at xs)) spans (None ∷ []),
-)
+none_added xs spans more h pushed = rw pushed (laid_none (length xs) spans h, map_push (option_map (row_at xs)) spans None)
 
 -- terms put after all others
 pub laid_behind : (start : ℕ) (put xs : Combination) → start ≡ length xs → xs ++ put ≡ laid start put xs

@@ -1,5 +1,5 @@
 -- What the functions on a constraint's combinations return.
-use Rattle.std.proofs.Common.{◌≡◌, ◌≢◌, ℕ, ◌+◌, ◌-◌, ◌*◌, ◌%◌, ◌<◌, ◌≤◌, Bool, not, ◌||◌, leb, length, [], ◌∷◌, ◌++◌, Some, None, sym, ◌∙◌, ap}
+use Rattle.std.proofs.Common.{◌≡◌, ◌≢◌, ℕ, ◌+◌, ◌-◌, ◌*◌, ◌%◌, ◌<◌, ◌≤◌, Bool, not, ◌||◌, leb, length, ◌∷◌, ◌++◌, Some, None, sym, ◌∙◌, ap, []}
 use Rattle.std.proofs.Common.{ap₂, append-nil, arith, eqb, true, false, inl, inr, cond, mod-lt, mul-zero}
 use Rattle.std.proofs.lemmas.Bool.{cond_both, le-leb, leb-true, not-true, or_cases, or_left, or_right}
 use Rattle.std.proofs.lemmas.List.{length-append, length-map}

@@ -1,5 +1,5 @@
 -- The rows that wires may stand in.
-use Rattle.std.proofs.Common.{◌≡◌, ℕ, suc, ◌+◌, ◌-◌, ◌%◌, ◌<◌, ◌≤◌, Bool, List, [], ◌∷◌, ◌++◌, true, refl, sym, ◌∙◌, ap, ap₂, subst, arith}
+use Rattle.std.proofs.Common.{◌≡◌, ℕ, suc, ◌+◌, ◌-◌, ◌%◌, ◌<◌, ◌≤◌, Bool, List, ◌∷◌, ◌++◌, true, refl, sym, ◌∙◌, ap, ap₂, subst, arith, []}
 use Rattle.std.proofs.Common.{◌||◌, eqb, eq-eqb, ne_eqb, cond, inl, inr, map, length, length-set, get_or, set, reverse}
 use Rattle.std.specs.List.{AllByRecursion, list_any}
 use Rattle.std.specs.Prelude.{slice_index}
@@ -109,6 +109,16 @@ seen entries heads w i some =
     let f = rows_from (reverse entries) in
     ap (list_any (λ p. eqb p i)) (ap (λ n. get_or (map f heads) (w % n) []) (length-map heads f)
     ∙ get_or-map f heads (w % length heads) 0 [] (mod_below w (length heads) some))
+
+-- a wire's list begins at the entry that is found by the number of lists
+pub listed : (entries : List Entry) (heads : List ℕ) (lists : List (List ℕ)) (w n number : ℕ) → AreLinked entries heads
+    → map (rows_from (reverse entries)) heads ≡ lists → n ≡ length heads → number ≡ get_or heads (w % n) number →
+    (number ≤ length entries) × ((i : ℕ) → has_row lists w i ≡ list_any (λ p. eqb p i) (rows_from (reverse entries) number))
+listed entries heads lists w n number linked view is at =
+    let found = head_inside entries heads (w % length heads) number linked (mod_below w (length heads) linked.some) (rw is at at) in (
+      found.0,
+      λ i. rw (← view) (seen entries heads w i linked.some ∙ ap (λ n. list_any (λ p. eqb p i) (rows_from (reverse entries) n)) (sym found.1)),
+    )
 
 -- once there is one more entry, at which one list begins
 module _ (entries more : List Entry) (heads : List ℕ) (row head place number : ℕ) (linked : AreLinked entries heads)

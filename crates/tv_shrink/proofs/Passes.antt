@@ -1,10 +1,10 @@
 -- What the loops of a pass keep.
-use Rattle.std.proofs.Common.{◌≡◌, ◌≢◌, ◌⊎◌, ℕ, zero, suc, ◌+◌, ◌<◌, ◌≤◌, Bool, ◌||◌, ◌&&◌, List, [], ◌∷◌, ◌++◌, Option, Some, None, refl, sym, ◌∙◌, ap}
+use Rattle.std.proofs.Common.{◌≡◌, ◌≢◌, ◌⊎◌, ℕ, zero, suc, ◌+◌, ◌<◌, ◌≤◌, Bool, ◌||◌, ◌&&◌, List, ◌∷◌, ◌++◌, Option, Some, None, refl, sym, ◌∙◌, ap, []}
 use Rattle.std.proofs.Common.{subst, arith, eqb, true, false, inl, inr, cond, map, length, get_or, set, take, ltb, ltb-true, lt-ltb, le-ltb}
 use Rattle.std.proofs.Common.{eqb-true, eq-eqb, ne_eqb, take_all, add-one}
 use Rattle.std.specs.List.{fold, list_any, list_all, range_with_len}
 use Rattle.std.specs.Option.{option_map}
-use Rattle.std.proofs.lemmas.Bool.{cond_both, cases_Bool, cases_eq, or_cases, or_parts, or_from, or_left, or_right, and_from, and_parts}
+use Rattle.std.proofs.lemmas.Bool.{cond_both, cases_Bool, cases_eq, or_cases, or_parts, or_from, or_left, or_right, and_parts}
 use Rattle.std.proofs.lemmas.Bool.{and_right, false_from_ne_true}
 use Rattle.std.proofs.lemmas.List.{ext_get_or, get_or-map, length-map, get_or-set_other}
 use Rattle.std.proofs.lemmas.List.Elements.{All-from_get_or}
@@ -14,9 +14,9 @@ use Rattle.std.proofs.lemmas.List.Sums.{fold_push, list_all-from_AllPass}
 use Rattle.tv_core.specs.Combinations.{scaled}
 use Rattle.tv_core.specs.Constraints.{Combination, Constraint}
 use Rattle.tv_core.specs.Normal.{coefficient, normal, IsNormalFrom}
-use Rattle.tv_shrink.specs.Pass.{Pass, all_replaced, attempted, dropped, substituted, eliminated, linear_row, row_fits, treated, turn}
-use Rattle.tv_shrink.specs.Substitution.{greater_from, greatest_from, has_wire, without, solved, replaced, replaced_in, fits}
-use Rattle.tv_shrink.specs.Tidy.{RowIsNormal, Covers, pass_of, row_has}
+use Rattle.tv_shrink.specs.Pass.{Pass, attempted, dropped, eliminated, linear_row, row_fits, treated, turn}
+use Rattle.tv_shrink.specs.Substitution.{greater_from, greatest_from, has_wire, without, solved, replaced, replaced_in}
+use Rattle.tv_shrink.specs.Tidy.{RowIsNormal, Covers, row_has}
 use Rattle.std.proofs.Math.Bool.{or-false}
 use Rattle.tv_shrink.proofs.Linear.{fits-lacking, replaced-lacking}
 use Rattle.tv_shrink.proofs.Spans.{same_row}
@@ -44,22 +44,24 @@ not-all_fit w r (row ∷ rows) zero e = ap (λ b. b && list_all (row_fits w r) r
 not-all_fit w r (row ∷ rows) (suc i) e = sym (and_right (row_fits w r row) (list_all (row_fits w r) rows) (sym (not-all_fit w r rows i e)))
 
 -- a constraint without the wire
+lacks_each : (w : ℕ) (c : Constraint) → row_has w (Some c) ≡ false → (has_wire w c.a ≡ false) × (has_wire w c.b ≡ false) × (has_wire w c.c ≡ false)
+lacks_each w c e =
+    let first = or_parts (has_wire w c.a) (has_wire w c.b || has_wire w c.c) e in
+    let others = or_parts (has_wire w c.b) (has_wire w c.c) first.1 in
+    (first.0, others.0, others.1)
+
 module _ (w : ℕ) (r : Combination) where
   pub row-lacking-fits : (row : Option Constraint) → row_has w row ≡ false → row_fits w r row ≡ true
   row-lacking-fits None e = refl
   row-lacking-fits (Some c) e =
-      let first = or_parts (has_wire w c.a) (has_wire w c.b || has_wire w c.c) e in
-      let others = or_parts (has_wire w c.b) (has_wire w c.c) first.1 in
-      and_from (fits w r c.a) (fits w r c.b && fits w r c.c) (fits-lacking w r c.a first.0)
-      (and_from (fits w r c.b) (fits w r c.c) (fits-lacking w r c.b others.0) (fits-lacking w r c.c others.1))
+      let lacks = lacks_each w c e in
+      rw (fits-lacking w r c.a lacks.0, fits-lacking w r c.b lacks.1, fits-lacking w r c.c lacks.2) refl
 
   pub row-lacking-same : (row : Option Constraint) → row_has w row ≡ false → option_map (replaced_in w r) row ≡ row
   row-lacking-same None e = refl
   row-lacking-same (Some c) e =
-      let first = or_parts (has_wire w c.a) (has_wire w c.b || has_wire w c.c) e in
-      let others = or_parts (has_wire w c.b) (has_wire w c.c) first.1 in
-      ap Some (same_row _ _ _ _ _ _ (replaced-lacking w r c.a (sym first.0)) (replaced-lacking w r c.b (sym others.0))
-      (replaced-lacking w r c.c (sym others.1)))
+      let lacks = lacks_each w c e in
+      ap Some (same_row _ _ _ _ _ _ (replaced-lacking w r c.a (sym lacks.0)) (replaced-lacking w r c.b (sym lacks.1)) (replaced-lacking w r c.c (sym lacks.2)))
 
   -- once a wire is replaced, it is there no more
   module _ (lacks : has_wire w r ≡ false) where
@@ -119,10 +121,8 @@ module _ (w : ℕ) (r : Combination) where
     fits_seen false row e = e
     fits_seen true None e = refl
     fits_seen true (Some c) e =
-        and_from (fits w r (replaced w r c.a)) (fits w r (replaced w r c.b) && fits w r (replaced w r c.c))
-        (fits-lacking w r (replaced w r c.a) (lacks-replaced c.a))
-        (and_from (fits w r (replaced w r c.b)) (fits w r (replaced w r c.c)) (fits-lacking w r (replaced w r c.b) (lacks-replaced c.b))
-        (fits-lacking w r (replaced w r c.c) (lacks-replaced c.c)))
+        let fit = λ (x : Combination). fits-lacking w r (replaced w r x) (lacks-replaced x) in
+        rw (fit c.a, fit c.b, fit c.c) refl
 
     fits_at : (rows : List (Option Constraint)) (i : ℕ) → list_all (row_fits w r) rows ≡ true → row_fits w r (get_or rows i None) ≡ true
     fits_at [] i all = refl
@@ -246,33 +246,17 @@ module _ (publics : ℕ) (may next : ℕ → ℕ → Bool) (row k : ℕ) (t : �
         | inr same ↦ subst (λ v. next v row ≡ true) (eqb-true t.1 w same) here
       ]
 
-  pub filed-none : t.1 < publics → next ≡ may → (w : ℕ) → publics ≤ w → has_wire w (take (k + 1) x) ≡ true → next w row ≡ true
-  filed-none public is w above has =
-      subst (λ f. f w row ≡ true) (sym is)
-      (elim (or_cases (has_wire w (take k x)) (eqb t.1 w) (sym (has_next w k t x h at) ∙ has)) [
+  pub filed-none : t.1 < publics → (w : ℕ) → publics ≤ w → has_wire w (take (k + 1) x) ≡ true → may w row ≡ true
+  filed-none public w above has =
+      elim (or_cases (has_wire w (take k x)) (eqb t.1 w) (sym (has_next w k t x h at) ∙ has)) [
         | inl earlier ↦ added w above earlier
         | inr here ↦ absurd (omega (arith, eqb-true t.1 w here))
-      ])
+      ]
 
 -- the terms that were put, from the row that was read
 pub form_is : (rows : List (Option Constraint)) (at : ℕ) (row : Option Constraint) (form : Combination) (b c : Bool) → row ≡ get_or rows at None
     → linear_row row ≡ cond b (Some form) None → b ≡ c → linear_row (get_or rows at None) ≡ cond c (Some form) None
 form_is rows at row form b c is says e = ap linear_row (sym is) ∙ says ∙ ap (λ linear. cond linear (Some form) None) e
-
--- the attempt, by whether all keep to their most terms
-pub not-attempted : (w at : ℕ) (r : Combination) (rows : List (Option Constraint)) (gone : List ℕ) (all : Bool)
-    → all ≡ list_all (row_fits w r) (set rows at None) → all ≡ false →
-    attempted w r (dropped at (pass_of rows gone)) (pass_of rows gone) ≡ pass_of rows gone
-unfolding attempted dropped
-not-attempted w at r rows gone all is e =
-    ap (λ b. cond b (substituted w r (record { rows = set rows at None; gone = gone })) (pass_of rows gone)) (sym is ∙ e)
-
-pub attempted-all : (w at : ℕ) (r : Combination) (rows : List (Option Constraint)) (gone : List ℕ) (all : Bool)
-    → all ≡ list_all (row_fits w r) (set rows at None) → all ≡ true →
-    attempted w r (dropped at (pass_of rows gone)) (pass_of rows gone) ≡ pass_of (all_replaced w r (set rows at None)) (gone ++ w ∷ [])
-unfolding attempted dropped substituted
-attempted-all w at r rows gone all is e =
-    ap (λ b. cond b (pass_of (all_replaced w r (set rows at None)) (gone ++ w ∷ [])) (pass_of rows gone)) (sym is ∙ e)
 
 -- and the places name each row that a private wire stands in
 module _ (v w : ℕ) (r : Combination) (lacks : has_wire w r ≡ false) where

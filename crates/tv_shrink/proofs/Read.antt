@@ -1,5 +1,5 @@
 -- Terms that were read, made normal.
-use Rattle.std.proofs.Common.{◌≡◌, ℕ, ◌<◌, ◌≤◌, List, [], ◌∷◌, ◌++◌, Option, Some, None, refl, sym, ◌∙◌, ap, subst, arith, ltb, inl, inr}
+use Rattle.std.proofs.Common.{◌≡◌, ℕ, ◌<◌, ◌≤◌, List, ◌∷◌, ◌++◌, Option, Some, None, refl, sym, ◌∙◌, ap, subst, arith, ltb, inl, inr, []}
 use Rattle.std.proofs.Common.{cond, length, Result, Ok, Err}
 use Rattle.std.specs.List.{AllByRecursion, All}
 use Rattle.std.specs.Option.{option_or}
@@ -97,10 +97,7 @@ unfolding first_wide
 wide_front [] more n e = absurd (cc)
 wide_front (d ∷ list) more n e = first_stays (wide_in d) (first_wide list) (first_wide (list ++ more)) n (λ k. wide_front list more n k) e
 
--- an answer is one of both, and a refusal has one cause
-pub ok_not_err : {T E : Type 0} (value : T) (why : E) → Ok value ≡ Err why → ⊥
-ok_not_err value why e = cc
-
+-- a refusal has one cause
 pub same_cause : {T E : Type 0} (why cause : E) → (let refused : Result T E = Err why in refused) ≡ Err cause → why ≡ cause
 same_cause why cause e = cc
 
@@ -115,41 +112,13 @@ halted old new name (refusal.Bad at what) stopped = record { only = stopped.only
 halted old new name refusal.Fault stopped = record { only = stopped.only; there = stopped.there; leaves = stopped.leaves }
 halted old new name refusal.Memory stopped = record { only = stopped.only; there = stopped.there; leaves = stopped.leaves }
 
--- a row that was read, by its combinations
-pub narrow_row : (row : Row) (a b c : List (ℕ × ℕ)) → a ≡ row.a → b ≡ row.b → c ≡ row.c → wide (combination_of a) ≡ None → wide (combination_of b) ≡ None
-    → wide (combination_of c) ≡ None → wide_in (constraint_of row) ≡ None
-narrow_row row a b c p q r first second third =
-    let size : List (ℕ × ℕ) → Option ℕ = λ terms. wide (combination_of terms) in
-    ap (λ o. option_or o (option_or (size row.b) (size row.c))) (ap size (sym p) ∙ first)
-    ∙ ap (λ o. option_or o (size row.c)) (ap size (sym q) ∙ second)
-    ∙ ap size (sym r) ∙ third
-
-too_wide_front : (why : ShrinkFault) (o p : Option ℕ) → IsTooWide why o → IsTooWide why (option_or o p)
+-- a constraint is too wide by its first combination that is
+pub too_wide_front : (why : ShrinkFault) (o p : Option ℕ) → IsTooWide why o → IsTooWide why (option_or o p)
 too_wide_front (fault.Bad at what) o p e = e
 too_wide_front (fault.Terms has) o p e = e
 too_wide_front (fault.Combination has) o p e = ap (λ q. option_or q p) e
 too_wide_front fault.Fault o p e = e
 too_wide_front fault.Memory o p e = tt
-
-pub wide_first : (why : ShrinkFault) (row : Row) (a : List (ℕ × ℕ)) → a ≡ row.a → IsTooWide why (wide (combination_of a))
-    → IsTooWide why (wide_in (constraint_of row))
-wide_first why row a p e =
-    too_wide_front why (wide (combination_of row.a)) _ (subst (λ terms. IsTooWide why (wide (combination_of terms))) p e)
-
-pub wide_second : (why : ShrinkFault) (row : Row) (a b : List (ℕ × ℕ)) → a ≡ row.a → b ≡ row.b → wide (combination_of a) ≡ None
-    → IsTooWide why (wide (combination_of b)) → IsTooWide why (wide_in (constraint_of row))
-wide_second why row a b p q first e =
-    let others = option_or (wide (combination_of row.b)) (wide (combination_of row.c)) in
-    subst (λ o. IsTooWide why (option_or o others)) (sym first ∙ ap (λ terms. wide (combination_of terms)) p)
-    (too_wide_front why (wide (combination_of row.b)) _ (subst (λ terms. IsTooWide why (wide (combination_of terms))) q e))
-
-pub wide_third : (why : ShrinkFault) (row : Row) (a b c : List (ℕ × ℕ)) → a ≡ row.a → b ≡ row.b → c ≡ row.c → wide (combination_of a) ≡ None
-    → wide (combination_of b) ≡ None → IsTooWide why (wide (combination_of c)) → IsTooWide why (wide_in (constraint_of row))
-wide_third why row a b c p q r first second e =
-    let last = wide (combination_of row.c) in
-    subst (λ o. IsTooWide why (option_or o (option_or (wide (combination_of row.b)) last))) (sym first ∙ ap (λ terms. wide (combination_of terms)) p)
-    (subst (λ o. IsTooWide why (option_or o last)) (sym second ∙ ap (λ terms. wide (combination_of terms)) q)
-    (subst (λ terms. IsTooWide why (wide (combination_of terms))) r e))
 
 -- a refusal that says what is wrong leaves all as it was
 pub still_halted : (old new : Outside) (name : List ℕ) (why : ShrinkFault) → new ≡ old → Leaves why old old → Halted old new name why
@@ -243,6 +212,10 @@ survey_means (refusal.Bad at what) file refuses = survey_refused file at what (r
 survey_means refusal.Fault file refuses = tt
 survey_means refusal.Memory file refuses = tt
 
-pub top_within : (n : ℕ) (x : Combination) → Over (λ v. v < n) x → top x ≤ n
+top_within : (n : ℕ) (x : Combination) → Over (λ v. v < n) x → top x ≤ n
 top_within n [] h = omega arith
 top_within n (t ∷ x) h = omega (arith, h.0, top_within n x h.1)
+
+-- so are those of a combination that they were put into
+pub top_put : (n : ℕ) (put terms x : Combination) → put ≡ terms → terms ≡ x → Over (λ v. v < n) x → top put ≤ n
+top_put n put terms x is same h = rw (is, same) (top_within n x h)

@@ -1,5 +1,5 @@
 -- A combination in place of a wire: the value stays where the wire has the combination's value.
-use Rattle.std.proofs.Common.{◌≡◌, ◌≢◌, ◌⊎◌, ℕ, ◌+◌, ◌-◌, ◌*◌, ◌%◌, ◌<◌, ◌≤◌, Bool, not, List, [], ◌∷◌, ◌++◌, Option, Some, None, refl, sym, ◌∙◌, ap, subst}
+use Rattle.std.proofs.Common.{◌≡◌, ◌≢◌, ◌⊎◌, ℕ, ◌+◌, ◌-◌, ◌*◌, ◌%◌, ◌<◌, ◌≤◌, Bool, not, List, ◌∷◌, ◌++◌, Option, Some, None, refl, sym, ◌∙◌, ap, subst, []}
 use Rattle.std.proofs.Common.{arith, ltb, eqb, true, false, inl, inr, cond, max, ltb-false, eqb-true, eq-eqb, add-mul, mul-add, mul_assoc, mul_comm}
 use Rattle.std.proofs.Common.{one-mul, mod-lt, mod-eq_of_lt}
 use Rattle.std.specs.List.{list_all}

@@ -1,5 +1,5 @@
 -- What is left once a pass has run, its wires numbered anew.
-use Rattle.std.proofs.Common.{◌≡◌, ℕ, ◌+◌, ◌<◌, ◌≤◌, ◌&&◌, List, [], ◌∷◌, Option, Some, None, refl, sym, ◌∙◌, ap, ap₂, subst}
+use Rattle.std.proofs.Common.{◌≡◌, ℕ, ◌+◌, ◌<◌, ◌≤◌, ◌&&◌, List, ◌∷◌, Option, Some, None, refl, sym, ◌∙◌, ap, ap₂, subst, []}
 use Rattle.std.proofs.Common.{arith, true, map, length}
 use Rattle.std.specs.List.{AllByRecursion, filter_map, fold, list_all, range_with_len}
 use Rattle.std.specs.Option.{option_map}
@@ -85,7 +85,7 @@ module _ (room publics : ℕ) (positive : 0 < publics) (rows : List (Option Cons
 -- the wires that stay get their places
 module _ (wires : ℕ) (gone numbers : List ℕ) (same : (w : ℕ) → is_gone numbers w ≡ is_gone gone w) where
   numbered : (w : ℕ) → Stays wires gone w → length (others w numbers) ≡ place w (others wires gone)
-  numbered w stays = ap length (others_same numbers gone same w) ∙ sym (place_is wires w gone stays.0 stays.1)
+  numbered w stays = ap length (others_same numbers gone same w) ∙ sym (place_is wires gone w stays.0 stays.1)
 
   moved-renumbered : (x : Combination) → Over (Stays wires gone) x → moved numbers x ≡ renumbered (others wires gone) x
   unfolding renumbered

@@ -1,5 +1,5 @@
 -- The solutions of a shrunk system are those of the system at the wires that are kept.
-use Rattle.std.proofs.Common.{◌≡◌, ℕ, suc, ◌+◌, ◌*◌, ◌%◌, ◌<◌, ◌≤◌, List, [], ◌∷◌, Option, Some, None, refl, sym, ◌∙◌, ap, ap₂, subst, arith, true}
+use Rattle.std.proofs.Common.{◌≡◌, ℕ, suc, ◌+◌, ◌*◌, ◌%◌, ◌<◌, ◌≤◌, List, ◌∷◌, Option, Some, None, refl, sym, ◌∙◌, ap, ap₂, subst, arith, true, []}
 use Rattle.std.proofs.Common.{false, inl, inr, map, length, take}
 use Rattle.std.specs.List.{AllByRecursion, All, filter_map, range_with_len}
 use Rattle.std.specs.Option.{option_map}
@@ -191,7 +191,7 @@ module _ (system : System) (whole : IsWhole system) where
 
     place_first : place 0 (labels_of system) ≡ 0
     place_first =
-        subst (λ w. place w (labels_of system) ≡ 0) first_kept (place-at 0 (labels_of system) 0 (Rising-kept system.wires (passed system).gone) some_kept)
+        subst (λ w. place w (labels_of system) ≡ 0) first_kept (place-at (labels_of system) 0 (Rising-kept system.wires (passed system).gone) some_kept)
 
     assigns_up : Assigns small → Assigns spread
     assigns_up assigns = record {

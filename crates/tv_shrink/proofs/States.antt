@@ -1,31 +1,17 @@
 -- What the steps of a pass keep.
-use Rattle.std.proofs.Common.{◌≡◌, ℕ, ◌∷◌, ◌<◌, ◌≤◌, ◌^◌, Bool, List, [], Option, None, Some, Result, Ok, Err, OnOk, refl, sym, ◌∙◌, ap}
-use Rattle.std.proofs.Common.{ap₂, subst, ◌++◌, true, false, length, length-set, get_or, set}
+use Rattle.std.proofs.Common.{◌≡◌, ℕ, ◌∷◌, ◌<◌, ◌≤◌, ◌^◌, Bool, List, Option, None, Some, Result, Ok, Err, OnOk, refl, sym, ◌∙◌, ap, []}
+use Rattle.std.proofs.Common.{ap₂, subst, true, false, length, length-set, get_or, set}
 use Rattle.std.specs.Prelude.{OnErr}
 use Rattle.std.specs.List.{fold, list_all, range_with_len}
 use Rattle.std.specs.Option.{option_map}
 use Rattle.std.proofs.lemmas.Bool.{cond_both}
-use Rattle.std.proofs.lemmas.List.{length-map, set-get_or}
+use Rattle.std.proofs.lemmas.List.{length-map}
 use Rattle.tv_core.specs.Constraints.{Combination, Constraint}
-use Rattle.tv_shrink.specs.Pass.{Pass, all_replaced, attempted, dropped, eliminated, linear_row, row_fits, substituted, treated, turn}
+use Rattle.tv_shrink.specs.Pass.{Pass, attempted, dropped, eliminated, linear_row, row_fits, substituted, treated, turn}
 use Rattle.tv_shrink.specs.Substitution.{greatest_from, has_wire, replaced_in, solved}
-use Rattle.tv_shrink.specs.Tidy.{pass_of, row_has, IsKept, RowIsNormal, State}
+use Rattle.tv_shrink.specs.Tidy.{pass_of, IsKept, RowIsNormal, State}
 use Rattle.tv_shrink.proofs.Elements.{each_at, each_set}
-use Rattle.tv_shrink.proofs.Passes.{covers-replaced, normal-replaced_row, row-lacking-same}
-
--- a constraint without the wire
-pub unchanged : (s : State) (w at : ℕ) (r : Combination) → row_has w (get_or s.pass.rows at None) ≡ false →
-    s ≡ record {
-      publics = s.publics;
-      pass = record {
-        rows = set s.pass.rows at (option_map (replaced_in w r) (get_or s.pass.rows at None));
-        gone = s.pass.gone;
-      };
-    }
-unchanged s w at r lacks =
-    let same : s.pass.rows ≡ set s.pass.rows at (option_map (replaced_in w r) (get_or s.pass.rows at None)) =
-    sym (ap (set s.pass.rows at) (row-lacking-same w r (get_or s.pass.rows at None) lacks) ∙ set-get_or s.pass.rows at None) in
-    ap (λ rows. record { publics = s.publics; pass = record { rows = rows; gone = s.pass.gone } }) same
+use Rattle.tv_shrink.proofs.Passes.{covers-replaced, normal-replaced_row}
 
 -- once more is filed
 pub kept_more : (publics : ℕ) (rows : List (Option Constraint)) (may next : ℕ → ℕ → Bool) → IsKept publics rows may
@@ -54,24 +40,9 @@ module _ (publics w at : ℕ) (r : Combination) (rows : List (Option Constraint)
   kept_replaced (Ok value) new is err = subst (λ xs. IsKept publics xs next) (sym is) kept_changed
   kept_replaced (Err why) new is err = subst (λ xs. IsKept publics xs next) (sym err) kept_filed
 
--- and at the end the wire is gone
-pub substituted_is : (s : State) (w : ℕ) (r : Combination) (publics : ℕ) (rows : List (Option Constraint)) (gone : List ℕ) → publics ≡ s.publics
-    → rows ≡ all_replaced w r s.pass.rows → gone ≡ s.pass.gone ++ w ∷ [] →
-    (let new : State = record { publics = publics; pass = record { rows = rows; gone = gone } } in new)
-    ≡ record { publics = s.publics; pass = substituted w r s.pass }
-unfolding substituted
-substituted_is s w r publics rows gone p q g = rw (p, q, g) refl
-
 -- the state with another pass
 pub staged : (s : State) (pass : Pass) → pass ≡ s.pass → s ≡ record { publics = s.publics; pass = pass }
 staged s pass e = ap (λ p. record { publics = s.publics; pass = p }) (sym e)
-
-pub dropped_is : (s : State) (at publics : ℕ) (rows : List (Option Constraint)) (gone : List ℕ) → publics ≡ s.publics → rows ≡ set s.pass.rows at None
-    → gone ≡ s.pass.gone →
-    (let new : State = record { publics = publics; pass = record { rows = rows; gone = gone } } in new)
-    ≡ record { publics = s.publics; pass = dropped at s.pass }
-unfolding dropped
-dropped_is s at publics rows gone p q g = rw (p, q, g) refl
 
 -- what each turn keeps that dropping a constraint does, and replacing a wire in constraints that keep to their most terms
 module _ (K : Pass → Type 0) (drops : (i : ℕ) (pass : Pass) → K pass → K (dropped i pass))

@@ -1,12 +1,12 @@
 -- The constraints of a system that a file holds are of wires that there are.
-use Rattle.std.proofs.Common.{◌≡◌, ℕ, zero, suc, ◌+◌, ◌-◌, ◌==◌, ◌<◌, not, Bool, true, false, ltb, List, [], Result, Ok, Err, if◌then◌else◌, refl}
+use Rattle.std.proofs.Common.{ℕ, zero, suc, ◌+◌, ◌-◌, ◌==◌, ◌<◌, not, Bool, true, false, ltb, List, Result, Ok, Err, if◌then◌else◌, []}
 use Rattle.std.specs.Prelude.{IfOk}
 use Rattle.std.specs.List.{All}
-use Rattle.std.proofs.lemmas.Bool.{ltb-true}
+use Rattle.std.proofs.lemmas.Bool.{ltb-true, not-false}
 use Rattle.std.proofs.lemmas.List.Elements.{All-nil, All-cons}
-use Rattle.tv_container.specs.Places.{Fault, ◌>>=◌, unless, number, fit}
+use Rattle.tv_container.proofs.Chain.{bind_any, bind_if, passed}
+use Rattle.tv_container.specs.Places.{Fault, unless, number, fit}
 use Rattle.tv_container.specs.declared.sections.Section.{Section}
-use Rattle.tv_container.specs.declared.why.ReadWhy.{ReadWhy}
 use Rattle.tv_container.specs.declared.why.ReadWhy.TheVariants.{BadCount, WireRange, NotCanonical}
 use Rattle.tv_core.specs.Constraints.{Constraint}
 use Rattle.tv_core.specs.declared.field.TheConstants.{P}
@@ -14,28 +14,13 @@ use Rattle.tv_r1cs_read.specs.R1cs.{term_at, terms_at, count_at, combination_at,
 use Rattle.tv_r1cs_write.specs.Narrow.{HasWiresBelow}
 use Rattle.tv_shrink.specs.Laws.{AreOver, SystemsAreOver}
 
-bind_if : {A B : Type 0} (read : Result A Fault) (f : A → Result B Fault) (P : A → Type 0) (Q : B → Type 0) → IfOk read P → ((x : A) → P x → IfOk (f x) Q)
-    → IfOk (read >>= f) Q
-bind_if (Ok x) f P Q is h = h x is
-bind_if (Err fault) f P Q is h = tt
-
-any : {A : Type 0} (read : Result A Fault) → IfOk read (λ _. Unit {0})
-any (Ok x) = tt
-any (Err fault) = tt
-
-unless_not : {B : Type 0} (test : Bool) (at : ℕ) (why : ReadWhy) (f : Unit {0} → Result B Fault) (Q : B → Type 0) → (test ≡ true → IfOk (f tt) Q)
-    → IfOk (unless (not test) at why >>= f) Q
-unless_not true at why f Q h = h refl
-unless_not false at why f Q h = tt
-
 term_over : (file : List ℕ) (wires end at : ℕ) → IfOk (term_at file wires end at) (λ term. term.1 < wires)
 unfolding term_at
 term_over file wires end at =
-    bind_if (fit 12 at end) _ _ _ (any (fit 12 at end)) (λ _ _.
-    unless_not (ltb (number file 4 at) wires) at (WireRange (number file 4 at) wires) _ _ (λ below.
-    bind_if (unless (not (ltb (number file 8 (at + 4)) P)) (at + 4) NotCanonical) _ _ _
-    (any (unless (not (ltb (number file 8 (at + 4)) P)) (at + 4) NotCanonical)) (λ _ _.
-    ltb-true (number file 4 at) wires below)))
+    bind_any (fit 12 at end) _ _ (λ _.
+    bind_if (unless (not (ltb (number file 4 at) wires)) at (WireRange (number file 4 at) wires)) _ _ _ (passed _ _ _) (λ _ below.
+    bind_any (unless (not (ltb (number file 8 (at + 4)) P)) (at + 4) NotCanonical) _ _ (λ _.
+    ltb-true (number file 4 at) wires (not-false (ltb (number file 4 at) wires) below))))
 
 terms_over : (file : List ℕ) (wires end n at : ℕ) → IfOk (terms_at file wires end n at) (λ read. HasWiresBelow wires read.value)
 unfolding terms_at
@@ -48,7 +33,7 @@ terms_over file wires end (suc n) at =
 combination_over : (file : List ℕ) (wires end at : ℕ) → IfOk (combination_at file wires end at) (λ read. HasWiresBelow wires read.value)
 unfolding combination_at
 combination_over file wires end at =
-    bind_if (count_at file end at) _ _ _ (any (count_at file end at)) (λ count _. terms_over file wires end count (at + 4))
+    bind_any (count_at file end at) _ _ (λ count. terms_over file wires end count (at + 4))
 
 constraint_over : (file : List ℕ) (wires end at : ℕ) → IfOk (constraint_at file wires end at) (λ read. AreOver wires read.value)
 unfolding constraint_at
@@ -77,6 +62,6 @@ constraints_over file wires rows (suc n) at =
 pub systems_are_over : SystemsAreOver
 unfolding r1cs_system
 systems_are_over file =
-    bind_if (header_of file) _ _ _ (any (header_of file)) (λ header _.
+    bind_any (header_of file) _ _ (λ header.
     bind_if (constraints_from file header.wires header.rows header.constraints header.rows.at) _ _ _
     (constraints_over file header.wires header.rows header.constraints header.rows.at) (λ list each. each))

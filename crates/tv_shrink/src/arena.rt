@@ -17,6 +17,7 @@ use crate::row::{Row, append_replaced};
 use crate::substitution::Substitution;
 use std::alloc::AllocError;
 use tv_core::{F, TERMS, Wire};
+use tv_r1cs_read::Terms;
 
 /// Where the terms of a constraint lie: those of `a` from `start` on, after them those of `b`, then
 /// those of `c`; the fields `a`, `b` and `c` are their numbers.
@@ -53,7 +54,7 @@ impl Span {
 pub(crate) fn append_narrow(
     scratch: &mut Vec<(u32, F)>,
     out: &mut Vec<(F, Wire)>,
-    terms: &[(u32, F)],
+    terms: &Terms,
 ) -> Result<u8, ShrinkFault>
     ensures ok { OnOk result (out.new.items
         ≡ out.old.items ++ normal (combination_of terms.now)) }
@@ -64,7 +65,7 @@ pub(crate) fn append_narrow(
     ensures err { IfErr result (λ fault. IsTooWide fault (wide (combination_of terms.now))) }
 {
     let start = out.len();
-    append_normal(scratch, out, terms)?;
+    append_normal(scratch, out, terms.as_slice())?;
     let has = out.len() - start;
     if has > TERMS {
         return Err(ShrinkFault::Combination { has: has as u64 });
@@ -89,9 +90,9 @@ pub(crate) fn append_read(
     ensures err { IfErr result (λ fault. IsTooWide fault (wide_in (constraint_of row.now))) }
 {
     let start = place_behind(out)?;
-    let a = append_narrow(scratch, out, row.a.as_slice())?;
-    let b = append_narrow(scratch, out, row.b.as_slice())?;
-    let c = append_narrow(scratch, out, row.c.as_slice())?;
+    let a = append_narrow(scratch, out, &row.a)?;
+    let b = append_narrow(scratch, out, &row.b)?;
+    let c = append_narrow(scratch, out, &row.c)?;
     Ok(Span { start, a, b, c })
 }
 

@@ -1,4 +1,4 @@
-use Rattle.std.proofs.Common.{◌≡◌, ◌∙◌, ◌++◌, ◌+◌, ◌<◌, ◌%◌, ℕ, [], append-nil, append_assoc, ap, ap₂, arith, drop, get_or, length, sym}
+use Rattle.std.proofs.Common.{◌≡◌, ◌∙◌, ◌++◌, ◌+◌, ◌<◌, ◌%◌, ℕ, append-nil, append_assoc, ap, ap₂, arith, drop, get_or, length, sym, []}
 use Rattle.tv_core.specs.Normal.{normal, with_term}
 use Rattle.tv_core.specs.declared.field.TheConstants.{P}
 use Rattle.std.proofs.lemmas.List.{get_or_default, length-map}

@@ -1,13 +1,12 @@
-use Rattle.std.proofs.Common.{◌≡◌, ◌++◌, ◌∷◌, [], Some, Ok, arith, sym, ap, subst, ◌∙◌, refl, rules, length}
-use Rattle.std.proofs.lemmas.Result.{err_from_is_err_and}
+use Rattle.std.proofs.Common.{◌≡◌, ◌++◌, ◌∷◌, Some, Ok, arith, sym, ap, subst, ◌∙◌, refl, rules, length, []}
 use Rattle.std.proofs.lemmas.List.{length_push}
 use Rattle.std.proofs.lemmas.Option.{MatchOption-at_none, MatchOption-at_some}
 use Rattle.tv_core.specs.declared.lines.Counts.{Counts}
 use Rattle.tv_files.specs.Outside.{Outside}
-use Rattle.tv_r1cs_read.specs.Places.{system_with}
 use Rattle.tv_r1cs_read.specs.R1cs.{r1cs_system}
 use Rattle.tv_r1cs_read.specs.Rows.{constraint_of, IsOver}
-use Rattle.tv_shrink.specs.Answers.{counted_system, wide_in, FaultMeans, HaltsBy}
+use Rattle.tv_container.proofs.Chain.{err_is}
+use Rattle.tv_shrink.specs.Answers.{counted_system, FaultMeans, HaltsBy}
 use Rattle.tv_core.specs.Normal.{normal_constraint}
 use Rattle.tv_shrink.specs.Tidy.{RowsAreNormal, AreWithin, RowIsWithin}
 use Rattle.tv_shrink.proofs.Elements.{each_pushed}
@@ -18,14 +17,14 @@ use Rattle.tv_shrink.proofs.normal_system.read.Goals as goal
 pub loop-scratch-init : goal.loop-scratch-init
 loop-scratch-init g c = record {
   same = refl;
-  outside = refl;
-  name = refl;
+  outside = c.in-Ok.ensures.ok_looks;
+  name = c.in-Ok.ensures.name;
   on = c.in-Ok.ensures.begun.stopped;
   header = refl;
   counted = omega (arith, ap length c.new-rows.ensures);
   within = subst (AreWithin c.in-Ok.reader.progress.header.wires) (sym c.new-rows.ensures) tt;
   normal = subst RowsAreNormal (sym c.new-rows.ensures) tt;
-  place = λ file begun start. ([], start, c.new-rows.ensures, no_wide);
+  place = λ file known. ([], c.in-Ok.ensures.gives file known, c.new-rows.ensures, no_wide);
 }
 
 pub returns-in-Err-clause-gives : goal.returns-in-Err-clause-gives
@@ -34,22 +33,19 @@ returns-in-Err-clause-gives g c = λ file known.
 
 pub returns-in_err-next_into-clause-gives : goal.returns-in_err-next_into-clause-gives
 returns-in_err-next_into-clause-gives g c = λ file known.
-    let begun = rw (← c.in-Ok.ensures.ok_looks, ← c.in-Ok.ensures.name) at known in
-    let before = c.loop-scratch.invariant.place file begun (c.in-Ok.ensures.gives file known) in
-    let refuses = MatchOption-at_some _ _ _ c.in_err-next_into.ensures.reports
-    (c.in_err-next_into.ensures.steps.gives before.0 file (rw (← c.loop-scratch.invariant.outside, ← c.loop-scratch.invariant.name) at begun) before.1) in
-    let p = err_from_is_err_and c.from_residual.result c.from_residual.ensures.1 in
-    rw (p.1, p.2) (read_means c.in_err-next_into.field-0.0 file refuses)
+    let before = c.loop-scratch.invariant.place file known in
+    let on = rw (← c.loop-scratch.invariant.outside, ← c.loop-scratch.invariant.name) at known in
+    let next = c.in_err-next_into.ensures.steps.gives before.0 file on before.1 in
+    rw (err_is c.from_residual.result c.from_residual.ensures.1)
+    (read_means c.in_err-next_into.field-0.0 file (MatchOption-at_some _ _ _ c.in_err-next_into.ensures.reports next))
 
 pub returns-in_err-next_into-clause-looks : goal.returns-in_err-next_into-clause-looks
 returns-in_err-next_into-clause-looks g c =
-    let p = err_from_is_err_and c.from_residual.result c.from_residual.ensures.1 in
-    let stopped = rw (c.loop-scratch.invariant.outside, c.in-Ok.ensures.ok_looks, c.loop-scratch.invariant.name, c.in-Ok.ensures.name) at
+    let stopped = rw (c.loop-scratch.invariant.outside, c.loop-scratch.invariant.name) at
     (MatchOption-at_some _ _ _ c.in_err-next_into.ensures.reports (c.in_err-next_into.ensures.steps.looks c.loop-scratch.invariant.on)) in
     let halts : (new : Outside) → new ≡ g.D.Files.seen c.next_into.new.self.files.now
     → HaltsBy (g.D.Files.seen c.args.files.now) new c.args.name.now c.from_residual.result =
-    λ new is. rw (p.1, p.2, is) (halted (g.D.Files.seen c.args.files.now)
-    (g.D.Files.seen c.next_into.new.self.files.now) c.args.name.now c.in_err-next_into.field-0.0 stopped) in
+    λ new is. rw (err_is c.from_residual.result c.from_residual.ensures.1, is) (halted _ _ _ _ stopped) in
     halts _ (search rules)
 
 pub loop-scratch-preserved : goal.loop-scratch-preserved
@@ -77,13 +73,12 @@ loop-scratch-preserved g c =
           (each_pushed (RowIsWithin wires) c.loop-scratch.rows (Some (normal_constraint one))
           (narrow_within wires c.next_into.new.row over c.in_ok-add.ensures.narrow) c.loop-scratch.invariant.within);
       normal = pushed_normal c.loop-scratch.rows c.add.new.self one c.in_ok-add.ensures.rows c.loop-scratch.invariant.normal;
-      place = λ file begun start.
-          let before = c.loop-scratch.invariant.place file begun start in
-          let known = rw (← c.loop-scratch.invariant.outside, ← c.loop-scratch.invariant.name) at begun in
-          let at = rw c.if-branch.true at (MatchOption-at_none _ _ c.in_ok-next_into.ensures.reports
-          (c.in_ok-next_into.ensures.steps.gives before.0 file known before.1)) in (
+      place = λ file known.
+          let before = c.loop-scratch.invariant.place file known in
+          let on = rw (← c.loop-scratch.invariant.outside, ← c.loop-scratch.invariant.name) at known in
+          let next = MatchOption-at_none _ _ c.in_ok-next_into.ensures.reports (c.in_ok-next_into.ensures.steps.gives before.0 file on before.1) in (
             before.0 ++ one ∷ [],
-            at,
+            rw c.if-branch.true at next,
             c.in_ok-add.ensures.rows ∙ ap (λ rows. rows ++ Some (normal_constraint one) ∷ []) before.2 ∙ sym (start_more before.0 one),
             wide_more before.0 one before.3 ∙ c.in_ok-add.ensures.narrow,
           );
@@ -91,21 +86,19 @@ loop-scratch-preserved g c =
 
 pub returns-in_err-add-clause-gives : goal.returns-in_err-add-clause-gives
 returns-in_err-add-clause-gives g c = λ file known.
-    let begun = rw (← c.in-Ok.ensures.ok_looks, ← c.in-Ok.ensures.name) at known in
-    let before = c.loop-scratch.invariant.place file begun (c.in-Ok.ensures.gives file known) in
-    let at = rw c.if-branch.true at (MatchOption-at_none _ _ c.in_ok-next_into.ensures.reports
-    (c.in_ok-next_into.ensures.steps.gives before.0 file (rw (← c.loop-scratch.invariant.outside, ← c.loop-scratch.invariant.name) at begun) before.1)) in
-    let p = err_from_is_err_and c.from_residual-in_err-add.result c.from_residual-in_err-add.ensures.1 in
-    rw (p.1, p.2) (wide_read c.in_err-add.field-0.0 c.next_into.new.self.progress file before.0 (constraint_of c.next_into.new.row)
+    let before = c.loop-scratch.invariant.place file known in
+    let on = rw (← c.loop-scratch.invariant.outside, ← c.loop-scratch.invariant.name) at known in
+    let next = c.in_ok-next_into.ensures.steps.gives before.0 file on before.1 in
+    let at = rw c.if-branch.true at (MatchOption-at_none _ _ c.in_ok-next_into.ensures.reports next) in
+    rw (err_is c.from_residual-in_err-add.result c.from_residual-in_err-add.ensures.1)
+    (wide_read c.in_err-add.field-0.0 c.next_into.new.self.progress file before.0 (constraint_of c.next_into.new.row)
     (c.requires.small file known) before.3 at c.in_err-add.ensures.err)
 
 pub returns-in_err-add-clause-looks : goal.returns-in_err-add-clause-looks
 returns-in_err-add-clause-looks g c =
-    let p = err_from_is_err_and c.from_residual-in_err-add.result c.from_residual-in_err-add.ensures.1 in
     let halts : (new : Outside) → new ≡ g.D.Files.seen c.args.files.now
     → HaltsBy (g.D.Files.seen c.args.files.now) new c.args.name.now c.from_residual-in_err-add.result =
-    λ new is. rw (p.1, p.2, is) (wide_halted (g.D.Files.seen c.args.files.now) c.args.name.now c.in_err-add.field-0.0
-    (wide_in (constraint_of c.next_into.new.row)) c.in_err-add.ensures.err) in
+    λ new is. rw (err_is c.from_residual-in_err-add.result c.from_residual-in_err-add.ensures.1, is) (wide_halted _ _ _ _ c.in_err-add.ensures.err) in
     halts _ (search rules)
 
 pub returns-clause-ready : goal.returns-clause-ready
@@ -125,13 +118,12 @@ returns-clause-ready g c = record {
 
 pub returns-clause-gives : goal.returns-clause-gives
 returns-clause-gives g c = λ file known.
-    let begun = rw (← c.in-Ok.ensures.ok_looks, ← c.in-Ok.ensures.name) at known in
-    let before = c.loop-scratch.invariant.place file begun (c.in-Ok.ensures.gives file known) in
-    let all = rw c.if-branch.false at (MatchOption-at_none _ _ c.in_ok-next_into.ensures.reports
-    (c.in_ok-next_into.ensures.steps.gives before.0 file (rw (← c.loop-scratch.invariant.outside, ← c.loop-scratch.invariant.name) at begun) before.1)) in
+    let before = c.loop-scratch.invariant.place file known in
+    let on = rw (← c.loop-scratch.invariant.outside, ← c.loop-scratch.invariant.name) at known in
+    let next = c.in_ok-next_into.ensures.steps.gives before.0 file on before.1 in
+    let all = rw c.if-branch.false at (MatchOption-at_none _ _ c.in_ok-next_into.ensures.reports next) in
     let is : r1cs_system file ≡ Ok (counted_system c.counts-counts.result before.0) =
-    all.system ∙ ap (λ system. Ok system) (ap (λ header. system_with header before.0) (c.in_ok-next_into.ensures.steps.header ∙ c.loop-scratch.invariant.header)
-    ∙ sym (ap (λ counts. counted_system counts before.0) c.counts-counts.ensures)) in
+    rw (c.counts-counts.ensures, ← c.loop-scratch.invariant.header, ← c.in_ok-next_into.ensures.steps.header) all.system in
     record {
       list = before.0;
       is = is;

@@ -1,4 +1,4 @@
-use Rattle.std.proofs.Common.{◌≡◌, ◌+◌, List, [], None, length}
+use Rattle.std.proofs.Common.{◌≡◌, ◌+◌, List, None, length}
 use Rattle.tv_core.specs.Constraints.{Constraint}
 use Rattle.tv_container.specs.Reading.{Known}
 use Rattle.tv_r1cs_read.specs.Places.{IsAt}
@@ -9,14 +9,14 @@ use Rattle.tv_shrink.proofs.normal_system.read.Given as goal
 abbrev pub invariant-loop-scratch : goal.invariant-loop-scratch
 invariant-loop-scratch g l = record {
   same : l.reader.files.ghost_name ≡ l.initial.reader.files.ghost_name;
-  outside : g.D.Files.seen l.reader.files.now ≡ g.D.Files.seen l.initial.reader.files.now;
-  name : l.reader.name.now ≡ l.initial.reader.name.now;
+  outside : g.D.Files.seen l.reader.files.now ≡ g.D.Files.seen l.fn.files;
+  name : l.reader.name.now ≡ l.fn.name;
   on : l.reader.progress.stopped ≡ None;
   header : l.reader.progress.header ≡ l.initial.reader.progress.header;
   counted : length l.rows + l.reader.progress.left ≡ l.initial.reader.progress.left;
   within : AreWithin l.initial.reader.progress.header.wires l.rows;
   normal : RowsAreNormal l.rows;
-  place : Known (g.D.Files.seen l.initial.reader.files.now) l.initial.reader.name.now (λ file. IsAt l.initial.reader.progress file [] →
+  place : Known (g.D.Files.seen l.fn.files) l.fn.name (λ file.
       (done : List Constraint) × IsAt l.reader.progress file done × (l.rows ≡ start_rows done) × (first_wide done ≡ None));
 }
 

@@ -1,7 +1,7 @@
-use Rattle.std.proofs.Common.{◌≡◌, ◌≢◌, ◌∙◌, ◌+◌, ◌<◌, ℕ, ap, arith, cond, get_or, length, sym, subst}
-use Rattle.tv_r1cs_write.proofs.Others.{absent, all_ahead, passed, there, waiting, AreAhead}
+use Rattle.std.proofs.Common.{◌≡◌, ◌≢◌, ◌∙◌, ◌+◌, ◌<◌, ℕ, ap, arith, get_or, length}
+use Rattle.tv_r1cs_write.proofs.Others.{all_ahead, passed, waiting}
 use Rattle.tv_r1cs_write.specs.Bytes.{others}
-use Rattle.tv_shrink.proofs.Gone.{length_more, values_more}
+use Rattle.tv_shrink.proofs.Gone.{lowered_by, values_more}
 use Rattle.tv_shrink.proofs.numbers.lower_first.Goals as goal
 use Rattle.tv_shrink.proofs.numbers.lower_first.Goals.{then-next-gone+then-gone-next, else-next-gone, else-next-gone-via-then-next-gone+else-gone-next}
 use Rattle.tv_shrink.proofs.numbers.lower_first.Goals.{else-next-gone-via-else-next-gone}
@@ -31,8 +31,8 @@ loop-wire-preserved c =
           let inside : next < length gone = omega (arith, w.if-next-gone.true) in
           let same : get_or gone next 0 ≡ n = omega (arith, w.if-gone-next.true) in
           record {
-            ahead = subst (AreAhead (n + 1) gone) (sym w.next-is) (passed n gone next ahead inside same);
-            both = omega (arith, w.next-is, c.loop-wire.invariant.both, length_more n gone, ap {B = ℕ} (λ b. cond b 0 1) (there n gone next ahead inside same));
+            ahead = rw w.next-is (passed n gone next ahead inside same);
+            both = rw w.next-is (lowered_by gone (n + 1) (next + 1) (passed n gone next ahead inside same));
             each = each;
             so_far = so_far;
           }
@@ -42,8 +42,8 @@ loop-wire-preserved c =
             | else-next-gone-via-else-next-gone v ↦ absurd (omega (arith, v.if-next-gone.false))
           ] in
           record {
-            ahead = subst (AreAhead (n + 1) gone) (sym w.next-is) (waiting n gone next ahead apart);
-            both = omega (arith, w.next-is, c.loop-wire.invariant.both, length_more n gone, ap {B = ℕ} (λ b. cond b 0 1) (absent n gone next ahead apart));
+            ahead = rw w.next-is (waiting n gone next ahead apart);
+            both = rw w.next-is (lowered_by gone (n + 1) next (waiting n gone next ahead apart));
             each = each;
             so_far = so_far;
           }

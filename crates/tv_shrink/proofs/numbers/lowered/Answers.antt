@@ -1,18 +1,16 @@
 use Rattle.std.proofs.Common.{◌≡◌, ◌+◌, ℕ, arith, length, ltb, rules}
 use Rattle.std.proofs.lemmas.List.Sorted.{IsPartitionPoint-from_clause, IsPartitionedBy-ltb}
-use Rattle.tv_r1cs_write.proofs.Others.{rising_from}
 use Rattle.tv_r1cs_write.specs.Bytes.{others}
-use Rattle.tv_shrink.proofs.Gone.{lowered_by, non-decreasing}
+use Rattle.tv_shrink.proofs.Gone.{at_point, lowered_by, non-decreasing}
 use Rattle.tv_shrink.proofs.numbers.lowered.Goals as goal
 use Rattle.tv_shrink.proofs.numbers.lowered.Goals.{After-partition_point}
 
 -- what is below the wire and what is not make up all
 all : (c : After-partition_point) → c.partition_point.result + length (others c.args.wire c.args.gone.now) ≡ c.args.wire
 all c =
-    let rising = rising_from c.args.gone.now c.requires in
-    lowered_by c.args.gone.now c.args.wire c.partition_point.result rising (grind arith)
+    lowered_by c.args.gone.now c.args.wire c.partition_point.result (at_point c.args.wire c.args.gone.now c.partition_point.result c.requires (grind arith)
     (IsPartitionPoint-from_clause (λ (v : ℕ). ltb v c.args.wire) _ _ c.partition_point.ensures.partitioned
-    (IsPartitionedBy-ltb (λ (v : ℕ). v) c.args.gone.now c.args.wire (non-decreasing 0 c.args.gone.now rising)) (λ a r q k. search rules))
+    (IsPartitionedBy-ltb (λ (v : ℕ). v) c.args.gone.now c.args.wire (non-decreasing c.args.gone.now c.requires)) (λ a r q k. search rules)))
 
 pub overflow_cast-result : goal.overflow_cast-result
 overflow_cast-result c = omega (arith, all (goal.at.overflow_cast-result c).After-partition_point)

@@ -12,21 +12,20 @@ loop-at-preserved c =
       | in-Some w ↦
           let taken = some_taken c.args.rows.now c.loop-at.at c.get.result w.in-Some.row (omega (arith, c.loop-at-test.true)) c.get.ensures w.in-Some.is in
           let short = short_at c.args.wires c.loop-at.at c.args.rows.now c.get.result w.in-Some.row c.requires.within c.get.ensures w.in-Some.is in
-          record {
-            constraints = ap (λ tally. tally.constraints) w.tally-is ∙ w.add.ensures.constraints ∙ ap (λ n. n + 1) c.loop-at.invariant.constraints
+          rw w.tally-is (record {
+            constraints = w.add.ensures.constraints ∙ ap (λ n. n + 1) c.loop-at.invariant.constraints
                 ∙ sym (ap length taken ∙ length_push (filter_map (λ row. row) (take c.loop-at.at c.args.rows.now)) w.in-Some.row);
-            terms = ap (λ tally. tally.terms) w.tally-is ∙ w.add.ensures.terms
-                ∙ ap (λ n. n + (length w.in-Some.row.a + length w.in-Some.row.b + length w.in-Some.row.c)) c.loop-at.invariant.terms
+            terms = w.add.ensures.terms ∙ ap (λ n. n + (length w.in-Some.row.a + length w.in-Some.row.b + length w.in-Some.row.c)) c.loop-at.invariant.terms
                 ∙ sym (ap terms_in taken ∙ terms_more (filter_map (λ row. row) (take c.loop-at.at c.args.rows.now)) w.in-Some.row);
-            few = omega (arith, ap (λ tally. tally.constraints) w.tally-is, w.add.ensures.constraints);
-            bound = omega (arith, ap (λ tally. tally.terms) w.tally-is, w.add.ensures.terms, short.short_a, short.short_b, short.short_c);
-          }
+            few = omega (arith, w.add.ensures.constraints);
+            bound = omega (arith, w.add.ensures.terms, short.short_a, short.short_b, short.short_c);
+          })
       | in_default w ↦
           let taken = none_taken c.args.rows.now c.loop-at.at c.get.result (omega (arith, c.loop-at-test.true)) c.get.ensures w.in_default.is in
-          record {
-            constraints = ap (λ tally. tally.constraints) w.tally-is ∙ c.loop-at.invariant.constraints ∙ sym (ap length taken);
-            terms = ap (λ tally. tally.terms) w.tally-is ∙ c.loop-at.invariant.terms ∙ sym (ap terms_in taken);
-            few = omega (arith, ap (λ tally. tally.constraints) w.tally-is);
-            bound = omega (arith, ap (λ tally. tally.terms) w.tally-is);
-          }
+          rw (w.tally-is, taken) (record {
+            constraints = c.loop-at.invariant.constraints;
+            terms = c.loop-at.invariant.terms;
+            few = omega arith;
+            bound = omega arith;
+          })
     ]

@@ -1,13 +1,12 @@
-use Rattle.std.proofs.Common.{ℕ, ◌≡◌, ◌≤◌, ◌%◌, ◌∙◌, None, true, inl, inr, sym, ap, subst, arith, eqb, eqb-true, get_or, length, set, reverse}
+use Rattle.std.proofs.Common.{ℕ, ◌≡◌, ◌≤◌, ◌∙◌, None, true, inl, inr, sym, ap, subst, arith, eqb, eqb-true, get_or, length, set, reverse}
 use Rattle.std.specs.List.{list_any}
 use Rattle.std.proofs.lemmas.Bool.{or_cases}
 use Rattle.tv_shrink.specs.Pass.{row_fits}
 use Rattle.tv_shrink.specs.Substitution.{Replacement}
 use Rattle.tv_shrink.specs.declared.substitution.Substitution.TheInside.{Inside}
-use Rattle.std.proofs.lemmas.Nat.{mod_below}
 use Rattle.tv_shrink.specs.Occurrences.{has_row, rows_from}
 use Rattle.tv_shrink.proofs.Elements.{never}
-use Rattle.tv_shrink.proofs.OccurrenceLaws.{head_inside, rows_from-at, rows_from-none, seen}
+use Rattle.tv_shrink.proofs.OccurrenceLaws.{listed, rows_from-at, rows_from-none}
 use Rattle.tv_shrink.proofs.occurrences.Occurrences.misfit.Goals as goal
 use Rattle.tv_shrink.proofs.occurrences.Occurrences.misfit.Goals.{After-index-number}
 
@@ -16,17 +15,11 @@ head : (c : After-index-number) → (c.index-number.result.now ≤ length c.self
     × ((i : ℕ) → has_row c.args.self.now c.args.by.now.wire i
     ≡ list_any (λ p. eqb p i) (rows_from (reverse c.self.inside.entries.items) c.index-number.result.now))
 head c =
-    let heads = c.self.inside.heads.items in
-    let w = c.by-inside.inside.0.0.0 in
-    let is = head_inside c.self.inside.entries.items heads (w % length heads) c.index-number.result.now c.self.invariant
-    (mod_below w (length heads) c.self.invariant.some)
-    (subst (λ n. c.index-number.result.now ≡ get_or heads (w % n) c.index-number.result.now) (omega (arith, c.len.ensures)) c.index-number.ensures) in (
+    let is = listed c.self.inside.entries.items c.self.inside.heads.items c.args.self.now c.by-inside.inside.0.0.0 c.len.result c.index-number.result.now
+    c.self.invariant c.self.view_is (omega (arith, c.len.ensures)) c.index-number.ensures in (
       is.0,
       λ i. ap (λ (s : Replacement). has_row c.args.self.now s.wire i) (sym c.by.view_is)
-          ∙ ap (λ (s : Inside). has_row c.args.self.now s.wire i) (sym c.by-inside.view_is)
-          ∙ ap (λ lists. has_row lists w i) (sym c.self.view_is)
-          ∙ seen c.self.inside.entries.items heads w i c.self.invariant.some
-          ∙ ap (λ n. list_any (λ p. eqb p i) (rows_from (reverse c.self.inside.entries.items) n)) (sym is.1),
+          ∙ ap (λ (s : Inside). has_row c.args.self.now s.wire i) (sym c.by-inside.view_is) ∙ is.1 i,
     )
 
 pub loop-number-init : goal.loop-number-init
@@ -58,9 +51,7 @@ loop-number-preserved c =
 pub returns-clause-none : goal.returns-clause-none
 returns-clause-none c e i any =
     let end : c.loop-number.number ≡ 0 = omega (arith, c.loop-number-test.false) in
-    elim (c.loop-number.invariant.seen i (sym ((head (goal.at.returns-clause-none c).After-index-number).1 i) ∙ any)) [
+    elim (rw (end, rows_from-none) at (c.loop-number.invariant.seen i (sym ((head (goal.at.returns-clause-none c).After-index-number).1 i) ∙ any))) [
       | inl fits ↦ fits
-      | inr later ↦ absurd (never (sym
-          (ap (list_any (λ p. eqb p i)) (ap (rows_from (reverse c.self.inside.entries.items)) end ∙ rows_from-none (reverse c.self.inside.entries.items)))
-          ∙ later))
+      | inr later ↦ absurd (never later)
     ]

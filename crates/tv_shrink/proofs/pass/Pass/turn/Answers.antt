@@ -1,4 +1,4 @@
-use Rattle.std.proofs.Common.{◌≡◌, ◌<◌, ◌≤◌, ◌-◌, ◌∙◌, ◌++◌, ◌∷◌, [], Some, None, true, false, ℕ, ap, arith, drop, get_or, length, subst, sym, take}
+use Rattle.std.proofs.Common.{◌≡◌, ◌<◌, ◌≤◌, ◌-◌, ◌∙◌, ◌++◌, ◌∷◌, Some, None, true, false, ℕ, ap, arith, drop, get_or, length, subst, sym, take, []}
 use Rattle.std.proofs.lemmas.List.{nil_from_length, with_items_is}
 use Rattle.std.proofs.lemmas.Result.{on_ok_weaker}
 use Rattle.tv_core.proofs.NormalLaws.{Over, Over-normal, Over-scaled, IsNormalFrom-normal}

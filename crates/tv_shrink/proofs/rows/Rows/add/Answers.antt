@@ -1,8 +1,8 @@
-use Rattle.std.proofs.Common.{◌≡◌, ◌∷◌, ◌++◌, ◌∙◌, [], Some, ap, length, map, subst, sym}
-use Rattle.std.proofs.lemmas.Result.{err_from_is_err_and}
+use Rattle.std.proofs.Common.{◌≡◌, ◌∷◌, ◌++◌, ◌∙◌, Some, ap, length, map, subst, sym, []}
 use Rattle.std.specs.Option.{option_map}
 use Rattle.tv_r1cs_read.specs.Rows.{constraint_of}
 use Rattle.tv_core.specs.Normal.{normal_constraint}
+use Rattle.tv_container.proofs.Chain.{err_is}
 use Rattle.tv_shrink.specs.Spans.{row_at, AreLaid}
 use Rattle.tv_shrink.proofs.LayLaws.{laid_more, rows_added}
 use Rattle.tv_shrink.proofs.rows.Rows.add.Goals as goal
@@ -25,13 +25,11 @@ returns-clause-narrow c = c.in_ok-span.ensures.narrow
 
 pub returns-in_err-span-clause-err : goal.returns-in_err-span-clause-err
 returns-in_err-span-clause-err c =
-    let p = err_from_is_err_and c.from_residual.result c.from_residual.ensures.1 in
-    rw (p.1, p.2) c.in_err-span.ensures.err
+    rw (err_is c.from_residual.result c.from_residual.ensures.1) c.in_err-span.ensures.err
 
 pub returns-in_err-push-clause-err : goal.returns-in_err-push-clause-err
 returns-in_err-push-clause-err c =
-    let p = err_from_is_err_and c.from_residual-in_err-push.result c.from_residual-in_err-push.ensures.1 in
-    rw (p.1, p.2) tt
+    rw (err_is c.from_residual-in_err-push.result c.from_residual-in_err-push.ensures.1) tt
 
 pub invariant_of-self : goal.invariant_of-self
 invariant_of-self c = laid_more _ _ c.self.inside.spans.items c.append_read.ensures.longer c.self.invariant

@@ -2,7 +2,6 @@ use Rattle.std.proofs.Common.{◌≡◌, ◌+◌, ◌-◌, ◌∙◌, ℕ, refl,
 use Rattle.std.specs.List.{filter_map}
 use Rattle.std.specs.List.Sorted.{IsStrictlyIncreasing}
 use Rattle.std.specs.Prelude.{is_err}
-use Rattle.std.proofs.lemmas.Result.{err_from_is_err_and}
 use Rattle.tv_container.proofs.Streamed.{not_created}
 use Rattle.tv_core.proofs.Chain.{puts_then, puts_then_refused}
 use Rattle.tv_core.specs.Constraints.{System}
@@ -12,6 +11,7 @@ use Rattle.tv_r1cs_write.specs.Bytes.{others}
 use Rattle.tv_r1cs_write.proofs.StreamLaws.{IsBegun, streamed_all, streamed_some}
 use Rattle.tv_r1cs_write.specs.Streams.{begun, stream, stream_meaning, SystemProgress}
 use Rattle.tv_r1cs_write.specs.declared.stream.StreamSink.{StreamSink}
+use Rattle.tv_container.proofs.Chain.{err_is}
 use Rattle.tv_shrink.specs.Emission.{rows_circuit, wires_circuit}
 use Rattle.tv_r1cs_write.specs.Shrunken.{shrunken_bytes}
 use Rattle.tv_shrink.specs.Tidy.{AreWithin}
@@ -136,5 +136,4 @@ returns-in_err-put_rows g c =
     let some = puts_then_refused (stream_meaning seen) (wires_circuit (private_in g ok))
     (λ _. rows_circuit rows (length rows)) c.in-Ok.sink c.make_wires.new.s c.put_rows.new.s tt fault c.make_wires.ensures.puts more in
     let written = streamed_some _ _ _ _ _ _ _ _ (λ _. others c.self.inside.wires c.self.inside.gone.items) (is_begun g ok) c.put_rows.new.s fault some in
-    let p = err_from_is_err_and c.from_residual.result c.from_residual.ensures.1 in
-    rw (p.1, p.2, ← c.self.view_is) (search (rules, written))
+    rw (err_is c.from_residual.result c.from_residual.ensures.1, ← c.self.view_is) (search (rules, written))

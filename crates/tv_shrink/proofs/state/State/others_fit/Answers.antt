@@ -1,9 +1,5 @@
-use Rattle.std.proofs.Common.{◌≡◌, ◌≤◌, ◌∙◌, Ok, ap, arith, false, get_or, None, set, subst, sym}
-use Rattle.std.specs.List.{list_all}
-use Rattle.std.specs.Prelude.{IfSome}
-use Rattle.tv_shrink.specs.Pass.{row_fits}
+use Rattle.std.proofs.Common.{Ok, ap, None, set, sym}
 use Rattle.tv_shrink.specs.Occurrences.{has_row}
-use Rattle.tv_shrink.specs.Tidy.{State}
 use Rattle.tv_shrink.proofs.Passes.{all-fit-there, not-all_fit}
 use Rattle.tv_shrink.proofs.States.{kept_more}
 use Rattle.tv_shrink.proofs.state.State.others_fit.Goals as goal
@@ -13,10 +9,9 @@ misfit-requires c = c.self.invariant.normal
 
 pub returns-in_default-clause-fit : goal.returns-in_default-clause-fit
 returns-in_default-clause-fit c =
-    let private : c.self.inside.publics ≤ c.args.by.now.wire = omega (arith, ap (λ (s : State). s.publics) c.self.view_is, c.requires) in
-    sym (ap (λ (s : State). list_all (row_fits c.args.by.now.wire c.args.by.now.terms) (set s.pass.rows c.args.but None)) (sym c.self.view_is)
-    ∙ all-fit-there c.args.by.now.wire c.args.but c.args.by.now.terms c.self.inside.publics c.self.inside.rows
-    (has_row c.self.inside.occurrences) c.self.invariant.covers private (c.in_ok-misfit.ensures.none (ap Ok c.in_default.is)))
+    rw (← c.self.view_is)
+    (sym (all-fit-there c.args.by.now.wire c.args.but c.args.by.now.terms c.self.inside.publics c.self.inside.rows (has_row c.self.inside.occurrences)
+    c.self.invariant.covers (rw (← c.self.view_is) at c.requires) (c.in_ok-misfit.ensures.none (ap Ok c.in_default.is))))
 
 pub invariant_of-self : goal.invariant_of-self
 invariant_of-self c =
@@ -34,8 +29,5 @@ returns-clause-same c = c.self.view_is
 
 pub returns-clause-fit : goal.returns-clause-fit
 returns-clause-fit c =
-    let rows = set c.self.inside.rows c.args.but None in
-    let found : row_fits c.args.by.now.wire c.args.by.now.terms (get_or rows c.in-Some.row None) ≡ false =
-    subst (λ o. IfSome o (λ row. row_fits c.args.by.now.wire c.args.by.now.terms (get_or rows row None) ≡ false)) c.in-Some.is c.in_ok-misfit.ensures.some in
-    not-all_fit c.args.by.now.wire c.args.by.now.terms rows c.in-Some.row found
-    ∙ ap (λ (s : State). list_all (row_fits c.args.by.now.wire c.args.by.now.terms) (set s.pass.rows c.args.but None)) c.self.view_is
+    let found = rw c.in-Some.is at c.in_ok-misfit.ensures.some in
+    rw (← c.self.view_is) (not-all_fit c.args.by.now.wire c.args.by.now.terms (set c.self.inside.rows c.args.but None) c.in-Some.row found)

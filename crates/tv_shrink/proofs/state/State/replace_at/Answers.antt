@@ -1,12 +1,11 @@
-use Rattle.std.proofs.Common.{◌∙◌, None, ap, arith, get_or, length, subst, sym}
-use Rattle.std.proofs.lemmas.List.{get_or_past}
+use Rattle.std.proofs.Common.{◌≤◌, ◌∙◌, None, ap, arith, get_or, length, refl, subst, sym}
+use Rattle.std.proofs.lemmas.List.{set-get_or, set_past}
 use Rattle.tv_shrink.specs.Pass.{row_fits}
-use Rattle.tv_shrink.specs.Substitution.{Replacement}
 use Rattle.tv_shrink.specs.Occurrences.{has_row}
-use Rattle.tv_shrink.specs.Tidy.{row_has, RowIsNormal, State}
+use Rattle.tv_shrink.specs.Tidy.{RowIsNormal, State}
 use Rattle.tv_shrink.proofs.Elements.{each_at}
-use Rattle.tv_shrink.proofs.Passes.{lacks_below}
-use Rattle.tv_shrink.proofs.States.{kept_more, kept_replaced, unchanged}
+use Rattle.tv_shrink.proofs.Passes.{lacks_below, row-lacking-same}
+use Rattle.tv_shrink.proofs.States.{kept_more, kept_replaced}
 use Rattle.tv_shrink.proofs.state.State.replace_at.Goals as goal
 
 pub row_has-requires : goal.row_has-requires
@@ -21,16 +20,19 @@ replace-requires-clause-fits c =
 
 pub returns-then-at-len : goal.returns-then-at-len
 returns-then-at-len c =
-    unchanged c.args.self.now c.args.by.now.wire c.args.at c.args.by.now.terms
-    (ap (row_has c.args.by.now.wire) (get_or_past c.args.self.now.pass.rows c.args.at None
-    (omega (arith, c.if-at-len.true, c.len.ensures, ap (λ (s : State). length s.pass.rows) c.self.view_is))))
+    let past : length c.args.self.now.pass.rows ≤ c.args.at =
+    omega (arith, c.if-at-len.true, c.len.ensures, ap (λ (s : State). length s.pass.rows) c.self.view_is) in
+    rw set_past refl
 
 pub returns-then-not-row_has : goal.returns-then-not-row_has
 returns-then-not-row_has c =
-    unchanged c.args.self.now c.args.by.now.wire c.args.at c.args.by.now.terms
-    (ap (λ (s : State). row_has c.args.by.now.wire (get_or s.pass.rows c.args.at None)) (sym c.self.view_is)
-    ∙ ap (row_has c.args.by.now.wire) (sym c.get.ensures)
-    ∙ ap (λ (s : Replacement). row_has s.wire c.get.result) (sym c.by.view_is) ∙ sym c.row_has.ensures ∙ c.if-not-row_has.true)
+    let lacks = rw c.get.ensures at (sym c.row_has.ensures ∙ c.if-not-row_has.true) in
+    rw (
+      ← c.self.view_is,
+      ← c.by.view_is,
+      row-lacking-same c.by.inside.wire c.by.inside.replacement.now (get_or c.self.inside.rows c.args.at None) lacks,
+      set-get_or,
+    ) refl
 
 pub invariant_of-self : goal.invariant_of-self
 invariant_of-self c =

@@ -1,13 +1,13 @@
-use Rattle.std.proofs.Common.{◌≡◌, ◌≤◌, ◌∙◌, ◌++◌, ◌∷◌, [], ℕ, None, true, ap, ap₂, arith, false, eqb, get_or, length, length-set, refl, sym, take}
+use Rattle.std.proofs.Common.{◌≡◌, ◌≤◌, ◌∙◌, ◌++◌, ◌∷◌, ℕ, None, true, ap, ap₂, arith, false, eqb, get_or, length, length-set, refl, sym, take, []}
 use Rattle.std.specs.List.{list_any}
 use Rattle.std.specs.Option.{option_map}
 use Rattle.tv_core.specs.Constraints.{Combination}
 use Rattle.tv_shrink.specs.Occurrences.{has_row}
+use Rattle.tv_shrink.specs.Pass.{substituted}
 use Rattle.tv_shrink.specs.Substitution.{has_wire, replaced_in, IsReplacement, Replacement}
 use Rattle.tv_shrink.specs.declared.substitution.Substitution.TheInside.{Inside}
 use Rattle.tv_shrink.specs.Tidy.{row_has, State}
 use Rattle.tv_shrink.proofs.Passes.{lacks_below, replaced-all, replaced-step, still_fits}
-use Rattle.tv_shrink.proofs.States.{substituted_is}
 use Rattle.tv_shrink.proofs.state.State.substitute.Goals as goal
 
 -- the wire is not among the terms
@@ -46,6 +46,7 @@ loop-at-preserved c =
     }
 
 pub returns : goal.returns
+unfolding substituted
 returns c =
     let private : c.self.inside.publics ≤ c.args.by.now.wire = omega (arith, ap (λ (s : State). s.publics) c.self.view_is, c.requires.private) in
     let names : (i : ℕ) → row_has c.args.by.now.wire (get_or c.args.self.now.pass.rows i None) ≡ true →
@@ -54,11 +55,11 @@ returns c =
     ∙ ap (λ (s : Inside). has_row c.self.inside.occurrences s.wire i) c.by-inside.view_is
     ∙ ap (λ (s : Replacement). has_row c.self.inside.occurrences s.wire i) c.by.view_is
     ∙ c.self.invariant.covers i c.args.by.now.wire private (ap (λ (s : State). row_has c.args.by.now.wire (get_or s.pass.rows i None)) c.self.view_is ∙ has) in
-    substituted_is c.args.self.now c.args.by.now.wire c.args.by.now.terms c.self-2.inside.publics c.self-2.inside.rows
-    c.push.new.self.items
-    (ap (λ (s : State). s.publics) c.self-2.view_is ∙ c.loop-at.invariant.publics)
-    (ap (λ (s : State). s.pass.rows) c.self-2.view_is
-    ∙ replaced-all c.args.by.now.wire c.args.by.now.terms (lacks c.by.view_is c.by.invariant) c.loop-at.self.pass.rows c.args.self.now.pass.rows
-    c.deref-at-items.result.now c.loop-at.at-index (omega arith) c.loop-at.invariant.each names c.loop-at.invariant.so_far)
-    (c.in_ok-push.ensures.items ∙ ap₂ (λ gone w. gone ++ w ∷ []) (ap (λ (s : State). s.pass.gone) c.self-2.view_is ∙ c.loop-at.invariant.gone)
-    (ap (λ (s : Inside). s.wire) c.by-inside.view_is ∙ ap (λ (s : Replacement). s.wire) c.by.view_is))
+    rw (
+      ap (λ (s : State). s.publics) c.self-2.view_is ∙ c.loop-at.invariant.publics,
+      ap (λ (s : State). s.pass.rows) c.self-2.view_is
+          ∙ replaced-all c.args.by.now.wire c.args.by.now.terms (lacks c.by.view_is c.by.invariant) c.loop-at.self.pass.rows c.args.self.now.pass.rows
+          c.deref-at-items.result.now c.loop-at.at-index (omega arith) c.loop-at.invariant.each names c.loop-at.invariant.so_far,
+      c.in_ok-push.ensures.items ∙ ap₂ (λ gone w. gone ++ w ∷ []) (ap (λ (s : State). s.pass.gone) c.self-2.view_is ∙ c.loop-at.invariant.gone)
+          (ap (λ (s : Inside). s.wire) c.by-inside.view_is ∙ ap (λ (s : Replacement). s.wire) c.by.view_is),
+    ) refl
