@@ -14,7 +14,7 @@ use Rattle.tv_core.proofs.Unique.{same_values}
 use Rattle.tv_core.specs.Circuits.{put}
 use Rattle.tv_core.specs.Combinations.{wire, constant, scaled, top}
 use Rattle.tv_core.specs.Constraints.{Combination, value}
-use Rattle.tv_core.specs.Normal.{normal, AreNormal, IsNormal}
+use Rattle.tv_core.specs.Normal.{normal, IsNormal}
 use Rattle.tv_core.specs.declared.field.TheConstants.{P}
 use Rattle.tv_core.specs.declared.lines.LineLc.{LineLc}
 use Rattle.tv_core.specs.declared.lines.Pair.{Pair}
@@ -26,14 +26,13 @@ pub normal_with : (x : Combination) (w : ℕ) → IsNormal x → top x ≤ w →
 normal_with x w n h = normal_append 0 w x (wire w) n h (omega arith) (wire_normal w w (omega arith))
 
 -- in the midst of a combination that is made normal
-pub normal_new : (x y : Combination) (w : ℕ) → top x ≤ w → ((z : List ℕ) → value y z ≡ (value x z + value (wire w) z) % P) → normal y ≡ normal x ++ wire w
-normal_new x y w h same =
-    same_values 0 0 (normal y) (normal x ++ wire w) (IsNormalFrom-normal y) (normal_with (normal x) w (IsNormalFrom-normal x) (omega (arith, top-normal x)))
-    (λ z. value-normal z y ∙ same z ∙ ap (λ v. (v + value (wire w) z) % P) (sym (value-normal z x)) ∙ sym (value-append (normal x) (wire w) z))
-
-pub length-new : (x y : Combination) (w : ℕ) → top x ≤ w → ((z : List ℕ) → value y z ≡ (value x z + value (wire w) z) % P)
+length-new : (x y : Combination) (w : ℕ) → top x ≤ w → ((z : List ℕ) → value y z ≡ (value x z + value (wire w) z) % P)
     → length (normal y) ≡ length (normal x) + 1
-length-new x y w h same = ap length (normal_new x y w h same) ∙ length-append (normal x) (wire w)
+length-new x y w h same =
+    ap length (same_values 0 0 (normal y) (normal x ++ wire w) (IsNormalFrom-normal y) (normal_with (normal x) w (IsNormalFrom-normal x)
+    (omega (arith, top-normal x)))
+    (λ z. value-normal z y ∙ same z ∙ ap (λ v. (v + value (wire w) z) % P) (sym (value-normal z x)) ∙ sym (value-append (normal x) (wire w) z)))
+    ∙ length-append (normal x) (wire w)
 
 -- ---- the parts of a check, where the item is two wires after those of the line
 later_twice : (a b c d : ℕ) → (((a + b) % P + c) % P + d) % P ≡ (((a + c) % P + d) % P + b) % P
@@ -75,27 +74,21 @@ excess_normal reach line item short some cell old first =
     (omega arith)
     (scaled_bits_normal (2 ^ 32) reach.first reach.n (omega arith) (λ none. absurd (omega arith)))
 
-either_normal : (e : ℕ) (line : LineLc) (item : Pair) (next : ℕ) → top line.time ≤ e → top item.second ≤ e → AreNormal (either_of e line item next).list
-unfolding either_of
-either_normal e line item next time second =
-    let c : Combination = item.first ++ scaled (P - 2 ^ 32) line.cell in
-    let t : Combination = item.second ++ scaled (P - 2 ^ 32) line.time in
-    let of_e : IsNormal (wire e) = wire_normal 0 e (omega arith) in
-    normal_then (put (wire e) (cell_difference line item) []) (λ _. put (wire e) (time_difference e line item) []) next
-    (normal_put (wire e) (cell_difference line item) [] next of_e (IsNormalFrom-normal c) tt)
-    (normal_put (wire e) (time_difference e line item) [] _ of_e
-    (normal_with (normal t) e (IsNormalFrom-normal t) (omega (arith, top-normal t, above_top item.second line.time e second time))) tt)
-
 pub follows_normal : FollowsIsNormal
-unfolding follows_of
+unfolding follows_of either_of
 follows_normal m line item next some short cell time old first second =
     let reach = new_bits_of m next in
     let kept = kept_of (excess reach.answer line item) reach.next in
     let at : reach.answer.first ≡ next = ap (λ (b : Bits). b.first) (new_bits_answer m next) in
     let n : reach.answer.n ≡ m = ap (λ (b : Bits). b.n) (new_bits_answer m next) in
     let e : kept.answer ≡ next + m = kept_answer (excess reach.answer line item) reach.next ∙ new_bits_next m next in
+    let t : Combination = item.second ++ scaled (P - 2 ^ 32) line.time in
+    let of_e : IsNormal (wire kept.answer) = wire_normal 0 kept.answer (omega arith) in
     normal_then (new_bits_of m) _ next (new_bits_normal m next)
     (normal_then (kept_of (excess reach.answer line item)) (λ e. either_of e line item) reach.next
     (kept_normal (excess reach.answer line item) reach.next
     (excess_normal reach.answer line item (omega arith) (omega arith) (omega arith) (omega arith) (omega arith)))
-    (either_normal kept.answer line item kept.next (omega arith) (omega arith)))
+    (normal_then (put (wire kept.answer) (cell_difference line item) []) (λ _. put (wire kept.answer) (time_difference kept.answer line item) []) kept.next
+    (normal_put _ _ _ kept.next of_e (IsNormalFrom-normal (item.first ++ scaled (P - 2 ^ 32) line.cell)) tt)
+    (normal_put _ _ _ _ of_e (normal_with (normal t) kept.answer (IsNormalFrom-normal t)
+    (omega (arith, top-normal t, above_top item.second line.time kept.answer (omega arith) (omega arith)))) tt)))

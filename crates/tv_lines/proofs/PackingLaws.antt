@@ -4,9 +4,8 @@ use Rattle.tv_core.proofs.CombinationLaws.{value-append, value-scaled}
 use Rattle.tv_core.proofs.NormalLaws.{value-normal}
 use Rattle.tv_core.specs.Combinations.{scaled}
 use Rattle.tv_core.specs.Constraints.{Combination, value}
-use Rattle.tv_core.specs.Lines.{Line}
 use Rattle.tv_core.specs.declared.field.TheConstants.{P}
-use Rattle.tv_lines.specs.PackedLines.{LineInRange, unpacked, packed_terms, ItemIsRight, PackIsRight, PackIsOneToOne, UnpackUndoesPack}
+use Rattle.tv_lines.specs.PackedLines.{unpacked, packed_terms, ItemIsRight, PackIsRight, PackIsOneToOne, UnpackUndoesPack}
 use Rattle.tv_core.proofs.LineLaws.{pair_same}
 
 joined_value : (z : List ℕ) (low high : Combination) → value (packed_terms low high) z ≡ (2 ^ 32 * value high z + value low z) % P
@@ -25,13 +24,6 @@ item_right z line range = pair_same _ _ _ _
     (value-normal z (packed_terms [] line.cell) ∙ joined_value z [] line.cell ∙ below_p (value line.cell z) 0 range.cell (omega arith))
     (value-normal z (packed_terms line.new line.time) ∙ joined_value z line.new line.time
     ∙ below_p (value line.time z) (value line.new z) (omega (arith, range.time)) range.new)
-
--- the numbers of a packed line's pair are small
-pub packed_first : (line : Line) → LineInRange line → line.cell * 2 ^ 32 + line.old < 2 ^ 63
-packed_first line range = omega (arith, range.cell, range.old)
-
-pub packed_second : (line : Line) → LineInRange line → line.time * 2 ^ 32 + line.new < 2 ^ 52
-packed_second line range = omega (arith, range.time, range.new)
 
 -- what was packed is there again
 pub unpack_packed : UnpackUndoesPack

@@ -1,8 +1,8 @@
 -- A line that follows is complete.
-use Rattle.std.proofs.Common.{◌≡◌, ◌≢◌, ◌⊎◌, ℕ, ◌+◌, ◌-◌, ◌*◌, ◌%◌, ◌^◌, ◌<◌, ◌≤◌, if◌then◌else◌, List, [], ◌∷◌, length, inl}
+use Rattle.std.proofs.Common.{◌≡◌, ◌⊎◌, ℕ, ◌+◌, ◌-◌, ◌*◌, ◌%◌, ◌^◌, ◌<◌, ◌≤◌, ◌==◌, Bool, true, false, if◌then◌else◌, List, [], ◌∷◌, length, inl}
 use Rattle.std.proofs.Common.{inr, refl, sym, subst, ◌∙◌, ap, arith}
 use Rattle.std.proofs.Math.Nat.{pow-le-pow_right}
-use Rattle.std.proofs.lemmas.Bool.{cases_eq, eq-eqb, ne_eqb}
+use Rattle.std.proofs.lemmas.Bool.{eqb-true, eqb-false}
 use Rattle.std.specs.Int.{bit_at}
 use Rattle.std.specs.Prelude.{slice_index}
 use Rattle.tv_bits.specs.Bits.{HasBits, bits_values, new_bits_of}
@@ -30,18 +30,6 @@ use Rattle.tv_lines.specs.Predecessor.{excess, cell_difference, time_difference,
 use Rattle.tv_lines.specs.Predecessor.{FollowsIsComplete}
 
 -- ---- the values in their two cases
-pub reach_same : (p l : Line) → p.cell ≡ l.cell → reach_between p l ≡ l.time - p.time - 1
-reach_same p l same = ap (λ b. if b then l.time - p.time - 1 else l.cell - p.cell - 1) (eq-eqb p.cell l.cell same)
-
-pub reach_apart : (p l : Line) → p.cell ≢ l.cell → reach_between p l ≡ l.cell - p.cell - 1
-reach_apart p l apart = ap (λ b. if b then l.time - p.time - 1 else l.cell - p.cell - 1) (ne_eqb p.cell l.cell apart)
-
-pub excess_same : (p l : Line) → p.cell ≡ l.cell → excess_between p l ≡ 2 ^ 32 * (l.time - p.time) - l.old
-excess_same p l same = ap (λ b. if b then 2 ^ 32 * (l.time - p.time) - l.old else 0) (eq-eqb p.cell l.cell same)
-
-pub excess_apart : (p l : Line) → p.cell ≢ l.cell → excess_between p l ≡ 0
-excess_apart p l apart = ap (λ b. if b then 2 ^ 32 * (l.time - p.time) - l.old else 0) (ne_eqb p.cell l.cell apart)
-
 -- what the three constraints ask of two numbers
 record Fit (p l : Line) (r e : ℕ) : Type 0 where
   is : e ≡ (2 ^ 32 * (r + 1 + p.cell) + (P - (2 ^ 32 * l.cell + l.old))) % P
@@ -55,28 +43,25 @@ excess_number c s t o n h i j k e = omega arith
 excess_time : (s t o n : ℕ) → s < t → t < 2 ^ 20 → o < 2 ^ 32 → o ≡ n → ((2 ^ 32 * (t - s) - o + (2 ^ 32 * s + n)) % P + (P - 2 ^ 32 * t)) % P ≡ 0
 excess_time s t o n i j k e = omega arith
 
-later : (p l : Line) → Follows p l → p.cell ≡ l.cell → p.time < l.time
-later p l follows same = elim follows.rises [ inl higher ↦ absurd (omega arith) | inr both ↦ both.1 ]
-
-above : (p l : Line) → Follows p l → p.cell ≢ l.cell → p.cell < l.cell
-above p l follows apart = elim follows.rises [ inl higher ↦ higher | inr both ↦ absurd (apart both.0) ]
-
 fit : (p l : Line) → LineInRange p → LineInRange l → Follows p l → Fit p l (reach_between p l) (excess_between p l)
-fit p l in_p in_l follows = elim (cases_eq p.cell l.cell) [
-  | inl same ↦
-      let lt : p.time < l.time = later p l follows same in
-      let word : l.old ≡ p.new = follows.carried same in
-      rw (reach_same p l same, excess_same p l same)
-      (record {
-        is = excess_number l.cell p.time l.time l.old p.new in_l.cell lt in_l.time in_l.old word
-            ∙ ap (λ c. (2 ^ 32 * (l.time - p.time - 1 + 1 + c) + (P - (2 ^ 32 * l.cell + l.old))) % P) (sym same);
-        either = inr (omega (arith, same, in_l.cell), excess_time p.time l.time l.old p.new lt in_l.time in_l.old word);
-      })
-  | inr apart ↦
-      let lt : p.cell < l.cell = above p l follows apart in
-      let word : l.old ≡ 0 = follows.fresh apart in
-      rw (reach_apart p l apart, excess_apart p l apart) (record { is = omega (arith, in_l.cell); either = inl refl })
-]
+fit p l in_p in_l follows = by (p.cell == l.cell) refl
+  where
+    by : (b : Bool) → (p.cell == l.cell) ≡ b
+        → Fit p l (if b then l.time - p.time - 1 else l.cell - p.cell - 1) (if b then 2 ^ 32 * (l.time - p.time) - l.old else 0)
+    by true e =
+        let same = eqb-true p.cell l.cell e in
+        let lt : p.time < l.time = omega (arith, follows.rises) in
+        let word = follows.carried same in
+        record {
+          is = excess_number l.cell p.time l.time l.old p.new in_l.cell lt in_l.time in_l.old word
+              ∙ ap (λ c. (2 ^ 32 * (l.time - p.time - 1 + 1 + c) + (P - (2 ^ 32 * l.cell + l.old))) % P) (sym same);
+          either = inr (omega (arith, same, in_l.cell), excess_time p.time l.time l.old p.new lt in_l.time in_l.old word);
+        }
+    by false e =
+        let apart = eqb-false p.cell l.cell e in
+        let lt : p.cell < l.cell = omega (arith, follows.rises) in
+        let word = follows.fresh apart in
+        record { is = omega (arith, in_l.cell); either = inl refl }
 
 -- ---- the circuit
 either_complete : (z : List ℕ) (next e : ℕ) (line : LineLc) (item : Pair) → Assigns z

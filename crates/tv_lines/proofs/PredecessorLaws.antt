@@ -12,7 +12,8 @@ use Rattle.tv_core.proofs.CombinationLaws.{value-wire, value-below, wire-below}
 use Rattle.tv_core.proofs.MeetsLaws.{Meets-split}
 use Rattle.tv_core.proofs.PrimeLaws.{p_zero_product_below}
 use Rattle.tv_core.specs.Circuits.{put, ◌>>=◌}
-use Rattle.tv_core.specs.Constraints.{value}
+use Rattle.tv_core.specs.Combinations.{wire}
+use Rattle.tv_core.specs.Constraints.{Combination, value}
 use Rattle.tv_core.specs.Laws.{Assigns, Meets}
 use Rattle.tv_core.specs.Lines.{Line}
 use Rattle.tv_core.specs.declared.field.TheConstants.{P}
@@ -50,21 +51,17 @@ met_follows p l r e in_p in_l small is (inr (cells, times)) =
       fresh = λ apart. absurd (apart same);
     }
 
--- a product of e that is 0, and another
-either_zero : (e x y : ℕ) → e < P → x < P → y < P → e * x % P ≡ 0 → e * y % P ≡ 0 → (e ≡ 0) ⊎ ((x ≡ 0) × (y ≡ 0))
-either_zero e x y h i j p q = elim (p_zero_product_below e x h i p) [
-  | inl none ↦ inl none
-  | inr first ↦ elim (p_zero_product_below e y h j q) [ inl none ↦ inl none | inr second ↦ inr (first, second) ]
-]
-
 pub either_sound : (z : List ℕ) (next e : ℕ) (line : LineLc) (item : Pair) → Assigns z → Meets z (either_of e line item next).list
     → (slice_index z e ≡ 0) ⊎ ((value (cell_difference line item) z ≡ 0) × (value (time_difference e line item) z ≡ 0))
 unfolding either_of put ◌>>=◌
 either_sound z next e line item assigns meets =
-    let is = value-wire assigns e in
-    either_zero (slice_index z e) _ _ (wire-below assigns e) (value-below (cell_difference line item) z) (value-below (time_difference e line item) z)
-    (ap (λ n. n * value (cell_difference line item) z % P) (sym is) ∙ meets.0)
-    (ap (λ n. n * value (time_difference e line item) z % P) (sym is) ∙ meets.1.0)
+    let zero_product = λ (c : Combination) (met : value (wire e) z * value c z % P ≡ 0).
+    p_zero_product_below (slice_index z e) (value c z) (wire-below assigns e) (value-below c z)
+    (ap (λ n. n * value c z % P) (sym (value-wire assigns e)) ∙ met) in
+    elim (zero_product (cell_difference line item) meets.0) [
+      | inl none ↦ inl none
+      | inr first ↦ elim (zero_product (time_difference e line item) meets.1.0) [ inl none ↦ inl none | inr second ↦ inr (first, second) ]
+    ]
 
 pub follows_sound : FollowsIsSound
 unfolding follows_of ◌>>=◌

@@ -3,19 +3,12 @@ use Rattle.std.proofs.Common.{◌≡◌, ℕ, ◌+◌, ◌-◌, ◌*◌, ◌%◌
 use Rattle.tv_core.proofs.DifferenceLaws.{same_of_minus}
 use Rattle.tv_core.specs.declared.field.TheConstants.{P}
 
--- the value at e, as one difference of two numbers below P: the first at most P - 1 exactly
-pub e_above : (r q : ℕ) → r < 2 ^ 31 → q < 2 ^ 31 → 2 ^ 32 * (r + 1 + q) < P
-e_above r q h k = omega arith
-
-pub e_below : (c o : ℕ) → c < 2 ^ 31 → o < 2 ^ 32 → 2 ^ 32 * c + o < P
-e_below c o h k = omega arith
-
--- e = 0
+-- e = 0: the value at e is the difference of two numbers below P, the first at most P - 1 exactly
 pub other_cells : (r q c o : ℕ) → r < 2 ^ 31 → q < 2 ^ 31 → c < 2 ^ 31 → o < 2 ^ 32 → (2 ^ 32 * (r + 1 + q) + (P - (2 ^ 32 * c + o))) % P ≡ 0
     → (o ≡ 0) × (c ≡ q + r + 1)
 other_cells r q c o h i j k e =
-    let same : 2 ^ 32 * (r + 1 + q) ≡ 2 ^ 32 * c + o = same_of_minus _ _ (e_above r q h i) (e_below c o j k) e in
-    (omega arith, omega arith)
+    let same : 2 ^ 32 * (r + 1 + q) ≡ 2 ^ 32 * c + o = same_of_minus _ _ (omega arith) (omega arith) e in
+    omega arith
 
 -- e is not 0
 pub same_cells : (q c : ℕ) → q < 2 ^ 31 → c < 2 ^ 31 → (2 ^ 32 * q + (P - 2 ^ 32 * c)) % P ≡ 0 → q ≡ c
@@ -28,8 +21,4 @@ pub same_times : (r c o t s n : ℕ) → r < 2 ^ 31 → c < 2 ^ 31 → o < 2 ^ 3
 same_times r c o t s n h i j k l m e =
     let one : (2 ^ 32 * (r + 1 + s) + n + (P - (2 ^ 32 * t + o))) % P ≡ 0 = omega arith in
     let same : 2 ^ 32 * (r + 1 + s) + n ≡ 2 ^ 32 * t + o = same_of_minus _ _ (omega arith) (omega arith) one in
-    (omega arith, omega arith)
-
--- the bound is met: with 32 bits of reach a line would follow itself's cell at any time, where its old word is 2 ^ 32 - 1
-pub one_bit_more : (c : ℕ) → c < 2 ^ 31 → (2 ^ 32 * ((2 ^ 32 - 1) + 1 + c) + (P - (2 ^ 32 * c + (2 ^ 32 - 1)))) % P ≡ 0
-one_bit_more c h = omega arith
+    omega arith

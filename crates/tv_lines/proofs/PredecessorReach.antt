@@ -1,25 +1,15 @@
 -- How many bits a reach has, and that keys rise.
-use Rattle.std.proofs.Common.{ℕ, ◌+◌, ◌^◌, ◌<◌, ◌≤◌, inl, inr, arith}
-use Rattle.std.proofs.lemmas.Bool.{cases_eq}
-use Rattle.tv_core.specs.Lines.{Line}
-use Rattle.tv_lines.specs.PackedLines.{LineInRange}
-use Rattle.tv_lines.proofs.PredecessorComplete.{reach_same, reach_apart}
-use Rattle.tv_lines.specs.Predecessor.{reach_between, FollowsReaches, FollowsRises}
-
-reach_far : (p l : Line) → LineInRange l → reach_between p l < 2 ^ 31
-reach_far p l range = elim (cases_eq p.cell l.cell) [
-  | inl same ↦ omega (arith, reach_same p l same, range.time)
-  | inr apart ↦ omega (arith, reach_apart p l apart, range.cell)
-]
-
-reach_near : (k : ℕ) (p l : Line) → l.cell ≤ p.cell + 1 → l.time < 2 ^ k → reach_between p l < 2 ^ k
-reach_near k p l next time = elim (cases_eq p.cell l.cell) [
-  | inl same ↦ omega (arith, reach_same p l same)
-  | inr apart ↦ omega (arith, reach_apart p l apart)
-]
+use Rattle.std.proofs.Common.{◌-◌, ◌^◌, ◌<◌, ◌==◌, inl, inr, arith}
+use Rattle.std.proofs.lemmas.Bool.{cond_both}
+use Rattle.tv_lines.specs.Predecessor.{FollowsReaches, FollowsRises}
 
 pub follows_reaches : FollowsReaches
-follows_reaches = record { far = reach_far; near = reach_near }
+follows_reaches = record {
+  far = λ p l range. cond_both (p.cell == l.cell) (l.time - p.time - 1) (l.cell - p.cell - 1) (λ r. r < 2 ^ 31) (λ same. omega (arith, range.time))
+      (λ apart. omega (arith, range.cell));
+  near = λ k p l next time. cond_both (p.cell == l.cell) (l.time - p.time - 1) (l.cell - p.cell - 1) (λ r. r < 2 ^ k) (λ same. omega arith)
+      (λ apart. omega arith);
+}
 
 pub follows_rises : FollowsRises
 follows_rises p l early late follows = elim follows.rises [ inl higher ↦ omega arith | inr both ↦ omega (arith, both.0, both.1) ]

@@ -1,31 +1,21 @@
 -- A sorted pair is complete.
-use Rattle.std.proofs.Common.{◌≡◌, ◌≢◌, ℕ, ◌+◌, ◌-◌, ◌*◌, ◌%◌, ◌<◌, List, [], ◌∷◌, ◌++◌, length, inl, inr, sym, ◌∙◌, ap, subst, arith}
+use Rattle.std.proofs.Common.{◌≡◌, ℕ, ◌+◌, ◌-◌, List, [], ◌∷◌, ◌++◌, length, inl, inr, sym, ◌∙◌, ap, subst, arith}
 use Rattle.std.specs.Prelude.{slice_index}
 use Rattle.std.proofs.lemmas.Bool.{cases_eq}
 use Rattle.std.proofs.lemmas.List.{length-append}
 use Rattle.std.specs.Int.{bit_at}
 use Rattle.tv_bits.proofs.BitNumbers.{HasBits-small}
-use Rattle.tv_bits.proofs.ZeroLaws.{zero_flag-zero, zero_flag-other}
 use Rattle.tv_bits.specs.Bits.{bits_values}
 use Rattle.tv_bits.specs.Prefixes.{products_values}
-use Rattle.tv_bits.specs.Zero.{zero_flag, zero_values}
+use Rattle.tv_bits.specs.Zero.{zero_values}
 use Rattle.tv_core.proofs.BelowLaws.{length-each_below}
-use Rattle.tv_core.proofs.DifferenceLaws.{same_of_minus}
 use Rattle.tv_core.proofs.MeetsLaws.{Meets-join, HasFrom-split}
 use Rattle.tv_core.specs.Circuits.{◌>>=◌}
 use Rattle.tv_core.specs.Laws.{HasFrom}
-use Rattle.tv_core.specs.declared.field.TheConstants.{P}
 use Rattle.tv_lines.proofs.PairParts.{apart_answer, apart_next, apart_complete, carried_next, carried_complete, size_next, size_complete}
 use Rattle.tv_lines.proofs.PrefixOrder.{is_size, rises_complete}
+use Rattle.tv_lines.proofs.SortedLaws.{flag_same, flag_apart}
 use Rattle.tv_lines.specs.SortedPair.{apart_of, carried_of, size_of, sorted_pair_of, cells_apart, size, size_values, factor_in, SortedPairIsComplete}
-
--- the rule of words, as numbers, c and d being the cells
-word_carried : (c d o n : ℕ) → c < P → d < P → n < P → (c ≡ d → o ≡ n) → (c ≢ d → o ≡ 0) → zero_flag ((d + (P - c)) % P) * n % P ≡ o
-word_carried c d o n small_c small_d small_n carried fresh = elim (cases_eq c d) [
-  | inl same ↦ ap (λ f. f * n % P) (zero_flag-zero ((d + (P - c)) % P) (omega arith)) ∙ (let e = carried same in omega arith)
-  | inr apart ↦ ap (λ f. f * n % P) (zero_flag-other ((d + (P - c)) % P) (λ none. apart (sym (same_of_minus d c small_d small_c none))))
-      ∙ (let e = fresh apart in omega arith)
-]
 
 pub size_many : (v : ℕ) → length (size_values v) ≡ 12
 size_many v = length-append (bits_values (v - 1) 11) (v ∷ []) ∙ ap (λ n. n + 1) (length-each_below 11 (bit_at (v - 1)))
@@ -54,7 +44,10 @@ sorted_pair_complete z next before after l m b a assigns sl sm follows has =
     let size_met = size_complete z carried.next (size l m) s.some s.most assigns (subst (λ n. HasFrom z n sizes) at_sizes two.0) in
     Meets-join z apart.list _ (apart_complete z before after l m b a assigns sl sm next there)
     (Meets-join z carried.list _ (carried_complete z before after l m b a assigns sl sm apart.answer x apart.next is
-    (word_carried l.cell m.cell m.old l.new l_cell m_cell l_new follows.carried follows.fresh) (subst (λ n. HasFrom z n flags) at_flags one.0))
+    (elim (cases_eq l.cell m.cell) [
+      | inl same ↦ flag_same l.cell m.cell l.new l_cell m_cell l_new same ∙ sym (follows.carried same)
+      | inr apart ↦ flag_apart l.cell m.cell l.new l_cell m_cell l_new apart ∙ sym (follows.fresh apart)
+    ]) (subst (λ n. HasFrom z n flags) at_flags one.0))
     (Meets-join z sized.list _ size_met.0
     (rises_complete z before after l m b a assigns sl sm apart.answer sized.answer sized.next is size_met.1 follows.rises
     (subst (λ n. HasFrom z n products) at_products two.1))))

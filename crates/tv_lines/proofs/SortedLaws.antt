@@ -12,15 +12,13 @@ use Rattle.tv_lines.proofs.PrefixOrder.{rises_sound}
 use Rattle.tv_lines.specs.SortedPair.{apart_of, carried_of, size_of, sorted_pair_of, cells_apart, SortedPairIsSound}
 
 -- the rule of words, as numbers, c and d being the cells
-flag_same : (c d o n : ℕ) → c < P → n < P → c ≡ d → zero_flag ((d + (P - c)) % P) * n % P ≡ o → o ≡ n
-flag_same c d o n small_c small_n same e =
-    let flag = zero_flag-zero ((d + (P - c)) % P) (omega arith) in
-    sym e ∙ ap (λ f. f * n % P) flag ∙ omega arith
+module _ (c d n : ℕ) (small_c : c < P) (small_d : d < P) (small_n : n < P) where
+  pub flag_same : c ≡ d → zero_flag ((d + (P - c)) % P) * n % P ≡ n
+  flag_same same = ap (λ f. f * n % P) (zero_flag-zero ((d + (P - c)) % P) (omega arith)) ∙ omega arith
 
-flag_apart : (c d o n : ℕ) → c < P → d < P → c ≢ d → zero_flag ((d + (P - c)) % P) * n % P ≡ o → o ≡ 0
-flag_apart c d o n small_c small_d apart e =
-    let flag = zero_flag-other ((d + (P - c)) % P) (λ none. apart (sym (same_of_minus d c small_d small_c none))) in
-    sym e ∙ ap (λ f. f * n % P) flag ∙ omega arith
+  pub flag_apart : c ≢ d → zero_flag ((d + (P - c)) % P) * n % P ≡ 0
+  flag_apart apart =
+      ap (λ f. f * n % P) (zero_flag-other ((d + (P - c)) % P) (λ none. apart (sym (same_of_minus d c small_d small_c none)))) ∙ omega arith
 
 pub sorted_pair_sound : SortedPairIsSound
 unfolding sorted_pair_of ◌>>=◌
@@ -36,8 +34,9 @@ sorted_pair_sound z next before after l m b a assigns sl sm meets =
     let sized = size_sound z 11 carried.next (omega arith) assigns three.0 in
     let l_cell = HasBits-small sl.cell (omega arith) in
     let m_cell = HasBits-small sm.cell (omega arith) in
+    let l_new = HasBits-small sl.new (omega arith) in
     record {
       rises = rises_sound z before after l m b a assigns sl sm apart.answer size.answer size.next is sized.0 sized.1 three.1;
-      carried = λ same. flag_same l.cell m.cell m.old l.new l_cell (HasBits-small sl.new (omega arith)) same word;
-      fresh = λ not. flag_apart l.cell m.cell m.old l.new l_cell m_cell not word;
+      carried = λ same. sym word ∙ flag_same l.cell m.cell l.new l_cell m_cell l_new same;
+      fresh = λ not. sym word ∙ flag_apart l.cell m.cell l.new l_cell m_cell l_new not;
     }

@@ -1,5 +1,5 @@
 -- Lines in time order, and the latest write of a cell before a line.
-use Rattle.std.proofs.Common.{◌≡◌, ℕ, ◌+◌, ◌<◌, ◌⊎◌, ◌==◌, if◌then◌else◌, true, false, Bool, List, [], ◌∷◌, ◌++◌, length, get_or, fold, refl, sym, ap, ◌∙◌}
+use Rattle.std.proofs.Common.{◌≡◌, ℕ, ◌<◌, ◌⊎◌, ◌==◌, if◌then◌else◌, true, false, Bool, List, [], ◌∷◌, ◌++◌, length, get_or, fold, refl, sym, ap, ◌∙◌}
 use Rattle.std.proofs.Common.{subst, arith, inl, inr, zero, suc}
 use Rattle.std.proofs.lemmas.List.{get_or_default, get_or_at, get_or_append_left, length-append}
 use Rattle.std.proofs.lemmas.Bool.{cases_order, eqb-true, eqb-false}
@@ -69,17 +69,11 @@ place_from_time ls t a b p l h k e f early (inr (inr gt)) =
     let u : l.time < p.time = rw (g, e) at (t b a p gt h) in absurd (omega arith)
 
 module _ (before : List Line) (l : Line) (rest : List Line) (t : InTimeOrder (before ++ l ∷ rest)) (h : HonestByTimes (before ++ l ∷ rest)) where
-  long : length (before ++ l ∷ rest) ≡ length before + suc (length rest)
-  long = length-append before (l ∷ rest)
-
-  at_before : (k : ℕ) (p : Line) → k < length before → get_or before k p ≡ p → get_or (before ++ l ∷ rest) k p ≡ p
-  at_before k p i e = get_or_append_left before (l ∷ rest) p k i ∙ e
-
   old_is : LastWrite (λ c. 0) before l.cell ⊎ NoWrite (λ c. 0) before l.cell → l.old ≡ memory_after before l.cell
   old_is (inl w) =
-      let n = long in
+      let n = length-append before (l ∷ rest) in
       let p = w.line in
-      let at_p = at_before w.place p w.below w.is in
+      let at_p = get_or_append_left before (l ∷ rest) p w.place w.below ∙ w.is in
       let at_l : get_or (before ++ l ∷ rest) (length before) l ≡ l = get_or_at before l rest l (length before) refl in
       let at_l' : get_or (before ++ l ∷ rest) (length before) p ≡ l = get_or_at before l rest p (length before) refl in
       let early : p.time < l.time = rw (at_p, at_l') at (t w.place (length before) p w.below (omega arith)) in
@@ -90,7 +84,7 @@ module _ (before : List Line) (l : Line) (rest : List Line) (t : InTimeOrder (be
       w.later k m lo hi (ap (λ (x : Line). x.cell) (sym (get_or_append_left before (l ∷ rest) m k hi) ∙ e) ∙ c))
       ∙ sym w.value
   old_is (inr w) =
-      let n = long in
+      let n = length-append before (l ∷ rest) in
       let at_l : get_or (before ++ l ∷ rest) (length before) l ≡ l = get_or_at before l rest l (length before) refl in
       h.first l (length before, omega arith, at_l)
       (λ m (k, i, e) c before_l.

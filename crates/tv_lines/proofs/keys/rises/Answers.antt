@@ -3,6 +3,7 @@ use Rattle.tv_bits.proofs.ProductChain.{no_product, one_product, product_refused
 use Rattle.tv_core.proofs.Chain.{refused}
 use Rattle.tv_core.specs.Combinations.{less, top, wire}
 use Rattle.tv_core.specs.Constraints.{Combination}
+use Rattle.tv_lines.proofs.Rooms.{room_after}
 use Rattle.tv_lines.specs.SortedPair.{prefix_less, rises_of}
 use Rattle.tv_lines.proofs.keys.rises.Goals as goal
 
@@ -47,12 +48,7 @@ pub times_by-requires : goal.times_by-requires
 times_by-requires g c =
     let grown = c.loop-i.invariant.grows in
     record {
-      room = record {
-        whole = grown.whole;
-        constant = omega (arith, c.requires.room.constant, grown.wires);
-        wires = omega (arith, c.requires.room.wires, grown.wires);
-        constraints = omega (arith, c.requires.room.constraints, grown.constraints);
-      };
+      room = room_after c.requires.room grown (omega arith);
       x_made = c.loop-i.invariant.made;
       y_made = omega (arith, c.set_key_factor-in-loop-i.ensures.top, c.requires, grown.wires);
     }

@@ -1,6 +1,7 @@
 use Rattle.std.proofs.Common.{arith}
 use Rattle.tv_core.proofs.Chain.{refused, some_then, some_first}
 use Rattle.tv_core.proofs.TailCalls.{puts_in_then}
+use Rattle.tv_lines.proofs.Rooms.{room_here, room_after, both}
 use Rattle.tv_lines.specs.Predecessor.{follows_of}
 use Rattle.tv_lines.proofs.predecessor.follows.Goals as goal
 
@@ -23,45 +24,19 @@ returns-clause-puts g c =
     puts_in_then m _ _ _ _ _ _ _ c.in_ok-reach.ensures.puts (puts_in_then m _ _ _ _ _ _ _ kept c.either.ensures.puts)
 
 pub new_bits_by-requires : goal.new_bits_by-requires
-new_bits_by-requires g c = record {
-  room = record {
-    whole = c.requires.room.whole;
-    constant = c.requires.room.constant;
-    wires = omega (arith, c.requires.room.wires);
-    constraints = omega (arith, c.requires.room.constraints);
-  };
-}
+new_bits_by-requires g c = record { room = room_here c.requires.room (omega arith) }
 
 pub set_excess-requires : goal.set_excess-requires
 set_excess-requires g c =
     let reach = c.in_ok-reach.ensures in
-    record {
-      short = omega (arith, c.requires.short, reach.size);
-      within = omega (arith, c.requires.room.wires, reach.below, reach.grows.wires);
-      first_short = c.requires.item.first_short;
-    }
+    omega (arith, c.requires.short, reach.size, c.requires.room.wires, reach.below, reach.grows.wires, c.requires.item.first_short)
 
 pub kept_by-requires : goal.kept_by-requires
 kept_by-requires g c =
     let reach = c.in_ok-reach.ensures in
     record {
-      room = record {
-        whole = reach.grows.whole;
-        constant = omega (arith, c.requires.room.constant, reach.grows.wires);
-        wires = omega (arith, c.requires.room.wires, reach.grows.wires);
-        constraints = omega (arith, c.requires.room.constraints, reach.grows.constraints);
-      };
-      x_made =
-          omega (
-            arith,
-            c.set_excess.ensures.top,
-            c.requires.room.constant,
-            c.requires.line.cell,
-            c.requires.line.old,
-            c.requires.item.first,
-            reach.below,
-            reach.grows.wires,
-          );
+      room = room_after c.requires.room reach.grows (omega arith);
+      x_made = omega (arith, c.set_excess.ensures.top, c.requires.room.constant, c.requires.line, c.requires.item.first, reach.below, reach.grows.wires);
     }
 
 pub either-requires : goal.either-requires
@@ -69,18 +44,8 @@ either-requires g c =
     let reach = c.in_ok-reach.ensures.grows in
     let e = c.in_ok-e.ensures.grows in
     record {
-      room = record {
-        whole = e.whole;
-        constant = omega (arith, c.requires.room.constant, reach.wires, e.wires);
-        wires = omega (arith, c.requires.room.wires, reach.wires, e.wires);
-        constraints = omega (arith, c.requires.room.constraints, reach.constraints, e.constraints);
-      };
+      room = room_after c.requires.room (both reach e) (omega arith);
       e_made = c.in_ok-e.ensures.below;
-      line = record { cell = omega (arith, c.requires.line.cell, reach.wires, e.wires); old = omega (arith, c.requires.line.old, reach.wires, e.wires) };
-      item = record {
-        first = omega (arith, c.requires.item.first, reach.wires, e.wires);
-        second = omega (arith, c.requires.item.second, reach.wires, e.wires);
-        first_short = c.requires.item.first_short;
-        second_short = c.requires.item.second_short;
-      };
+      line = omega (arith, c.requires.line, reach.wires, e.wires);
+      item = omega (arith, c.requires.item, reach.wires, e.wires);
     }

@@ -1,6 +1,7 @@
 use Rattle.std.proofs.Common.{arith}
 use Rattle.tv_core.proofs.Chain.{refused, some_first}
 use Rattle.tv_core.proofs.TailCalls.{puts_in_then}
+use Rattle.tv_lines.proofs.Rooms.{room_here}
 use Rattle.tv_lines.specs.SortedPair.{carried_of}
 use Rattle.tv_lines.proofs.sorted_pairs.carried.Goals as goal
 
@@ -19,12 +20,7 @@ returns-clause-puts g c =
 
 pub zero_by-requires : goal.zero_by-requires
 zero_by-requires g c = record {
-  room = record {
-    whole = c.requires.room.whole;
-    constant = c.requires.room.constant;
-    wires = omega (arith, c.requires.room.wires);
-    constraints = omega (arith, c.requires.room.constraints);
-  };
+  room = room_here c.requires.room (omega arith);
   x_made = omega (arith, c.set_wire.ensures.top, c.requires.apart_made);
 }
 

@@ -1,6 +1,7 @@
 use Rattle.std.proofs.Common.{arith}
 use Rattle.tv_core.proofs.Chain.{refused, some_first}
 use Rattle.tv_core.proofs.TailCalls.{puts_in_then}
+use Rattle.tv_lines.proofs.Rooms.{room_here, room_after}
 use Rattle.tv_lines.specs.SortedPair.{size_of}
 use Rattle.tv_lines.proofs.sorted_pairs.new_size.Goals as goal
 
@@ -16,24 +17,12 @@ returns-clause-puts g c =
     puts_in_then g.S.Sink.meaning _ _ _ _ _ _ _ c.in_ok-bits.ensures.puts sum
 
 pub new_bits_by-requires : goal.new_bits_by-requires
-new_bits_by-requires g c = record {
-  room = record {
-    whole = c.requires.room.whole;
-    constant = c.requires.room.constant;
-    wires = omega (arith, c.requires.room.wires);
-    constraints = omega (arith, c.requires.room.constraints);
-  };
-}
+new_bits_by-requires g c = record { room = room_here c.requires.room (omega arith) }
 
 pub kept_by-requires : goal.kept_by-requires
 kept_by-requires g c =
     let bits = c.in_ok-bits.ensures in
     record {
-      room = record {
-        whole = bits.grows.whole;
-        constant = omega (arith, c.requires.room.constant, bits.grows.wires);
-        wires = omega (arith, c.requires.room.wires, bits.grows.wires);
-        constraints = omega (arith, c.requires.room.constraints, bits.grows.constraints);
-      };
+      room = room_after c.requires.room bits.grows (omega arith);
       x_made = omega (arith, c.plus.ensures.top, c.set_number.ensures.top, c.requires.room.constant, bits.below, bits.grows.wires);
     }

@@ -1,5 +1,6 @@
 use Rattle.std.proofs.Common.{arith}
 use Rattle.tv_core.proofs.Chain.{refused, all_then, all_pure, some_then, some_first}
+use Rattle.tv_lines.proofs.Rooms.{room_here, room_after}
 use Rattle.tv_lines.specs.UnpackedLines.{unpack_of}
 use Rattle.tv_lines.proofs.unpacked_lines.unpack.Goals as goal
 
@@ -19,12 +20,7 @@ returns-clause-puts g c = rw c.line_bits.ensures (all_then _ c.in_ok-first.ensur
 
 pub bits_by-requires : goal.bits_by-requires
 bits_by-requires g c = record {
-  room = record {
-    whole = c.requires.room.whole;
-    constant = c.requires.room.constant;
-    wires = omega (arith, c.requires.room.wires);
-    constraints = omega (arith, c.requires.room.constraints);
-  };
+  room = room_here c.requires.room (omega arith);
   x_made = c.requires.first_made;
   short = omega arith;
 }
@@ -33,12 +29,7 @@ pub bits_by-requires-2 : goal.bits_by-requires-2
 bits_by-requires-2 g c =
     let first = c.in_ok-first.ensures.grows in
     record {
-      room = record {
-        whole = first.whole;
-        constant = omega (arith, c.requires.room.constant, first.wires);
-        wires = omega (arith, c.requires.room.wires, first.wires);
-        constraints = omega (arith, c.requires.room.constraints, first.constraints);
-      };
+      room = room_after c.requires.room first (omega arith);
       x_made = omega (arith, c.requires.second_made, first.wires);
       short = omega arith;
     }
