@@ -11,6 +11,7 @@ pub mod NetworkLaws
 pub mod NormalLaws
 pub mod Permutations
 pub mod Placed
+pub mod Rooms
 pub mod Sizes
 pub mod Sources
 pub mod SwitchCosts

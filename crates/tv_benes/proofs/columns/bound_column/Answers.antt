@@ -1,57 +1,41 @@
-use Rattle.std.proofs.Common.{◌≡◌, ℕ, ◌+◌, ◌*◌, arith}
+use Rattle.std.proofs.Common.{◌≡◌, ◌+◌, ◌*◌, arith}
 use Rattle.tv_core.proofs.Chain.{puts_no_turn, puts_turn, turn_refused, refused}
-use Rattle.tv_core.specs.Circuits.{Circuit}
-use Rattle.tv_benes.specs.Network.{switch_of, column_of}
-use Rattle.tv_benes.specs.declared.shape.Form.TheVariants.{Bound}
+use Rattle.tv_benes.proofs.Rooms.{room_after}
 use Rattle.tv_benes.proofs.Sizes.{made_at, made_later}
+use Rattle.tv_benes.specs.Network.{column_of}
 use Rattle.tv_benes.proofs.columns.bound_column.Goals as goal
 
 pub loop-j-init : goal.loop-j-init
-loop-j-init g c =
-    let pair = g.T.Pairs.pair c.args.items.now in
-    record {
-      puts = puts_no_turn g.S.Sink.meaning _ (λ j _. switch_of Bound (pair (2 * j)) (pair (2 * j + 1))) tt;
-      grows = record { wires = omega arith; constraints = omega arith; whole = c.requires.room.whole };
-    }
+loop-j-init g c = record {
+  puts = puts_no_turn _ _ _ tt;
+  grows = record { wires = omega arith; constraints = omega arith; whole = c.requires.room.whole };
+}
 
 pub bound_switch-requires : goal.bound_switch-requires
 bound_switch-requires g c =
     let grown = c.loop-j.invariant.grows in
-    let room = c.requires.room in
     let pair = g.T.Pairs.pair c.args.items.now in
     let made = made_later pair (2 * c.args.n) _ (g.S.Sink.meaning.wires c.loop-j.s) (omega (arith, grown.wires)) c.requires.made in
     record {
-      room = record {
-        whole = grown.whole;
-        constant = omega (arith, room.constant, grown.wires);
-        wires = omega (arith, room.wires, grown.wires);
-        constraints = omega (arith, room.constraints, grown.constraints);
-      };
+      room = room_after c.requires.room grown (omega arith);
       x_made = rw c.set_item.ensures (made_at pair _ _ made (2 * c.loop-j.j) (omega arith));
       y_made = rw c.set_item-in-loop-j.ensures (made_at pair _ _ made (2 * c.loop-j.j + 1) (omega arith));
     }
 
 pub loop-j-preserved : goal.loop-j-preserved
 loop-j-preserved g c =
-    let pair = g.T.Pairs.pair c.args.items.now in
-    let piece : ℕ → Unit {0} → Circuit (Unit {0}) = λ j _. switch_of Bound (pair (2 * j)) (pair (2 * j + 1)) in
     let grown = c.in_ok-bound_switch.ensures.grows in
     let switch = rw (c.set_item.ensures, c.set_item-in-loop-j.ensures) at c.in_ok-bound_switch.ensures.puts in
     record {
-      puts = puts_turn g.S.Sink.meaning _ piece tt _ _ _ _ _ c.loop-j.invariant.puts switch;
+      puts = puts_turn _ _ _ _ _ _ _ _ _ c.loop-j.invariant.puts switch;
       grows = record { wires = omega (arith, grown.wires); constraints = omega (arith, grown.constraints); whole = grown.whole };
     }
 
 pub returns-in_err-bound_switch-clause-puts : goal.returns-in_err-bound_switch-clause-puts
 unfolding column_of
 returns-in_err-bound_switch-clause-puts g c =
-    let m = g.S.Sink.meaning in
-    let pair = g.T.Pairs.pair c.args.items.now in
-    let piece : ℕ → Unit {0} → Circuit (Unit {0}) = λ j _. switch_of Bound (pair (2 * j)) (pair (2 * j + 1)) in
     let switch = rw (c.set_item.ensures, c.set_item-in-loop-j.ensures) at c.in_err-bound_switch.ensures.puts in
-    refused _ _ _ _ _ c.from_residual.ensures.1
-    (turn_refused m c.args.n c.loop-j.j piece tt tt c.args.s.now c.loop-j.s c.bound_switch.new.s c.in_err-bound_switch.field-0.0 c.loop-j-test.true
-    c.loop-j.invariant.puts switch)
+    refused _ _ _ _ _ c.from_residual.ensures.1 (turn_refused _ _ _ _ _ _ _ _ _ _ c.loop-j-test.true c.loop-j.invariant.puts switch)
 
 pub returns-clause-puts : goal.returns-clause-puts
 unfolding column_of

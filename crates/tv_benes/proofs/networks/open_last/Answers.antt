@@ -1,12 +1,13 @@
-use Rattle.std.proofs.Common.{◌≡◌, ℕ, ◌+◌, ◌-◌, ◌*◌, ◌^◌, ap₂}
+use Rattle.std.proofs.Common.{◌≡◌, ℕ, ◌+◌, ◌-◌, ◌*◌, ap₂}
 use Rattle.tv_benes.proofs.Ends.{pair_alternating}
-use Rattle.tv_benes.proofs.NetworkChain.{last_column_refused, last_column_put}
+use Rattle.tv_benes.specs.Network.{last_column_of}
 use Rattle.tv_benes.specs.Places.{wires_at, output_wire, last_wire, last_pair}
 use Rattle.tv_benes.specs.Through.{missing}
 use Rattle.tv_benes.specs.declared.places.Outputs.{Outputs}
 use Rattle.tv_benes.specs.declared.shape.Form.TheVariants.{Open}
 use Rattle.tv_benes.specs.declared.shape.Net.{Net}
-use Rattle.tv_core.proofs.Chain.{refused}
+use Rattle.tv_core.proofs.Chain.{refused, all_then, all_pure, some_then, some_first, puts_here}
+use Rattle.tv_core.proofs.LoopLaws.{puts_here_as}
 use Rattle.tv_core.specs.declared.lines.Pair.{Pair}
 use Rattle.tv_benes.proofs.networks.open_last.Goals as goal
 
@@ -14,15 +15,15 @@ items_are : (net : Net) (upper lower : Outputs) → ◌≡◌ {A = ℕ → Pair}
 items_are net upper lower = λ t i. pair_alternating (output_wire upper) (output_wire lower) (i + 2 * missing net) t
 
 pub returns-in_err-open_column-clause-puts : goal.returns-in_err-open_column-clause-puts
+unfolding last_column_of
 returns-in_err-open_column-clause-puts g c =
-    let m = g.S.Sink.meaning in
-    let count : c.power.result - c.missing.result ≡ 2 ^ c.args.h - missing c.args.net = ap₂ (λ a b. a - b) c.power.ensures c.missing.ensures in
+    let count = ap₂ (λ a b. a - b) c.power.ensures c.missing.ensures in
     let column = rw (count, items_are c.args.net c.args.upper.now c.args.lower.now) at c.in_err-open_column.ensures.puts in
-    refused _ _ _ _ _ c.from_residual.ensures.1 (last_column_refused m c.args.net Open c.args.h c.args.upper.now c.args.lower.now _ _ _ column)
+    refused _ _ _ _ _ c.from_residual.ensures.1 (some_then _ (puts_here _ _) (some_first _ column))
 
 pub returns-clause-puts : goal.returns-clause-puts
+unfolding last_column_of
 returns-clause-puts g c =
-    let m = g.S.Sink.meaning in
-    let count : c.power.result - c.missing.result ≡ 2 ^ c.args.h - missing c.args.net = ap₂ (λ a b. a - b) c.power.ensures c.missing.ensures in
+    let count = ap₂ (λ a b. a - b) c.power.ensures c.missing.ensures in
     let column = rw (count, items_are c.args.net c.args.upper.now c.args.lower.now) at c.in_ok-open_column.ensures.puts in
-    last_column_put m c.args.net Open c.args.h c.args.upper.now c.args.lower.now _ _ c.wires.result c.wires.ensures column
+    all_then _ (puts_here_as _ _ _ c.wires.ensures) (all_then _ column all_pure)

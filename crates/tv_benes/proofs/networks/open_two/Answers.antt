@@ -1,6 +1,7 @@
 use Rattle.std.proofs.Common.{arith}
-use Rattle.tv_benes.proofs.NetworkChain.{room_part, two_refused, two_put}
+use Rattle.tv_benes.proofs.NetworkChain.{two_refused, two_put}
 use Rattle.tv_benes.proofs.NetworkLaws.{one_wires}
+use Rattle.tv_benes.proofs.Rooms.{room_here}
 use Rattle.tv_benes.specs.declared.shape.Form.TheVariants.{Open}
 use Rattle.tv_benes.specs.declared.shape.Net.TheVariants.{Benes, Waksman}
 use Rattle.tv_core.proofs.Chain.{refused}
@@ -22,7 +23,7 @@ returns-in_ok-open_column-in-Benes-clause-grows g c = rw (c.in-Benes.is, one_wir
 
 -- ---- a bound switch
 pub bound_column-requires-clause-room : goal.bound_column-requires-clause-room
-bound_column-requires-clause-room g c = room_part (rw (c.in-Waksman.is, one_wires Waksman Open) at c.requires.room) (omega arith)
+bound_column-requires-clause-room g c = room_here (rw (c.in-Waksman.is, one_wires Waksman Open) at c.requires.room) (omega arith)
 
 pub returns-in_err-bound_column-in-Waksman-clause-puts : goal.returns-in_err-bound_column-in-Waksman-clause-puts
 returns-in_err-bound_column-in-Waksman-clause-puts g c =

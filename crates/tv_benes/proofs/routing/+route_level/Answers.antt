@@ -1,12 +1,11 @@
-use Rattle.std.proofs.Common.{◌≡◌, ℕ, Bool, List, suc, ◌+◌, ◌-◌, ◌*◌, ◌^◌, length, length-append, ap, ◌∙◌, subst, arith}
+use Rattle.std.proofs.Common.{◌≡◌, ℕ, Bool, List, suc, ◌-◌, ◌*◌, ◌^◌, length, length-append, ap, ◌∙◌, subst, arith}
 use Rattle.std.proofs.lemmas.Result.{on_ok_weaker}
 use Rattle.tv_benes.proofs.ColumnChain.{all_as, some_as, column_refused, upper_refused, lower_refused, level_given}
 use Rattle.tv_benes.proofs.Moved.{does_same, second_bits, third_bits, moved_values, moved_items, level_values-two, through-two}
 use Rattle.tv_benes.proofs.ThroughLaws.{above}
 use Rattle.tv_benes.specs.Items.{bit_at, pair_at}
-use Rattle.tv_benes.specs.Levels.{other}
 use Rattle.tv_benes.specs.Network.{column_values}
-use Rattle.tv_benes.specs.Through.{switches, from, to_upper, to_lower}
+use Rattle.tv_benes.specs.Through.{from, to_upper, to_lower}
 use Rattle.tv_core.proofs.ValuesChain.{gives_refused}
 use Rattle.tv_core.specs.Values.{GivesIn}
 use Rattle.tv_benes.proofs.routing.+route_level.Goals as goal
