@@ -1,6 +1,6 @@
 -- Columns of values, given one after another.
 use Rattle.std.proofs.Common.{◌≡◌, ℕ, zero, suc, ◌+◌, ◌-◌, ◌*◌, ◌^◌, ◌<◌, Bool, List, ◌++◌, refl, sym, ◌∙◌, ap, ap₂, subst, arith, add-one, Result}
-use Rattle.tv_core.proofs.ValuesChain.{gives_then, gives_then_refused, gives_refused_then, gives_nothing, gives_in_then}
+use Rattle.tv_core.proofs.ValuesChain.{gives_then, gives_then_refused, gives_refused_then, gives_nothing}
 use Rattle.tv_core.specs.Values.{ValuesMeaning, GivesAll, GivesSome, GivesIn}
 use Rattle.tv_core.specs.declared.lines.PairNum.{PairNum}
 use Rattle.tv_core.specs.declared.sink.SinkFault.{SinkFault}
@@ -75,28 +75,6 @@ module _ {V : Type 0} {m : ValuesMeaning V} {old new : V} {xs ys : List ℕ} (sa
   pub some_as : {fault : SinkFault} → GivesSome m old new xs fault → GivesSome m old new ys fault
   some_as {fault} p = subst (λ l. GivesSome m old new l fault) same p
 
--- ---- a level, put together from its four parts
-module _ {V : Type 0} (m : ValuesMeaning V) (net : Net) (form : Form) (h k : ℕ) (bit : ℕ → Bool) (item : ℕ → PairNum) (level : h ≡ suc k) where
-  pub column_refused : (old new : V) (fault : SinkFault) → GivesSome m old new (column_values form (2 ^ h) bit item) fault
-      → GivesSome m old new (level_values net form h bit item) fault
-  column_refused old new fault p = subst (λ l. GivesSome m old new l fault) (sym (level_values-suc net form h k bit item level))
-      (gives_refused_then m _ _ old new fault p)
-
-  module _ (old mid : V) (first : GivesAll m old mid (column_values form (2 ^ h) bit item)) where
-    pub upper_refused : (new : V) (fault : SinkFault) → GivesSome m mid new (level_values net (other form) k (from (2 ^ h) bit) (to_upper bit item)) fault
-        → GivesSome m old new (level_values net form h bit item) fault
-    upper_refused new fault p = subst (λ l. GivesSome m old new l fault) (sym (level_values-suc net form h k bit item level))
-        (gives_then_refused m _ _ old mid new fault first (gives_refused_then m _ _ mid new fault p))
-
-    module _ (mid' : V) (second : GivesAll m mid mid' (level_values net (other form) k (from (2 ^ h) bit) (to_upper bit item))) where
-      pub lower_refused : (new : V) (fault : SinkFault)
-          → GivesSome m mid' new (level_values net (other form) k (from (2 ^ h + switches net k) bit) (to_lower bit item)) fault
-          → GivesSome m old new (level_values net form h bit item) fault
-      lower_refused new fault p = subst (λ l. GivesSome m old new l fault) (sym (level_values-suc net form h k bit item level))
-          (gives_then_refused m _ _ old mid new fault first (gives_then_refused m _ _ mid mid' new fault second (gives_refused_then m _ _ mid' new fault p)))
-
-      pub level_given : (mid'' new : V) (result : Result (Unit {0}) SinkFault)
-          → GivesAll m mid' mid'' (level_values net (other form) k (from (2 ^ h + switches net k) bit) (to_lower bit item))
-          → GivesIn m mid'' new (last_column_values net form k bit item) result → GivesIn m old new (level_values net form h bit item) result
-      level_given mid'' new result third p = subst (λ l. GivesIn m old new l result) (sym (level_values-suc net form h k bit item level))
-          (gives_in_then m _ _ old mid new result first (gives_in_then m _ _ mid mid' new result second (gives_in_then m _ _ mid' mid'' new result third p)))
+pub in_as : {V : Type 0} (m : ValuesMeaning V) {xs ys : List ℕ} → xs ≡ ys → (old new : V) (result : Result (Unit {0}) SinkFault) → GivesIn m old new xs result
+    → GivesIn m old new ys result
+in_as m same old new result p = subst (λ l. GivesIn m old new l result) same p

@@ -1,7 +1,6 @@
 -- What a network costs.
 use Rattle.std.proofs.Common.{◌≡◌, ◌≢◌, ℕ, zero, suc, ◌+◌, ◌-◌, ◌*◌, ◌/◌, ◌%◌, ◌<◌, ◌≤◌, ◌^◌, ◌==◌, if◌then◌else◌, Bool, true, false, length, refl}
-use Rattle.std.proofs.Common.{sym, ap, ap₂, subst, ◌∙◌, arith, inl, inr, eq-eqb, ne_eqb}
-use Rattle.std.proofs.lemmas.Bool.{cases_eq}
+use Rattle.std.proofs.Common.{sym, ap, ap₂, subst, ◌∙◌, arith}
 use Rattle.std.proofs.lemmas.List.{append-nil, length-append}
 use Rattle.std.proofs.lemmas.Nat.{pow_pos}
 use Rattle.tv_core.proofs.BelowLaws.{sum_below-zero, sum_below-suc, sum_below-same}
@@ -17,7 +16,7 @@ use Rattle.tv_benes.proofs.Sources.{last_even, last_odd}
 use Rattle.tv_benes.proofs.SwitchCosts.{switch_count, bound_switch, open_switch, wires_switch, IsSpread, firsts_switch, seconds_switch, passing_switch}
 use Rattle.tv_benes.proofs.SwitchCosts.{made_switch}
 use Rattle.tv_benes.proofs.ThroughLaws.{twice, switches-suc, column_fits}
-use Rattle.tv_benes.specs.Costs.{switch_terms, column_terms, surplus, inner_terms, NetworkIsCounted}
+use Rattle.tv_benes.specs.Costs.{switch_terms, column_terms, inner_terms, NetworkIsCounted}
 use Rattle.tv_benes.specs.Levels.{width, other, innermost, level_wires}
 use Rattle.tv_benes.specs.Network.{switch_of, column_of, last_column_of, level_of}
 use Rattle.tv_benes.specs.Places.{wires_at, fifth, row, switch_wire, ItemsOf, item_in, to_upper_of, to_lower_of, output, output_wire, sum_at}
@@ -101,7 +100,7 @@ bound_form net (suc h) = refl
 passed_spread : (w next n j k v v' : ℕ) → w + 20 * n ≤ next + 3 → j < n → k < 2 → v ≡ w + 5 * (2 * (2 * j) + k) → v' ≡ w + 5 * (2 * (2 * j + 1) + k)
     → IsSpread v (switch_wire Open next (2 * j) + 1) v' (switch_wire Open next (2 * j + 1) + 1)
 passed_spread w next n j k v v' has within small is_v is_v' =
-    record { rises = omega arith; rises' = omega arith; vv = omega arith; vt = omega arith; tv = omega arith; tt' = omega arith }
+    omega arith
 
 passed_first : (net : Net) (form : Form) (h w at : ℕ) (items : ItemsOf form) → HasItems form items (suc h) w
     → (terms_in (column_of (column_form net (other form) h) (2 ^ h) (item_in (other form) (to_upper_of form w items)) at).list ≡ first_terms net (other form) h)
@@ -201,15 +200,10 @@ level_count net form (suc h) items next =
     )
 
 -- the items of the networks within
-upper_has : (form : Form) (h next at : ℕ) (items : ItemsOf form) → switch_wire form next (2 ^ suc h) ≤ at
-    → HasItems (other form) (to_upper_of form next items) h at
-upper_has Bound h next at items after = omega (arith, twice h)
-upper_has Open h next at items after = tt
-
-lower_has : (form : Form) (h next at : ℕ) (items : ItemsOf form) → switch_wire form next (2 ^ suc h) ≤ at
-    → HasItems (other form) (to_lower_of form next items) h at
-lower_has Bound h next at items after = omega (arith, twice h)
-lower_has Open h next at items after = tt
+within_has : (form : Form) (h next at : ℕ) (items : ItemsOf form) → switch_wire form next (2 ^ suc h) ≤ at
+    → HasItems (other form) (to_upper_of form next items) h at × HasItems (other form) (to_lower_of form next items) h at
+within_has Bound h next at items after = omega arith
+within_has Open h next at items after = (tt, tt)
 
 level_cost : (net : Net) (form : Form) (h next : ℕ) (items : ItemsOf form) → HasItems form items h next
     → terms_in (level_of net form h items next).list
@@ -226,9 +220,9 @@ level_cost net form (suc h) next items has =
     let d = column_of form (n - missing net) (last_pair net form u.answer l.answer) l.next in
     let c_next = column_next form n (item_in form items) next in
     let u_next = level_next net (other form) h up c.next in
-    let upper = level_cost net (other form) h c.next up (upper_has form h next c.next items (omega arith))
+    let upper = level_cost net (other form) h c.next up (within_has form h next c.next items (omega arith)).0
     ∙ ap (λ k. k + rest_terms net (other form) h) (passed_first net form h next c.next items has).0 in
-    let lower = level_cost net (other form) h u.next low (lower_has form h next u.next items (omega arith))
+    let lower = level_cost net (other form) h u.next low (within_has form h next u.next items (omega arith)).1
     ∙ ap (λ k. k + rest_terms net (other form) h) (passed_first net form h next u.next items has).1 in
     let last = last_cost net form h next c.next u.next l.next up low items refl refl (sym (c_next ∙ times_comm n (width form) next)) refl in
     terms.adds c.list _ ∙ ap (λ k. terms_in c.list + k)
@@ -262,61 +256,32 @@ closed Waksman Bound (suc h) = omega (arith, closed Waksman Open h, switches-suc
 closed Waksman Open (suc h) = omega (arith, closed Waksman Bound h, switches-suc Waksman h, twice h, pow_pos h)
 
 -- by parity
-first_weight : Form → Bool → ℕ
-first_weight Bound even = if even then 1 else 5
-first_weight Open even = if even then 5 else 1
-
-twice_weight : (k a n : ℕ) → a ≡ k * n → 2 * a ≡ k * (2 * n)
-twice_weight k a n e = grind arith
-
-exchanged : (form : Form) (h : ℕ) → first_weight (other form) (h % 2 == 0) ≡ first_weight form (suc h % 2 == 0)
-unfolding first_weight
-exchanged form h = elim (cases_eq (h % 2) 0) [
-  | inl none ↦ ap (first_weight (other form)) (eq-eqb (h % 2) 0 none) ∙ even form
-      ∙ sym (ap (first_weight form) (ne_eqb (suc h % 2) 0 (λ e. absurd (omega arith))))
-  | inr some ↦ ap (first_weight (other form)) (ne_eqb (h % 2) 0 some) ∙ odd form ∙ sym (ap (first_weight form) (eq-eqb (suc h % 2) 0 (omega arith)))
-]
+weight-is : (h : ℕ) → weight Bound h ≡ (if h % 2 == 0 then 2 ^ h else 5 * 2 ^ h)
+unfolding weight
+weight-is zero = refl
+weight-is (suc zero) = refl
+weight-is (suc (suc h)) =
+    let same : h % 2 ≡ suc (suc h) % 2 = omega arith in
+    ap (λ w. 2 * (2 * w)) (weight-is h) ∙ by (h % 2 == 0) ∙ ap (λ r. if r == 0 then 2 ^ suc (suc h) else 5 * 2 ^ suc (suc h)) same
   where
-    even : (form : Form) → first_weight (other form) true ≡ first_weight form false
-    even Bound = refl
-    even Open = refl
-
-    odd : (form : Form) → first_weight (other form) false ≡ first_weight form true
-    odd Bound = refl
-    odd Open = refl
-
-weight-is : (form : Form) (h : ℕ) → weight form h ≡ first_weight form (h % 2 == 0) * 2 ^ h
-unfolding weight first_weight
-weight-is Bound zero = refl
-weight-is Open zero = refl
-weight-is Bound (suc h) =
-    twice_weight (first_weight Open (h % 2 == 0)) (weight Open h) (2 ^ h) (weight-is Open h) ∙ ap₂ (λ k n. k * n) (exchanged Bound h) (sym (twice h))
-weight-is Open (suc h) =
-    twice_weight (first_weight Bound (h % 2 == 0)) (weight Bound h) (2 ^ h) (weight-is Bound h) ∙ ap₂ (λ k n. k * n) (exchanged Open h) (sym (twice h))
-
-weight-third : (h : ℕ) → weight Bound h / 3 ≡ surplus Waksman h
-unfolding first_weight
-weight-third h = ap (λ k. k / 3) (weight-is Bound h ∙ by (h % 2 == 0) (2 ^ h))
-  where
-    by : (even : Bool) (n : ℕ) → first_weight Bound even * n ≡ (if even then n else 5 * n)
-    by true n = omega arith
-    by false n = refl
+    by : (even : Bool) → 2 * (2 * (if even then 2 ^ h else 5 * 2 ^ h)) ≡ (if even then 2 ^ suc (suc h) else 5 * 2 ^ suc (suc h))
+    by true = let same : 2 * (2 * 2 ^ h) ≡ 2 ^ suc (suc h) = omega arith in same
+    by false = let same : 2 * (2 * (5 * 2 ^ h)) ≡ 5 * 2 ^ suc (suc h) = omega arith in same
 
 rest_is : (net : Net) (h : ℕ) → rest_terms net Bound h ≡ inner_terms net h
 unfolding IsClosed
 rest_is Benes h = omega (arith, closed Benes Bound h, column_fits Benes h)
 rest_is Waksman h = by (rest_terms Waksman Bound h) (switches Waksman h) (2 ^ h) (weight Bound h) (closed Waksman Bound h) (column_fits Waksman h)
-    ∙ ap (λ k. 22 * (switches Waksman h - 2 ^ h) + k) (weight-third h)
+    ∙ ap (λ k. 22 * (switches Waksman h - 2 ^ h) + k) (ap (λ w. w / 3) (weight-is h))
   where
     by : (r s n w : ℕ) → 3 * r + 66 * n + 1 ≡ 66 * s + w → n ≤ s → r ≡ 22 * (s - n) + w / 3
     by r s n w e fits = omega arith
 
 -- ---- both
-terms_counted : (net : Net) (h : ℕ) (item : ℕ → Pair) (next : ℕ)
-    → terms_in (level_of net Bound h item next).list ≡ column_terms (2 ^ h) item + inner_terms net h
-terms_counted net h item next =
-    level_cost net Bound h next item tt
-    ∙ ap₂ (λ a b. a + b) (ap (λ f. terms_in (column_of f (2 ^ h) item next).list) (bound_form net h) ∙ bound_column (2 ^ h) item next) (rest_is net h)
-
 pub network_counted : NetworkIsCounted
-network_counted = record { constraints = λ net h item next. level_count net Bound h item next; terms = terms_counted }
+network_counted = record {
+  constraints = λ net h item next. level_count net Bound h item next;
+  terms = λ net h item next.
+      level_cost net Bound h next item tt
+      ∙ ap₂ (λ a b. a + b) (ap (λ f. terms_in (column_of f (2 ^ h) item next).list) (bound_form net h) ∙ bound_column (2 ^ h) item next) (rest_is net h);
+}

@@ -1,13 +1,13 @@
 -- What the definitions of places evaluate to: the items of the networks within, the bits, and the outputs.
-use Rattle.std.proofs.Common.{◌≡◌, ◌≢◌, ℕ, suc, ◌+◌, ◌-◌, ◌*◌, ◌/◌, ◌%◌, ◌^◌, ◌<◌, ◌≤◌, ◌==◌, Bool, true, false, if◌then◌else◌, refl, sym, ◌∙◌, ap, ap₂}
+use Rattle.std.proofs.Common.{◌≡◌, ◌≢◌, ℕ, ◌+◌, ◌-◌, ◌*◌, ◌/◌, ◌%◌, ◌<◌, ◌≤◌, ◌==◌, Bool, true, false, if◌then◌else◌, refl, sym, ◌∙◌, ap, ap₂}
 use Rattle.std.proofs.Common.{arith, inl, inr}
 use Rattle.std.proofs.lemmas.Bool.{cases_eq, lt-ltb, le-ltb}
 use Rattle.std.proofs.lemmas.Bool.Decides.{nat_tests}
 use Rattle.tv_benes.proofs.ThroughLaws.{alternating-same}
-use Rattle.tv_benes.specs.Levels.{other, innermost, level_wires}
-use Rattle.tv_benes.specs.Places.{wires_at, fifth, row, switch_wire, first_of, second_of, bit_place, ItemsOf, item_in, to_upper_of, to_lower_of, output}
+use Rattle.tv_benes.specs.Levels.{other, innermost}
+use Rattle.tv_benes.specs.Places.{wires_at, fifth, row, switch_wire, first_of, second_of, ItemsOf, item_in, to_upper_of, to_lower_of, output}
 use Rattle.tv_benes.specs.Places.{output_wire, column_outputs, sum_at, EndsOf, end_in, two_ends, last_ends}
-use Rattle.tv_benes.specs.Through.{switches, missing, alternating}
+use Rattle.tv_benes.specs.Through.{missing, alternating}
 use Rattle.tv_benes.specs.declared.places.Outputs.{Outputs}
 use Rattle.tv_benes.specs.declared.places.Sums.{Sums}
 use Rattle.tv_benes.specs.declared.shape.Form.{Form}
@@ -26,46 +26,6 @@ pub lower_item : (form : Form) (w : ℕ) (items : ItemsOf form) (j : ℕ)
     → item_in (other form) (to_lower_of form w items) j ≡ second_of form (switch_wire form w j) (item_in form items (2 * j + 1))
 lower_item Bound w items j = let at : w + 3 + 5 * j ≡ w + j * 5 + 3 = omega arith in ap wires_at at
 lower_item Open w items j = refl
-
--- ---- the bits, by the part of the network that they are of
-module _ (net : Net) (form : Form) (h w : ℕ) where
-  abbrev pub upper_wire : ℕ
-  upper_wire = switch_wire form w (2 ^ suc h)
-
-  abbrev pub lower_wire : ℕ
-  lower_wire = upper_wire + level_wires net (other form) h
-
-  abbrev pub last_start : ℕ
-  last_start = lower_wire + level_wires net (other form) h
-
-  if_test : (b c : Bool) (p q : ℕ) → b ≡ c → (if b then p else q) ≡ (if c then p else q)
-  if_test b c p q e = ap (λ (t : Bool). if t then p else q) e
-
-  pub place_first : (j : ℕ) → j < 2 ^ suc h → bit_place net form (suc h) w j ≡ switch_wire form w j
-  unfolding bit_place
-  place_first j k = if_test _ _ _ _ (lt-ltb j (2 ^ suc h) k)
-
-  pub place_upper : (i j : ℕ) → i ≡ 2 ^ suc h + j → j < switches net h → bit_place net form (suc h) w i ≡ bit_place net (other form) h upper_wire j
-  unfolding bit_place
-  place_upper i j e k =
-      let same : i - 2 ^ suc h ≡ j = omega arith in
-      if_test _ _ _ _ (le-ltb i (2 ^ suc h) (omega arith)) ∙ if_test _ _ _ _ (lt-ltb i (2 ^ suc h + switches net h) (omega arith))
-      ∙ ap (bit_place net (other form) h upper_wire) same
-
-  pub place_lower : (i j : ℕ) → i ≡ 2 ^ suc h + switches net h + j → j < switches net h
-      → bit_place net form (suc h) w i ≡ bit_place net (other form) h lower_wire j
-  unfolding bit_place
-  place_lower i j e k =
-      let same : i - (2 ^ suc h + switches net h) ≡ j = omega arith in
-      if_test _ _ _ _ (le-ltb i (2 ^ suc h) (omega arith)) ∙ if_test _ _ _ _ (le-ltb i (2 ^ suc h + switches net h) (omega arith))
-      ∙ if_test _ _ _ _ (lt-ltb i (2 ^ suc h + 2 * switches net h) (omega arith)) ∙ ap (bit_place net (other form) h lower_wire) same
-
-  pub place_last : (i j : ℕ) → i ≡ 2 ^ suc h + 2 * switches net h + j → bit_place net form (suc h) w i ≡ switch_wire form last_start j
-  unfolding bit_place
-  place_last i j e =
-      let same : i - (2 ^ suc h + 2 * switches net h) ≡ j = omega arith in
-      if_test _ _ _ _ (le-ltb i (2 ^ suc h) (omega arith)) ∙ if_test _ _ _ _ (le-ltb i (2 ^ suc h + switches net h) (omega arith))
-      ∙ if_test _ _ _ _ (le-ltb i (2 ^ suc h + 2 * switches net h) (omega arith)) ∙ ap (switch_wire form last_start) same
 
 -- ---- outputs that are wires
 -- a pair chosen by parity

@@ -20,7 +20,7 @@ use Rattle.tv_bits.specs.Bit.{IsBit, bit_of}
 use Rattle.tv_bits.specs.Select.{selected, pick_of}
 use Rattle.tv_benes.proofs.NetworkLaws.{IsSwitch, remainder_complete, column_sound, value_alternating, column_next, level_next, level_sound, less_missing}
 use Rattle.tv_benes.proofs.NetworkLaws.{bound-suc, one_wires, level_bit, each_bit, first_switch}
-use Rattle.tv_benes.proofs.ThroughLaws.{twice, switches-suc, missing_small, one_switch, alternating-same, through-same}
+use Rattle.tv_benes.proofs.ThroughLaws.{switches-suc, missing_small, one_switch, alternating-same, through-same}
 use Rattle.tv_benes.specs.Levels.{width, other, innermost, level_wires}
 use Rattle.tv_benes.specs.Network.{remainder_of, switch_of, column_of, last_column_of, level_of, product, switch_values, column_values}
 use Rattle.tv_benes.specs.Network.{level_values, NetworkIsComplete}
@@ -37,22 +37,14 @@ flag_of-is : (b : Bool) → (flag_of b == 1) ≡ b
 flag_of-is true = refl
 flag_of-is false = refl
 
-chosen_first : (b : Bool) (x y : PairNum) → (passed b x y).first ≡ selected (flag_of b) y.first x.first
-chosen_first true x y = refl
-chosen_first false x y = refl
-
-chosen_second : (b : Bool) (x y : PairNum) → (passed b x y).second ≡ selected (flag_of b) y.second x.second
-chosen_second true x y = refl
-chosen_second false x y = refl
+chosen : (f : PairNum → ℕ) (b : Bool) (x y : PairNum) → f (passed b x y) ≡ selected (flag_of b) (f y) (f x)
+chosen f true x y = refl
+chosen f false x y = refl
 
 -- what a switch passes first and second has the sum of its items
-summed_first : (b : Bool) (x y : PairNum) (p q : ℕ) → p ≡ (passed b x y).first → q ≡ (passed b y x).first → (x.first + y.first) % P ≡ (p + q) % P
-summed_first true x y p q e f = let p_is : p ≡ y.first = e in let q_is : q ≡ x.first = f in omega arith
-summed_first false x y p q e f = let p_is : p ≡ x.first = e in let q_is : q ≡ y.first = f in omega arith
-
-summed_second : (b : Bool) (x y : PairNum) (p q : ℕ) → p ≡ (passed b x y).second → q ≡ (passed b y x).second → (x.second + y.second) % P ≡ (p + q) % P
-summed_second true x y p q e f = let p_is : p ≡ y.second = e in let q_is : q ≡ x.second = f in omega arith
-summed_second false x y p q e f = let p_is : p ≡ x.second = e in let q_is : q ≡ y.second = f in omega arith
+summed : (f : PairNum → ℕ) (b : Bool) (x y : PairNum) (p q : ℕ) → p ≡ f (passed b x y) → q ≡ f (passed b y x) → (f x + f y) % P ≡ (p + q) % P
+summed f true x y p q d e = let p_is : p ≡ f y = d in let q_is : q ≡ f x = e in omega arith
+summed f false x y p q d e = let p_is : p ≡ f x = d in let q_is : q ≡ f y = e in omega arith
 
 product_selected : (b : Bool) (x y : ℕ) → product b x y ≡ selected (flag_of b) ((x + (P - y)) % P) 0
 product_selected true x y = refl
@@ -75,10 +67,11 @@ switch_complete z Bound x y next b assigns has =
     let bit : IsBit (slice_index z next) = subst IsBit (sym is) (flag_small b) in
     let one = bit_complete z next next assigns bit in
     let at : (u v : ℕ) → selected (flag_of b) u v ≡ selected (slice_index z next) u v = λ u v. ap (λ n. selected n u v) (sym is) in
-    let p = select_complete z (next + 1) next y.first x.first assigns bit (has.1.0 ∙ chosen_first b px py ∙ at py.first px.first, tt) in
-    let p' = select_complete z (next + 1 + 1) next y.second x.second assigns bit (has.1.1.0 ∙ chosen_second b px py ∙ at py.second px.second, tt) in
-    let q = remainder_complete z assigns x.first y.first (next + 1) (next + 1 + 1 + 1) (summed_first b px py _ _ has.1.0 has.1.1.1.0) in
-    let q' = remainder_complete z assigns x.second y.second (next + 1 + 1) (next + 1 + 1 + 1 + 1) (summed_second b px py _ _ has.1.1.0 has.1.1.1.1.0) in
+    let p = select_complete z (next + 1) next y.first x.first assigns bit (has.1.0 ∙ chosen (λ v. v.first) b px py ∙ at py.first px.first, tt) in
+    let p' = select_complete z (next + 1 + 1) next y.second x.second assigns bit (has.1.1.0 ∙ chosen (λ v. v.second) b px py ∙ at py.second px.second, tt) in
+    let q = remainder_complete z assigns x.first y.first (next + 1) (next + 1 + 1 + 1) (summed (λ v. v.first) b px py _ _ has.1.0 has.1.1.1.0) in
+    let q' = remainder_complete z assigns x.second y.second (next + 1 + 1) (next + 1 + 1 + 1 + 1)
+    (summed (λ v. v.second) b px py _ _ has.1.1.0 has.1.1.1.1.0) in
     (one.0, (p.0, (p'.0, (q.0, (q'.0, tt)))))
 switch_complete z Open x y next b assigns has =
     let is : slice_index z next ≡ flag_of b = has.0 in
@@ -207,7 +200,6 @@ level_complete z net form (suc h) next items bit v assigns is has =
     let size = switches-suc net h in
     let small = missing_small net in
     let some = pow_pos (suc h) in
-    let two = twice (suc h) in
     let item = item_in form items in
     let up_items = to_upper_of form next items in
     let low_items = to_lower_of form next items in
@@ -263,8 +255,9 @@ level_complete z net form (suc h) next items bit v assigns is has =
     record {
       meets = Meets-join z c.list (u.list ++ (l.list ++ (d.list ++ []))) column.0
           (Meets-join z u.list (l.list ++ (d.list ++ [])) upper.meets (Meets-join z l.list (d.list ++ []) lower.meets (Meets-join z d.list [] end.0 tt)));
-      bits = each_bit z net form h next c.next u.next l.next c_next u_next l_next (λ j w. slice_index z w ≡ flag_of (bit j)) column.1 upper.bits lower.bits
-          (λ j k. end.1 j (omega arith));
+      bits = each_bit z net form h next c.next u.next l.next c_next u_next l_next (λ j w. slice_index z w ≡ flag_of (bit j)) column.1
+          (λ i j e k. upper.bits j k ∙ ap (λ i. flag_of (bit i)) (sym e)) (λ i j e k. lower.bits j k ∙ ap (λ i. flag_of (bit i)) (sym e))
+          (λ i j e k. end.1 j (omega arith) ∙ ap (λ i. flag_of (bit i)) (sym e));
     }
 
 pub network_complete : NetworkIsComplete

@@ -2,7 +2,7 @@
 use Rattle.std.proofs.Common.{◌≡◌, ℕ, zero, suc, ◌+◌, ◌-◌, ◌*◌, ◌/◌, ◌%◌, ◌^◌, ◌<◌, ◌≤◌, ◌==◌, Bool, true, false, if◌then◌else◌, List, [], ◌++◌, refl, sym}
 use Rattle.std.proofs.Common.{◌∙◌, ap, ap₂, subst, arith, inl, inr}
 use Rattle.std.specs.Prelude.{slice_index}
-use Rattle.std.proofs.lemmas.Bool.{cases_lt}
+use Rattle.std.proofs.lemmas.Bool.{cases_lt, lt-ltb, le-ltb}
 use Rattle.std.proofs.lemmas.Nat.{pow_pos}
 use Rattle.tv_core.proofs.CombinationLaws.{value-append, value-below, value-less, value-once, value-wire, wire-below}
 use Rattle.tv_core.proofs.LineLaws.{pair_same}
@@ -22,9 +22,9 @@ use Rattle.tv_bits.proofs.BitLaws.{bit_sound, bit_cases}
 use Rattle.tv_bits.proofs.SelectLaws.{select_sound, selected-zero, selected-one}
 use Rattle.tv_bits.specs.Bit.{IsBit, bit_of}
 use Rattle.tv_bits.specs.Select.{selected, pick_of}
-use Rattle.tv_benes.proofs.Ends.{upper_item, lower_item, place_first, place_upper, place_lower, place_last, end_passes, end_made, end_two}
+use Rattle.tv_benes.proofs.Ends.{upper_item, lower_item, end_passes, end_made, end_two}
 use Rattle.tv_benes.proofs.Sources.{last_even, last_odd}
-use Rattle.tv_benes.proofs.ThroughLaws.{twice, switches-suc, missing_small, one_switch, last_bit-same, kept_bit, left_bit, alternating-same, joined-same}
+use Rattle.tv_benes.proofs.ThroughLaws.{switches-suc, missing_small, one_switch, last_bit-same, kept_bit, left_bit, alternating-same, joined-same}
 use Rattle.tv_benes.proofs.ThroughLaws.{through-same}
 use Rattle.tv_benes.specs.Levels.{width, other, innermost, bound, level_wires}
 use Rattle.tv_benes.specs.Network.{remainder_of, switch_of, column_of, last_column_of, level_of, NetworkIsSound}
@@ -219,42 +219,54 @@ module _ (z : List ℕ) (net : Net) (form : Form) (h first u l g : ℕ) (at_u : 
   bit : ℕ → Bool
   bit = level_bit z net form (suc h) first
 
-  upper_place : (i j : ℕ) → i ≡ 2 ^ suc h + j → j < switches net h → bit_place net form (suc h) first i ≡ bit_place net (other form) h u j
-  upper_place i j e k = place_upper net form h first i j e k ∙ ap (λ w. bit_place net (other form) h w j) (sym at_u)
+  if_test : (b c : Bool) (p q : ℕ) → b ≡ c → (if b then p else q) ≡ (if c then p else q)
+  if_test b c p q e = ap (λ (t : Bool). if t then p else q) e
 
-  lower_place : (i j : ℕ) → i ≡ 2 ^ suc h + switches net h + j → j < switches net h → bit_place net form (suc h) first i ≡ bit_place net (other form) h l j
-  lower_place i j e k = place_lower net form h first i j e k
-      ∙ ap (λ w. bit_place net (other form) h w j) (sym (at_l ∙ ap (λ w. w + level_wires net (other form) h) at_u))
+  -- the place of a bit, by the part of the network that it is of
+  place_first : (j : ℕ) → j < 2 ^ suc h → bit_place net form (suc h) first j ≡ switch_wire form first j
+  unfolding bit_place
+  place_first j k = if_test _ _ _ _ (lt-ltb j (2 ^ suc h) k)
 
-  last_place : (i j : ℕ) → i ≡ 2 ^ suc h + 2 * switches net h + j → bit_place net form (suc h) first i ≡ switch_wire form g j
-  last_place i j e =
-      place_last net form h first i j e
-      ∙ ap (λ w. switch_wire form w j) (sym (at_g ∙ ap (λ w. w + level_wires net (other form) h) (at_l ∙ ap (λ w. w + level_wires net (other form) h) at_u)))
+  place_upper : (i j : ℕ) → i ≡ 2 ^ suc h + j → j < switches net h → bit_place net form (suc h) first i ≡ bit_place net (other form) h u j
+  unfolding bit_place
+  place_upper i j e k =
+      let same : i - 2 ^ suc h ≡ j = omega arith in
+      if_test _ _ _ _ (le-ltb i (2 ^ suc h) (omega arith)) ∙ if_test _ _ _ _ (lt-ltb i (2 ^ suc h + switches net h) (omega arith))
+      ∙ ap₂ (bit_place net (other form) h) (sym at_u) same
+
+  place_lower : (i j : ℕ) → i ≡ 2 ^ suc h + switches net h + j → j < switches net h → bit_place net form (suc h) first i ≡ bit_place net (other form) h l j
+  unfolding bit_place
+  place_lower i j e k =
+      let same : i - (2 ^ suc h + switches net h) ≡ j = omega arith in
+      if_test _ _ _ _ (le-ltb i (2 ^ suc h) (omega arith)) ∙ if_test _ _ _ _ (le-ltb i (2 ^ suc h + switches net h) (omega arith))
+      ∙ if_test _ _ _ _ (lt-ltb i (2 ^ suc h + 2 * switches net h) (omega arith))
+      ∙ ap₂ (bit_place net (other form) h) (sym (at_l ∙ ap (λ w. w + level_wires net (other form) h) at_u)) same
+
+  place_last : (i j : ℕ) → i ≡ 2 ^ suc h + 2 * switches net h + j → bit_place net form (suc h) first i ≡ switch_wire form g j
+  unfolding bit_place
+  place_last i j e =
+      let same : i - (2 ^ suc h + 2 * switches net h) ≡ j = omega arith in
+      if_test _ _ _ _ (le-ltb i (2 ^ suc h) (omega arith)) ∙ if_test _ _ _ _ (le-ltb i (2 ^ suc h + switches net h) (omega arith))
+      ∙ if_test _ _ _ _ (le-ltb i (2 ^ suc h + 2 * switches net h) (omega arith))
+      ∙ ap₂ (switch_wire form) (sym (at_g ∙ ap (λ w. w + level_wires net (other form) h) (at_l ∙ ap (λ w. w + level_wires net (other form) h) at_u))) same
 
   -- what holds of the parts' bits holds of all
   pub each_bit : (Q : ℕ → ℕ → Type 0) → ((j : ℕ) → j < 2 ^ suc h → Q j (switch_wire form first j))
-      → ((j : ℕ) → j < switches net h → Q (2 ^ suc h + j) (bit_place net (other form) h u j))
-      → ((j : ℕ) → j < switches net h → Q (2 ^ suc h + switches net h + j) (bit_place net (other form) h l j))
-      → ((j : ℕ) → j + missing net < 2 ^ suc h → Q (2 ^ suc h + 2 * switches net h + j) (switch_wire form g j))
+      → ((i j : ℕ) → i ≡ 2 ^ suc h + j → j < switches net h → Q i (bit_place net (other form) h u j))
+      → ((i j : ℕ) → i ≡ 2 ^ suc h + switches net h + j → j < switches net h → Q i (bit_place net (other form) h l j))
+      → ((i j : ℕ) → i ≡ 2 ^ suc h + 2 * switches net h + j → j + missing net < 2 ^ suc h → Q i (switch_wire form g j))
       → (j : ℕ) → j < switches net (suc h) → Q j (bit_place net form (suc h) first j)
   each_bit Q in_first in_upper in_lower in_last j k =
       let size = switches-suc net h in
       let one = missing_small net in
+      let s = switches net h in
       elim (cases_lt j (2 ^ suc h)) [
-        | inl a ↦ subst (λ w. Q j w) (sym (place_first net form h first j a)) (in_first j a)
-        | inr a ↦ elim (cases_lt j (2 ^ suc h + switches net h)) [
-          | inl b ↦ let r : 2 ^ suc h + (j - 2 ^ suc h) ≡ j = omega arith in
-              subst (λ w. Q j w) (sym (upper_place j (j - 2 ^ suc h) (sym r) (omega arith)))
-              (subst (λ i. Q i (bit_place net (other form) h u (j - 2 ^ suc h))) r (in_upper (j - 2 ^ suc h) (omega arith)))
-          | inr b ↦ elim (cases_lt j (2 ^ suc h + 2 * switches net h)) [
-            | inl c ↦ let r : 2 ^ suc h + switches net h + (j - (2 ^ suc h + switches net h)) ≡ j = omega arith in
-                subst (λ w. Q j w) (sym (lower_place j (j - (2 ^ suc h + switches net h)) (sym r) (omega arith)))
-                (subst (λ i. Q i (bit_place net (other form) h l (j - (2 ^ suc h + switches net h)))) r
-                (in_lower (j - (2 ^ suc h + switches net h)) (omega arith)))
-            | inr c ↦ let r : 2 ^ suc h + 2 * switches net h + (j - (2 ^ suc h + 2 * switches net h)) ≡ j = omega arith in
-                subst (λ w. Q j w) (sym (last_place j (j - (2 ^ suc h + 2 * switches net h)) (sym r)))
-                (subst (λ i. Q i (switch_wire form g (j - (2 ^ suc h + 2 * switches net h)))) r
-                (in_last (j - (2 ^ suc h + 2 * switches net h)) (omega arith)))
+        | inl a ↦ subst (Q j) (sym (place_first j a)) (in_first j a)
+        | inr a ↦ elim (cases_lt j (2 ^ suc h + s)) [
+          | inl b ↦ let i = j - 2 ^ suc h in subst (Q j) (sym (place_upper j i (omega arith) (omega arith))) (in_upper j i (omega arith) (omega arith))
+          | inr b ↦ elim (cases_lt j (2 ^ suc h + 2 * s)) [
+            | inl c ↦ let i = j - (2 ^ suc h + s) in subst (Q j) (sym (place_lower j i (omega arith) (omega arith))) (in_lower j i (omega arith) (omega arith))
+            | inr c ↦ let i = j - (2 ^ suc h + 2 * s) in subst (Q j) (sym (place_last j i (omega arith))) (in_last j i (omega arith) (omega arith))
           ]
         ]
       ]
@@ -272,7 +284,6 @@ module _ (z : List ℕ) (net : Net) (form : Form) (h first u l g : ℕ) (at_u : 
     outputs_by : (i : ℕ) → i < 2 ^ suc (suc h) → out i ≡ joined (last_bit net last) up_out low_out i
     unfolding last
     outputs_by i within =
-        let two = twice (suc h) in
         elim (cases_lt i (2 * missing net)) [
           | inl left ↦
               let none = left_bit net last (i / 2) (omega arith) in
@@ -296,27 +307,26 @@ module _ (z : List ℕ) (net : Net) (form : Form) (h first u l g : ℕ) (at_u : 
     unfolding through last bit
     join_sound =
         let size = switches-suc net h in
-        let two = twice (suc h) in
         let n = 2 ^ suc h in
         let s = switches net h in
         let up_items : (j : ℕ) → j < n → up_in j ≡ to_upper bit v j = λ j k. (in_column j k).first
-        ∙ ap (λ b. passed b (v (2 * j)) (v (2 * j + 1))) (at_bit _ _ (sym (place_first net form h first j k))) in
+        ∙ ap (λ b. passed b (v (2 * j)) (v (2 * j + 1))) (at_bit _ _ (sym (place_first j k))) in
         let low_items : (j : ℕ) → j < n → low_in j ≡ to_lower bit v j = λ j k. (in_column j k).second
-        ∙ ap (λ b. passed b (v (2 * j + 1)) (v (2 * j))) (at_bit _ _ (sym (place_first net form h first j k))) in
+        ∙ ap (λ b. passed b (v (2 * j + 1)) (v (2 * j))) (at_bit _ _ (sym (place_first j k))) in
         let same_upper : (j : ℕ) → j < n → up_out j ≡ through net h (from n bit) (to_upper bit v) j =
         λ j k. upper.outputs j k ∙ through-same net h (level_bit z net (other form) h u) (from n bit) up_in (to_upper bit v)
-        (λ i b. at_bit _ _ (sym (upper_place (n + i) i refl b))) up_items j k in
+        (λ i b. at_bit _ _ (sym (place_upper (n + i) i refl b))) up_items j k in
         let same_lower : (j : ℕ) → j < n → low_out j ≡ through net h (from (n + s) bit) (to_lower bit v) j =
         λ j k. lower.outputs j k ∙ through-same net h (level_bit z net (other form) h l) (from (n + s) bit) low_in (to_lower bit v)
-        (λ i b. at_bit _ _ (sym (lower_place (n + s + i) i refl b))) low_items j k in
+        (λ i b. at_bit _ _ (sym (place_lower (n + s + i) i refl b))) low_items j k in
         record {
-          bits = each_bit (λ _ w. IsBit (slice_index z w)) (λ j k. (in_column j k).bit) upper.bits lower.bits
-              (λ j k. kept j (out_column (j + missing net) (omega arith) (omega arith)).bit);
+          bits = each_bit (λ _ w. IsBit (slice_index z w)) (λ j k. (in_column j k).bit) (λ i j e. upper.bits j) (λ i j e. lower.bits j)
+              (λ i j e k. kept j (out_column (j + missing net) (omega arith) (omega arith)).bit);
           outputs = λ i k.
               outputs_by i k
               ∙ joined-same (last_bit net last) (last_bit net (from (n + 2 * s) bit)) up_out (through net h (from n bit) (to_upper bit v)) low_out
               (through net h (from (n + s) bit) (to_lower bit v)) i
-              (last_bit-same net last (from (n + 2 * s) bit) n (i / 2) (omega arith) (λ j _. at_bit _ _ (sym (last_place (n + 2 * s + j) j refl))))
+              (last_bit-same net last (from (n + 2 * s) bit) n (i / 2) (omega arith) (λ j _. at_bit _ _ (sym (place_last (n + 2 * s + j) j refl))))
               (same_upper (i / 2) (omega arith)) (same_lower (i / 2) (omega arith));
         }
       where

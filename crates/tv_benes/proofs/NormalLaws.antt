@@ -24,6 +24,7 @@ use Rattle.tv_core.proofs.NormalCircuits.{normal_both, normal_turns}
 use Rattle.tv_core.proofs.NormalLaws.{IsNormalFrom-normal}
 use Rattle.tv_core.specs.Circuits.{Circuit, here, fresh, put, pure, turns, ◌>>=◌}
 use Rattle.tv_core.specs.Combinations.{wire, less}
+use Rattle.tv_core.specs.Constraints.{Combination}
 use Rattle.tv_core.specs.Normal.{IsNormal, AreNormal}
 use Rattle.tv_core.specs.declared.lines.Pair.{Pair}
 
@@ -35,23 +36,13 @@ two_normal : (v w : ℕ) → v < w → IsNormal (wire v ++ wire w)
 two_normal v w h = (omega arith, omega arith, omega arith, (omega arith, omega arith, omega arith, tt))
 
 wires_normal : (w wires : ℕ) → w + 1 < wires → IsNormalPair (wires_at w) wires
-wires_normal w wires h = record { first = wire_normal w; second = wire_normal (w + 1); first_below = omega arith; second_below = omega arith }
+wires_normal w wires h = omega arith
 
 first_normal : (w at wires : ℕ) → w ≤ at → at + 2 < wires → IsNormalPair (first_of Open at (wires_at w)) wires
-first_normal w at wires h k = record {
-  first = (omega arith, omega arith, omega arith, (omega arith, omega arith, omega arith, tt));
-  second = (omega arith, omega arith, omega arith, (omega arith, omega arith, omega arith, tt));
-  first_below = omega arith;
-  second_below = omega arith;
-}
+first_normal w at wires h k = omega arith
 
 second_normal : (w at wires : ℕ) → w ≤ at → at + 2 < wires → IsNormalPair (second_of Open at (wires_at w)) wires
-second_normal w at wires h k = record {
-  first = two_normal w (at + 1) (omega arith);
-  second = two_normal (w + 1) (at + 2) (omega arith);
-  first_below = omega arith;
-  second_below = omega arith;
-}
+second_normal w at wires h k = omega arith
 
 normal_later : (pair : Pair) (a b : ℕ) → a ≤ b → IsNormalPair pair a → IsNormalPair pair b
 normal_later pair a b h n = record {
@@ -94,27 +85,19 @@ asked_later : (form : Form) (x : Pair) (a b : ℕ) → a ≤ b → Asked form x 
 asked_later Bound x a b h n = normal_later x a b h n
 asked_later Open x a b h n = tt
 
+remainder_normal : (x y : Combination) (p next : ℕ) → p < next → AreNormal (remainder_of x y p next).list
+unfolding remainder_of fresh put pure ◌>>=◌
+remainder_normal x y p next h = (record { a = IsNormalFrom-normal (x ++ y); b = wire_normal 0; c = two_normal p next h }, tt)
+
 switch_normal : (form : Form) (x y : Pair) (next : ℕ) → Asked form x next → AreNormal (switch_of form x y next).list
 unfolding switch_of remainder_of bit_of pick_of fresh put pure ◌>>=◌
 switch_normal Bound x y next n =
     let b = wire_normal next in
     let first = select_normal (wire next) y.first x.first (next + 1) b n.first (omega (arith, n.first_below)) in
-    let second = select_normal (wire next) y.second x.second (next + 1 + 1) b n.second (omega (arith, n.second_below)) in (
-      record { a = b; b = b; c = b },
-      (
-        first.0,
-        (
-          second.0,
-          (
-            record { a = IsNormalFrom-normal (x.first ++ y.first); b = wire_normal 0; c = two_normal (next + 1) (next + 1 + 1 + 1) (omega arith) },
-            (
-              record { a = IsNormalFrom-normal (x.second ++ y.second); b = wire_normal 0; c = two_normal (next + 1 + 1) (next + 1 + 1 + 1 + 1) (omega arith) },
-              tt,
-            ),
-          ),
-        ),
-      ),
-    )
+    let second = select_normal (wire next) y.second x.second (next + 1 + 1) b n.second (omega (arith, n.second_below)) in
+    let third = remainder_normal x.first y.first (next + 1) (next + 1 + 1 + 1) (omega arith) in
+    let fourth = remainder_normal x.second y.second (next + 1 + 1) (next + 1 + 1 + 1 + 1) (omega arith) in
+    (record { a = b; b = b; c = b }, (first.0, (second.0, (third.0, (fourth.0, tt)))))
 switch_normal Open x y next n =
     let b = wire_normal next in
     let first = select_normal (wire next) (less x.first y.first) [] (next + 1) b tt (omega arith) in
@@ -148,15 +131,13 @@ one_asked Waksman Bound next item has j within = has (2 * j) (omega arith)
 one_asked Waksman Open next w has j within = wires_normal (w + 5 * (2 * j)) next (omega arith)
 
 -- those of the two networks within, whose wires are from `at` on
-upper_asked : (form : Form) (h next at : ℕ) (items : ItemsOf form) → AskedItems form items (suc h) next → switch_wire form next (2 ^ suc h) ≤ at
-    → AskedItems (other form) (to_upper_of form next items) h at
-upper_asked Bound h next at item has after = omega (arith, twice h)
-upper_asked Open h next at w has after = λ i within. first_normal (w + 5 * (2 * i)) (switch_wire Open next i) at (omega arith) (omega arith)
-
-lower_asked : (form : Form) (h next at : ℕ) (items : ItemsOf form) → AskedItems form items (suc h) next → switch_wire form next (2 ^ suc h) ≤ at
-    → AskedItems (other form) (to_lower_of form next items) h at
-lower_asked Bound h next at item has after = omega (arith, twice h)
-lower_asked Open h next at w has after = λ i within. second_normal (w + 5 * (2 * i + 1)) (switch_wire Open next i) at (omega arith) (omega arith)
+within_asked : (form : Form) (h next at : ℕ) (items : ItemsOf form) → AskedItems form items (suc h) next → switch_wire form next (2 ^ suc h) ≤ at
+    → AskedItems (other form) (to_upper_of form next items) h at × AskedItems (other form) (to_lower_of form next items) h at
+within_asked Bound h next at item has after = omega arith
+within_asked Open h next at w has after = (
+  λ i within. first_normal (w + 5 * (2 * i)) (switch_wire Open next i) at (omega arith) (omega arith),
+  λ i within. second_normal (w + 5 * (2 * i + 1)) (switch_wire Open next i) at (omega arith) (omega arith),
+)
 
 -- those of a last column
 last_asked : (net : Net) (form : Form) (h at g end : ℕ) (up : ItemsOf (other form)) (low : EndsOf (other form)) → AskedItems (other form) up h at → g ≤ end
@@ -189,9 +170,9 @@ level_normal net form (suc h) next items has =
     let u_next = level_next net (other form) h up c.next in
     let l_next = level_next net (other form) h low u.next in
     let first = column_normal form n (item_in form items) next (first_asked form (suc h) next items has) in
-    let up_has = upper_asked form h next c.next items has (omega arith) in
+    let up_has = (within_asked form h next c.next items has (omega arith)).0 in
     let upper = level_normal net (other form) h c.next up up_has in
-    let lower = level_normal net (other form) h u.next low (lower_asked form h next u.next items has (omega arith)) in
+    let lower = level_normal net (other form) h u.next low (within_asked form h next u.next items has (omega arith)).1 in
     let last = column_normal form (n - missing net) (last_pair net form u.answer l.answer) l.next
     (last_asked net form h c.next l.next l.next up l.answer up_has (omega arith) (omega arith)) in
     normal_both c.list (u.list ++ (l.list ++ (d.list ++ []))) first

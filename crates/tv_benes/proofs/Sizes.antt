@@ -26,16 +26,13 @@ use Rattle.tv_core.specs.declared.lines.Pair.{Pair}
 use Rattle.tv_core.specs.declared.lines.PairNum.{PairNum}
 
 -- ---- outputs that are wires
-fifth_below : (a b end i : ℕ) → a + 5 * (i / 2) + 1 < end → b + 5 * (i / 2) + 1 < end → alternating (fifth a) (fifth b) i + 1 < end
-fifth_below a b end i p q = alternating_keeps (λ w. w + 1 < end) (fifth a) (fifth b) i p q
-
 outputs_below : (o : Outputs) (n end : ℕ) → o.first + 1 < end → o.second + 1 < end → o.others + 5 * n ≤ end → AreBelow o (2 * (n + 1)) end
 outputs_below o n end first second others i within = elim (cases_eq i 0) [
   | inl none ↦ subst (λ w. w + 1 < end) (sym (output_zero o i none)) first
   | inr some ↦ elim (cases_eq i 1) [
     | inl one ↦ subst (λ w. w + 1 < end) (sym (output_one o i one)) second
     | inr more ↦ subst (λ w. w + 1 < end) (sym (output_other o i (omega arith)))
-        (fifth_below (o.others + 1) (o.others + 3) end (i - 2) (omega arith) (omega arith))
+        (alternating_keeps (λ w. w + 1 < end) (fifth (o.others + 1)) (fifth (o.others + 3)) (i - 2) (omega arith) (omega arith))
   ]
 ]
 
@@ -94,9 +91,7 @@ sums_made net o n wires upper lower others = made_by (sum_at net o) (2 * n) wire
     ]
 
 pub made_later : (pair : ℕ → Pair) (n a b : ℕ) → a ≤ b → ArePairsMade pair n a → ArePairsMade pair n b
-made_later pair n a b more made = made_by pair n b
-    (λ i h. let m = made_at pair n a made i h in
-    record { first = omega (arith, m.first); second = omega (arith, m.second); first_short = m.first_short; second_short = m.second_short })
+made_later pair n a b more made = made_by pair n b (λ i h. omega (arith, made_at pair n a made i h))
 
 -- the items of a bound last column
 pub last_made : (net : Net) (u l : Sums) (n wires : ℕ) → 1 ≤ n → ArePairsMade (sum_at net u) n wires → ArePairsMade (sum_at net l) n wires
@@ -159,7 +154,6 @@ level_below net Bound (suc h) next item has =
     let c_next = column_next Bound n item next in
     let u_next = level_next net Open h (next + 1) c.next in
     let l_next = level_next net Open h (next + 3) u.next in
-    let double = twice h in
     let some = pow_pos h in
     let upper = level_below net Open h c.next (next + 1) (omega arith) in
     let lower = level_below net Open h u.next (next + 3) (omega arith) in
@@ -216,7 +210,6 @@ level_small net form (suc h) bit v each =
     let n = 2 ^ suc h in
     let s = switches net h in
     let Q : PairNum → Type 0 = λ p. (p.first < P) × (p.second < P) in
-    let two = twice (suc h) in
     let small = missing_small net in
     let up = to_upper bit v in
     let low = to_lower bit v in

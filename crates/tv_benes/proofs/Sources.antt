@@ -1,8 +1,8 @@
 -- Which item comes out at a place, found from the last column back to the first.
-use Rattle.std.proofs.Common.{◌≡◌, ℕ, suc, ◌+◌, ◌*◌, ◌/◌, ◌%◌, ◌^◌, ◌≤◌, ◌==◌, min, inl, inr, Bool, true, false, not, if◌then◌else◌, refl, sym, ◌∙◌, ap}
+use Rattle.std.proofs.Common.{◌≡◌, ℕ, zero, suc, ◌<◌, ◌+◌, ◌*◌, ◌/◌, ◌%◌, ◌^◌, ◌==◌, min, inl, inr, Bool, true, false, not, if◌then◌else◌, refl, sym, ◌∙◌, ap}
 use Rattle.std.proofs.Common.{arith, List, length, take, drop, get_or, get_or-drop, length-drop, ◌-◌}
 use Rattle.std.proofs.Math.Bool.{beq}
-use Rattle.std.proofs.lemmas.Bool.{cases_eq, cases_lt}
+use Rattle.std.proofs.lemmas.Bool.{cases_lt}
 use Rattle.std.proofs.lemmas.List.{get_or_past, take_all}
 use Rattle.tv_benes.proofs.Permutations.{alternating-even, alternating-odd}
 use Rattle.tv_benes.proofs.ThroughLaws.{through_places}
@@ -10,35 +10,16 @@ use Rattle.tv_benes.specs.Through.{switches, from, passed, to_upper, to_lower, a
 use Rattle.tv_benes.specs.Items.{bit_at, half_item}
 use Rattle.tv_benes.specs.declared.shape.Net.{Net}
 
--- ---- parity
-even_is : (i : ℕ) → i % 2 ≡ 0 → ((i % 2 == 0) ≡ true) × ((i % 2 == 1) ≡ false)
-even_is i e = (ap (λ k. k == 0) e, ap (λ k. k == 1) e)
-
-odd_is : (i : ℕ) → i % 2 ≡ 1 → ((i % 2 == 0) ≡ false) × ((i % 2 == 1) ≡ true)
-odd_is i e = (ap (λ k. k == 0) e, ap (λ k. k == 1) e)
-
 -- the half from which an output comes
-module _ {X : Type 0} where
-  straight_even : (b : Bool) (x y : X) → passed b x y ≡ (if not (beq b false) then y else x)
-  straight_even true x y = refl
-  straight_even false x y = refl
-
-  straight_odd : (b : Bool) (x y : X) → passed b y x ≡ (if not (beq b true) then y else x)
-  straight_odd true x y = refl
-  straight_odd false x y = refl
-
-  pub joined_is : (bit : ℕ → Bool) (u l : ℕ → X) (i : ℕ) → joined bit u l i ≡ (if not (beq (bit (i / 2)) (i % 2 == 1)) then l (i / 2) else u (i / 2))
-  joined_is bit u l i =
-      let b = bit (i / 2) in
-      let x = u (i / 2) in
-      let y = l (i / 2) in
-      elim (cases_eq (i % 2) 0) [
-        | inl e ↦ ap (λ (c : Bool). if c then passed b x y else passed b y x) (even_is i e).0 ∙ straight_even b x y
-            ∙ ap (λ (c : Bool). if not (beq b c) then y else x) (sym (even_is i e).1)
-        | inr e ↦ let odd : i % 2 ≡ 1 = omega arith in
-            ap (λ (c : Bool). if c then passed b x y else passed b y x) (odd_is i odd).0 ∙ straight_odd b x y
-            ∙ ap (λ (c : Bool). if not (beq b c) then y else x) (sym (odd_is i odd).1)
-      ]
+joined_is : {X : Type 0} (bit : ℕ → Bool) (u l : ℕ → X) (i : ℕ) → joined bit u l i ≡ (if not (beq (bit (i / 2)) (i % 2 == 1)) then l (i / 2) else u (i / 2))
+joined_is {X} bit u l i = by (i % 2) (bit (i / 2)) (u (i / 2)) (l (i / 2)) (omega arith)
+  where
+    by : (r : ℕ) (b : Bool) (x y : X) → r < 2 → (if r == 0 then passed b x y else passed b y x) ≡ (if not (beq b (r == 1)) then y else x)
+    by zero true x y h = refl
+    by zero false x y h = refl
+    by (suc zero) true x y h = refl
+    by (suc zero) false x y h = refl
+    by (suc (suc r)) b x y h = absurd (omega arith)
 
 -- which item of the whole is item t of a half
 pub half_place : (lower b : Bool) → (bit : ℕ → Bool) (t : ℕ) → bit t ≡ b → half_item lower bit (λ j. j) t ≡ 2 * t + (if not (beq b lower) then 1 else 0)
@@ -93,10 +74,6 @@ source_suc net h bit i t false which is =
     (i / 2)) (sym which)
     ∙ through_places net h (from n bit) (to_upper bit (λ j. j)) (i / 2)
     ∙ ap (to_upper bit (λ j. j)) (sym (is ∙ ap (λ k. through net h (from k bit) (λ j. j) (i / 2)) plain))
-
-pub if_le : (b : Bool) (n : ℕ) → (if b then n else 0) ≤ n
-if_le true n = omega arith
-if_le false n = omega arith
 
 -- the item that comes out of a network within a network, read at its place s
 pub inner_item : {X : Type 0} (net : Net) (h j s : ℕ) (bit bit' : ℕ → Bool) (item : ℕ → X) → ◌≡◌ {A = ℕ → Bool} bit bit'

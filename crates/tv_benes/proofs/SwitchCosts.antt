@@ -84,14 +84,7 @@ number_of_sums c v t v' t' some small s =
 
 pub sums_switch : (c v t v' t' : ℕ) → 0 < c → c < P → IsSpread v (t + 1) v' (t' + 1) → switch_terms (sum_pair c v t) (sum_pair c v' t') ≡ 33
 sums_switch c v t v' t' some small s =
-    let more : IsSpread (v + 1) (t + 2) (v' + 1) (t' + 2) = record {
-      rises = omega (arith, s.rises);
-      rises' = omega (arith, s.rises');
-      vv = λ e. s.vv (omega arith);
-      vt = λ e. s.vt (omega arith);
-      tv = λ e. s.tv (omega arith);
-      tt' = λ e. s.tt' (omega arith);
-    } in
+    let more : IsSpread (v + 1) (t + 2) (v' + 1) (t' + 2) = omega (arith, s) in
     omega (arith, number_of_sums c v (t + 1) v' (t' + 1) some small s, number_of_sums c (v + 1) (t + 2) (v' + 1) (t' + 2) some small more)
 
 pub firsts_switch : (v t v' t' : ℕ) → IsSpread v (t + 1) v' (t' + 1) → switch_terms (first_of Open t (wires_at v)) (first_of Open t' (wires_at v')) ≡ 33
@@ -115,19 +108,12 @@ spread : (w a g l g' v t v' t' : ℕ) → w + 10 ≤ a → a ≤ g → g ≤ t �
 spread w a g l g' v t v' t' h1 h2 h3 h4 h5 h6 placed placed' =
     elim placed [
       | inl p ↦ elim placed' [
-        | inl q ↦ record { rises = omega arith; rises' = omega arith; vv = omega arith; vt = omega arith; tv = omega arith; tt' = omega arith }
-        | inr q ↦ record { rises = omega arith; rises' = omega arith; vv = omega arith; vt = omega arith; tv = omega arith; tt' = omega arith }
+        | inl q ↦ omega arith
+        | inr q ↦ omega arith
       ]
       | inr p ↦ elim placed' [
-        | inl q ↦ record { rises = omega arith; rises' = omega arith; vv = omega arith; vt = omega arith; tv = omega arith; tt' = omega arith }
-        | inr q ↦ record {
-          rises = omega arith;
-          rises' = omega arith;
-          vv = λ e. absurd (other_residue w v v' p.2 q.2 e);
-          vt = omega arith;
-          tv = omega arith;
-          tt' = omega arith;
-        }
+        | inl q ↦ omega arith
+        | inr q ↦ omega (arith, other_residue w v v' p.2 q.2)
       ]
     ]
   where

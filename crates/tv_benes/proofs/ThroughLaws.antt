@@ -10,15 +10,9 @@ use Rattle.tv_benes.specs.declared.shape.Net.TheVariants.{Benes, Waksman}
 pub twice : (h : ℕ) → 2 ^ suc h ≡ 2 * 2 ^ h
 twice h = omega arith
 
-switches_by : (h n : ℕ) → (2 * suc h + 1) * (2 * n) ≡ 2 * (2 * n) + 2 * ((2 * h + 1) * n)
-switches_by h n = grind arith
-
-short_by : (h n : ℕ) → suc h * (2 * (2 * n)) + 1 + 1 ≡ 2 * (2 * n) + 2 * (h * (2 * n) + 1)
-short_by h n = grind arith
-
 pub switches-suc : (net : Net) (h : ℕ) → switches net (suc h) + missing net ≡ 2 * 2 ^ suc h + 2 * switches net h
-switches-suc Waksman h = ap (λ m. suc h * (2 * m) + 1 + 1) (twice h) ∙ short_by h (2 ^ h) ∙ ap (λ m. 2 * m + 2 * switches Waksman h) (sym (twice h))
-switches-suc Benes h = omega (arith, ap (λ m. (2 * suc h + 1) * m) (twice h) ∙ switches_by h (2 ^ h) ∙ ap (λ m. 2 * m + 2 * switches Benes h) (sym (twice h)))
+switches-suc Waksman h = omega (arith, ap (λ m. suc h * (2 * m)) (twice h))
+switches-suc Benes h = omega (arith, ap (λ m. (2 * suc h + 1) * m) (twice h))
 
 pub missing_small : (net : Net) → missing net ≤ 1
 missing_small Waksman = omega arith
@@ -73,7 +67,6 @@ module _ {X : Type 0} where
       let s = switches net h in
       let size = switches-suc net h in
       let one = missing_small net in
-      let two = twice (suc h) in
       let up : (j : ℕ) → j < n → to_upper bit item j
       ≡ to_upper bit' item' j = λ j k. passed-same _ _ _ _ _ _ (bits j (omega arith)) (items (2 * j) (omega arith)) (items (2 * j + 1) (omega arith)) in
       let down : (j : ℕ) → j < n → to_lower bit item j
@@ -172,7 +165,6 @@ module _ {X : Type 0} (Q : X → Type 0) where
   through_keeps net (suc h) bit item each i within =
       let n = 2 ^ suc h in
       let s = switches net h in
-      let two = twice (suc h) in
       let each' : (j : ℕ) → j < 2 * n → Q (item j) = λ j k. each j (omega arith) in
       joined_keeps (last_bit net (from (n + 2 * s) bit)) (through net h (from n bit) (to_upper bit item))
       (through net h (from (n + s) bit) (to_lower bit item)) i

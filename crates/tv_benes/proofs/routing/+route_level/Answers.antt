@@ -1,21 +1,19 @@
-use Rattle.std.proofs.Common.{◌≡◌, ℕ, Bool, List, suc, ◌-◌, ◌*◌, ◌^◌, length, length-append, ap, ◌∙◌, subst, arith}
+use Rattle.std.proofs.Common.{ℕ, Bool, ◌-◌, ◌^◌, length-append, ap, ◌∙◌, arith, sym}
 use Rattle.std.proofs.lemmas.Result.{on_ok_weaker}
-use Rattle.tv_benes.proofs.ColumnChain.{all_as, some_as, column_refused, upper_refused, lower_refused, level_given}
+use Rattle.tv_benes.proofs.ColumnChain.{all_as, some_as, in_as, level_values-suc}
 use Rattle.tv_benes.proofs.Moved.{does_same, second_bits, third_bits, moved_values, moved_items, level_values-two, through-two}
 use Rattle.tv_benes.proofs.ThroughLaws.{above}
 use Rattle.tv_benes.specs.Items.{bit_at, pair_at}
 use Rattle.tv_benes.specs.Network.{column_values}
 use Rattle.tv_benes.specs.Through.{from, to_upper, to_lower}
-use Rattle.tv_core.proofs.ValuesChain.{gives_refused}
-use Rattle.tv_core.specs.Values.{GivesIn}
+use Rattle.tv_core.proofs.ValuesChain.{gives_refused, some_given, first_given, in_given}
 use Rattle.tv_benes.proofs.routing.+route_level.Goals as goal
 
 -- ---- the lowest level
 pub returns-then-h-eq0-clause-gives : goal.returns-then-h-eq0-clause-gives
 returns-then-h-eq0-clause-gives g t c =
-    subst (λ (l : List ℕ). GivesIn g.V.Values.giving c.args.v.now c.route_two.new.v l c.route_two.result)
-    (level_values-two c.args.net c.args.form c.innermost.result c.args.h c.bit.result (bit_at c.args.bits.now) (pair_at c.args.items.now) c.if-h-eq0.true
-    c.innermost.ensures c.bit.ensures) c.route_two.ensures.gives
+    in_as g.V.Values.giving (level_values-two c.args.net c.args.form c.innermost.result c.args.h c.bit.result (bit_at c.args.bits.now)
+    (pair_at c.args.items.now) c.if-h-eq0.true c.innermost.ensures c.bit.ensures) _ _ _ c.route_two.ensures.gives
 
 pub returns-then-h-eq0-clause-moved : goal.returns-then-h-eq0-clause-moved
 returns-then-h-eq0-clause-moved g t c =
@@ -28,9 +26,9 @@ returns-in_err-first_column-clause-gives g t c =
     let bit = bit_at c.args.bits.now in
     let item = pair_at c.args.items.now in
     let long = c.split_at_mut-upper.ensures.front_len ∙ c.long_power-n.ensures.is in
-    gives_refused _ _ _ _ _ c.from_residual.ensures.1
-    (column_refused g.V.Values.giving c.args.net c.args.form c.args.h (c.args.h - 1) bit item (above c.args.net c.args.h c.if-h-eq0.false).level _ _ _
-    (some_as (ap (λ n. column_values c.args.form n bit item) long) c.in_err-first_column.ensures.gives))
+    let level = (above c.args.net c.args.h c.if-h-eq0.false).level in
+    gives_refused _ _ _ _ _ c.from_residual.ensures.1 (some_as (sym (level_values-suc c.args.net c.args.form c.args.h _ bit item level))
+    (first_given _ (some_as (ap (λ n. column_values c.args.form n bit item) long) c.in_err-first_column.ensures.gives)))
 
 -- ---- the two networks
 pub route_level-requires : goal.route_level-requires
@@ -45,124 +43,135 @@ pub route_level-requires-2 : goal.route_level-requires-2
 route_level-requires-2 g t c κs within =
     let below = above c.args.net c.args.h c.if-h-eq0.false in
     let n = c.long_power-n.ensures.is in
-    let size : 2 ^ c.args.h ≡ 2 ^ suc (c.args.h - 1) = ap (λ k. 2 ^ k) below.level in
-    let twice : 2 ^ suc c.args.h ≡ 2 * 2 ^ c.args.h = omega arith in
-    let items : length c.first_column.new.lower ≡ 2 ^ suc (c.args.h - 1) =
-    omega (arith, c.first_column.auto.lower, c.split_at_mut-upper.ensures.back_len, c.requires.spare, n, size, twice) in
-    let spare : length c.split_at_mut-upper_spare.result.1.now ≡ 2 ^ suc (c.args.h - 1) =
-    omega (arith, c.split_at_mut-upper_spare.ensures.back_len, c.requires.items, n, size, twice) in
-    (omega (arith, below.level), (within, (c.in_ok-route_level.ensures.whole, (omega (arith, c.requires.level), (items, spare)))))
+    let size = ap (λ k. 2 ^ k) below.level in (
+      omega (arith, below.level),
+      (
+        within,
+        (
+          c.in_ok-route_level.ensures.whole,
+          (
+            omega (arith, c.requires.level),
+            omega (
+              arith,
+              c.first_column.auto.lower,
+              c.split_at_mut-upper.ensures.back_len,
+              c.split_at_mut-upper_spare.ensures.back_len,
+              c.requires.spare,
+              c.requires.items,
+              n,
+              size,
+            ),
+          ),
+        ),
+      ),
+    )
 
 pub returns-in_err-route_level-clause-gives : goal.returns-in_err-route_level-clause-gives
 returns-in_err-route_level-clause-gives g t c =
-    let below = above c.args.net c.args.h c.if-h-eq0.false in
     let bit : ℕ → Bool = bit_at c.args.bits.now in
     let item = pair_at c.args.items.now in
-    let net = c.args.net in
     let n_is = c.long_power-n.ensures.is in
     let long = c.split_at_mut-upper.ensures.front_len ∙ n_is in
-    let size = ap (λ j. 2 ^ j) below.level in
-    let up = does_same net (c.args.h - 1) (to_upper bit item) c.other-inner.ensures long size (c.bits_from-bits.ensures ∙ ap (λ n. from n bit) n_is)
+    let level = (above c.args.net c.args.h c.if-h-eq0.false).level in
+    let size = ap (λ j. 2 ^ j) level in
+    let is = level_values-suc c.args.net c.args.form c.args.h _ bit item level in
+    let up = does_same c.args.net (c.args.h - 1) (to_upper bit item) c.other-inner.ensures long size (c.bits_from-bits.ensures ∙ ap (λ n. from n bit) n_is)
     c.in_ok-first_column.ensures.upper in
     let column = all_as (ap (λ n. column_values c.args.form n bit item) long) c.in_ok-first_column.ensures.gives in
-    let upper = some_as up.values c.in_err-route_level.ensures.gives in
     gives_refused _ _ _ _ _ c.from_residual-in_err-route_level.ensures.1
-    (upper_refused g.V.Values.giving c.args.net c.args.form c.args.h (c.args.h - 1) bit item below.level _ _ column _ _ upper)
+    (some_as (sym is) (some_given _ column (first_given _ (some_as up.values c.in_err-route_level.ensures.gives))))
 
 pub returns-in_err-route_level-2-clause-gives : goal.returns-in_err-route_level-2-clause-gives
 returns-in_err-route_level-2-clause-gives g t c =
-    let below = above c.args.net c.args.h c.if-h-eq0.false in
     let bit : ℕ → Bool = bit_at c.args.bits.now in
     let item = pair_at c.args.items.now in
-    let net = c.args.net in
     let n_is = c.long_power-n.ensures.is in
     let s_is = c.level_switches-s.ensures.is in
     let long = c.split_at_mut-upper.ensures.front_len ∙ n_is in
-    let size = ap (λ j. 2 ^ j) below.level in
-    let up = does_same net (c.args.h - 1) (to_upper bit item) c.other-inner.ensures long size (c.bits_from-bits.ensures ∙ ap (λ n. from n bit) n_is)
+    let level = (above c.args.net c.args.h c.if-h-eq0.false).level in
+    let size = ap (λ j. 2 ^ j) level in
+    let is = level_values-suc c.args.net c.args.form c.args.h _ bit item level in
+    let up = does_same c.args.net (c.args.h - 1) (to_upper bit item) c.other-inner.ensures long size (c.bits_from-bits.ensures ∙ ap (λ n. from n bit) n_is)
     c.in_ok-first_column.ensures.upper in
-    let low = does_same net (c.args.h - 1) (to_lower bit item) c.other-inner.ensures long size
+    let low = does_same c.args.net (c.args.h - 1) (to_lower bit item) c.other-inner.ensures long size
     (second_bits bit n_is s_is c.bits_from-bits.ensures c.bits_from-bits-2.ensures) c.in_ok-first_column.ensures.lower in
     let column = all_as (ap (λ n. column_values c.args.form n bit item) long) c.in_ok-first_column.ensures.gives in
-    let upper = all_as up.values c.in_ok-route_level.ensures.gives in
-    let lower = some_as low.values c.in_err-route_level-2.ensures.gives in
-    gives_refused _ _ _ _ _ c.from_residual-in_err-route_level-2.ensures.1
-    (lower_refused g.V.Values.giving c.args.net c.args.form c.args.h (c.args.h - 1) bit item below.level _ _ column _ upper _ _ lower)
+    gives_refused _ _ _ _ _ c.from_residual-in_err-route_level-2.ensures.1 (some_as (sym is) (some_given _ column
+    (some_given _ (all_as up.values c.in_ok-route_level.ensures.gives) (first_given _ (some_as low.values c.in_err-route_level-2.ensures.gives)))))
 
 -- ---- the last column
 pub returns-clause-gives : goal.returns-clause-gives
 returns-clause-gives g t c =
-    let below = above c.args.net c.args.h c.if-h-eq0.false in
     let bit : ℕ → Bool = bit_at c.args.bits.now in
     let item = pair_at c.args.items.now in
-    let net = c.args.net in
     let n_is = c.long_power-n.ensures.is in
     let s_is = c.level_switches-s.ensures.is in
     let long = c.split_at_mut-upper.ensures.front_len ∙ n_is in
-    let size = ap (λ j. 2 ^ j) below.level in
-    let up = does_same net (c.args.h - 1) (to_upper bit item) c.other-inner.ensures long size (c.bits_from-bits.ensures ∙ ap (λ n. from n bit) n_is)
+    let level = (above c.args.net c.args.h c.if-h-eq0.false).level in
+    let size = ap (λ j. 2 ^ j) level in
+    let is = level_values-suc c.args.net c.args.form c.args.h _ bit item level in
+    let up = does_same c.args.net (c.args.h - 1) (to_upper bit item) c.other-inner.ensures long size (c.bits_from-bits.ensures ∙ ap (λ n. from n bit) n_is)
     c.in_ok-first_column.ensures.upper in
-    let low = does_same net (c.args.h - 1) (to_lower bit item) c.other-inner.ensures long size
+    let low = does_same c.args.net (c.args.h - 1) (to_lower bit item) c.other-inner.ensures long size
     (second_bits bit n_is s_is c.bits_from-bits.ensures c.bits_from-bits-2.ensures) c.in_ok-first_column.ensures.lower in
     let column = all_as (ap (λ n. column_values c.args.form n bit item) long) c.in_ok-first_column.ensures.gives in
-    let upper = all_as up.values c.in_ok-route_level.ensures.gives in
-    let lower = all_as low.values c.in_ok-route_level-2.ensures.gives in
     let to_u = up.moved c.route_level.new.items c.in_ok-route_level.ensures.moved in
     let to_l = low.moved c.route_level-2.new.items c.in_ok-route_level-2.ensures.moved in
     let same = third_bits bit n_is s_is c.bits_from-bits.ensures c.bits_from-bits-2.ensures c.bits_from.ensures in
-    let last = subst (λ (l : List ℕ). GivesIn g.V.Values.giving c.route_level-2.new.v c.last_column.new.v l c.last_column.result)
-    (moved_values net c.args.form c.args.h (c.args.h - 1) below.level bit item to_u to_l same) c.last_column.ensures.gives in
-    level_given g.V.Values.giving c.args.net c.args.form c.args.h (c.args.h - 1) bit item below.level _ _ column _ upper _ _ c.last_column.result lower last
+    in_as g.V.Values.giving (sym is) _ _ _ (in_given _ _ _ column (in_given _ _ _ (all_as up.values c.in_ok-route_level.ensures.gives)
+    (in_given _ _ _ (all_as low.values c.in_ok-route_level-2.ensures.gives)
+    (in_as g.V.Values.giving (moved_values c.args.net c.args.form c.args.h (c.args.h - 1) level bit item to_u to_l same) _ _ _ c.last_column.ensures.gives))))
 
 pub returns-clause-moved : goal.returns-clause-moved
 returns-clause-moved g t c =
-    let below = above c.args.net c.args.h c.if-h-eq0.false in
     let bit : ℕ → Bool = bit_at c.args.bits.now in
     let item = pair_at c.args.items.now in
-    let net = c.args.net in
     let n_is = c.long_power-n.ensures.is in
     let s_is = c.level_switches-s.ensures.is in
     let long = c.split_at_mut-upper.ensures.front_len ∙ n_is in
-    let size = ap (λ j. 2 ^ j) below.level in
-    let up = does_same net (c.args.h - 1) (to_upper bit item) c.other-inner.ensures long size (c.bits_from-bits.ensures ∙ ap (λ n. from n bit) n_is)
+    let level = (above c.args.net c.args.h c.if-h-eq0.false).level in
+    let size = ap (λ j. 2 ^ j) level in
+    let up = does_same c.args.net (c.args.h - 1) (to_upper bit item) c.other-inner.ensures long size (c.bits_from-bits.ensures ∙ ap (λ n. from n bit) n_is)
     c.in_ok-first_column.ensures.upper in
-    let low = does_same net (c.args.h - 1) (to_lower bit item) c.other-inner.ensures long size
+    let low = does_same c.args.net (c.args.h - 1) (to_lower bit item) c.other-inner.ensures long size
     (second_bits bit n_is s_is c.bits_from-bits.ensures c.bits_from-bits-2.ensures) c.in_ok-first_column.ensures.lower in
     let to_u = up.moved c.route_level.new.items c.in_ok-route_level.ensures.moved in
     let to_l = low.moved c.route_level-2.new.items c.in_ok-route_level-2.ensures.moved in
     let same = third_bits bit n_is s_is c.bits_from-bits.ensures c.bits_from-bits-2.ensures c.bits_from.ensures in
-    let last = moved_items net c.args.form c.args.h (c.args.h - 1) below.level bit item to_u to_l same in
+    let last = moved_items c.args.net c.args.form c.args.h (c.args.h - 1) level bit item to_u to_l same in
     on_ok_weaker c.last_column.result (λ joined. joined ∙ last) c.last_column.ensures.joined
 
 pub first_column-requires : goal.first_column-requires
 first_column-requires g t c =
     let n = c.long_power-n.ensures.is in
     let upper = c.split_at_mut-upper.ensures.front_len in
-    let twice : 2 ^ suc c.args.h ≡ 2 * 2 ^ c.args.h = omega arith in
     record {
       whole = c.requires.whole;
-      items = omega (arith, c.requires.items, upper, n, twice);
-      lower = omega (arith, c.requires.spare, upper, c.split_at_mut-upper.ensures.back_len, n, twice);
+      items = omega (arith, c.requires.items, upper, n);
+      lower = omega (arith, c.requires.spare, upper, c.split_at_mut-upper.ensures.back_len, n);
     }
 
 pub split_at_mut-upper-requires : goal.split_at_mut-upper-requires
-split_at_mut-upper-requires g t c =
-    let twice : 2 ^ suc c.args.h ≡ 2 * 2 ^ c.args.h = omega arith in
-    omega (arith, c.requires.spare, c.long_power-n.ensures.is, twice)
+split_at_mut-upper-requires g t c = omega (arith, c.requires.spare, c.long_power-n.ensures.is)
 
 pub last_column-requires : goal.last_column-requires
 last_column-requires g t c =
     let n = c.long_power-n.ensures.is in
-    let twice : 2 ^ suc c.args.h ≡ 2 * 2 ^ c.args.h = omega arith in
-    let upper : length c.route_level.new.items ≡ 2 ^ c.args.h =
-    omega (arith, c.route_level.auto.items, c.first_column.auto.upper, c.split_at_mut-upper.ensures.front_len, n) in
-    let lower : length c.route_level-2.new.items ≡ 2 ^ c.args.h =
-    omega (arith, c.route_level-2.auto.items, c.first_column.auto.lower, c.split_at_mut-upper.ensures.back_len, c.requires.spare, n, twice) in
-    let front : length c.route_level.new.spare ≡ 2 ^ c.args.h = omega (arith, c.route_level.auto.spare, c.split_at_mut-upper_spare.ensures.front_len, n) in
-    let back : length c.route_level-2.new.spare ≡ 2 ^ c.args.h =
-    omega (arith, c.route_level-2.auto.spare, c.split_at_mut-upper_spare.ensures.back_len, c.requires.items, n, twice) in
+    let upper = c.route_level.auto.items ∙ c.first_column.auto.upper ∙ c.split_at_mut-upper.ensures.front_len in
+    let lower = c.route_level-2.auto.items ∙ c.first_column.auto.lower in
+    let front = c.route_level.auto.spare ∙ c.split_at_mut-upper_spare.ensures.front_len in
+    let back = c.route_level-2.auto.spare in
     record {
       whole = c.in_ok-route_level-2.ensures.whole;
-      items = omega (arith, length-append c.route_level.new.spare c.route_level-2.new.spare, upper, front, back);
-      lower = omega (arith, upper, lower);
+      items = omega (
+        arith,
+        length-append c.route_level.new.spare c.route_level-2.new.spare,
+        upper,
+        front,
+        back,
+        c.split_at_mut-upper_spare.ensures.back_len,
+        c.requires.items,
+        n,
+      );
+      lower = omega (arith, upper, lower, c.split_at_mut-upper.ensures.back_len, c.requires.spare, n);
     }

@@ -1,13 +1,12 @@
 use Rattle.std.proofs.Common.{◌≡◌, ℕ, Bool, suc, ◌-◌, ◌*◌, ◌^◌, ◌≤◌, ap, ap₂, ◌∙◌, sym, subst, arith}
 use Rattle.tv_benes.proofs.Bounds.{half_near}
-use Rattle.tv_benes.proofs.ColumnChain.{all_as, some_as, column_refused, upper_refused, lower_refused, level_given, level_values-zero}
+use Rattle.tv_benes.proofs.ColumnChain.{all_as, some_as, in_as, level_values-zero, level_values-suc}
 use Rattle.tv_benes.proofs.Moved.{second_bits}
 use Rattle.tv_benes.proofs.ThroughLaws.{above}
 use Rattle.tv_benes.specs.Items.{bit_at, item_of, depth_of}
 use Rattle.tv_benes.specs.Network.{column_values, level_values}
 use Rattle.tv_benes.specs.Through.{from, to_upper, to_lower}
-use Rattle.tv_core.proofs.ValuesChain.{gives_refused}
-use Rattle.tv_core.specs.Values.{GivesIn}
+use Rattle.tv_core.proofs.ValuesChain.{gives_refused, some_given, first_given, in_given}
 use Rattle.tv_benes.proofs.values.+fill_level.Goals as goal
 
 -- ---- the lowest level
@@ -17,12 +16,8 @@ fill_column-requires-clause-near g t c = let two : 2 * 1 ≡ 2 ^ suc c.args.h = 
 
 pub returns-then-h-eq0-clause-gives : goal.returns-then-h-eq0-clause-gives
 returns-then-h-eq0-clause-gives g t c =
-    let m = g.V.Values.giving in
-    let bit : ℕ → Bool = bit_at c.args.bits.now in
-    let item = item_of c.args.items.now in
     let column = rw c.innermost.ensures at c.fill_column.ensures.gives in
-    subst (λ l. GivesIn m c.args.v.now c.fill_column.new.v l c.fill_column.result)
-    (sym (level_values-zero c.args.net c.args.form c.args.h bit item c.if-h-eq0.true)) column
+    in_as g.V.Values.giving (sym (level_values-zero c.args.net c.args.form c.args.h _ _ c.if-h-eq0.true)) _ _ _ column
 
 -- ---- the levels above
 pub returns-in_err-fill_column-clause-gives : goal.returns-in_err-fill_column-clause-gives
@@ -31,8 +26,8 @@ returns-in_err-fill_column-clause-gives g t c =
     let bit : ℕ → Bool = bit_at c.args.bits.now in
     let item = item_of c.args.items.now in
     let column = some_as (ap (λ n. column_values c.args.form n bit item) c.long_power-n.ensures.is) c.in_err-fill_column.ensures.gives in
-    gives_refused _ _ _ _ _ c.from_residual.ensures.1 (column_refused g.V.Values.giving c.args.net c.args.form c.args.h (c.args.h - 1) bit item
-    below.level _ _ _ column)
+    gives_refused _ _ _ _ _ c.from_residual.ensures.1
+    (some_as (sym (level_values-suc c.args.net c.args.form c.args.h _ bit item below.level)) (first_given _ column))
 
 pub fill_level-requires : goal.fill_level-requires
 fill_level-requires g t c κs within =
@@ -50,8 +45,8 @@ returns-in_err-fill_level-clause-gives g t c =
     let column = all_as (ap (λ n. column_values c.args.form n bit item) n_is) c.in_ok-fill_column.ensures.gives in
     let upper = some_as (ap₂ (λ form b. level_values c.args.net form (c.args.h - 1) b (to_upper bit item)) c.other-inner.ensures (c.bits_from-upper_bits.ensures
     ∙ ap (λ n. from n bit) n_is)) c.in_err-fill_level.ensures.gives in
-    gives_refused _ _ _ _ _ c.from_residual-in_err-fill_level.ensures.1 (upper_refused g.V.Values.giving c.args.net c.args.form c.args.h (c.args.h - 1) bit item
-    below.level _ _ column _ _ upper)
+    gives_refused _ _ _ _ _ c.from_residual-in_err-fill_level.ensures.1
+    (some_as (sym (level_values-suc c.args.net c.args.form c.args.h _ bit item below.level)) (some_given _ column (first_given _ upper)))
 
 pub fill_level-requires-2 : goal.fill_level-requires-2
 fill_level-requires-2 g t c κs within =
@@ -71,8 +66,8 @@ returns-in_err-fill_level-2-clause-gives g t c =
     ∙ ap (λ n. from n bit) n_is)) c.in_ok-fill_level.ensures.gives in
     let lower = some_as (ap₂ (λ form b. level_values c.args.net form (c.args.h - 1) b (to_lower bit item)) c.other-inner.ensures
     (second_bits bit n_is c.level_switches-s.ensures.is c.bits_from-upper_bits.ensures c.bits_from.ensures)) c.in_err-fill_level-2.ensures.gives in
-    gives_refused _ _ _ _ _ c.from_residual-in_err-fill_level-2.ensures.1 (lower_refused g.V.Values.giving c.args.net c.args.form c.args.h (c.args.h - 1) bit item
-    below.level _ _ column _ upper _ _ lower)
+    gives_refused _ _ _ _ _ c.from_residual-in_err-fill_level-2.ensures.1
+    (some_as (sym (level_values-suc c.args.net c.args.form c.args.h _ bit item below.level)) (some_given _ column (some_given _ upper (first_given _ lower))))
 
 pub returns-clause-gives : goal.returns-clause-gives
 returns-clause-gives g t c =
@@ -85,5 +80,5 @@ returns-clause-gives g t c =
     ∙ ap (λ n. from n bit) n_is)) c.in_ok-fill_level.ensures.gives in
     let lower = all_as (ap₂ (λ form b. level_values c.args.net form (c.args.h - 1) b (to_lower bit item)) c.other-inner.ensures
     (second_bits bit n_is c.level_switches-s.ensures.is c.bits_from-upper_bits.ensures c.bits_from.ensures)) c.in_ok-fill_level-2.ensures.gives in
-    level_given g.V.Values.giving c.args.net c.args.form c.args.h (c.args.h - 1) bit item below.level _ _ column
-    _ upper _ _ c.fill_last.result lower c.fill_last.ensures.gives
+    in_as g.V.Values.giving (sym (level_values-suc c.args.net c.args.form c.args.h _ bit item below.level)) _ _ _
+    (in_given _ _ _ column (in_given _ _ _ upper (in_given _ _ _ lower c.fill_last.ensures.gives)))
