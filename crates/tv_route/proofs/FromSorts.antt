@@ -1,14 +1,15 @@
 -- A rearrangement of 0, 1, .. n - 1, as after a sort, is a permutation.
-use Rattle.std.proofs.Common.{◌≡◌, ◌≢◌, ◌⊎◌, ℕ, ◌<◌, ◌≤◌, ◌==◌, Bool, true, false, List, length, get_or, All, IsPermutation, inl, inr, refl, sym, ◌∙◌, subst}
+use Rattle.std.proofs.Common.{◌≡◌, ◌≢◌, ℕ, ◌<◌, ◌==◌, Bool, true, false, List, length, get_or, All, IsPermutation, refl, sym, ◌∙◌, subst}
 use Rattle.std.proofs.Common.{arith, eq-eqb}
 use Rattle.std.specs.Prelude.{slice_index}
 use Rattle.std.specs.List.{IsDistinct}
-use Rattle.std.proofs.lemmas.Bool.{cases_lt, cases_eq, eqb-true, eqb-false, ne_eqb}
+use Rattle.std.proofs.lemmas.Bool.{eqb-true, eqb-false, ne_eqb}
 use Rattle.std.proofs.lemmas.List.{get_or_default}
 use Rattle.std.proofs.lemmas.List.Sorted.{All-permutation, Contains-permutation, length_permutation}
 use Rattle.std.proofs.lemmas.Map.Keys.{apart_from_distinct, IsDistinct-from_apart, IsDistinct-IsPermutation}
 use Rattle.tv_benes.proofs.Permutations.{places-length, places-at}
 use Rattle.tv_benes.specs.Through.{places}
+use Rattle.tv_route.proofs.Seen.{permutes_by}
 use Rattle.tv_route.specs.Permutations.{Permutes}
 
 same : ℕ → ℕ → Bool
@@ -22,23 +23,9 @@ flips a b = by_test (a == b) refl
     by_test true e = e ∙ sym (eq-eqb b a (sym (eqb-true a b e)))
     by_test false e = e ∙ sym (ne_eqb b a (λ f. eqb-false a b e (sym f)))
 
-record IsFound (n : ℕ) (p : List ℕ) (x : ℕ) : Type 0 where
-  place : ℕ
-  fits : x < n → (place < n) × (slice_index p place ≡ x)
-
 pub permutes_of : (n : ℕ) (p : List ℕ) → IsPermutation (places n (λ i. i)) p → Permutes n p
 unfolding same
-permutes_of n p moved = record {
-  as_long = long;
-  below = λ i h. small i 0 (omega (arith, long));
-  back = λ x. (found x (cases_lt x n)).place;
-  back_below = λ x h. ((found x (cases_lt x n)).fits h).0;
-  there = λ x h. ((found x (cases_lt x n)).fits h).1;
-  once = λ i j hi hj e. elim (cases_lt i j) [
-    | inl less ↦ absurd (apart i j less (omega (arith, long)) e)
-    | inr more ↦ elim (cases_eq i j) [ inl equal ↦ equal | inr other ↦ absurd (apart j i (omega arith) (omega (arith, long)) (sym e)) ]
-  ];
-}
+permutes_of n p moved = permutes_by n p long (λ i h. small i 0 (omega (arith, long))) there (λ i j h k. apart i j h (omega (arith, long)))
   where
     long : length p ≡ n
     long = length_permutation (places n (λ i. i)) p moved ∙ places-length n (λ i. i)
@@ -56,9 +43,8 @@ permutes_of n p moved = record {
         let after = IsDistinct-IsPermutation same flips (places n (λ i. i)) p moved first in
         eqb-false (slice_index p i) (slice_index p j) (apart_from_distinct same p i j 0 after h k)
 
-    found : (x : ℕ) → ((x < n) ⊎ (n ≤ x)) → IsFound n p x
-    found x (inl h) =
+    there : (x : ℕ) → x < n → (k : ℕ) × (k < n) × (slice_index p k ≡ x)
+    there x h =
         let l = places-length n (λ (i : ℕ). i) in
         let c = Contains-permutation (places n (λ i. i)) p x moved (x, omega arith, places-at n x (λ i. i) x h) in
-        record { place = c.0; fits = λ k. (omega (arith, c.1, long), get_or_default p c.0 0 x (omega (arith, c.1)) ∙ c.2) }
-    found x (inr h) = record { place = 0; fits = λ k. absurd (omega arith) }
+        (c.0, omega (arith, c.1, long), get_or_default p c.0 0 x (omega (arith, c.1)) ∙ c.2)

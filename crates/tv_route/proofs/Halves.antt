@@ -2,7 +2,7 @@
 use Rattle.std.proofs.Common.{◌≡◌, ◌≢◌, ℕ, zero, suc, ◌+◌, ◌*◌, ◌/◌, ◌%◌, ◌<◌, ◌≤◌, ◌==◌, inl, inr, Bool, true, false, not, if◌then◌else◌, List, length}
 use Rattle.std.proofs.Common.{get_or, set, replicate, Some, None, is_none, refl, sym, ◌∙◌, ap, subst, arith, get_or-set_same, get_or-set_other}
 use Rattle.std.specs.Prelude.{slice_index, unwrap_or}
-use Rattle.std.proofs.lemmas.Bool.{cases_eq, cases_lt}
+use Rattle.std.proofs.lemmas.Bool.{cases_eq, cases_lt, cond_both}
 use Rattle.std.proofs.lemmas.List.{get_or-replicate, length-replicate, get_or_past}
 use Rattle.std.proofs.lemmas.List.Sums.{count_by-le-length}
 use Rattle.tv_route.proofs.PairLaws.{other_pairs, other-even, partners_pair, partner_of}
@@ -25,10 +25,6 @@ set_keeps marks i b z s e = elim (cases_eq z i) [
   | inr apart ↦ s (sym (get_or-set_other marks i z (Some b) None apart) ∙ e)
 ]
 
-either_settled : (c : Bool) (x y : List Mark) (z : ℕ) → IsSettled x z → IsSettled y z → IsSettled (if c then x else y) z
-either_settled true x y z a b = a
-either_settled false x y z a b = b
-
 walk_keeps : (partner : List ℕ) (steps start x : ℕ) (marks : List Mark) (z : ℕ) → IsSettled marks z → IsSettled (walk partner steps start x marks) z
 unfolding walk
 walk_keeps partner zero start x marks z s = s
@@ -36,7 +32,8 @@ walk_keeps partner (suc steps) start x marks z s =
     let y = slice_index partner x in
     let more = set (set marks x (Some false)) y (Some true) in
     let kept = set_keeps (set marks x (Some false)) y true z (set_keeps marks x false z s) in
-    either_settled (other y == start) more (walk partner steps start (other y) more) z kept (walk_keeps partner steps start (other y) more z kept)
+    cond_both (other y == start) more (walk partner steps start (other y) more) (λ l. IsSettled l z) (λ e. kept)
+    (λ e. walk_keeps partner steps start (other y) more z kept)
 
 walk_settles : (partner : List ℕ) (steps start x : ℕ) (marks : List Mark) → x < length marks → 0 < steps → IsSettled (walk partner steps start x marks) x
 unfolding walk
@@ -46,7 +43,8 @@ walk_settles partner (suc steps) start x marks within some =
     let more = set (set marks x (Some false)) y (Some true) in
     let first : IsSettled (set marks x (Some false)) x = λ e. some_none false (sym (get_or-set_same marks x (Some false) None within) ∙ e) in
     let kept = set_keeps (set marks x (Some false)) y true x first in
-    either_settled (other y == start) more (walk partner steps start (other y) more) x kept (walk_keeps partner steps start (other y) more x kept)
+    cond_both (other y == start) more (walk partner steps start (other y) more) (λ l. IsSettled l x) (λ e. kept)
+    (λ e. walk_keeps partner steps start (other y) more x kept)
 
 module _ (n : ℕ) (p : List ℕ) (perm : Permutes (2 * n) p) where
   abbrev σ : ℕ → ℕ

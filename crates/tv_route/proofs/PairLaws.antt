@@ -26,7 +26,7 @@ other_cases x = elim (cases_eq (x % 2) 0) [
 ]
 
 pub other_below : (n x : ℕ) → x < 2 * n → other x < 2 * n
-other_below n x h = elim (other_cases x) [ inl e ↦ omega (arith, e.0, e.1) | inr e ↦ omega (arith, e.0, e.1) ]
+other_below n x h = omega (arith, other_cases x)
 
 other_back : (x : ℕ) → other (other x) ≡ x
 other_back x = elim (other_cases x) [
@@ -35,7 +35,7 @@ other_back x = elim (other_cases x) [
 ]
 
 other_moves : (x : ℕ) → other x ≢ x
-other_moves x same = elim (other_cases x) [ inl e ↦ omega (arith, e.0, e.1) | inr e ↦ omega (arith, e.0, e.1) ]
+other_moves x same = omega (arith, other_cases x)
 
 pub other_pairs : (n : ℕ) → IsPairing (2 * n) other
 other_pairs n = record { below = other_below n; back = λ x h. other_back x; moves = λ x h. other_moves x }

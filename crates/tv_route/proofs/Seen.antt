@@ -4,6 +4,7 @@ use Rattle.std.proofs.Common.{inl, inr, sum_by, refl, sym, ◌∙◌, ap, subst,
 use Rattle.std.specs.Prelude.{slice_index}
 use Rattle.std.proofs.lemmas.Bool.{cases_eq, cases_lt}
 use Rattle.std.proofs.lemmas.List.{get_or-replicate, length-replicate}
+use Rattle.std.proofs.lemmas.List.Folds.{sum_by-replicate}
 use Rattle.std.proofs.lemmas.List.Sums.{sum_by-set, sum_by-cons}
 use Rattle.tv_route.specs.Permutations.{Permutes}
 use Rattle.tv_word.specs.Word.{flag_of}
@@ -17,10 +18,6 @@ pub record IsSeen (p : List ℕ) (i : ℕ) (seen : List Bool) : Type 0 where
   pub once : (j k : ℕ) → j < k → k < i → slice_index p j ≢ slice_index p k
   pub count : sum_by flag_of seen ≡ i
 
-none_count : (n : ℕ) → sum_by flag_of (replicate n false) ≡ 0
-none_count zero = refl
-none_count (suc n) = omega (arith, sum_by-cons flag_of false (replicate n false), none_count n)
-
 pub seen_none : (p : List ℕ) (seen : List Bool) → seen ≡ replicate (length p) false → IsSeen p 0 seen
 seen_none p seen is = record {
   long = ap length is ∙ length-replicate (length p) false;
@@ -28,7 +25,7 @@ seen_none p seen is = record {
   marked = λ k h. absurd (omega arith);
   only = λ x h e. absurd (apart (sym (ap (λ l. get_or l x false) is ∙ get_or-replicate (length p) x false false h) ∙ e));
   once = λ j k h l. absurd (omega arith);
-  count = ap (λ l. sum_by flag_of l) is ∙ none_count (length p);
+  count = ap (λ l. sum_by flag_of l) is ∙ sum_by-replicate flag_of (length p) false ∙ omega arith;
 }
   where
     apart : false ≡ true → ⊥
@@ -77,23 +74,31 @@ all_seen (true ∷ seen) e zero h = refl
 all_seen (true ∷ seen) e (suc x) h = all_seen seen (omega (arith, sum_by-cons flag_of true seen, e)) x (omega arith)
 all_seen (false ∷ seen) e x h = absurd (omega (arith, sum_by-cons flag_of false seen, e, seen_le seen))
 
-record IsFound (p : List ℕ) (x : ℕ) : Type 0 where
+-- a number that stands somewhere, if it is below n
+record IsFound (n : ℕ) (p : List ℕ) (x : ℕ) : Type 0 where
   place : ℕ
-  fits : x < length p → (place < length p) × (slice_index p place ≡ x)
+  fits : x < n → (place < n) × (slice_index p place ≡ x)
 
-pub all_permute : (p : List ℕ) (seen : List Bool) → IsSeen p (length p) seen → Permutes (length p) p
-all_permute p seen s = record {
-  as_long = refl;
-  below = s.below;
-  back = λ x. (found x (cases_lt x (length p))).place;
-  back_below = λ x h. ((found x (cases_lt x (length p))).fits h).0;
-  there = λ x h. ((found x (cases_lt x (length p))).fits h).1;
+-- n different numbers below n, each of which stands somewhere
+pub permutes_by : (n : ℕ) (p : List ℕ) → length p ≡ n → ((i : ℕ) → i < n → slice_index p i < n)
+    → ((x : ℕ) → x < n → (k : ℕ) × (k < n) × (slice_index p k ≡ x))
+    → ((i j : ℕ) → i < j → j < n → slice_index p i ≢ slice_index p j) → Permutes n p
+permutes_by n p long below there apart = record {
+  as_long = long;
+  below = below;
+  back = λ x. (found x (cases_lt x n)).place;
+  back_below = λ x h. ((found x (cases_lt x n)).fits h).0;
+  there = λ x h. ((found x (cases_lt x n)).fits h).1;
   once = λ i j hi hj e. elim (cases_lt i j) [
-    | inl less ↦ absurd (s.once i j less hj e)
-    | inr more ↦ elim (cases_eq i j) [ inl same ↦ same | inr apart ↦ absurd (s.once j i (omega arith) hi (sym e)) ]
+    | inl less ↦ absurd (apart i j less hj e)
+    | inr more ↦ elim (cases_eq i j) [ inl same ↦ same | inr other ↦ absurd (apart j i (omega arith) hi (sym e)) ]
   ];
 }
   where
-    found : (x : ℕ) → ((x < length p) ⊎ (length p ≤ x)) → IsFound p x
-    found x (inl h) = let k = s.only x h (all_seen seen (s.count ∙ sym s.long) x (omega (arith, s.long))) in record { place = k.0; fits = λ l. (k.1, k.2) }
+    found : (x : ℕ) → ((x < n) ⊎ (n ≤ x)) → IsFound n p x
+    found x (inl h) = let k = there x h in record { place = k.0; fits = λ l. (k.1, k.2) }
     found x (inr h) = record { place = 0; fits = λ l. absurd (omega arith) }
+
+pub all_permute : (p : List ℕ) (seen : List Bool) → IsSeen p (length p) seen → Permutes (length p) p
+all_permute p seen s =
+    permutes_by (length p) p refl s.below (λ x h. s.only x h (all_seen seen (s.count ∙ sym s.long) x (omega (arith, s.long)))) (λ i j h k. s.once i j h k)

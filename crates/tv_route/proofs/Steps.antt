@@ -37,17 +37,12 @@ pub walks_none : (partner : List ℕ) (n : ℕ) (marks : List Mark) → walks pa
 unfolding walks
 walks_none partner n marks = refl
 
-walks_by : (partner : List ℕ) (n j : ℕ) (marks : List Mark)
-    → walks partner n (j + 1) marks ≡ (if is_none (get_or (walks partner n j marks) (2 * j) None) then walk partner n (2 * j) (2 * j)
-    (walks partner n j marks) else walks partner n j marks)
-unfolding walks
-walks_by partner n j marks = ap (λ k. walks partner n k marks) (add-one j)
-
 pub walks_more : (partner : List ℕ) (n j : ℕ) (marks before : List Mark) (b : Bool) → before ≡ walks partner n j marks
     → is_none (get_or before (2 * j) None) ≡ b
     → walks partner n (j + 1) marks ≡ (if b then walk partner n (2 * j) (2 * j) before else before)
+unfolding walks
 walks_more partner n j marks before b is free =
-    walks_by partner n j marks
+    ap (λ k. walks partner n k marks) (add-one j)
     ∙ ap (λ (m : List Mark). if is_none (get_or m (2 * j) None) then walk partner n (2 * j) (2 * j) m else m) (sym is)
     ∙ ap (λ c. if c then walk partner n (2 * j) (2 * j) before else before) free
 

@@ -3,11 +3,10 @@
 use Rattle.std.proofs.Common.{◌≡◌, ◌≢◌, ℕ, zero, suc, ◌+◌, ◌*◌, ◌<◌, ◌≤◌, ◌==◌, ◌⊎◌, inl, inr, Bool, true, false, not, if◌then◌else◌, List, length, get_or}
 use Rattle.std.proofs.Common.{set, Some, None, is_none, sum_by, refl, sym, ◌∙◌, ap, subst, arith, length-set, get_or-set_same, get_or-set_other, eq-eqb}
 use Rattle.std.specs.Prelude.{slice_index}
-use Rattle.std.proofs.lemmas.Bool.{cases_eq}
+use Rattle.std.proofs.lemmas.Bool.{cases_eq, cond_both, eqb-true, eqb-false}
 use Rattle.std.proofs.lemmas.List.Sums.{sum_by-set, get_or-le-sum_by}
 use Rattle.tv_route.proofs.PairLaws.{IsPairing}
 use Rattle.tv_route.specs.Route.{Mark, other, walk}
-use Rattle.tv_benes.proofs.Ends.{if_apart}
 
 -- how much of an input is not settled
 abbrev pub open_mark : Mark → ℕ
@@ -264,12 +263,9 @@ module _ (m : ℕ) (partner : List ℕ) (sp : IsPairing m (λ x. slice_index par
       let y = slice_index partner x in
       let more = settled marks x y in
       let gone = after-left m σ other sp tp start x marks u in
-      elim (cases_eq (other y) start) [
-        | inl round ↦ subst (IsClosed m σ other) (sym (if_same (other y) start more (walk partner steps start (other y) more) round))
-            (closes m σ other sp tp start x marks u round)
-        | inr on ↦ subst (IsClosed m σ other) (sym (if_apart (other y) start more (walk partner steps start (other y) more) on))
-            (walk_closes steps start (other y) more (goes_on m σ other sp tp start x marks u on) (omega (arith, gone)))
-      ]
+      cond_both (other y == start) more (walk partner steps start (other y) more) (IsClosed m σ other)
+      (λ e. closes m σ other sp tp start x marks u (eqb-true (other y) start e))
+      (λ e. walk_closes steps start (other y) more (goes_on m σ other sp tp start x marks u (eqb-false (other y) start e)) (omega (arith, gone)))
 
   -- what is settled stays as it is
   pub walk_still : (steps start x : ℕ) (marks : List Mark) → IsUnderway m σ other start x marks → (z : ℕ) (b : Bool) → get_or marks z None ≡ Some b
@@ -280,11 +276,8 @@ module _ (m : ℕ) (partner : List ℕ) (sp : IsPairing m (λ x. slice_index par
       let y = slice_index partner x in
       let more = settled marks x y in
       let kept = still m σ other sp tp start x marks u z b e in
-      elim (cases_eq (other y) start) [
-        | inl round ↦ ap (λ (l : List Mark). get_or l z None) (if_same (other y) start more (walk partner steps start (other y) more) round) ∙ kept
-        | inr on ↦ ap (λ (l : List Mark). get_or l z None) (if_apart (other y) start more (walk partner steps start (other y) more) on)
-            ∙ walk_still steps start (other y) more (goes_on m σ other sp tp start x marks u on) z b kept
-      ]
+      cond_both (other y == start) more (walk partner steps start (other y) more) (λ l. get_or l z None ≡ Some b) (λ e. kept)
+      (λ e. walk_still steps start (other y) more (goes_on m σ other sp tp start x marks u (eqb-false (other y) start e)) z b kept)
 
   -- and where the walk begins goes up
   pub walk_begins : (steps start x : ℕ) (marks : List Mark) → IsUnderway m σ other start x marks → 0 < steps
@@ -295,8 +288,5 @@ module _ (m : ℕ) (partner : List ℕ) (sp : IsPairing m (λ x. slice_index par
       let y = slice_index partner x in
       let more = settled marks x y in
       let first = here_x m σ other sp tp start x marks u in
-      elim (cases_eq (other y) start) [
-        | inl round ↦ ap (λ (l : List Mark). get_or l x None) (if_same (other y) start more (walk partner steps start (other y) more) round) ∙ first
-        | inr on ↦ ap (λ (l : List Mark). get_or l x None) (if_apart (other y) start more (walk partner steps start (other y) more) on)
-            ∙ walk_still steps start (other y) more (goes_on m σ other sp tp start x marks u on) x false first
-      ]
+      cond_both (other y == start) more (walk partner steps start (other y) more) (λ l. get_or l x None ≡ Some false) (λ e. first)
+      (λ e. walk_still steps start (other y) more (goes_on m σ other sp tp start x marks u (eqb-false (other y) start e)) x false first)

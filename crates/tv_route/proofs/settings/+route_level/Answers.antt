@@ -1,5 +1,6 @@
 use Rattle.std.proofs.Common.{ℕ, suc, ◌+◌, ◌-◌, ◌*◌, ◌/◌, ◌^◌, List, ◌++◌, ap, ap₂, subst, sym, ◌∙◌, arith}
 use Rattle.std.specs.Prelude.{slice_index}
+use Rattle.std.proofs.lemmas.Nat.{pow_pos}
 use Rattle.tv_benes.proofs.ThroughLaws.{twice, above}
 use Rattle.tv_benes.specs.Through.{missing, places}
 use Rattle.tv_route.proofs.RouteLaws.{upper_permutes, lower_permutes}
@@ -15,14 +16,10 @@ pub halves-requires-clause-permutes : goal.halves-requires-clause-permutes
 halves-requires-clause-permutes t c = subst (λ k. Permutes k c.args.p.now) (twice c.args.h ∙ ap (λ k. 2 * k) (sym c.power-n.ensures)) c.requires.permutes
 
 pub halves-requires-clause-some : goal.halves-requires-clause-some
-halves-requires-clause-some t c =
-    let below = above c.args.net c.args.h c.if-h-eq0.false in
-    omega (arith, below.some, below.size, c.power-n.ensures)
+halves-requires-clause-some t c = omega (arith, pow_pos c.args.h, c.power-n.ensures)
 
 pub push_last-requires-clause-some : goal.push_last-requires-clause-some
-push_last-requires-clause-some t c =
-    let below = above c.args.net c.args.h c.if-h-eq0.false in
-    omega (arith, below.some, below.size, c.power-n.ensures)
+push_last-requires-clause-some t c = omega (arith, pow_pos c.args.h, c.power-n.ensures)
 
 pub route_level-requires : goal.route_level-requires
 route_level-requires t c =
