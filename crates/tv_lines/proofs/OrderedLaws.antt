@@ -21,14 +21,13 @@ record Below (p l : Line) : Type 0 where
 below_next : {p l : Line} → Follows p l → Below p l
 below_next h = omega arith
 
-below_trans : {p q l : Line} → Below p q → Below q l → Below p l
-below_trans h k = omega arith
-
 rises : (ls : List Line) → Ordered ls → (i n : ℕ) (d : Line) → i + suc n < length ls → Below (get_or ls i d) (get_or ls (i + suc n) d)
 rises ls o i zero d h = below_next (o.follows i d (omega arith))
 rises ls o i (suc n) d h =
     let e : i + suc (suc n) ≡ (i + suc n) + 1 = omega arith in
-    rw e (below_trans (rises ls o i n d (omega arith)) (below_next (o.follows (i + suc n) d (omega arith))))
+    let before = rises ls o i n d (omega arith) in
+    let next = below_next (o.follows (i + suc n) d (omega arith)) in
+    rw e (omega (arith, before, next))
 
 rises_far : (ls : List Line) → Ordered ls → (i j : ℕ) (d : Line) → i < j → j < length ls → Below (get_or ls i d) (get_or ls j d)
 rises_far ls o i j d h k =

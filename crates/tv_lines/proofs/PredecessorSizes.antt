@@ -32,5 +32,6 @@ follows_sizes = record {
   fills = λ m line item p l next. omega (arith, follows_next m line item next, follows_many m p l);
   in_field = λ m p l range. InField-append (bits_values (reach_between p l) m) (excess_between p l ∷ []) (bits_in_field (reach_between p l) m)
       (InField-cons (excess_between p l) []
-      (cond_both (p.cell == l.cell) (2 ^ 32 * (l.time - p.time) - l.old) 0 (λ e. e < P) (λ same. omega (arith, range.time)) (λ apart. omega arith)) InField-none);
+      (cond_both (p.cell == l.cell) (2 ^ 32 * (l.time - p.time) - l.old) 0 (λ e. e < P)
+      (λ same. omega (arith, range.time)) (λ apart. omega arith)) InField-none);
 }

@@ -1,5 +1,5 @@
 -- The order of two lines by their prefixes.
-use Rattle.std.proofs.Common.{◌≡◌, ◌≢◌, ◌⊎◌, inl, inr, ℕ, zero, suc, ◌+◌, ◌-◌, ◌*◌, ◌/◌, ◌%◌, ◌^◌, ◌<◌, ◌≤◌, if◌then◌else◌, List, ◌∷◌, refl, sym, ◌∙◌, ap}
+use Rattle.std.proofs.Common.{◌≡◌, Bool, ◌⊎◌, inl, inr, ℕ, zero, suc, ◌+◌, ◌-◌, ◌*◌, ◌/◌, ◌%◌, ◌^◌, ◌<◌, ◌≤◌, if◌then◌else◌, List, ◌∷◌, refl, sym, ◌∙◌, ap}
 use Rattle.std.proofs.Common.{ap₂, subst, arith, mod-lt, mul-zero, div-one}
 use Rattle.std.specs.Prelude.{slice_index}
 use Rattle.std.proofs.Math.Nat.{div-le_self}
@@ -73,12 +73,6 @@ module _ (l m : Line) (cl : l.cell < 2 ^ 31) (cm : m.cell < 2 ^ 31) (tl : l.time
   prefix_rises (suc (suc (suc (suc (suc j))))) s h some most e = absurd (omega arith)
 
 -- ---- the other way round
-pub size_same : (l m : Line) → l.cell ≡ m.cell → size l m ≡ first_difference 11 2 m.time l.time
-size_same l m same = ap (λ b. if b then first_difference 11 2 m.time l.time else first_difference 11 3 m.cell l.cell) (eq-eqb l.cell m.cell same)
-
-pub size_apart : (l m : Line) → l.cell ≢ m.cell → size l m ≡ first_difference 11 3 m.cell l.cell
-size_apart l m apart = ap (λ b. if b then first_difference 11 2 m.time l.time else first_difference 11 3 m.cell l.cell) (ne_eqb l.cell m.cell apart)
-
 -- where cells are the same the keys are apart as the times are
 same_keys : (k c d t s : ℕ) → c ≡ d → c < P → t < P → t ≡ s → (k * ((d + (P - c)) % P) + t) % P ≡ s
 same_keys k c d t s same small_c small_t is =
@@ -104,16 +98,19 @@ key_place l m zero h = refl
 key_place l m (suc zero) h = refl
 key_place l m (suc (suc j)) h = absurd (omega arith)
 
-module _ (l m : Line) (cl : l.cell < 2 ^ 31) (cm : m.cell < 2 ^ 31) (tl : l.time < 2 ^ 20) (tm : m.time < 2 ^ 20) where
+module _ (l m : Line) (cl : l.cell < 2 ^ 31) (cm : m.cell < 2 ^ 31) (tm : m.time < 2 ^ 20) where
+  abbrev size_by : Bool → ℕ
+  size_by same = if same then first_difference 11 2 m.time l.time else first_difference 11 3 m.cell l.cell
+
   rising_size : Rises l m → IsSize l m
   rising_size (inl up) =
-      let e = size_apart l m (omega arith) in
+      let e : size l m ≡ first_difference 11 3 m.cell l.cell = ap size_by (ne_eqb l.cell m.cell (omega arith)) in
       let some = first_difference-some 31 11 3 m.cell l.cell (omega arith) (omega arith) cm up in
       let most = first_difference-below 31 11 3 m.cell l.cell (omega arith) (omega arith) cm up in
       let i = IsPrefixDifference-first 31 11 3 m.cell l.cell (omega arith) (omega arith) cm up in
       record { some = omega arith; most = omega arith; place = i.chunk; within = omega (arith, i.within); is = cell_place l m i.chunk i.within ∙ i.is ∙ sym e }
   rising_size (inr even) =
-      let e = size_same l m even.0 in
+      let e : size l m ≡ first_difference 11 2 m.time l.time = ap size_by (eq-eqb l.cell m.cell even.0) in
       let some = first_difference-some 20 11 2 m.time l.time (omega arith) (omega arith) tm even.1 in
       let most = first_difference-below 20 11 2 m.time l.time (omega arith) (omega arith) tm even.1 in
       let i = IsPrefixDifference-first 20 11 2 m.time l.time (omega arith) (omega arith) tm even.1 in
@@ -187,7 +184,7 @@ module _ (z : List ℕ) (before after : LineBits) (l m : Line) (b : HasWidths be
       (slice_index z s) found.1 some most e
 
   pub is_size : Rises l m → IsSize l m
-  is_size = rising_size l m (HasBits-below sl.cell) (HasBits-below sm.cell) (HasBits-below sl.time) (HasBits-below sm.time)
+  is_size = rising_size l m (HasBits-below sl.cell) (HasBits-below sm.cell) (HasBits-below sm.time)
 
   pub rises_complete : (apart s next : ℕ) → slice_index z apart ≡ cells_apart l m → slice_index z s ≡ size l m → Rises l m
       → HasFrom z next (products_values (factor_in l m) 5) → Meets z (rises_of apart s before after next).list

@@ -46,9 +46,11 @@ sorted_pair_fill = record {
       let s : ℕ = size l m in
       let products : List ℕ = products_values (factor_in l m) 5 in
       let small = cond_both (l.cell == m.cell) (first_difference 11 2 m.time l.time) (first_difference 11 3 m.cell l.cell) (λ v. v < P)
-      (λ same. omega (arith, first_difference-le 11 2 m.time l.time, range.time)) (λ apart. omega (arith, first_difference-le 11 3 m.cell l.cell, range.cell)) in
+      (λ same. omega (arith, first_difference-le 11 2 m.time l.time, range.time)) (λ apart.
+      omega (arith, first_difference-le 11 3 m.cell l.cell, range.cell)) in
       InField-cons x (zero_values x ++ (size_values s ++ products)) (residue_below (m.cell + (P - l.cell)))
       (InField-append (zero_values x) (size_values s ++ products) (zero_in_field x)
-      (InField-append (size_values s) products (InField-append (bits_values (s - 1) 11) (s ∷ []) (bits_in_field (s - 1) 11) (InField-cons s [] small InField-none))
+      (InField-append (size_values s) products
+      (InField-append (bits_values (s - 1) 11) (s ∷ []) (bits_in_field (s - 1) 11) (InField-cons s [] small InField-none))
       (products_in_field (factor_in l m) 5)));
 }

@@ -16,7 +16,7 @@ pub loop-i-init : goal.loop-i-init
 loop-i-init g c =
     let factor : ℕ → ℕ = factor_in (line_of_numbers c.args.before.now) (line_of_numbers c.args.after.now) in
     record {
-      gives = gives_no_turn g.V.Values.giving (λ i. product_below (i + 2) factor % P) _;
+      gives = gives_no_turn _ _ _;
       whole = c.requires;
       product = c.sub-product.ensures ∙ ap₂ (λ x s. (x + (P - s)) % P) c.prefix_less_in.ensures c.size-size.ensures ∙ first factor (mod-lt _ (omega arith));
     }

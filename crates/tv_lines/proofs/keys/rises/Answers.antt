@@ -8,22 +8,19 @@ use Rattle.tv_lines.specs.SortedPair.{prefix_less, rises_of}
 use Rattle.tv_lines.proofs.keys.rises.Goals as goal
 
 pub loop-i-init : goal.loop-i-init
-loop-i-init g c =
-    let factor : ℕ → Combination = λ j. less (prefix_less c.args.apart c.args.before.now c.args.after.now j) (wire c.args.size) in
-    record {
-      puts = no_product g.S.Sink.meaning factor c.args.s.now c.set_key_factor.new.lc c.set_key_factor.ensures.terms;
-      grows = record { wires = omega arith; constraints = omega arith; whole = c.requires.room.whole };
-      made = omega (arith, c.set_key_factor.ensures.top, c.requires);
-    }
+loop-i-init g c = record {
+  puts = no_product _ _ _ _ c.set_key_factor.ensures.terms;
+  grows = record { wires = omega arith; constraints = omega arith; whole = c.requires.room.whole };
+  made = omega (arith, c.set_key_factor.ensures.top, c.requires);
+}
 
 pub loop-i-preserved : goal.loop-i-preserved
 loop-i-preserved g c =
-    let factor : ℕ → Combination = λ j. less (prefix_less c.args.apart c.args.before.now c.args.after.now j) (wire c.args.size) in
     let grown = c.in_ok-w.ensures.grows in
     let product = rw c.set_key_factor-in-loop-i.ensures.terms at c.in_ok-w.ensures.puts in
     let made = c.set_wire.ensures.terms in
     record {
-      puts = one_product g.S.Sink.meaning factor c.loop-i.i _ _ _ _ _ _ c.loop-i.invariant.puts product made;
+      puts = one_product _ _ _ _ _ _ _ _ _ c.loop-i.invariant.puts product made;
       grows = record { wires = omega (arith, grown.wires); constraints = omega (arith, grown.constraints); whole = grown.whole };
       made = omega (arith, ap top made, c.in_ok-w.ensures.below);
     }
@@ -31,11 +28,9 @@ loop-i-preserved g c =
 pub returns-in_err-w-clause-puts : goal.returns-in_err-w-clause-puts
 unfolding rises_of
 returns-in_err-w-clause-puts g c =
-    let m = g.S.Sink.meaning in
-    let factor : ℕ → Combination = λ j. less (prefix_less c.args.apart c.args.before.now c.args.after.now j) (wire c.args.size) in
     let product = rw c.set_key_factor-in-loop-i.ensures.terms at c.in_err-w.ensures.puts in
     refused _ _ _ _ _ c.from_residual.ensures.1
-    (product_refused m factor 5 c.loop-i.i _ _ _ _ _ (omega arith) c.loop-i.invariant.puts product)
+    (product_refused _ _ _ c.loop-i.i _ _ _ _ _ (omega arith) c.loop-i.invariant.puts product)
 
 pub returns-clause-puts : goal.returns-clause-puts
 unfolding rises_of
