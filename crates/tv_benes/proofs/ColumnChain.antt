@@ -1,5 +1,5 @@
 -- Columns of values, given one after another.
-use Rattle.std.proofs.Common.{◌≡◌, ℕ, zero, suc, ◌+◌, ◌-◌, ◌*◌, ◌^◌, ◌<◌, Bool, List, ◌++◌, refl, sym, ◌∙◌, ap, ap₂, subst, arith, add-one, Result}
+use Rattle.std.proofs.Common.{◌≡◌, ℕ, zero, suc, ◌+◌, ◌-◌, ◌*◌, ◌^◌, ◌<◌, Bool, List, ◌++◌, sym, ◌∙◌, ap, ap₂, subst, arith, add-one, Result}
 use Rattle.tv_core.proofs.ValuesChain.{gives_then, gives_then_refused, gives_refused_then, gives_nothing}
 use Rattle.tv_core.specs.Values.{ValuesMeaning, GivesAll, GivesSome, GivesIn}
 use Rattle.tv_core.specs.declared.lines.PairNum.{PairNum}
@@ -44,25 +44,19 @@ module _ {V : Type 0} (m : ValuesMeaning V) (form : Form) (bit : ℕ → Bool) (
 pub level_values-zero : (net : Net) (form : Form) (h : ℕ) (bit : ℕ → Bool) (item : ℕ → PairNum) → h ≡ 0
     → level_values net form h bit item ≡ column_values (innermost net form) 1 bit item
 unfolding level_values
-level_values-zero net form h bit item none = ap (λ k. level_values net form k bit item) none ∙ by
-  where
-    by : level_values net form 0 bit item ≡ column_values (innermost net form) 1 bit item
-    by = refl
+level_values-zero net form h bit item none = ap (λ k. level_values net form k bit item) none
 
 pub level_values-suc : (net : Net) (form : Form) (h k : ℕ) (bit : ℕ → Bool) (item : ℕ → PairNum) → h ≡ suc k → level_values net form h bit item
     ≡ column_values form (2 ^ h) bit item
     ++ (level_values net (other form) k (from (2 ^ h) bit) (to_upper bit item)
     ++ (level_values net (other form) k (from (2 ^ h + switches net k) bit) (to_lower bit item) ++ last_column_values net form k bit item))
 unfolding level_values
-level_values-suc net form h k bit item level = ap (λ l. level_values net form l bit item) level ∙ by ∙ ap there (sym level)
+level_values-suc net form h k bit item level = ap (λ l. level_values net form l bit item) level ∙ ap there (sym level)
   where
     there : ℕ → List ℕ
     there l = column_values form (2 ^ l) bit item
         ++ (level_values net (other form) k (from (2 ^ l) bit) (to_upper bit item)
         ++ (level_values net (other form) k (from (2 ^ l + switches net k) bit) (to_lower bit item) ++ last_column_values net form k bit item))
-
-    by : level_values net form (suc k) bit item ≡ there (suc k)
-    by = refl
 
 pub values_as : (form : Form) (b b' : Bool) (x x' y y' : PairNum) → b ≡ b' → x ≡ x' → y ≡ y' → switch_values form b x y ≡ switch_values form b' x' y'
 values_as form b b' x x' y y' p q r = ap (λ c. switch_values form c x y) p ∙ ap₂ (λ m n. switch_values form b' m n) q r

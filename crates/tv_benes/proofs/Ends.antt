@@ -1,9 +1,9 @@
 -- What the definitions of places evaluate to: the items of the networks within, the bits, and the outputs.
-use Rattle.std.proofs.Common.{◌≡◌, ◌≢◌, ℕ, ◌+◌, ◌-◌, ◌*◌, ◌/◌, ◌%◌, ◌<◌, ◌≤◌, ◌==◌, Bool, true, false, if◌then◌else◌, refl, sym, ◌∙◌, ap, ap₂}
+use Rattle.std.proofs.Common.{◌≡◌, ◌≢◌, ℕ, ◌+◌, ◌-◌, ◌*◌, ◌/◌, ◌%◌, ◌<◌, ◌≤◌, ◌==◌, Bool, false, if◌then◌else◌, refl, sym, ◌∙◌, ap, ap₂}
 use Rattle.std.proofs.Common.{arith, inl, inr}
 use Rattle.std.proofs.lemmas.Bool.{cases_eq, lt-ltb, le-ltb}
 use Rattle.std.proofs.lemmas.Bool.Decides.{nat_tests}
-use Rattle.tv_benes.proofs.ThroughLaws.{alternating-same}
+use Rattle.tv_benes.proofs.ThroughLaws.{alternating-same, alternating_map}
 use Rattle.tv_benes.specs.Levels.{other, innermost}
 use Rattle.tv_benes.specs.Places.{wires_at, fifth, row, switch_wire, first_of, second_of, ItemsOf, item_in, to_upper_of, to_lower_of, output}
 use Rattle.tv_benes.specs.Places.{output_wire, column_outputs, sum_at, EndsOf, end_in, two_ends, last_ends}
@@ -28,14 +28,6 @@ lower_item Bound w items j = let at : w + 3 + 5 * j ≡ w + j * 5 + 3 = omega ar
 lower_item Open w items j = refl
 
 -- ---- outputs that are wires
--- a pair chosen by parity
-pub pair_alternating : (a b : ℕ → ℕ) (i : ℕ) → wires_at (alternating a b i) ≡ alternating (λ j. wires_at (a j)) (λ j. wires_at (b j)) i
-pair_alternating a b i = by (i % 2 == 0)
-  where
-    by : (c : Bool) → wires_at (if c then a (i / 2) else b (i / 2)) ≡ (if c then wires_at (a (i / 2)) else wires_at (b (i / 2)))
-    by true = refl
-    by false = refl
-
 pub output_zero : (o : Outputs) (i : ℕ) → i ≡ 0 → output_wire o i ≡ o.first
 output_zero o i e = ap (λ k. output_wire o k) e
 
@@ -61,7 +53,7 @@ others_at : (o : Outputs) (g m i : ℕ) → o.others + 5 * m ≡ g + 5 → 1 < i
 others_at o g m i at more within =
     let first : o.others + 1 + 5 * ((i - 2) / 2) ≡ g + (i / 2 - m) * 5 + 1 = omega arith in
     let second : o.others + 3 + 5 * ((i - 2) / 2) ≡ g + (i / 2 - m) * 5 + 3 = omega arith in
-    ap wires_at (output_other o i more) ∙ pair_alternating (fifth (o.others + 1)) (fifth (o.others + 3)) (i - 2)
+    ap wires_at (output_other o i more) ∙ alternating_map wires_at (fifth (o.others + 1)) (fifth (o.others + 3)) (i - 2)
     ∙ alternating_moved (row (o.others + 1)) (λ j. wires_at (switch_wire Bound g (j - m) + 1)) (row (o.others + 3))
     (λ j. wires_at (switch_wire Bound g (j - m) + 3)) (i - 2) i (omega arith)
     (ap wires_at first) (ap wires_at second)
@@ -108,7 +100,8 @@ end_passes Waksman Bound g u l i h = elim (cases_eq i 0) [
   | inr some ↦ let one : i ≡ 1 = omega arith in ap wires_at (output_one (last_ends Waksman Bound g u l) i one)
       ∙ ap (alternating (sum_at Waksman u) (sum_at Waksman l)) (sym one)
 ]
-end_passes Waksman Open g u l i h = sum_passes Waksman (record { upper = u; lower = l; others = g }) i h ∙ pair_alternating (output_wire u) (output_wire l) i
+end_passes Waksman Open g u l i h =
+    sum_passes Waksman (record { upper = u; lower = l; others = g }) i h ∙ alternating_map wires_at (output_wire u) (output_wire l) i
 
 pub end_made : (net : Net) (form : Form) (g : ℕ) (u l : EndsOf (other form)) (i : ℕ) → 2 * missing net ≤ i
     → end_in net form (last_ends net form g u l) i

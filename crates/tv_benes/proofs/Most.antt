@@ -1,5 +1,5 @@
 -- How many switches there are at most, and how many bound ones by levels.
-use Rattle.std.proofs.Common.{◌≡◌, ℕ, zero, suc, ◌+◌, ◌-◌, ◌*◌, ◌^◌, ◌<◌, ◌≤◌, refl, ap, ◌∙◌, arith}
+use Rattle.std.proofs.Common.{◌≡◌, ℕ, zero, suc, ◌+◌, ◌-◌, ◌*◌, ◌^◌, ◌<◌, ◌≤◌, ap, arith}
 use Rattle.std.proofs.Math.Nat.{mul-le-mul, mul-le-mul_left, pow-le-pow_right}
 use Rattle.std.proofs.lemmas.Nat.{pow_pos}
 use Rattle.tv_benes.proofs.ThroughLaws.{switches-suc, missing_small, one_switch}
@@ -30,10 +30,7 @@ switches_few net h few = omega (arith, switches_most net h, most_at 2 1 h few)
 -- ---- bound switches
 pub bound_lowest : (net : Net) (form : Form) (h : ℕ) → h ≡ 0 → bound net form h ≡ bound_of (innermost net form) 1
 unfolding bound
-bound_lowest net form h none = ap (bound net form) none ∙ by
-  where
-    by : bound net form 0 ≡ bound_of (innermost net form) 1
-    by = refl
+bound_lowest net form h none = ap (bound net form) none
 
 pub bound_above : (net : Net) (form : Form) (h : ℕ) → (h ≡ 0 → ⊥)
     → bound net form h ≡ bound_of form (2 * 2 ^ h - missing net) + 2 * bound net (other form) (h - 1)

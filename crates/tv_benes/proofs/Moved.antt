@@ -71,16 +71,11 @@ level_values-same net form (suc h) bit item item' same =
     let same' : SameBelow (2 * n) item item' = λ j k. same j (omega arith) in
     let up = upper-same n bit item item' same' in
     let low = lower-same n bit item item' same' in
-    let u = through net h (from n bit) (to_upper bit item) in
-    let u' = through net h (from n bit) (to_upper bit item') in
-    let l = through net h (from (n + s) bit) (to_lower bit item) in
-    let l' = through net h (from (n + s) bit) (to_lower bit item') in
     ap₂ (λ xs ys. xs ++ ys) (column_values-same form n bit item item' same')
-    (ap₂ (λ xs ys. xs ++ ys) (level_values-same net (other form) h (from n bit) (to_upper bit item) (to_upper bit item') up)
-    (ap₂ (λ xs ys. xs ++ ys) (level_values-same net (other form) h (from (n + s) bit) (to_lower bit item) (to_lower bit item') low)
-    (taken_values-same net form n (from (n + 2 * s) bit) u u' l l' (pow_pos (suc h))
-    (through-same net h (from n bit) (from n bit) (to_upper bit item) (to_upper bit item') (λ j k. refl) up)
-    (through-same net h (from (n + s) bit) (from (n + s) bit) (to_lower bit item) (to_lower bit item') (λ j k. refl) low))))
+    (ap₂ (λ xs ys. xs ++ ys) (level_values-same net (other form) h _ _ _ up) (ap₂ (λ xs ys. xs ++ ys) (level_values-same net (other form) h _ _ _ low)
+    (taken_values-same net form n (from (n + 2 * s) bit) (through net h (from n bit) (to_upper bit item)) (through net h (from n bit) (to_upper bit item'))
+    (through net h (from (n + s) bit) (to_lower bit item)) (through net h (from (n + s) bit) (to_lower bit item')) (pow_pos (suc h))
+    (through-same net h _ _ _ _ (λ j k. refl) up) (through-same net h _ _ _ _ (λ j k. refl) low))))
 
 -- ---- a list of what stands at each place
 none : PairNum
@@ -196,19 +191,16 @@ does_same net k f {g} {form} {m} {n} {b} {b'} {xs} same_form same_count size sam
     }
 
 -- the bits of a network's parts, taken one after another
+from_from : (bit : ℕ → Bool) (n s m : ℕ) → n + s ≡ m → ◌≡◌ {A = ℕ → Bool} (from s (from n bit)) (from m bit)
+from_from bit n s m e = λ t j. ap bit (let same : n + (s + j) ≡ m + j = omega arith in same) t
+
 module _ (bit : ℕ → Bool) {n n' s s' : ℕ} (n_is : n' ≡ n) (s_is : s' ≡ s) {b b' : ℕ → Bool} (upper : ◌≡◌ {A = ℕ → Bool} b (from n' bit))
     (lower : ◌≡◌ {A = ℕ → Bool} b' (from s' b)) where
   pub second_bits : ◌≡◌ {A = ℕ → Bool} b' (from (n + s) bit)
-  second_bits = lower ∙ ap₂ from s_is (upper ∙ ap (λ n. from n bit) n_is) ∙ moved
-    where
-      moved : ◌≡◌ {A = ℕ → Bool} (from s (from n bit)) (from (n + s) bit)
-      moved = λ t j. ap bit (let same : n + (s + j) ≡ n + s + j = omega arith in same) t
+  second_bits = lower ∙ ap₂ from s_is (upper ∙ ap (λ n. from n bit) n_is) ∙ from_from bit n s (n + s) refl
 
   pub third_bits : {last : ℕ → Bool} → ◌≡◌ {A = ℕ → Bool} last (from s' b') → ◌≡◌ {A = ℕ → Bool} last (from (n + 2 * s) bit)
-  third_bits e = e ∙ ap₂ from s_is second_bits ∙ moved
-    where
-      moved : ◌≡◌ {A = ℕ → Bool} (from s (from (n + s) bit)) (from (n + 2 * s) bit)
-      moved = λ t j. ap bit (let same : n + s + (s + j) ≡ n + 2 * s + j = omega arith in same) t
+  third_bits e = e ∙ ap₂ from s_is second_bits ∙ from_from bit (n + s) s (n + 2 * s) (omega arith)
 
 -- a network of level h = k + 1: its last column, on the outputs of the two networks before it
 module _ (net : Net) (form : Form) (h k : ℕ) (level : h ≡ suc k) (bit : ℕ → Bool) (item : ℕ → PairNum) where

@@ -18,9 +18,9 @@ use Rattle.tv_bits.proofs.BitLaws.{bit_complete}
 use Rattle.tv_bits.proofs.SelectLaws.{select_complete}
 use Rattle.tv_bits.specs.Bit.{IsBit, bit_of}
 use Rattle.tv_bits.specs.Select.{selected, pick_of}
-use Rattle.tv_benes.proofs.NetworkLaws.{IsSwitch, remainder_complete, column_sound, value_alternating, column_next, level_next, level_sound, less_missing}
+use Rattle.tv_benes.proofs.NetworkLaws.{IsSwitch, remainder_complete, column_sound, column_next, level_next, level_sound, less_missing}
 use Rattle.tv_benes.proofs.NetworkLaws.{bound-suc, one_wires, level_bit, each_bit, first_switch}
-use Rattle.tv_benes.proofs.ThroughLaws.{switches-suc, missing_small, one_switch, alternating-same, through-same}
+use Rattle.tv_benes.proofs.ThroughLaws.{switches-suc, missing_small, one_switch, alternating-same, through-same, alternating_map}
 use Rattle.tv_benes.specs.Levels.{width, other, innermost, level_wires}
 use Rattle.tv_benes.specs.Network.{remainder_of, switch_of, column_of, last_column_of, level_of, product, switch_values, column_values}
 use Rattle.tv_benes.specs.Network.{level_values, NetworkIsComplete}
@@ -81,10 +81,6 @@ switch_complete z Open x y next b assigns has =
     let m' = select_complete z (next + 1 + 1) next (less x.second y.second) [] assigns bit (product_is z b x.second y.second _ _ is has.1.1.0, tt) in
     (one.0, (m.0, (m'.0, tt)))
 
-values_same : (z : List ℕ) (form : Form) (at : ℕ) (b : Bool) (x x' y y' : PairNum) → x ≡ x' → y ≡ y' → HasFrom z at (switch_values form b x' y')
-    → HasFrom z at (switch_values form b x y)
-values_same z form at b x x' y y' p q has = subst (λ l. HasFrom z at l) (sym (ap₂ (λ m n. switch_values form b m n) p q)) has
-
 -- ---- a column
 switch_values-length : (form : Form) (b : Bool) (x y : PairNum) → length (switch_values form b x y) ≡ width form
 switch_values-length Bound b x y = refl
@@ -112,8 +108,8 @@ column_complete z form (suc n) item next bit v assigns is has =
     let rest = column_complete z form n item next bit v assigns (λ j h. is j (omega arith)) both.0 in
     let place : next + length before ≡ switch_wire form next n = ap (λ k. next + k) (column_values-length form n bit v) in
     let have : HasFrom z (switch_wire form next n) values = subst (λ k. HasFrom z k values) place both.1 in
-    let have_pairs = values_same z form (switch_wire form next n) (bit n) (pair_value z (item (2 * n))) (v (2 * n)) (pair_value z (item (2 * n + 1)))
-    (v (2 * n + 1)) (is (2 * n) (omega arith)) (is (2 * n + 1) (omega arith)) have in
+    let have_pairs = subst (λ l. HasFrom z (switch_wire form next n) l)
+    (sym (ap₂ (λ x y. switch_values form (bit n) x y) (is (2 * n) (omega arith)) (is (2 * n + 1) (omega arith)))) have in
     let last = switch_complete z form (item (2 * n)) (item (2 * n + 1)) (switch_wire form next n) (bit n) assigns have_pairs in
     let meets : Meets z (piece n (turns n piece tt next).answer (turns n piece tt next).next).list = subst
     (λ k. Meets z (switch_of form (item (2 * n)) (item (2 * n + 1)) k).list) (sym (column_next form n item next)) last in (
@@ -248,7 +244,7 @@ level_complete z net form (suc h) next items bit v assigns is has =
     let out_u = goes_through z net (other form) h c.next up_items (from n bit) up assigns items_up upper in
     let out_l = goes_through z net (other form) h u.next low_items (from (n + s) bit) low assigns items_low lower in
     let items_d : (j : ℕ) → j < 2 * m → pair_value z (last j) ≡ last_out j =
-    λ j k. value_alternating z (end_in net (other form) u.answer) (end_in net (other form) l.answer) (j + 2 * missing net)
+    λ j k. alternating_map (pair_value z) (end_in net (other form) u.answer) (end_in net (other form) l.answer) (j + 2 * missing net)
     ∙ alternating-same (λ i. pair_value z (end_in net (other form) u.answer i)) upper_out (λ i. pair_value z (end_in net (other form) l.answer i)) lower_out
     (j + 2 * missing net) (out_u ((j + 2 * missing net) / 2) (omega arith)) (out_l ((j + 2 * missing net) / 2) (omega arith)) in
     let end = column_complete z form m last l.next (from (n + 2 * s) bit) last_out assigns items_d have_d in

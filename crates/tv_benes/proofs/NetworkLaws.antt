@@ -25,7 +25,7 @@ use Rattle.tv_bits.specs.Select.{selected, pick_of}
 use Rattle.tv_benes.proofs.Ends.{upper_item, lower_item, end_passes, end_made, end_two}
 use Rattle.tv_benes.proofs.Sources.{last_even, last_odd}
 use Rattle.tv_benes.proofs.ThroughLaws.{switches-suc, missing_small, one_switch, last_bit-same, kept_bit, left_bit, alternating-same, joined-same}
-use Rattle.tv_benes.proofs.ThroughLaws.{through-same}
+use Rattle.tv_benes.proofs.ThroughLaws.{through-same, alternating_map}
 use Rattle.tv_benes.specs.Levels.{width, other, innermost, bound, level_wires}
 use Rattle.tv_benes.specs.Network.{remainder_of, switch_of, column_of, last_column_of, level_of, NetworkIsSound}
 use Rattle.tv_benes.specs.Places.{switch_wire, first_of, second_of, bit_place, ItemsOf, item_in, to_upper_of, to_lower_of, EndsOf, end_in, last_ends, last_pair}
@@ -365,15 +365,6 @@ last_switch z net form u l g j some switch =
           ∙ ap₂ (λ x y. passed (slice_index z at == 1) (pair_value z y) (pair_value z x)) even odd;
     }
 
--- what a pair chosen by parity is
-pub value_alternating : (z : List ℕ) (a b : ℕ → Pair) (i : ℕ)
-    → pair_value z (alternating a b i) ≡ alternating (λ j. pair_value z (a j)) (λ j. pair_value z (b j)) i
-value_alternating z a b i = by (i % 2 == 0)
-  where
-    by : (c : Bool) → pair_value z (if c then a (i / 2) else b (i / 2)) ≡ (if c then pair_value z (a (i / 2)) else pair_value z (b (i / 2)))
-    by true = refl
-    by false = refl
-
 pub level_sound : (z : List ℕ) (net : Net) (form : Form) (next h : ℕ) (items : ItemsOf form) → Assigns z → Meets z (level_of net form h items next).list
     → IsLevel z net form h next (λ j. pair_value z (item_in form items j)) (λ i. pair_value z (end_in net form (level_of net form h items next).answer i))
 unfolding level_of last_column_of here pure ◌>>=◌ through bit_place
@@ -391,7 +382,8 @@ level_sound z net form next zero items assigns meets =
           let switch = subst (λ j. IsSwitchOf z f item next j) (sym same) (each 0 (omega arith)) in
           let bit_same = ap (λ w. slice_index z w == 1) (ap (λ j. next + j * width f) same ∙ start) in
           ap (pair_value z) (end_two net form next items i k)
-          ∙ value_alternating z (λ j. first_of f (switch_wire f next j) (item (2 * j))) (λ j. second_of f (switch_wire f next j) (item (2 * j + 1))) i
+          ∙ alternating_map (pair_value z) (λ j. first_of f (switch_wire f next j) (item (2 * j)))
+          (λ j. second_of f (switch_wire f next j) (item (2 * j + 1))) i
           ∙ alternating-same (λ j. pair_value z (first_of f (switch_wire f next j) (item (2 * j))))
           (λ j. passed (level_bit z net form 0 next j) (pair_value z (item (2 * j))) (pair_value z (item (2 * j + 1))))
           (λ j. pair_value z (second_of f (switch_wire f next j) (item (2 * j + 1))))
@@ -426,9 +418,9 @@ level_sound z net form next (suc h) items assigns meets =
     (level_sound z net (other form) u.next h (to_lower_of form next items) assigns third.0)
     (λ j some k. last_switch z net form u.answer l.answer l.next j some
     (column_sound z form (n - missing net) last l.next assigns fourth.0 (j - missing net) (omega arith)))
-    (λ i k. ap (pair_value z) (end_passes net form l.next u.answer l.answer i k) ∙ value_alternating z up_out low_out i)
+    (λ i k. ap (pair_value z) (end_passes net form l.next u.answer l.answer i k) ∙ alternating_map (pair_value z) up_out low_out i)
     (λ i k. ap (pair_value z) (end_made net form l.next u.answer l.answer i k)
-    ∙ value_alternating z (λ j. first_of form (switch_wire form l.next (j - missing net)) (up_out j))
+    ∙ alternating_map (pair_value z) (λ j. first_of form (switch_wire form l.next (j - missing net)) (up_out j))
     (λ j. second_of form (switch_wire form l.next (j - missing net)) (low_out j)) i)
 
 pub network_sound : NetworkIsSound

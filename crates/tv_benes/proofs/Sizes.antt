@@ -1,5 +1,5 @@
 -- Which wires the outputs of a network are made of, and that its values are in the field.
-use Rattle.std.proofs.Common.{◌≡◌, mod-lt, ℕ, zero, suc, ◌+◌, ◌-◌, ◌*◌, ◌/◌, ◌^◌, ◌<◌, ◌≤◌, Bool, true, false, [], ◌∷◌, ◌++◌, sym, ◌∙◌, ap, subst}
+use Rattle.std.proofs.Common.{◌≡◌, mod-lt, ℕ, zero, suc, ◌+◌, ◌-◌, ◌*◌, ◌/◌, ◌^◌, ◌<◌, ◌≤◌, Bool, true, false, [], ◌∷◌, sym, ◌∙◌, ap, subst}
 use Rattle.std.proofs.Common.{arith, inl, inr}
 use Rattle.std.proofs.lemmas.Bool.{cases_eq, cases_lt}
 use Rattle.std.proofs.lemmas.List.Elements.{All-nil, All-cons, All-append}
@@ -186,14 +186,18 @@ five_small a b c d e p q r s t =
 three_small : (a b c : ℕ) → a < P → b < P → c < P → InField (a ∷ b ∷ c ∷ [])
 three_small a b c p q r = let Q : ℕ → Type 0 = λ n. n < P in All-cons Q a (b ∷ c ∷ []) p (All-cons Q b (c ∷ []) q (All-cons Q c [] r (All-nil Q)))
 
-switch_small : (form : Form) (b : Bool) (x y : PairNum) → (x.first < P) × (x.second < P) → (y.first < P) × (y.second < P) → InField (switch_values form b x y)
+-- a pair of numbers of the field
+abbrev IsSmall : PairNum → Type 0
+IsSmall p = (p.first < P) × (p.second < P)
+
+switch_small : (form : Form) (b : Bool) (x y : PairNum) → IsSmall x → IsSmall y → InField (switch_values form b x y)
 switch_small Bound true x y p q = five_small 1 y.first y.second x.first x.second (omega arith) q.0 q.1 p.0 p.1
 switch_small Bound false x y p q = five_small 0 x.first x.second y.first y.second (omega arith) p.0 p.1 q.0 q.1
 switch_small Open true x y p q = three_small 1 (product true x.first y.first) (product true x.second y.second) (omega arith) (mod-lt _ (omega arith))
     (mod-lt _ (omega arith))
 switch_small Open false x y p q = three_small 0 0 0 (omega arith) (omega arith) (omega arith)
 
-column_small : (form : Form) (n : ℕ) (bit : ℕ → Bool) (v : ℕ → PairNum) → ((j : ℕ) → j < 2 * n → ((v j).first < P) × ((v j).second < P))
+column_small : (form : Form) (n : ℕ) (bit : ℕ → Bool) (v : ℕ → PairNum) → ((j : ℕ) → j < 2 * n → IsSmall (v j))
     → InField (column_values form n bit v)
 unfolding column_values
 column_small form zero bit v each = All-nil (λ n. n < P)
@@ -202,33 +206,25 @@ column_small form (suc n) bit v each =
     (column_small form n bit v (λ j k. each j (omega arith)))
     (switch_small form (bit n) (v (2 * n)) (v (2 * n + 1)) (each (2 * n) (omega arith)) (each (2 * n + 1) (omega arith)))
 
-level_small : (net : Net) (form : Form) (h : ℕ) (bit : ℕ → Bool) (v : ℕ → PairNum) → ((j : ℕ) → j < 2 ^ suc h → ((v j).first < P) × ((v j).second < P))
+level_small : (net : Net) (form : Form) (h : ℕ) (bit : ℕ → Bool) (v : ℕ → PairNum) → ((j : ℕ) → j < 2 ^ suc h → IsSmall (v j))
     → InField (level_values net form h bit v)
 unfolding level_values
 level_small net form zero bit v each = column_small (innermost net form) 1 bit v (λ j k. each j (omega arith))
 level_small net form (suc h) bit v each =
     let n = 2 ^ suc h in
     let s = switches net h in
-    let Q : PairNum → Type 0 = λ p. (p.first < P) × (p.second < P) in
     let small = missing_small net in
-    let up = to_upper bit v in
-    let low = to_lower bit v in
-    let each' : (j : ℕ) → j < 2 * n → ((v j).first < P) × ((v j).second < P) = λ j k. each j (omega arith) in
-    let ups : (j : ℕ) → j < n → ((up j).first < P) × ((up j).second < P) = upper_keeps Q n bit v each' in
-    let lows : (j : ℕ) → j < n → ((low j).first < P) × ((low j).second < P) = lower_keeps Q n bit v each' in
-    let u = through net h (from n bit) up in
-    let l = through net h (from (n + s) bit) low in
-    let last : ℕ → PairNum = λ i. alternating u l (i + 2 * missing net) in
-    let vu = level_values net (other form) h (from n bit) up in
-    let vl = level_values net (other form) h (from (n + s) bit) low in
-    let vd = column_values form (n - missing net) (from (n + 2 * s) bit) last in
-    let lasts : (j : ℕ) → j < 2 * (n - missing net) → ((last j).first < P) × ((last j).second < P) =
-    λ j k. alternating_keeps Q u l (j + 2 * missing net) (through_keeps Q net h (from n bit) up ups ((j + 2 * missing net) / 2) (omega arith))
-    (through_keeps Q net h (from (n + s) bit) low lows ((j + 2 * missing net) / 2) (omega arith)) in
-    All-append (λ n. n < P) (column_values form n bit v) (vu ++ (vl ++ vd)) (column_small form n bit v each')
-    (All-append (λ n. n < P) vu (vl ++ vd) (level_small net (other form) h (from n bit) up ups)
-    (All-append (λ n. n < P) vl vd (level_small net (other form) h (from (n + s) bit) low lows)
-    (column_small form (n - missing net) (from (n + 2 * s) bit) last lasts)))
+    let each' : (j : ℕ) → j < 2 * n → IsSmall (v j) = λ j k. each j (omega arith) in
+    let ups = upper_keeps IsSmall n bit v each' in
+    let lows = lower_keeps IsSmall n bit v each' in
+    let u = through net h (from n bit) (to_upper bit v) in
+    let l = through net h (from (n + s) bit) (to_lower bit v) in
+    All-append (λ n. n < P) _ _ (column_small form n bit v each')
+    (All-append (λ n. n < P) _ _ (level_small net (other form) h (from n bit) (to_upper bit v) ups)
+    (All-append (λ n. n < P) _ _ (level_small net (other form) h (from (n + s) bit) (to_lower bit v) lows)
+    (column_small form (n - missing net) (from (n + 2 * s) bit) (λ i. alternating u l (i + 2 * missing net)) (λ j k.
+    alternating_keeps IsSmall u l (j + 2 * missing net) (through_keeps IsSmall net h _ _ ups ((j + 2 * missing net) / 2) (omega arith))
+    (through_keeps IsSmall net h _ _ lows ((j + 2 * missing net) / 2) (omega arith))))))
 
 pub network_sizes : NetworkFills
 network_sizes = record {

@@ -1,6 +1,6 @@
 -- What goes through a network, by places.
 use Rattle.std.proofs.Common.{◌≡◌, ℕ, zero, suc, ◌+◌, ◌-◌, ◌*◌, ◌/◌, ◌%◌, ◌^◌, ◌<◌, ◌≤◌, ◌==◌, Bool, true, false, if◌then◌else◌, refl, sym, ◌∙◌, ap, ap₂, arith}
-use Rattle.std.proofs.lemmas.Bool.{ne_eqb}
+use Rattle.std.proofs.lemmas.Bool.{ne_eqb, cond_both}
 use Rattle.std.proofs.lemmas.Nat.{pow_pos}
 use Rattle.tv_benes.specs.Through.{switches, from, passed, to_upper, to_lower, alternating, joined, last_bit, missing, through, PlacesDetermineOutputs}
 use Rattle.tv_benes.specs.declared.shape.Net.{Net}
@@ -89,6 +89,9 @@ module _ {X Y : Type 0} (f : X → Y) where
   if_map true x y = refl
   if_map false x y = refl
 
+  pub alternating_map : (a b : ℕ → X) (i : ℕ) → f (alternating a b i) ≡ alternating (λ j. f (a j)) (λ j. f (b j)) i
+  alternating_map a b i = sym (if_map (i % 2 == 0) (a (i / 2)) (b (i / 2)))
+
   joined_map : (bit : ℕ → Bool) (u l : ℕ → X) (i : ℕ) → joined bit (λ j. f (u j)) (λ j. f (l j)) i ≡ f (joined bit u l i)
   joined_map bit u l i =
       ap₂ (λ x y. if i % 2 == 0 then x else y) (passed_map (bit (i / 2)) (u (i / 2)) (l (i / 2))) (passed_map (bit (i / 2)) (l (i / 2)) (u (i / 2)))
@@ -137,15 +140,10 @@ column_fits net (suc h) = omega (arith, switches-suc net h, missing_small net, p
 -- ---- what holds of each item holds of each output
 module _ {X : Type 0} (Q : X → Type 0) where
   passed_keeps : (b : Bool) (x y : X) → Q x → Q y → Q (passed b x y)
-  passed_keeps true x y p q = q
-  passed_keeps false x y p q = p
-
-  if_keeps : (b : Bool) (x y : X) → Q x → Q y → Q (if b then x else y)
-  if_keeps true x y p q = p
-  if_keeps false x y p q = q
+  passed_keeps b x y p q = cond_both b y x Q (λ e. q) (λ e. p)
 
   pub alternating_keeps : (a b : ℕ → X) (i : ℕ) → Q (a (i / 2)) → Q (b (i / 2)) → Q (alternating a b i)
-  alternating_keeps a b i p q = if_keeps (i % 2 == 0) (a (i / 2)) (b (i / 2)) p q
+  alternating_keeps a b i p q = cond_both (i % 2 == 0) (a (i / 2)) (b (i / 2)) Q (λ e. p) (λ e. q)
 
   joined_keeps : (bit : ℕ → Bool) (u l : ℕ → X) (i : ℕ) → Q (u (i / 2)) → Q (l (i / 2)) → Q (joined bit u l i)
   joined_keeps bit u l i p q = alternating_keeps (λ j. passed (bit j) (u j) (l j)) (λ j. passed (bit j) (l j) (u j)) i (passed_keeps _ _ _ p q)

@@ -7,33 +7,17 @@ use Rattle.tv_benes.proofs.columns.remainder.Goals as goal
 pub returns-in_err-put-clause-puts : goal.returns-in_err-put-clause-puts
 unfolding remainder_of
 returns-in_err-put-clause-puts g c =
-    let filled = rw (
-      c.add_terms-2.ensures.terms,
-      c.add_terms.ensures.terms,
-      c.terms.ensures.terms,
-      c.terms-2.ensures.terms,
-      c.clear.ensures,
-      c.set_wire.ensures.terms,
-      c.plus.ensures.terms,
-      c.set_wire-2.ensures.terms,
-    ) at c.in_err-put.ensures.puts in
-    let put = rw (normal-front c.args.x.now c.args.y.now) at filled in
+    let first = rw (c.terms.ensures.terms, c.clear.ensures) at c.add_terms.ensures.terms in
+    let sum = rw (c.terms-2.ensures.terms, first, normal-front c.args.x.now c.args.y.now) at c.add_terms-2.ensures.terms in
+    let put = rw (sum, c.set_wire.ensures.terms, c.plus.ensures.terms, c.set_wire-2.ensures.terms) at c.in_err-put.ensures.puts in
     refused _ _ _ _ _ c.from_residual.ensures.1 (some_then _ c.fresh-q.ensures.puts (some_first _ put))
 
 pub returns-clause-puts : goal.returns-clause-puts
 unfolding remainder_of
 returns-clause-puts g c =
-    let filled = rw (
-      c.add_terms-2.ensures.terms,
-      c.add_terms.ensures.terms,
-      c.terms.ensures.terms,
-      c.terms-2.ensures.terms,
-      c.clear.ensures,
-      c.set_wire.ensures.terms,
-      c.plus.ensures.terms,
-      c.set_wire-2.ensures.terms,
-    ) at c.in_ok-put.ensures.puts in
-    let put = rw (normal-front c.args.x.now c.args.y.now) at filled in
+    let first = rw (c.terms.ensures.terms, c.clear.ensures) at c.add_terms.ensures.terms in
+    let sum = rw (c.terms-2.ensures.terms, first, normal-front c.args.x.now c.args.y.now) at c.add_terms-2.ensures.terms in
+    let put = rw (sum, c.set_wire.ensures.terms, c.plus.ensures.terms, c.set_wire-2.ensures.terms) at c.in_ok-put.ensures.puts in
     all_then _ c.fresh-q.ensures.puts (all_then _ put all_pure)
 
 pub put-requires : goal.put-requires

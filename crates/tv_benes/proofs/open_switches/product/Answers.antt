@@ -6,25 +6,15 @@ use Rattle.tv_benes.proofs.open_switches.product.Goals as goal
 pub returns-in_err-put-clause-puts : goal.returns-in_err-put-clause-puts
 unfolding pick_of
 returns-in_err-put-clause-puts g c =
-    let held = rw (
-      c.set_wire.ensures.terms,
-      c.add.ensures.terms,
-      c.set_wire-2.ensures.terms,
-      c.neg.ensures,
-      c.set_wire-3.ensures.terms,
-    ) at c.in_err-put.ensures.puts in
+    let less = rw (c.set_wire-2.ensures.terms, c.neg.ensures) at c.add.ensures.terms in
+    let held = rw (c.set_wire.ensures.terms, less, c.set_wire-3.ensures.terms) at c.in_err-put.ensures.puts in
     refused _ _ _ _ _ c.from_residual.ensures.1 (some_then _ c.fresh-m.ensures.puts (some_first _ held))
 
 pub returns-clause-puts : goal.returns-clause-puts
 unfolding pick_of
 returns-clause-puts g c =
-    let held = rw (
-      c.set_wire.ensures.terms,
-      c.add.ensures.terms,
-      c.set_wire-2.ensures.terms,
-      c.neg.ensures,
-      c.set_wire-3.ensures.terms,
-    ) at c.in_ok-put.ensures.puts in
+    let less = rw (c.set_wire-2.ensures.terms, c.neg.ensures) at c.add.ensures.terms in
+    let held = rw (c.set_wire.ensures.terms, less, c.set_wire-3.ensures.terms) at c.in_ok-put.ensures.puts in
     all_then _ c.fresh-m.ensures.puts (all_then _ held all_pure)
 
 pub put-requires : goal.put-requires

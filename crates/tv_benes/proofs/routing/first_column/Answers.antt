@@ -1,11 +1,10 @@
-use Rattle.std.proofs.Common.{◌≡◌, ◌+◌, ◌*◌, length, ◌∙◌, subst, arith}
-use Rattle.tv_benes.proofs.ColumnChain.{no_switch, one_switch, switch_refused, values_as}
+use Rattle.std.proofs.Common.{◌≡◌, ◌+◌, ◌*◌, length, ◌∙◌, arith}
+use Rattle.tv_benes.proofs.ColumnChain.{no_switch, one_switch, switch_refused, values_as, all_as, some_as}
 use Rattle.tv_benes.proofs.Moved.{is_places, place_more, read_item}
 use Rattle.tv_benes.proofs.ThroughLaws.{passed-same}
 use Rattle.tv_benes.specs.Items.{bit_at, pair_at}
 use Rattle.tv_benes.specs.Through.{to_upper, to_lower}
 use Rattle.tv_core.proofs.ValuesChain.{gives_refused}
-use Rattle.tv_core.specs.Values.{GivesAll, GivesSome}
 use Rattle.tv_benes.proofs.routing.first_column.Goals as goal
 
 pub loop-j-init : goal.loop-j-init
@@ -18,18 +17,16 @@ loop-j-init g c = record {
 
 pub loop-j-preserved : goal.loop-j-preserved
 loop-j-preserved g c =
-    let m = g.V.Values.giving in
     let j = c.loop-j.j in
     let bit = bit_at c.args.bits.now in
     let item = pair_at c.args.items.now in
     let x = read_item c.args.items.now (2 * j) c.index-items-j.result (omega arith) c.index-items-j.is in
     let y = read_item c.args.items.now (2 * j + 1) c.index-items-j-in-loop-j.result (omega arith) c.index-items-j-in-loop-j.is in
-    let switch = subst (λ l. GivesAll m c.loop-j.v c.fill_switch.new.v l)
-    (values_as c.args.form _ _ _ _ _ _ c.bit-b.ensures x y) c.in_ok-fill_switch.ensures.gives in
+    let switch = all_as (values_as c.args.form _ _ _ _ _ _ c.bit-b.ensures x y) c.in_ok-fill_switch.ensures.gives in
     let up = c.passed.ensures ∙ passed-same _ _ _ _ _ _ c.bit-b.ensures x y in
     let low = c.passed-in-loop-j.ensures ∙ passed-same _ _ _ _ _ _ c.bit-b.ensures y x in
     record {
-      gives = one_switch m c.args.form bit item j _ _ _ c.loop-j.invariant.gives switch;
+      gives = one_switch g.V.Values.giving c.args.form bit item j _ _ _ c.loop-j.invariant.gives switch;
       whole = c.in_ok-fill_switch.ensures.whole;
       upper = place_more (to_upper bit item) c.loop-j.upper j c.passed.result (omega arith) up c.loop-j.invariant.upper;
       lower = place_more (to_lower bit item) c.loop-j.lower j c.passed-in-loop-j.result (omega arith) low c.loop-j.invariant.lower;
@@ -37,16 +34,10 @@ loop-j-preserved g c =
 
 pub returns-in_err-fill_switch-clause-gives : goal.returns-in_err-fill_switch-clause-gives
 returns-in_err-fill_switch-clause-gives g c =
-    let m = g.V.Values.giving in
-    let j = c.loop-j.j in
-    let bit = bit_at c.args.bits.now in
-    let item = pair_at c.args.items.now in
-    let x = read_item c.args.items.now (2 * j) c.index-items-j.result (omega arith) c.index-items-j.is in
-    let y = read_item c.args.items.now (2 * j + 1) c.index-items-j-in-loop-j.result (omega arith) c.index-items-j-in-loop-j.is in
-    let switch = subst (λ l. GivesSome m c.loop-j.v c.fill_switch.new.v l c.in_err-fill_switch.field-0.0)
-    (values_as c.args.form _ _ _ _ _ _ c.bit-b.ensures x y) c.in_err-fill_switch.ensures.gives in
-    gives_refused _ _ _ _ _ c.from_residual.ensures.1
-    (switch_refused m c.args.form bit item (length c.args.upper.now) j _ _ _ _ c.loop-j-test.true c.loop-j.invariant.gives switch)
+    let x = read_item c.args.items.now (2 * c.loop-j.j) c.index-items-j.result (omega arith) c.index-items-j.is in
+    let y = read_item c.args.items.now (2 * c.loop-j.j + 1) c.index-items-j-in-loop-j.result (omega arith) c.index-items-j-in-loop-j.is in
+    gives_refused _ _ _ _ _ c.from_residual.ensures.1 (switch_refused _ _ _ _ _ _ _ _ _ _ c.loop-j-test.true c.loop-j.invariant.gives
+    (some_as (values_as c.args.form _ _ _ _ _ _ c.bit-b.ensures x y) c.in_err-fill_switch.ensures.gives))
 
 pub returns-clause-gives : goal.returns-clause-gives
 returns-clause-gives g c =

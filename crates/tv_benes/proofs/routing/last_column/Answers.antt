@@ -1,14 +1,14 @@
-use Rattle.std.proofs.Common.{◌≡◌, ℕ, ◌+◌, ◌-◌, ◌*◌, List, [], if◌then◌else◌, length, ◌∙◌, ap₂, subst, arith}
+use Rattle.std.proofs.Common.{◌≡◌, ℕ, ◌+◌, ◌-◌, ◌*◌, [], if◌then◌else◌, length, ◌∙◌, ap₂, subst, arith}
 use Rattle.std.proofs.lemmas.List.{length-set}
 use Rattle.std.specs.Prelude.{nat_lt}
-use Rattle.tv_benes.proofs.ColumnChain.{no_switch, values_as}
+use Rattle.tv_benes.proofs.ColumnChain.{no_switch, values_as, all_as, some_as}
 use Rattle.tv_benes.proofs.Moved.{is_places, join_more, read_item, last_given, last_refused}
 use Rattle.tv_benes.proofs.ThroughLaws.{passed-same}
 use Rattle.tv_benes.specs.Items.{bit_at, pair_at}
 use Rattle.tv_benes.specs.Network.{column_values}
 use Rattle.tv_benes.specs.Through.{missing, alternating, joined, last_bit}
 use Rattle.tv_core.proofs.ValuesChain.{gives_refused}
-use Rattle.tv_core.specs.Values.{GivesAll, GivesSome}
+use Rattle.tv_core.specs.Values.{GivesAll}
 use Rattle.tv_benes.proofs.routing.last_column.Goals as goal
 
 pub loop-j-init : goal.loop-j-init
@@ -35,7 +35,7 @@ loop-j-preserved g c =
     let x = read_item c.args.upper.now j c.index-upper-j.result (omega arith) c.index-upper-j.is in
     let y = read_item c.args.lower.now j c.index-lower-j.result (omega arith) c.index-lower-j.is in
     let values = ap₂ (λ n l. if nat_lt j n then [] else l) c.missing-skipped.ensures (values_as c.args.form _ _ _ _ _ _ c.last_bit-b.ensures x y) in
-    let switch = subst (λ (l : List ℕ). GivesAll m c.loop-j.v c.fill_unless.new.v l) values c.in_ok-fill_unless.ensures.gives in
+    let switch = all_as values c.in_ok-fill_unless.ensures.gives in
     let first = c.passed.ensures ∙ passed-same _ _ _ _ _ _ c.last_bit-b.ensures x y in
     let second = c.passed-in-loop-j.ensures ∙ passed-same _ _ _ _ _ _ c.last_bit-b.ensures y x in
     record {
@@ -46,17 +46,13 @@ loop-j-preserved g c =
 
 pub returns-in_err-fill_unless-clause-gives : goal.returns-in_err-fill_unless-clause-gives
 returns-in_err-fill_unless-clause-gives g c =
-    let m = g.V.Values.giving in
-    let net = c.args.net in
     let j = c.loop-j.j in
-    let bit = bit_at c.args.bits.now in
     let x = read_item c.args.upper.now j c.index-upper-j.result (omega arith) c.index-upper-j.is in
     let y = read_item c.args.lower.now j c.index-lower-j.result (omega arith) c.index-lower-j.is in
     let values = ap₂ (λ n l. if nat_lt j n then [] else l) c.missing-skipped.ensures (values_as c.args.form _ _ _ _ _ _ c.last_bit-b.ensures x y) in
-    let switch = subst
-    (λ (l : List ℕ). GivesSome m c.loop-j.v c.fill_unless.new.v l c.in_err-fill_unless.field-0.0) values c.in_err-fill_unless.ensures.gives in
-    gives_refused _ _ _ _ _ c.from_residual.ensures.1 (last_refused m net c.args.form bit (pair_at c.args.upper.now) (pair_at c.args.lower.now)
-    (length c.args.upper.now) j _ _ _ _ c.loop-j-test.true c.loop-j.invariant.gives switch)
+    gives_refused _ _ _ _ _ c.from_residual.ensures.1 (last_refused g.V.Values.giving c.args.net c.args.form (bit_at c.args.bits.now)
+    (pair_at c.args.upper.now) (pair_at c.args.lower.now) _ j _ _ _ _ c.loop-j-test.true c.loop-j.invariant.gives
+    (some_as values c.in_err-fill_unless.ensures.gives))
 
 pub returns-clause-gives : goal.returns-clause-gives
 returns-clause-gives g c =

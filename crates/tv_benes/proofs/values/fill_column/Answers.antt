@@ -1,8 +1,7 @@
-use Rattle.std.proofs.Common.{◌≡◌, subst, arith}
-use Rattle.tv_benes.proofs.ColumnChain.{no_switch, one_switch, switch_refused, values_as}
+use Rattle.std.proofs.Common.{◌≡◌, arith}
+use Rattle.tv_benes.proofs.ColumnChain.{no_switch, one_switch, switch_refused, values_as, all_as, some_as}
 use Rattle.tv_benes.specs.Items.{bit_at, item_of}
 use Rattle.tv_core.proofs.ValuesChain.{gives_refused}
-use Rattle.tv_core.specs.Values.{GivesAll, GivesSome}
 use Rattle.tv_benes.proofs.values.fill_column.Goals as goal
 
 pub loop-j-init : goal.loop-j-init
@@ -14,23 +13,16 @@ loop-j-init g c = record {
 
 pub loop-j-preserved : goal.loop-j-preserved
 loop-j-preserved g c =
-    let m = g.V.Values.giving in
-    let switch = subst (λ l. GivesAll m c.loop-j.v c.fill_switch.new.v l)
-    (values_as c.args.form _ _ _ _ _ _ c.bit.ensures c.read-x.ensures c.read-y.ensures) c.in_ok-fill_switch.ensures.gives in
+    let switch = all_as (values_as c.args.form _ _ _ _ _ _ c.bit.ensures c.read-x.ensures c.read-y.ensures) c.in_ok-fill_switch.ensures.gives in
     record {
-      gives = one_switch m c.args.form (bit_at c.args.bits.now)
-          (item_of c.args.items.now) c.loop-j.j _ _ _ c.loop-j.invariant.gives switch;
+      gives = one_switch _ _ _ _ _ _ _ _ c.loop-j.invariant.gives switch;
       whole = c.in_ok-fill_switch.ensures.whole;
     }
 
 pub returns-in_err-fill_switch-clause-gives : goal.returns-in_err-fill_switch-clause-gives
 returns-in_err-fill_switch-clause-gives g c =
-    let m = g.V.Values.giving in
-    let switch = subst (λ l. GivesSome m c.loop-j.v c.fill_switch.new.v l c.in_err-fill_switch.field-0.0)
-    (values_as c.args.form _ _ _ _ _ _ c.bit.ensures c.read-x.ensures c.read-y.ensures) c.in_err-fill_switch.ensures.gives in
-    gives_refused _ _ _ _ _ c.from_residual.ensures.1
-    (switch_refused m c.args.form (bit_at c.args.bits.now)
-    (item_of c.args.items.now) c.args.n c.loop-j.j _ _ _ _ c.loop-j-test.true c.loop-j.invariant.gives switch)
+    gives_refused _ _ _ _ _ c.from_residual.ensures.1 (switch_refused _ _ _ _ _ _ _ _ _ _ c.loop-j-test.true c.loop-j.invariant.gives
+    (some_as (values_as c.args.form _ _ _ _ _ _ c.bit.ensures c.read-x.ensures c.read-y.ensures) c.in_err-fill_switch.ensures.gives))
 
 pub returns-clause-gives : goal.returns-clause-gives
 returns-clause-gives g c =

@@ -1,40 +1,28 @@
-use Rattle.std.proofs.Common.{◌≡◌, suc, ◌+◌, ◌-◌, ◌*◌, ◌^◌, ◌<◌, ap, ap₂, ◌∙◌, arith, add-one}
+use Rattle.std.proofs.Common.{◌≡◌, suc, ◌-◌, ◌^◌, ◌<◌, ap, ap₂, ◌∙◌, arith, add-one}
 use Rattle.tv_benes.proofs.ColumnChain.{no_switch, one_switch, switch_refused}
-use Rattle.tv_benes.specs.Items.{bit_at, item_of}
-use Rattle.tv_benes.specs.Through.{switches, missing, from, last_item}
+use Rattle.tv_benes.specs.Through.{missing}
 use Rattle.tv_core.proofs.ValuesChain.{gives_refused}
 use Rattle.tv_benes.proofs.values.fill_last.Goals as goal
 
 pub loop-j-init : goal.loop-j-init
 loop-j-init g c =
-    let bit = bit_at c.args.bits.now in
-    record {
-      gives = no_switch g.V.Values.giving c.args.form (from (2 ^ suc c.args.h + 2 * switches c.args.net c.args.h) bit)
-          (last_item c.args.net c.args.h bit (item_of c.args.items.now)) _;
-      whole = c.requires.whole;
-    }
+    record { gives = no_switch _ _ _ _ _; whole = c.requires.whole }
 
 pub loop-j-preserved : goal.loop-j-preserved
 loop-j-preserved g c =
-    let bit = bit_at c.args.bits.now in
     record {
-      gives = one_switch g.V.Values.giving c.args.form (from (2 ^ suc c.args.h + 2 * switches c.args.net c.args.h) bit)
-          (last_item c.args.net c.args.h bit (item_of c.args.items.now)) c.loop-j.j _ _ _
-          c.loop-j.invariant.gives c.in_ok-fill_last_switch.ensures.gives;
+      gives = one_switch _ _ _ _ _ _ _ _ c.loop-j.invariant.gives c.in_ok-fill_last_switch.ensures.gives;
       whole = c.in_ok-fill_last_switch.ensures.whole;
     }
 
 pub returns-in_err-fill_last_switch-clause-gives : goal.returns-in_err-fill_last_switch-clause-gives
 returns-in_err-fill_last_switch-clause-gives g c =
-    let m = g.V.Values.giving in
     let h = c.args.h in
-    let bit = bit_at c.args.bits.now in
     let count : c.long_power.result - c.long_missing.result
     ≡ 2 ^ suc h - missing c.args.net = ap₂ (λ a b. a - b) (c.long_power.ensures.is ∙ ap (λ k. 2 ^ k) (add-one h)) c.long_missing.ensures in
     let within : c.loop-j.j < 2 ^ suc h - missing c.args.net = omega (arith, c.loop-j-test.true, count) in
     gives_refused _ _ _ _ _ c.from_residual.ensures.1
-    (switch_refused m c.args.form (from (2 ^ suc h + 2 * switches c.args.net h) bit) (last_item c.args.net h bit (item_of c.args.items.now))
-    (2 ^ suc h - missing c.args.net) c.loop-j.j _ _ _ _ within c.loop-j.invariant.gives c.in_err-fill_last_switch.ensures.gives)
+    (switch_refused _ _ _ _ _ _ _ _ _ _ within c.loop-j.invariant.gives c.in_err-fill_last_switch.ensures.gives)
 
 pub returns-clause-gives : goal.returns-clause-gives
 returns-clause-gives g c =
