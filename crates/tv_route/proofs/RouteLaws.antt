@@ -345,14 +345,20 @@ route_right = record {
   pairs = λ net k p item some perm i within. routed net k p item some perm i within;
 }
 
--- what a half is to do is a permutation of its places
-pub upper_permutes : (n : ℕ) (p : List ℕ) → Permutes (2 * n) p → Permutes n (places n (λ j. up_input (halves p n) p j / 2))
-upper_permutes n p perm = half_permutes n p (down (halves p n)) false perm (up_input (halves p n) p) (half_of n p (halves p n) (pairs_apart n p perm) false)
-    (sides_apart n p perm)
-
-pub lower_permutes : (n : ℕ) (p : List ℕ) → Permutes (2 * n) p → Permutes n (places n (λ j. down_input (halves p n) p j / 2))
-lower_permutes n p perm = half_permutes n p (down (halves p n)) true perm (down_input (halves p n) p) (half_of n p (halves p n) (pairs_apart n p perm) true)
-    (sides_apart n p perm)
+-- what each half is to do is a permutation of its places
+pub halves_permute : (h k : ℕ) (p : List ℕ) → h ≡ suc k → Permutes (2 ^ suc h) p
+    → Permutes (2 ^ suc k) (places (2 ^ h) (λ j. up_input (halves p (2 ^ h)) p j / 2))
+    × Permutes (2 ^ suc k) (places (2 ^ h) (λ j. down_input (halves p (2 ^ h)) p j / 2))
+halves_permute h k p level perm =
+    let n = 2 ^ h in
+    let whole : Permutes (2 * n) p = subst (λ m. Permutes m p) (twice h) perm in
+    let of = half_of n p (halves p n) (pairs_apart n p whole) in
+    let sides = sides_apart n p whole in (
+      subst (λ l. Permutes (2 ^ l) (places n (λ j. up_input (halves p n) p j / 2))) level
+          (half_permutes n p (down (halves p n)) false whole (up_input (halves p n) p) (of false) sides),
+      subst (λ l. Permutes (2 ^ l) (places n (λ j. down_input (halves p n) p j / 2))) level
+          (half_permutes n p (down (halves p n)) true whole (down_input (halves p n) p) (of true) sides),
+    )
 
 -- the power of 2 at most as large as a list that can be routed is as large
 pub record IsExponent (p : List ℕ) (k : ℕ) : Type 0 where

@@ -69,16 +69,13 @@ pub route_more : (net : Net) (h k : ℕ) (p : List ℕ) → h ≡ suc k → rout
     ++ (route net k (places (2 ^ h) (λ j. down_input (halves p (2 ^ h)) p j / 2))
     ++ places (2 ^ h - missing net) (λ j. down (halves p (2 ^ h)) (slice_index p (2 * (j + missing net))))))
 unfolding route
-route_more net h k p level = ap (λ l. route net l p) level ∙ by ∙ ap there (sym level)
+route_more net h k p level = ap (λ l. route net l p) level ∙ ap there (sym level)
   where
     there : ℕ → List Bool
     there l = places (2 ^ l) (λ j. down (halves p (2 ^ l)) (2 * j))
         ++ (route net k (places (2 ^ l) (λ j. up_input (halves p (2 ^ l)) p j / 2))
         ++ (route net k (places (2 ^ l) (λ j. down_input (halves p (2 ^ l)) p j / 2))
         ++ places (2 ^ l - missing net) (λ j. down (halves p (2 ^ l)) (slice_index p (2 * (j + missing net))))))
-
-    by : route net (suc k) p ≡ there (suc k)
-    by = refl
 
 -- four pieces appended one after another
 pub four_pieces : {X : Type 0} (b0 b1 b2 b3 b4 x y z w : List X) → b1 ≡ b0 ++ x → b2 ≡ b1 ++ y → b3 ≡ b2 ++ z → b4 ≡ b3 ++ w → b4 ≡ b0 ++ (x ++ (y ++ (z ++ w)))

@@ -42,28 +42,6 @@ pub record IsUnderway (m : ℕ) (s t : ℕ → ℕ) (start x : ℕ) (marks : Lis
 abbrev settled : List Mark → ℕ → ℕ → List Mark
 settled marks x y = set (set marks x (Some false)) y (Some true)
 
-module _ (marks : List Mark) (x y : ℕ) (x_in : x < length marks) (y_in : y < length marks) (apart : x ≢ y) where
-  at_x : get_or (settled marks x y) x None ≡ Some false
-  at_x = get_or-set_other (set marks x (Some false)) y x (Some true) None apart ∙ get_or-set_same marks x (Some false) None x_in
-
-  at_y : get_or (settled marks x y) y None ≡ Some true
-  at_y = get_or-set_same (set marks x (Some false)) y (Some true) None (omega (arith, length-set marks x (Some false)))
-
-  at_others : (z : ℕ) → z ≢ x → z ≢ y → get_or (settled marks x y) z None ≡ get_or marks z None
-  at_others z h k = get_or-set_other (set marks x (Some false)) y z (Some true) None k ∙ get_or-set_other marks x z (Some false) None h
-
-  settled-long : length (settled marks x y) ≡ length marks
-  settled-long = length-set (set marks x (Some false)) y (Some true) ∙ length-set marks x (Some false)
-
-  settled-left : get_or marks x None ≡ None → get_or marks y None ≡ None → left (settled marks x y) + 2 ≡ left marks
-  settled-left fx fy =
-      let one = sum_by-set open_mark marks x (Some false) None x_in in
-      let two = sum_by-set open_mark (set marks x (Some false)) y (Some true) None (omega (arith, length-set marks x (Some false))) in
-      let ox : open_mark (get_or marks x None) ≡ 1 = ap open_mark fx in
-      let oy : open_mark (get_or (set marks x (Some false)) y None) ≡ 1 =
-      ap open_mark (get_or-set_other marks x y (Some false) None (λ e. apart (sym e)) ∙ fy) in
-      omega (arith, one, two, ox, oy)
-
 -- an input that is settled is not free
 not_free : (marks : List Mark) (z : ℕ) (b : Bool) → get_or marks z None ≡ Some b → get_or marks z None ≡ None → ⊥
 not_free marks z b e f = cc
@@ -82,17 +60,12 @@ module _ (m : ℕ) (s t : ℕ → ℕ) (sp : IsPairing m s) (tp : IsPairing m t)
   x_y e = sp.moves x u.x_in (sym e)
 
   -- y is free, since otherwise its fellow x would be settled
-  settled_not_y : (b : Bool) → get_or marks (s x) None ≡ Some b → ⊥
-  settled_not_y b e =
-      let fellow = u.pairs (s x) y_in b e in
-      not_free marks x (not b) (ap (λ k. get_or marks k None) (sym (sp.back x u.x_in)) ∙ fellow) u.free
-
-  y_free_by : (k : Mark) → get_or marks (s x) None ≡ k → get_or marks (s x) None ≡ None
-  y_free_by None e = e
-  y_free_by (Some b) e = absurd (settled_not_y b e)
-
   y_free : get_or marks (s x) None ≡ None
-  y_free = y_free_by (get_or marks (s x) None) refl
+  y_free = by (get_or marks (s x) None) refl
+    where
+      by : (k : Mark) → get_or marks (s x) None ≡ k → get_or marks (s x) None ≡ None
+      by None e = e
+      by (Some b) e = absurd (not_free marks x (not b) (ap (λ k. get_or marks k None) (sym (sp.back x u.x_in)) ∙ u.pairs (s x) y_in b e) u.free)
 
   x_long : x < length marks
   x_long = let i = u.x_in in omega (arith, u.long)
@@ -101,19 +74,25 @@ module _ (m : ℕ) (s t : ℕ → ℕ) (sp : IsPairing m s) (tp : IsPairing m t)
   y_long = omega (arith, u.long, y_in)
 
   here_x : get_or after x None ≡ Some false
-  here_x = at_x marks x (s x) x_long y_long x_y
+  here_x = get_or-set_other (set marks x (Some false)) (s x) x (Some true) None x_y ∙ get_or-set_same marks x (Some false) None x_long
 
   here_y : get_or after (s x) None ≡ Some true
-  here_y = at_y marks x (s x) x_long y_long x_y
+  here_y = get_or-set_same (set marks x (Some false)) (s x) (Some true) None (omega (arith, y_long, length-set marks x (Some false)))
 
   here_others : (z : ℕ) → z ≢ x → z ≢ s x → get_or after z None ≡ get_or marks z None
-  here_others = at_others marks x (s x) x_long y_long x_y
+  here_others z h k = get_or-set_other (set marks x (Some false)) (s x) z (Some true) None k ∙ get_or-set_other marks x z (Some false) None h
 
   after-long : length after ≡ m
-  after-long = settled-long marks x (s x) x_long y_long x_y ∙ u.long
+  after-long = length-set (set marks x (Some false)) (s x) (Some true) ∙ length-set marks x (Some false) ∙ u.long
 
   after-left : left after + 2 ≡ left marks
-  after-left = settled-left marks x (s x) x_long y_long x_y u.free y_free
+  after-left =
+      let one = sum_by-set open_mark marks x (Some false) None x_long in
+      let two = sum_by-set open_mark (set marks x (Some false)) (s x) (Some true) None (omega (arith, y_long, length-set marks x (Some false))) in
+      let ox : open_mark (get_or marks x None) ≡ 1 = ap open_mark u.free in
+      let oy : open_mark (get_or (set marks x (Some false)) (s x) None) ≡ 1 =
+      ap open_mark (get_or-set_other marks x (s x) (Some false) None (λ e. x_y (sym e)) ∙ y_free) in
+      omega (arith, one, two, ox, oy)
 
   some_same : (a b : Bool) (o : Mark) → o ≡ Some a → o ≡ Some b → a ≡ b
   some_same a b o p q = cc

@@ -3,7 +3,7 @@ use Rattle.std.specs.Prelude.{slice_index}
 use Rattle.std.proofs.lemmas.Nat.{pow_pos}
 use Rattle.tv_benes.proofs.ThroughLaws.{twice, above}
 use Rattle.tv_benes.specs.Through.{missing, places}
-use Rattle.tv_route.proofs.RouteLaws.{upper_permutes, lower_permutes}
+use Rattle.tv_route.proofs.RouteLaws.{halves_permute}
 use Rattle.tv_route.proofs.Steps.{route_one, route_more, four_pieces}
 use Rattle.tv_route.specs.Permutations.{Permutes}
 use Rattle.tv_route.specs.Route.{Mark, halves, down, up_input, down_input, route}
@@ -23,36 +23,22 @@ push_last-requires-clause-some t c = omega (arith, pow_pos c.args.h, c.power-n.e
 
 pub route_level-requires : goal.route_level-requires
 route_level-requires t c =
-    let below = above c.args.net c.args.h c.if-h-eq0.false in
+    let level = (above c.args.net c.args.h c.if-h-eq0.false).level in
     let p = c.args.p.now in
-    let whole : Permutes (2 * 2 ^ c.args.h) p = subst (λ k. Permutes k p) (twice c.args.h) c.requires.permutes in
     let marks = c.deref-2.ensures.value ∙ c.in_ok-marks.ensures.marks ∙ ap (λ n. halves p n) c.power-n.ensures in
-    let is = c.deref-3.ensures.value ∙ c.in_ok-inputs.ensures ∙ ap₂ (λ (n : ℕ) (m : List Mark). places n (λ j. up_input m p j / 2)) c.power-n.ensures marks in (
-      omega (arith, below.level),
-      (
-        omega arith,
-        subst (λ l. Permutes (2 ^ suc (c.args.h - 1)) l) (sym is)
-            (subst (λ k. Permutes (2 ^ k) (places (2 ^ c.args.h) (λ j. up_input (halves p (2 ^ c.args.h)) p j / 2))) below.level
-            (upper_permutes (2 ^ c.args.h) p whole)),
-      ),
-    )
+    let is = c.deref-3.ensures.value ∙ c.in_ok-inputs.ensures ∙ ap₂ (λ (n : ℕ) (m : List Mark). places n (λ j. up_input m p j / 2)) c.power-n.ensures marks in
+    let inner = (halves_permute c.args.h (c.args.h - 1) p level c.requires.permutes).0 in
+    (omega (arith, level), (omega arith, subst (λ l. Permutes (2 ^ suc (c.args.h - 1)) l) (sym is) inner))
 
 pub route_level-requires-2 : goal.route_level-requires-2
 route_level-requires-2 t c =
-    let below = above c.args.net c.args.h c.if-h-eq0.false in
+    let level = (above c.args.net c.args.h c.if-h-eq0.false).level in
     let p = c.args.p.now in
-    let whole : Permutes (2 * 2 ^ c.args.h) p = subst (λ k. Permutes k p) (twice c.args.h) c.requires.permutes in
     let marks = c.deref-4.ensures.value ∙ c.in_ok-marks.ensures.marks ∙ ap (λ n. halves p n) c.power-n.ensures in
     let is = c.deref-5.ensures.value ∙ c.in_ok-inputs-2.ensures
-    ∙ ap₂ (λ (n : ℕ) (m : List Mark). places n (λ j. down_input m p j / 2)) c.power-n.ensures marks in (
-      omega (arith, below.level),
-      (
-        omega arith,
-        subst (λ l. Permutes (2 ^ suc (c.args.h - 1)) l) (sym is)
-            (subst (λ k. Permutes (2 ^ k) (places (2 ^ c.args.h) (λ j. down_input (halves p (2 ^ c.args.h)) p j / 2))) below.level
-            (lower_permutes (2 ^ c.args.h) p whole)),
-      ),
-    )
+    ∙ ap₂ (λ (n : ℕ) (m : List Mark). places n (λ j. down_input m p j / 2)) c.power-n.ensures marks in
+    let inner = (halves_permute c.args.h (c.args.h - 1) p level c.requires.permutes).1 in
+    (omega (arith, level), (omega arith, subst (λ l. Permutes (2 ^ suc (c.args.h - 1)) l) (sym is) inner))
 
 pub returns : goal.returns
 returns t c =
