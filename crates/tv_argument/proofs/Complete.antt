@@ -57,10 +57,6 @@ module _ (z : List ℕ) (piece : ℕ → Circuit (Unit {0})) (f : ℕ → List �
       whole z (sequence n piece) (λ _. piece n) first (pieces_met n first (λ i at h. each i at (omega arith)) both.0)
       (each n (sequence n piece first).next (omega arith) (subst (λ w. HasFrom z w (f n)) (sym (pieces_next n first)) both.1))
 
-fresh_met : (z : List ℕ) (at : ℕ) (item : Pair) (line : LineLc) → Meets z (check_of ZeroOld item line at).list
-unfolding pure
-fresh_met z at item line = tt
-
 -- the settings for the predecessors bring their items
 pub brought : (net : Net) (k : ℕ) (lines : List Line) (item : ℕ → PairNum) → 1 ≤ k → k ≤ 20 → length lines ≡ 2 ^ k → LinesFrom 0 lines
     → (i : ℕ) → i < 2 ^ k → through net (k - 1) (bit_at (route_of net (predecessors lines))) item i ≡ item (place_at (predecessors lines) i)
@@ -116,7 +112,8 @@ module _ (z : List ℕ) (net : Net) (checks : Checks) (h : ℕ) (lines : List Li
   check_met : (kind : Kind) (i at : ℕ) (out : Pair) → i < checks.count → IsOfKind checks.least i (line i) kind → IsNear numbers i kind
       → pair_value z out ≡ packed_item (line_before numbers i) → HasFrom z at (check_values kind (line_before numbers i) (line i))
       → Meets z (check_of kind out (line_in lines i) at).list
-  check_met ZeroOld i at out k suits nearby is has = fresh_met z at out (line_in lines i)
+  unfolding pure
+  check_met ZeroOld i at out k suits nearby is has = tt
   check_met Least i at out k suits nearby is has =
       least_line_complete z at (line_in lines i) assigns
       (ap (λ (m : Line). m.old) (sym (number_is z h lines few many from i)) ∙ ap (λ j. (line j).old) suits

@@ -23,7 +23,7 @@ sum_places zero p f = ap (sum_by f) (places-zero p)
 sum_places (suc n) p f = ap (sum_by f) (places-suc n p) ∙ sum_by_push f (places n p) (p n) ∙ ap (λ s. s + f (p n)) (sum_places n p f)
 
 -- a sum is the same over a permutation of the places
-pub total_permuted : (n : ℕ) (p : ℕ → ℕ) (f : ℕ → ℕ) → PermutesPlaces n p → total n (λ i. f (p i)) ≡ total n f
+total_permuted : (n : ℕ) (p : ℕ → ℕ) (f : ℕ → ℕ) → PermutesPlaces n p → total n (λ i. f (p i)) ≡ total n f
 total_permuted n p f moved =
     sym (sum_places n p f) ∙ sum_by-IsPermutation f (places n (λ i. i)) (places n p) moved ∙ sum_places n (λ i. i) f
 

@@ -103,20 +103,17 @@ module _ (n l a : ℕ) (p : ℕ → ℕ) (line : ℕ → Line) (few : n ≤ 2 ^ 
           let g = follows_rises (line (p i)) (line i) sp si f in
           f.fresh (λ same. none (p i) hp same (omega arith))
 
-  lines : List Line
+  abbrev lines : List Line
   lines = each_below n line
 
   long : length lines ≡ n
-  unfolding lines
   long = length-each_below n line
 
   -- a member stands at a place
   member : (m : Line) → Contains lines m → (i : ℕ) × (i < n) × (line i ≡ m)
-  unfolding lines
   member m (i, x, e) = let w = long in (i, omega arith, sym (each_below-at n i line m (omega arith)) ∙ e)
 
   contained : (i : ℕ) → i < n → Contains lines (line i)
-  unfolding lines
   contained i x = (i, omega (arith, long), each_below-at n i line (line i) x)
 
   by_places : HonestByTimes lines
@@ -140,15 +137,10 @@ module _ (n l a : ℕ) (p : ℕ → ℕ) (line : ℕ → Line) (few : n ≤ 2 ^ 
           (λ none. first i hi (λ j x. none (line j) (contained j x)))
 
   in_time : InTimeOrder lines
-  unfolding lines
   in_time i j d x y =
       let w = long in
       rw (each_below-at n i line d (omega arith), each_below-at n j line d (omega arith)) (omega (arith, h.times i (omega arith), h.times j (omega arith)))
 
-  honest : Honest lines
-  honest = Honest-from_times lines in_time by_places
-
   -- they are honest
   pub honest_places : Honest (each_below n line)
-  unfolding lines
-  honest_places = honest
+  honest_places = Honest-from_times lines in_time by_places

@@ -1,22 +1,17 @@
 -- Numbers in rising order: a sort makes them, and there is one such list.
-use Rattle.std.proofs.Common.{◌≡◌, ◌≢◌, ◌⊎◌, ℕ, zero, suc, ◌+◌, ◌<◌, ◌≤◌, ◌==◌, nat_le, Bool, true, false, if◌then◌else◌, List, [], ◌∷◌, length, get_or}
+use Rattle.std.proofs.Common.{◌≡◌, ◌≢◌, ◌⊎◌, ℕ, zero, suc, ◌+◌, ◌<◌, ◌≤◌, ◌==◌, nat_le, if◌then◌else◌, List, [], ◌∷◌, length, get_or}
 use Rattle.std.proofs.Common.{sum_by, IsPermutation, refl, sym, ◌∙◌, ap, ap₂, arith, inl, inr}
 use Rattle.std.specs.List.Sorted.{IsNonDecreasing}
-use Rattle.std.proofs.lemmas.Bool.{cases_order, leb-true, leb-false, eq-eqb, ne_eqb}
+use Rattle.std.proofs.lemmas.Bool.{cases_order, cond_both, leb-true, leb-false, eq-eqb, ne_eqb}
 use Rattle.std.proofs.lemmas.List.Sorted.{IsPermutation-refl, IsPermutation-cons, IsPermutation-trans, IsPermutation-insert, sum_by-IsPermutation}
 use Rattle.std.proofs.lemmas.List.Sums.{sum_by-cons}
 use Rattle.tv_argument.specs.Order.{put_in, rising}
 
-swapped : (l m : ℕ) (ls : List ℕ) → IsPermutation (l ∷ m ∷ ls) (m ∷ l ∷ ls)
-swapped l m ls = IsPermutation-insert (m ∷ ls) 1 l
-
 put_moves : (l : ℕ) (ls : List ℕ) → IsPermutation (l ∷ ls) (put_in l ls)
 put_moves l [] = IsPermutation-refl (l ∷ [])
-put_moves l (m ∷ ls) = by (nat_le l m) (put_moves l ls)
-  where
-    by : (b : Bool) → IsPermutation (l ∷ ls) (put_in l ls) → IsPermutation (l ∷ m ∷ ls) (if b then l ∷ m ∷ ls else m ∷ put_in l ls)
-    by true h = IsPermutation-refl (l ∷ m ∷ ls)
-    by false h = IsPermutation-trans (l ∷ m ∷ ls) (m ∷ l ∷ ls) (m ∷ put_in l ls) (swapped l m ls) (IsPermutation-cons m (l ∷ ls) (put_in l ls) h)
+put_moves l (m ∷ ls) = cond_both (nat_le l m) (l ∷ m ∷ ls) (m ∷ put_in l ls) (IsPermutation (l ∷ m ∷ ls)) (λ e. IsPermutation-refl (l ∷ m ∷ ls))
+    (λ e. IsPermutation-trans (l ∷ m ∷ ls) (m ∷ l ∷ ls) (m ∷ put_in l ls) (IsPermutation-insert (m ∷ ls) 1 l)
+    (IsPermutation-cons m (l ∷ ls) (put_in l ls) (put_moves l ls)))
 
 pub rising_moves : (ls : List ℕ) → IsPermutation ls (rising ls)
 rising_moves [] = IsPermutation-refl []
@@ -38,19 +33,13 @@ from_less j k (l ∷ ls) h f = let here = f.0 in (omega arith, from_less j k ls 
 
 put_from : (k l : ℕ) (ls : List ℕ) → k ≤ l → From k ls → From k (put_in l ls)
 put_from k l [] h f = (h, tt)
-put_from k l (m ∷ ls) h f = by (nat_le l m) (put_from k l ls h f.1)
-  where
-    by : (b : Bool) → From k (put_in l ls) → From k (if b then l ∷ m ∷ ls else m ∷ put_in l ls)
-    by true g = (h, (f.0, f.1))
-    by false g = (f.0, g)
+put_from k l (m ∷ ls) h f = cond_both (nat_le l m) (l ∷ m ∷ ls) (m ∷ put_in l ls) (From k) (λ e. (h, (f.0, f.1))) (λ e. (f.0, put_from k l ls h f.1))
 
 put_rises : (l : ℕ) (ls : List ℕ) → Rises ls → Rises (put_in l ls)
 put_rises l [] r = (tt, tt)
-put_rises l (m ∷ ls) r = by (nat_le l m) refl (put_rises l ls r.1)
-  where
-    by : (b : Bool) → nat_le l m ≡ b → Rises (put_in l ls) → Rises (if b then l ∷ m ∷ ls else m ∷ put_in l ls)
-    by true e g = let low = leb-true l m e in ((low, from_less l m ls low r.0), (r.0, r.1))
-    by false e g = let high = leb-false l m e in (put_from m l ls (omega arith) r.0, g)
+put_rises l (m ∷ ls) r = cond_both (nat_le l m) (l ∷ m ∷ ls) (m ∷ put_in l ls) Rises
+    (λ e. let low = leb-true l m e in ((low, from_less l m ls low r.0), (r.0, r.1)))
+    (λ e. let high = leb-false l m e in (put_from m l ls (omega arith) r.0, put_rises l ls r.1))
 
 rises : (ls : List ℕ) → Rises (rising ls)
 rises [] = tt

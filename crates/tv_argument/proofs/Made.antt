@@ -1,20 +1,17 @@
 -- Items are made of wires and short, as the lines are.
-use Rattle.std.proofs.Common.{◌≡◌, ℕ, ◌*◌, ◌%◌, ◌^◌, ◌<◌, ◌≤◌, List, [], length, All, arith}
+use Rattle.std.proofs.Common.{◌≡◌, ℕ, ◌*◌, ◌%◌, ◌^◌, ◌<◌, ◌≤◌, List, [], length, All, arith, ◌++◌}
 use Rattle.std.proofs.lemmas.List.{length-append, length-map}
 use Rattle.std.proofs.lemmas.List.Elements.{All-get_or}
 use Rattle.tv_benes.specs.Places.{ArePairsMade}
 use Rattle.tv_core.proofs.CombinationLaws.{top-append, top-scaled}
 use Rattle.tv_core.proofs.NormalLaws.{length-normal, top-normal}
-use Rattle.tv_core.specs.Combinations.{scaled, top}
+use Rattle.tv_core.specs.Combinations.{scaled}
 use Rattle.tv_core.specs.Constraints.{Combination}
 use Rattle.tv_core.specs.declared.field.TheConstants.{P}
 use Rattle.tv_core.specs.declared.lines.LineLc.{LineLc}
 use Rattle.tv_lines.specs.PackedLines.{packed_terms}
 use Rattle.tv_lines.specs.Placed.{no_line, line_in}
 use Rattle.tv_argument.specs.Memory.{IsMade, items_of}
-
-joined_top : (wires : ℕ) (low high : Combination) → top low ≤ wires → top high ≤ wires → top (packed_terms low high) ≤ wires
-joined_top wires low high h k = omega (arith, top-append low (scaled (2 ^ 32 % P) high), top-scaled (2 ^ 32 % P) high)
 
 joined_short : (low high : Combination) → length low ≤ 32 → length high ≤ 32 → length (packed_terms low high) ≤ 64
 joined_short low high h k =
@@ -33,7 +30,8 @@ are_made wires n lines many all = record {
   second = λ i h.
       let l = at wires lines i (omega arith) all in
       let m : LineLc = line_in lines i in
-      omega (arith, joined_top wires m.new m.time l.new l.time, top-normal (packed_terms m.new m.time));
+      let time : Combination = scaled (2 ^ 32 % P) m.time in
+      omega (arith, l.new, l.time, top-normal (m.new ++ time), top-append m.new time, top-scaled (2 ^ 32 % P) m.time);
   first_short = λ i h.
       let l = at wires lines i (omega arith) all in
       let m : LineLc = line_in lines i in

@@ -2,7 +2,6 @@
 use Rattle.std.proofs.Common.{◌≡◌, ℕ, ◌%◌, ◌<◌, ◌≤◌, ◌^◌, List, [], ◌∷◌, length, map, get_or, All, IsPermutation, refl, sym, ap}
 use Rattle.std.proofs.Common.{◌∙◌, subst, arith, zero-add}
 use Rattle.std.proofs.lemmas.List.{length-map, get_or-map, map-id}
-use Rattle.std.proofs.lemmas.List.FromFn.{fill_by_all}
 use Rattle.std.proofs.lemmas.List.Elements.{All-from_get_or, All-get_or}
 use Rattle.std.proofs.lemmas.List.Sorted.{All-permutation, IsPermutation-map, length_permutation}
 use Rattle.tv_benes.proofs.Permutations.{places-same}
@@ -12,14 +11,9 @@ use Rattle.tv_core.specs.Lines.{Line, Honest}
 use Rattle.tv_lines.proofs.AddressOrder.{sorted_ordered}
 use Rattle.tv_lines.specs.Ordered.{InTimeOrder, Ordered, key}
 use Rattle.tv_lines.specs.Placed.{zero_line, number_in, LinesFrom}
-use Rattle.tv_argument.proofs.Parts.{placed}
+use Rattle.tv_argument.proofs.Parts.{placed, each_place}
 use Rattle.tv_argument.proofs.Increase.{rising_moves, rising_rises}
 use Rattle.tv_argument.specs.Order.{place_at, rising, address_order, AddressOrderIsRight}
-
--- a list is what stands at its places
-each_place : {X Y : Type 0} (f : X → Y) (d : X) (ls : List X) → each_below (length ls) (λ i. f (get_or ls i d)) ≡ map f ls
-unfolding each_below
-each_place f d ls = sym (fill_by_all (λ i. f (get_or ls i d)) (map f ls) (length ls) (f d) (length-map ls f) (λ i h. get_or-map f ls i d (f d) h))
 
 pub map_map : {X Y Z : Type 0} (f : X → Y) (g : Y → Z) (ls : List X) → map g (map f ls) ≡ map (λ x. g (f x)) ls
 map_map f g [] = refl
@@ -29,39 +23,30 @@ same_places : {Y : Type 0} (n : ℕ) (f g : ℕ → Y) → ((i : ℕ) → i < n 
 unfolding each_below places
 same_places n f g same = places-same n f g same
 
-time_of_key : (l : Line) → l.time < 2 ^ 20 → key l % 2 ^ 20 ≡ l.time
-time_of_key l small = omega arith
-
 module _ (lines : List Line) (few : length lines ≤ 2 ^ 20) (from : LinesFrom 0 lines) where
   time_is : (i : ℕ) (d : Line) → i < length lines → (get_or lines i d).time ≡ i
   time_is i d h = (placed 0 lines from i d h).0 ∙ zero-add i
 
   place_of_key : (i : ℕ) → i < length lines → key (number_in lines i) % 2 ^ 20 ≡ i
-  place_of_key i h = let t = time_is i zero_line h in time_of_key (number_in lines i) (omega arith) ∙ t
+  place_of_key i h = omega (arith, time_is i zero_line h)
 
   abbrev sorted : List Line
   sorted = map (λ k. number_in lines (k % 2 ^ 20)) (rising (map key lines))
 
   -- the keys determine the places
-  places_of_keys : map (λ k. k % 2 ^ 20) (map key lines) ≡ places (length lines) (λ i. i)
-  unfolding places each_below
-  places_of_keys =
-      map_map key (λ k. k % 2 ^ 20) lines ∙ sym (each_place (λ l. key l % 2 ^ 20) zero_line lines)
-      ∙ same_places (length lines) (λ i. key (number_in lines i) % 2 ^ 20) (λ i. i) place_of_key
-
   permuted : IsPermutation (places (length lines) (λ i. i)) (address_order lines)
-  permuted = subst (λ ps. IsPermutation ps (address_order lines)) places_of_keys
+  unfolding places each_below
+  permuted = subst (λ ps. IsPermutation ps (address_order lines))
+      (map_map key (λ k. k % 2 ^ 20) lines ∙ sym (each_place (λ l. key l % 2 ^ 20) zero_line lines)
+      ∙ same_places (length lines) (λ i. key (number_in lines i) % 2 ^ 20) (λ i. i) place_of_key)
       (IsPermutation-map (λ k. k % 2 ^ 20) (map key lines) (rising (map key lines)) (rising_moves (map key lines)))
 
-  -- the lines that they determine are the lines
-  lines_of_keys : map (λ k. number_in lines (k % 2 ^ 20)) (map key lines) ≡ lines
-  lines_of_keys =
-      map_map key (λ k. number_in lines (k % 2 ^ 20)) lines ∙ sym (each_place (λ l. number_in lines (key l % 2 ^ 20)) zero_line lines)
-      ∙ same_places (length lines) (λ i. number_in lines (key (number_in lines i) % 2 ^ 20)) (number_in lines) (λ i h. ap (number_in lines) (place_of_key i h))
-      ∙ each_place (λ l. l) zero_line lines ∙ map-id lines
-
+  -- and the lines
   moved : IsPermutation lines sorted
-  moved = subst (λ ls. IsPermutation ls sorted) lines_of_keys
+  moved = subst (λ ls. IsPermutation ls sorted)
+      (map_map key (λ k. number_in lines (k % 2 ^ 20)) lines ∙ sym (each_place (λ l. number_in lines (key l % 2 ^ 20)) zero_line lines)
+      ∙ same_places (length lines) (λ i. number_in lines (key (number_in lines i) % 2 ^ 20)) (number_in lines) (λ i h. ap (number_in lines) (place_of_key i h))
+      ∙ each_place (λ l. l) zero_line lines ∙ map-id lines)
       (IsPermutation-map (λ k. number_in lines (k % 2 ^ 20)) (map key lines) (rising (map key lines)) (rising_moves (map key lines)))
 
   -- the line that a key determines has it

@@ -1,10 +1,10 @@
 -- CompactLines by their places, and loops over them.
-use Rattle.std.proofs.Common.{◌≡◌, ℕ, zero, suc, ◌+◌, ◌<◌, ◌≤◌, ◌^◌, List, [], ◌∷◌, ◌++◌, length, map, refl, sym, ap, ap₂, ◌∙◌, arith, subst, add-zero}
-use Rattle.std.proofs.Common.{get_or, inl, inr, append_assoc}
-use Rattle.std.specs.List.{range_with_len}
+use Rattle.std.proofs.Common.{◌≡◌, ℕ, zero, suc, ◌+◌, ◌<◌, ◌≤◌, ◌^◌, List, [], ◌∷◌, length, map, refl, sym, ap, ◌∙◌, arith, subst}
+use Rattle.std.proofs.Common.{get_or, inl, inr}
 use Rattle.std.proofs.Math.Nat.{pow-le-pow_right}
 use Rattle.std.proofs.lemmas.Bool.{cases_eq, cases_lt}
-use Rattle.std.proofs.lemmas.List.{get_or_past, get_or-append-add, length-append, length-map}
+use Rattle.std.proofs.lemmas.List.{get_or_past, get_or-map, length-map}
+use Rattle.std.proofs.lemmas.List.FromFn.{fill_by_all}
 use Rattle.tv_core.proofs.BelowLaws.{sum_below-zero, sum_below-suc}
 use Rattle.tv_core.specs.Below.{each_below, sum_below}
 use Rattle.tv_core.specs.Circuits.{Circuit, pure, turns, ◌>>=◌}
@@ -27,21 +27,13 @@ map_value f [] i d = refl
 map_value f (l ∷ ls) zero d = refl
 map_value f (l ∷ ls) (suc i) d = map_value f ls i d
 
-by_places : (f : LineLc → Line) (d : LineLc) (pre ls : List LineLc) (a : ℕ) → length pre ≡ a
-    → map (λ i. f (get_or (pre ++ ls) i d)) (range_with_len a (length ls)) ≡ map f ls
-by_places f d pre [] a e = refl
-by_places f d pre (l ∷ ls) a e =
-    let here : get_or (pre ++ l ∷ ls) a d ≡ l = ap (λ n. get_or (pre ++ l ∷ ls) n d) (sym e ∙ sym (add-zero (length pre)))
-    ∙ get_or-append-add pre (l ∷ ls) 0 d in
-    let more : length (pre ++ l ∷ []) ≡ a + 1 = length-append pre (l ∷ []) ∙ omega arith in
-    let rest = by_places f d (pre ++ l ∷ []) ls (a + 1) more in
-    ap₂ (λ (u : Line) (us : List Line). u ∷ us) (ap f here) (ap (λ w. map (λ i. f (get_or w i d)) (range_with_len (a + 1) (length ls)))
-    (sym (append_assoc pre (l ∷ []) ls)) ∙ rest)
-
 -- a list is what stands at its places
-pub each_line : (f : LineLc → Line) (ls : List LineLc) (n : ℕ) → length ls ≡ n → each_below n (λ i. f (line_in ls i)) ≡ map f ls
+pub each_place : {X Y : Type 0} (f : X → Y) (d : X) (ls : List X) → each_below (length ls) (λ i. f (get_or ls i d)) ≡ map f ls
 unfolding each_below
-each_line f ls n e = ap (λ n. map (λ i. f (line_in ls i)) (range_with_len 0 n)) (sym e) ∙ by_places f no_line [] ls 0 refl
+each_place f d ls = sym (fill_by_all (λ i. f (get_or ls i d)) (map f ls) (length ls) (f d) (length-map ls f) (λ i h. get_or-map f ls i d (f d) h))
+
+pub each_line : (f : LineLc → Line) (ls : List LineLc) (n : ℕ) → length ls ≡ n → each_below n (λ i. f (line_in ls i)) ≡ map f ls
+each_line f ls n e = ap (λ n. each_below n (λ i. f (line_in ls i))) (sym e) ∙ each_place f no_line ls
 
 module _ (z : List ℕ) (h : ℕ) (lines : List LineLc) (small : suc h ≤ 20) (many : length lines ≡ 2 ^ suc h) (from : LinesFrom 0 (map (line_value z) lines)) where
   few : 2 ^ suc h ≤ 2 ^ 20
@@ -60,7 +52,7 @@ module _ (z : List ℕ) (h : ℕ) (lines : List LineLc) (small : suc h ≤ 20) (
     | inl here ↦ let p = at_place i here in let f = few in record { cell = p.1.cell; time = omega (arith, p.0); old = p.1.old; new = p.1.new }
     | inr past ↦
         let none : line_in lines i ≡ no_line = get_or_past lines i no_line (omega arith) in
-        subst (λ l. LineInRange (line_value z l)) (sym none) (record { cell = omega arith; time = omega arith; old = omega arith; new = omega arith })
+        subst (λ l. LineInRange (line_value z l)) (sym none) (omega arith)
   ]
 
   pub packs : ◌≡◌ {A = ℕ → PairNum} (λ i. pair_value z (items_of lines i)) (λ i. packed_item (number_in (map (line_value z) lines) i))
@@ -70,8 +62,7 @@ module _ (z : List ℕ) (h : ℕ) (lines : List LineLc) (small : suc h ≤ 20) (
 pub ranged : (lines : List Line) → length lines ≤ 2 ^ 20 → LinesFrom 0 lines → (j : ℕ) → LineInRange (number_in lines j)
 ranged lines few from j = elim (cases_lt j (length lines)) [
   | inl here ↦ let p = placed 0 lines from j zero_line here in record { cell = p.1.cell; time = omega (arith, p.0); old = p.1.old; new = p.1.new }
-  | inr past ↦ subst LineInRange (sym (get_or_past lines j zero_line past))
-      (record { cell = omega arith; time = omega arith; old = omega arith; new = omega arith })
+  | inr past ↦ subst LineInRange (sym (get_or_past lines j zero_line past)) (omega arith)
 ]
 
 -- ---- pieces of a loop, each with its own number of wires

@@ -44,9 +44,6 @@ index_found i (suc j) (x ∷ xs) h e = by (cases_eq x i) (index_found i j xs (om
 abbrev advanced : ℕ → ℕ → ℕ
 advanced n j = if j + 1 == n then 0 else j + 1
 
-before_later : (n j : ℕ) → index_before n (suc j) ≡ j
-before_later n j = grind (arith, nat_tests)
-
 before_below : (n j : ℕ) → j < n → index_before n j < n
 before_below n j h = grind (arith, nat_tests)
 
@@ -81,9 +78,6 @@ module _ (n : ℕ) (order : List ℕ) (right : Permutes n order) where
       let long = right.as_long in
       places-at (length order) i (previous_in order) 0 (omega arith) ∙ ap (λ m. place_at order (index_before m (index_in i order))) long
 
-  pub before_at : (j : ℕ) → j < n → place_at (previous_order order) (place_at order j) ≡ place_at order (index_before n j)
-  before_at j h = previous_at (place_at order j) (right.below j h) ∙ ap (λ i. place_at order (index_before n i)) (index_of j h)
-
   pub previous_permutes : Permutes n (previous_order order)
   previous_permutes = record {
     as_long = places-length (length order) (previous_in order) ∙ right.as_long;
@@ -93,8 +87,10 @@ module _ (n : ℕ) (order : List ℕ) (right : Permutes n order) where
     back_below = λ x h. let f = index_is x h in right.below (advanced n (index_in x order)) (advanced_below n (index_in x order) f.0);
     there = λ x h.
         let f = index_is x h in
-        before_at (advanced n (index_in x order)) (advanced_below n (index_in x order) f.0)
-        ∙ ap (place_at order) (before_advanced n (index_in x order) f.0) ∙ f.1;
+        let j = advanced n (index_in x order) in
+        let within = advanced_below n (index_in x order) f.0 in
+        previous_at (place_at order j) (right.below j within)
+        ∙ ap (λ i. place_at order (index_before n i)) (index_of j within) ∙ ap (place_at order) (before_advanced n (index_in x order) f.0) ∙ f.1;
     once = λ i j hi hj e.
         let f = index_is i hi in
         let g = index_is j hj in
@@ -124,7 +120,7 @@ module _ (lines : List Line) (few : length lines ≤ 2 ^ 20) (from : LinesFrom 0
   before_is : (i j : ℕ) → i < length lines → index_in i order ≡ suc j → p i ≡ place_at order j
   before_is i j h e =
       previous_at (length lines) order order_permutes i h ∙ ap (λ x. place_at order (index_before (length lines) x)) e
-      ∙ ap (place_at order) (before_later (length lines) j)
+      ∙ ap (place_at order) (let same : index_before (length lines) (suc j) ≡ j = grind (arith, nat_tests) in same)
 
   small : (i : ℕ) → i < length lines → (line i).time < 2 ^ 20
   small i h = omega (arith, (placed 0 lines from i zero_line h).0)

@@ -12,9 +12,6 @@ pub record IsPlaced (order : List ℕ) (j : ℕ) (found : List ℕ) : Type 0 whe
   pub long : length found ≡ length order
   pub each : (t : ℕ) → t < j → t < length order → place_at found (place_at order t) ≡ place_at order (index_before (length order) t)
 
-pub placed_none : (order found : List ℕ) → length found ≡ length order → IsPlaced order 0 found
-placed_none order found long = record { long = long; each = λ t h k. absurd (omega arith) }
-
 pub placed_more : (order : List ℕ) (j : ℕ) (found : List ℕ) → Permutes (length order) order → IsPlaced order j found → j < length order
     → IsPlaced order (j + 1) (set found (place_at order j) (place_at order (index_before (length order) j)))
 placed_more order j found right h within = record {

@@ -8,7 +8,7 @@ use Rattle.tv_core.specs.declared.lines.PairNum.{PairNum}
 use Rattle.tv_lines.specs.PackedLines.{unpacked}
 use Rattle.tv_lines.specs.Placed.{number_in}
 use Rattle.tv_argument.proofs.FillingLaws.{check_same, given_all, given_some}
-use Rattle.tv_argument.specs.Checks.{Checks, check_values}
+use Rattle.tv_argument.specs.Checks.{check_values}
 use Rattle.tv_argument.specs.declared.kinds.Kind.{Kind}
 use Rattle.tv_argument.proofs.values.fill_checks.Goals as goal
 
@@ -18,14 +18,8 @@ one : (kind same : Kind) (items : List PairNum) (pair : PairNum) (i : ℕ) (l m 
 one kind same items pair i l m k p cell time old =
     ap (λ k. check_values k (unpacked pair) l) k ∙ ap (λ p. check_values same (unpacked p) l) p ∙ check_same same (unpacked (pair_at items i)) l m cell time old
 
-abbrev values : Checks → List PairNum → List Line → ℕ → List ℕ
-values checks items lines i = check_values (checks.kind i) (unpacked (pair_at items i)) (number_in lines i)
-
 pub loop-i-init : goal.loop-i-init
-loop-i-init g c = record {
-  gives = gives_no_list g.V.Values.giving (values (g.L.LineNumbers.checks c.args.lines.now) c.args.items.now (g.L.LineNumbers.lines c.args.lines.now)) _;
-  whole = c.requires.whole;
-}
+loop-i-init g c = record { gives = gives_no_list _ _ _; whole = c.requires.whole }
 
 pub loop-i-preserved : goal.loop-i-preserved
 loop-i-preserved g c =
@@ -36,9 +30,7 @@ loop-i-preserved g c =
     let same = one c.kind.result _ c.args.items.now c.index-items-i.result i c.line.result
     (number_in (g.L.LineNumbers.lines c.args.lines.now) i) c.kind.ensures read c.line.ensures.cell c.line.ensures.time c.line.ensures.old in
     record {
-      gives = gives_list m (values (g.L.LineNumbers.checks c.args.lines.now) c.args.items.now (g.L.LineNumbers.lines c.args.lines.now)) i _ _ _
-          c.loop-i.invariant.gives
-          (given_all m _ _ _ _ same c.in_ok-fill_check.ensures.gives);
+      gives = gives_list _ _ _ _ _ _ c.loop-i.invariant.gives (given_all m _ _ _ _ same c.in_ok-fill_check.ensures.gives);
       whole = c.in_ok-fill_check.ensures.whole;
     }
 
@@ -52,6 +44,4 @@ returns-in_err-fill_check-clause-gives g c =
     let same = one c.kind.result _ c.args.items.now c.index-items-i.result i c.line.result
     (number_in (g.L.LineNumbers.lines c.args.lines.now) i) c.kind.ensures read c.line.ensures.cell c.line.ensures.time c.line.ensures.old in
     gives_refused m _ _ _ c.from_residual.result c.from_residual.ensures.1
-    (gives_list_refused m (values (g.L.LineNumbers.checks c.args.lines.now) c.args.items.now (g.L.LineNumbers.lines c.args.lines.now))
-    (g.L.LineNumbers.checks c.args.lines.now).count i _ _ _ _
-    below c.loop-i.invariant.gives (given_some m _ _ _ _ same _ c.in_err-fill_check.ensures.gives))
+    (gives_list_refused _ _ _ _ _ _ _ _ below c.loop-i.invariant.gives (given_some m _ _ _ _ same _ c.in_err-fill_check.ensures.gives))
