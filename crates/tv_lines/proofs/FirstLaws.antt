@@ -9,11 +9,6 @@ use Rattle.tv_core.specs.Laws.{Assigns}
 use Rattle.tv_core.specs.declared.field.TheConstants.{P}
 use Rattle.tv_lines.proofs.Numbers.{number_value}
 use Rattle.tv_lines.specs.SortedPair.{first_line_of, FirstLineIsSound, FirstLineIsComplete, FirstLineSizes}
-use Rattle.tv_lines.specs.declared.rows.LineBits.{LineBits}
-
-pub first_line_next : (bits : LineBits) (next : ℕ) → (first_line_of bits next).next ≡ next
-unfolding first_line_of put
-first_line_next bits next = refl
 
 one : (z : List ℕ) → Assigns z → value (constant 1) z ≡ 1
 one z assigns = value-constant assigns 1 ∙ omega arith
@@ -32,4 +27,5 @@ first_line_complete z next bits l widths assigns s none =
     (ap₂ (λ a b. a * b % P) (number_value z bits.old 32 l.old widths.old (omega arith) s.old ∙ none) (one z assigns) ∙ omega arith, tt)
 
 pub first_line_fill : FirstLineSizes
-first_line_fill = record { end = first_line_next; fills = λ bits next. first_line_next bits next ∙ omega arith }
+unfolding first_line_of put
+first_line_fill = record { end = λ bits next. refl; fills = λ bits next. omega arith }

@@ -14,23 +14,17 @@ use Rattle.tv_core.specs.declared.lines.LineLc.{LineLc}
 use Rattle.tv_core.specs.declared.lines.Pair.{Pair}
 use Rattle.tv_lines.specs.Predecessor.{less_above, cell_excess, excess, cell_difference, time_difference}
 
-above_small : (x y : ℕ) → y < 2 ^ 31 → (x + (P - 2 ^ 32) * y % P) % P ≡ (x + (P - 2 ^ 32 * y)) % P
-above_small x y h = omega arith
-
 pub value-less_above : (x y : Combination) (z : List ℕ) (a b : ℕ) → value x z ≡ a → value y z ≡ b → b < 2 ^ 31
     → value (less_above x y) z ≡ (a + (P - 2 ^ 32 * b)) % P
 value-less_above x y z a b is_a is_b small =
     value-normal z (x ++ scaled (P - 2 ^ 32) y)
     ∙ value-append x (scaled (P - 2 ^ 32) y) z
     ∙ ap₂ (λ m n. (m + n) % P) is_a (value-scaled (P - 2 ^ 32) y z ∙ ap (λ n. (P - 2 ^ 32) * n % P) is_b)
-    ∙ above_small a b small
+    ∙ omega arith
 
 gathered : (r q o c : ℕ) → r < 2 ^ 31 → q < 2 ^ 31 → o < 2 ^ 32 → c < 2 ^ 31
     → ((((2 ^ 32 + 2 ^ 32 * q) % P + (P - 1) * o % P) % P + (P - 2 ^ 32 * c)) % P + 2 ^ 32 * r % P) % P ≡ (2 ^ 32 * (r + 1 + q) + (P - (2 ^ 32 * c + o))) % P
 gathered r q o c h i j k = omega arith
-
-timed : (x v t : ℕ) → t < 2 ^ 31 → ((v + (P - 2 ^ 32 * t)) % P + x) % P ≡ ((x + v) % P + (P - 2 ^ 32 * t)) % P
-timed x v t h = omega arith
 
 module _ (z : List ℕ) (line : LineLc) (item : Pair) (assigns : Assigns z) where
   pub value-excess : (reach : Bits) (n r q o c : ℕ) → reach.n ≡ n → n ≤ 31 → r < 2 ^ 31 → HasBits z reach.first n r
@@ -59,4 +53,4 @@ module _ (z : List ℕ) (line : LineLc) (item : Pair) (assigns : Assigns z) wher
   value-times e x v t is_x is_v is_t small_t =
       value-append (less_above item.second line.time) (wire e) z
       ∙ ap₂ (λ m n. (m + n) % P) (value-less_above item.second line.time z v t is_v is_t small_t) (value-wire assigns e ∙ is_x)
-      ∙ timed x v t small_t
+      ∙ omega arith

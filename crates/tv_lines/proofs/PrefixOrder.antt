@@ -31,9 +31,6 @@ rises_next apart size before after next = zero_product_next (λ j. less (prefix_
 abbrev pub Rises : Line → Line → Type 0
 Rises l m = (l.cell < m.cell) ⊎ ((l.cell ≡ m.cell) × (l.time < m.time))
 
-cells_rise : (c d s : ℕ) → c < 2 ^ 31 → d < 2 ^ 31 → 0 < s → s ≤ 2 ^ 11 → (d + (P - c)) % P ≡ s → c < d
-cells_rise c d s small_c small_d some most e = omega arith
-
 regroup : (k u v : ℕ) → v < P → ((k + u) % P + (P - v)) % P ≡ (k + (u + (P - v)) % P) % P
 regroup k u v h = omega arith
 
@@ -57,7 +54,7 @@ module _ (l m : Line) (cl : l.cell < 2 ^ 31) (cm : m.cell < 2 ^ 31) (tl : l.time
       IsPrefixDifference-above 31 11 3 m.cell l.cell s (omega arith) (omega arith) cm cl some most (record { chunk = j; within = h; is = e })
 
   prefix_rises : (j s : ℕ) → j < 5 → 0 < s → s ≤ 2 ^ 11 → prefix_less_in l m j ≡ s → Rises l m
-  prefix_rises zero s h some most e = inl (cells_rise l.cell m.cell s cl cm some most e)
+  prefix_rises zero s h some most e = inl (omega arith)
   prefix_rises (suc zero) s h some most e = inl (cell_prefix_rises 1 s (omega arith) some most e)
   prefix_rises (suc (suc zero)) s h some most e = inl (cell_prefix_rises 2 s (omega arith) some most e)
   prefix_rises (suc (suc (suc zero))) s h some most e =
