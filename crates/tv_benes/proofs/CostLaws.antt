@@ -153,27 +153,25 @@ bound_last Waksman n w a l end end' o o' next some apart after upper lower =
     ∙ made_switch Waksman n w a l end end' o o' apart after upper lower (j + 1) (omega arith) (omega arith))
     ∙ omega arith
 
-last_cost : (net : Net) (form : Form) (h w c g next : ℕ) (up low : ItemsOf (other form)) → (items : ItemsOf form) → up ≡ to_upper_of form w items
-    → low ≡ to_lower_of form w items → w + width form * 2 ^ suc h ≡ c
-    → g ≡ (level_of net (other form) h up c).next
-    → terms_in (column_of form (2 ^ suc h - missing net)
-    (last_pair net form (level_of net (other form) h up c).answer (level_of net (other form) h low g).answer) next).list ≡ last_terms net form (2 ^ suc h)
-last_cost net Bound h w c g next up low items is_up is_low start at =
-    let u = level_of net Open h up c in
-    let l = level_of net Open h low g in
+last_cost : (net : Net) (form : Form) (h w c next : ℕ) (items : ItemsOf form) → w + width form * 2 ^ suc h ≡ c →
+    let u = level_of net (other form) h (to_upper_of form w items) c in
+    let l = level_of net (other form) h (to_lower_of form w items) u.next in
+    terms_in (column_of form (2 ^ suc h - missing net) (last_pair net form u.answer l.answer) next).list ≡ last_terms net form (2 ^ suc h)
+last_cost net Bound h w c next item start =
+    let u = level_of net Open h (w + 1) c in
+    let l = level_of net Open h (w + 3) u.next in
     let some = pow_pos h in
     let double = twice h in
-    let u_next = level_next net Open h up c in
-    let upper = level_placed net Open h c up (omega arith) in
-    let lower = level_placed net Open h g low (omega arith) in
+    let u_next = level_next net Open h (w + 1) c in
     subst (λ n. terms_in (column_of Bound (n - missing net) (last_pair net Bound u.answer l.answer) next).list ≡ last_terms net Bound n) (sym (twice h))
-    (bound_last net (2 ^ h) w c g u.next l.next u.answer l.answer next some (omega arith) (omega arith)
-    (subst (λ v. AreSums net (2 ^ h) v c u.answer u.next) is_up upper) (subst (λ v. AreSums net (2 ^ h) v g l.answer l.next) is_low lower))
-last_cost net Open h w c g next up low items is_up is_low start at =
+    (bound_last net (2 ^ h) w c u.next u.next l.next u.answer l.answer next some (omega arith) (omega arith)
+    (level_placed net Open h c (w + 1) (omega arith)) (level_placed net Open h u.next (w + 3) (omega arith)))
+last_cost net Open h w c next from start =
+    let up = to_upper_of Open w from in
+    let low = to_lower_of Open w from in
     let u = level_of net Bound h up c in
-    let l = level_of net Bound h low g in
-    open_last net (2 ^ suc h) g u.answer l.answer next (subst (λ k. AreBelow u.answer (2 ^ suc h) k) (sym at) (level_below net Bound h c up tt))
-    (level_placed net Bound h g low tt)
+    let l = level_of net Bound h low u.next in
+    open_last net (2 ^ suc h) u.next u.answer l.answer next (level_below net Bound h c up tt) (level_placed net Bound h u.next low tt)
 
 -- ---- the network
 level_count : (net : Net) (form : Form) (h : ℕ) (items : ItemsOf form) (next : ℕ) → length (level_of net form h items next).list ≡ level_wires net form h
@@ -224,7 +222,7 @@ level_cost net form (suc h) next items has =
     ∙ ap (λ k. k + rest_terms net (other form) h) (passed_first net form h next c.next items has).0 in
     let lower = level_cost net (other form) h u.next low (within_has form h next u.next items (omega arith)).1
     ∙ ap (λ k. k + rest_terms net (other form) h) (passed_first net form h next u.next items has).1 in
-    let last = last_cost net form h next c.next u.next l.next up low items refl refl (sym (c_next ∙ times_comm n (width form) next)) refl in
+    let last = last_cost net form h next c.next l.next items (sym (c_next ∙ times_comm n (width form) next)) in
     terms.adds c.list _ ∙ ap (λ k. terms_in c.list + k)
     (terms.adds u.list _ ∙ ap (λ k. terms_in u.list + k) (terms.adds l.list _ ∙ ap (λ k. terms_in l.list + k) (ap terms_in (append-nil d.list))))
     ∙ omega (arith, upper, lower, last)

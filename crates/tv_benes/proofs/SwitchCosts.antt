@@ -72,14 +72,8 @@ number_of_sums : (c v t v' t' : ℕ) → 0 < c → c < P → IsSpread v t v' t' 
 number_of_sums c v t v' t' some small s =
     let x = sum_is_normal c v t some small s.rises in
     let y = sum_is_normal c v' t' some small s.rises' in
-    let xy : Apart (sum_of c v t) (sum_of c v' t') = ((s.vv, (s.vt, tt)), ((s.tv, (s.tt', tt)), tt)) in
-    let yx : Apart (sum_of c v' t') (sum_of c v t) = (
-      ((λ e. s.vv (sym e)), ((λ e. s.tv (sym e)), tt)),
-      (
-        ((λ e. s.vt (sym e)), ((λ e. s.tt' (sym e)), tt)),
-        tt,
-      ),
-    ) in
+    let xy : Apart (sum_of c v t) (sum_of c v' t') = omega (arith, s) in
+    let yx : Apart (sum_of c v' t') (sum_of c v t) = omega (arith, s) in
     omega (arith, length-normal_less (sum_of c v' t') (sum_of c v t) y x yx, length-normal_apart (sum_of c v t) (sum_of c v' t') x y xy)
 
 pub sums_switch : (c v t v' t' : ℕ) → 0 < c → c < P → IsSpread v (t + 1) v' (t' + 1) → switch_terms (sum_pair c v t) (sum_pair c v' t') ≡ 33
@@ -107,14 +101,8 @@ spread : (w a g l g' v t v' t' : ℕ) → w + 10 ≤ a → a ≤ g → g ≤ t �
     → IsSpread v (t + 1) v' (t' + 1)
 spread w a g l g' v t v' t' h1 h2 h3 h4 h5 h6 placed placed' =
     elim placed [
-      | inl p ↦ elim placed' [
-        | inl q ↦ omega arith
-        | inr q ↦ omega arith
-      ]
-      | inr p ↦ elim placed' [
-        | inl q ↦ omega arith
-        | inr q ↦ omega (arith, other_residue w v v' p.2 q.2)
-      ]
+      | inl p ↦ omega arith
+      | inr p ↦ elim placed' [ inl q ↦ omega arith | inr q ↦ omega (arith, other_residue w v v' p.2 q.2) ]
     ]
   where
     other_residue : (w v v' : ℕ) → v % 5 ≡ (w + 1) % 5 → v' % 5 ≡ (w + 3) % 5 → v ≡ v' → ⊥
