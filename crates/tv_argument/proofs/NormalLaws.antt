@@ -1,11 +1,10 @@
 -- What the memory argument puts is normal.
-use Rattle.std.proofs.Common.{◌≡◌, ℕ, suc, ◌+◌, ◌-◌, ◌%◌, ◌^◌, ◌<◌, ◌≤◌, List, length, All, refl, sym, ap, ◌∙◌, arith, subst}
+use Rattle.std.proofs.Common.{◌≡◌, ℕ, suc, ◌+◌, ◌-◌, ◌%◌, ◌^◌, ◌<◌, ◌≤◌, List, length, All, refl, ap, arith}
 use Rattle.tv_benes.proofs.NetworkLaws.{network_next}
 use Rattle.tv_benes.proofs.NormalLaws.{network_normal}
 use Rattle.tv_benes.proofs.Sizes.{network_sizes}
 use Rattle.tv_benes.specs.Network.{network_of}
 use Rattle.tv_benes.specs.Places.{output, output_wire, IsNormalPair}
-use Rattle.tv_benes.specs.declared.shape.Net.{Net}
 use Rattle.tv_core.proofs.NormalCircuits.{normal_then, normal_turns}
 use Rattle.tv_core.proofs.NormalLaws.{IsNormalFrom-normal}
 use Rattle.tv_core.specs.Circuits.{Circuit, pure, turns}
@@ -21,7 +20,7 @@ use Rattle.tv_lines.specs.Placed.{line_in}
 use Rattle.tv_argument.proofs.Made.{at, are_made}
 use Rattle.tv_argument.proofs.Parts.{turns_end}
 use Rattle.tv_argument.proofs.Sizes.{check_next}
-use Rattle.tv_argument.specs.Checks.{Checks, check_of, check_made, AreShort, IsShortKind}
+use Rattle.tv_argument.specs.Checks.{check_of, check_made, IsShortKind}
 use Rattle.tv_argument.specs.Memory.{IsMade, items_of, checked_network_of, MemoryIsNormal}
 use Rattle.tv_argument.specs.declared.kinds.Kind.{Kind}
 use Rattle.tv_argument.specs.declared.kinds.Kind.TheVariants.{ZeroOld, Least, Boot, Within}
@@ -46,26 +45,23 @@ check_normal Least next item line short some cell time old first second = least_
 check_normal (Boot c) next item line short some cell time old first second = boot_line_sizes.is_normal c item next
 check_normal (Within m) next item line short some cell time old first second = follows_normal m line item next some short cell time old first second
 
-level_normal : (net : Net) (checks : Checks) (h : ℕ) (lines : List LineLc) (next : ℕ) → 1 ≤ next → length lines ≡ 2 ^ suc h → AreShort checks (2 ^ suc h)
-    → All (IsMade next) lines → AreNormal (checked_network_of net checks h lines next).list
+pub memory_normal : MemoryIsNormal
 unfolding checked_network_of
-level_normal net checks h lines next some many short made =
-    let network = network_of net h (items_of lines) next in
+memory_normal net checks k lines next one some many short made =
+    let same : suc (k - 1) ≡ k = omega arith in
+    let power = ap (λ n. 2 ^ n) same in
+    let network = network_of net (k - 1) (items_of lines) next in
     let piece : ℕ → Circuit (Unit {0}) = λ i. check_of (checks.kind i) (output network.answer i) (line_in lines i) in
-    let end = network_next net h (items_of lines) next in
-    let below = network_sizes.below net h next (items_of lines) in
-    normal_then (network_of net h (items_of lines)) _ next (network_normal net h next (items_of lines) (λ i k. item_normal next i lines (omega arith) made))
+    let end = network_next net (k - 1) (items_of lines) next in
+    let below = network_sizes.below net (k - 1) next (items_of lines) in
+    normal_then (network_of net (k - 1) (items_of lines)) _ next
+    (network_normal net (k - 1) next (items_of lines) (λ i h. item_normal next i lines (omega (arith, power)) made))
     (normal_turns (λ i _. piece i) tt network.next checks.count
-    (λ i k.
+    (λ i h.
     let line = at next lines i (let c = short.count in omega arith) made in
     let from = turns_end piece (λ i. check_made (checks.kind i))
     (λ j w. check_next (checks.kind j) w (output network.answer j) (line_in lines j)) i network.next in
     let place = (turns i (λ i _. piece i) tt network.next).next in
-    let out : output_wire network.answer i + 1 < place = omega (arith, from, end, below i (let c = short.count in omega arith)) in
-    check_normal (checks.kind i) place (output network.answer i) (line_in lines i) (short.kinds i k) (omega (arith, from, end))
+    let out : output_wire network.answer i + 1 < place = omega (arith, from, end, below i (omega (arith, short.count, power))) in
+    check_normal (checks.kind i) place (output network.answer i) (line_in lines i) (short.kinds i h) (omega (arith, from, end))
     (omega (arith, from, end, line.cell)) (omega (arith, from, end, line.time)) (omega (arith, from, end, line.old)) (omega arith) (omega arith)))
-
-pub memory_normal : MemoryIsNormal
-memory_normal net checks k lines next some one many short made =
-    let same : suc (k - 1) ≡ k = omega arith in
-    level_normal net checks (k - 1) lines next some (many ∙ ap (λ n. 2 ^ n) (sym same)) (subst (λ n. AreShort checks (2 ^ n)) (sym same) short) made
