@@ -161,7 +161,6 @@ last_cost net Bound h w c next item start =
     let u = level_of net Open h (w + 1) c in
     let l = level_of net Open h (w + 3) u.next in
     let some = pow_pos h in
-    let double = twice h in
     let u_next = level_next net Open h (w + 1) c in
     subst (λ n. terms_in (column_of Bound (n - missing net) (last_pair net Bound u.answer l.answer) next).list ≡ last_terms net Bound n) (sym (twice h))
     (bound_last net (2 ^ h) w c u.next u.next l.next u.answer l.answer next some (omega arith) (omega arith)

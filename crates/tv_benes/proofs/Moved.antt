@@ -67,7 +67,6 @@ level_values-same net form zero bit item item' same = column_values-same (innerm
 level_values-same net form (suc h) bit item item' same =
     let n = 2 ^ suc h in
     let s = switches net h in
-    let two = twice (suc h) in
     let same' : SameBelow (2 * n) item item' = λ j k. same j (omega arith) in
     let up = upper-same n bit item item' same' in
     let low = lower-same n bit item item' same' in
