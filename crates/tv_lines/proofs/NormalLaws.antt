@@ -17,7 +17,6 @@ use Rattle.tv_core.specs.Constraints.{Combination, value}
 use Rattle.tv_core.specs.Normal.{normal, IsNormal}
 use Rattle.tv_core.specs.declared.field.TheConstants.{P}
 use Rattle.tv_core.specs.declared.lines.LineLc.{LineLc}
-use Rattle.tv_core.specs.declared.lines.Pair.{Pair}
 use Rattle.tv_lines.specs.Predecessor.{less_above, cell_excess, excess, cell_difference, time_difference, either_of, follows_of, FollowsIsNormal}
 
 -- ---- a new wire
@@ -62,18 +61,6 @@ length-cell_excess line w some cell old =
     ∙ ap (λ n. (n + value (wire w) z) % P) (sym (value-append (b ++ o) c z ∙ ap (λ n. (n + value c z) % P) (value-append b o z))))
 
 -- ---- a check
-excess_normal : (reach : Bits) (line : LineLc) (item : Pair) → reach.n ≤ 31 → 1 ≤ reach.first → top line.cell ≤ reach.first → top line.old ≤ reach.first
-    → top item.first ≤ reach.first → IsNormal (excess reach line item)
-excess_normal reach line item short some cell old first =
-    let b : Combination = constant (2 ^ 32) ++ item.first in
-    let o : Combination = scaled (P - 1) line.old in
-    let x : Combination = (b ++ o) ++ scaled (P - 2 ^ 32) line.cell in
-    let parts : top (b ++ o) ≤ reach.first = omega (arith, top-append b o, top-append (constant (2 ^ 32)) item.first, top-scaled (P - 1) line.old) in
-    let whole : top x ≤ reach.first = above_top (b ++ o) line.cell reach.first parts cell in
-    normal_append 0 reach.first (normal x) (scaled (2 ^ 32) (bits_combination reach.first reach.n)) (IsNormalFrom-normal x) (omega (arith, top-normal x))
-    (omega arith)
-    (scaled_bits_normal (2 ^ 32) reach.first reach.n (omega arith) (λ none. absurd (omega arith)))
-
 pub follows_normal : FollowsIsNormal
 unfolding follows_of either_of
 follows_normal m line item next some short cell time old first second =
@@ -82,12 +69,19 @@ follows_normal m line item next some short cell time old first second =
     let at : reach.answer.first ≡ next = ap (λ (b : Bits). b.first) (new_bits_answer m next) in
     let n : reach.answer.n ≡ m = ap (λ (b : Bits). b.n) (new_bits_answer m next) in
     let e : kept.answer ≡ next + m = kept_answer (excess reach.answer line item) reach.next ∙ new_bits_next m next in
+    let b : Combination = constant (2 ^ 32) ++ item.first in
+    let o : Combination = scaled (P - 1) line.old in
+    let x : Combination = (b ++ o) ++ scaled (P - 2 ^ 32) line.cell in
+    let parts : top (b ++ o) ≤ next = omega (arith, top-append b o, top-append (constant (2 ^ 32)) item.first, top-scaled (P - 1) line.old) in
+    let whole : top x ≤ next = above_top (b ++ o) line.cell next parts cell in
     let t : Combination = item.second ++ scaled (P - 2 ^ 32) line.time in
     let of_e : IsNormal (wire kept.answer) = wire_normal 0 kept.answer (omega arith) in
     normal_then (new_bits_of m) _ next (new_bits_normal m next)
     (normal_then (kept_of (excess reach.answer line item)) (λ e. either_of e line item) reach.next
     (kept_normal (excess reach.answer line item) reach.next
-    (excess_normal reach.answer line item (omega arith) (omega arith) (omega arith) (omega arith) (omega arith)))
+    (normal_append 0 reach.answer.first (normal x) (scaled (2 ^ 32) (bits_combination reach.answer.first reach.answer.n)) (IsNormalFrom-normal x)
+    (omega (arith, top-normal x)) (omega arith)
+    (scaled_bits_normal (2 ^ 32) reach.answer.first reach.answer.n (omega arith) (λ none. absurd (omega arith)))))
     (normal_then (put (wire kept.answer) (cell_difference line item) []) (λ _. put (wire kept.answer) (time_difference kept.answer line item) []) kept.next
     (normal_put _ _ _ kept.next of_e (IsNormalFrom-normal (item.first ++ scaled (P - 2 ^ 32) line.cell)) tt)
     (normal_put _ _ _ _ of_e (normal_with (normal t) kept.answer (IsNormalFrom-normal t)
