@@ -52,14 +52,9 @@ pub record IsSwitch (z : List ℕ) (x y p q : PairNum) (at : ℕ) : Type 0 where
   pub second : q ≡ passed (slice_index z at == 1) y x
 
 -- sums with the product of a bit and a difference
-less_product : (b x y m : ℕ) → x < P → y < P → IsBit b → m ≡ selected b ((x + (P - y)) % P) 0 → (x + (P - m)) % P ≡ passed (b == 1) x y
-less_product b x y m xs ys bit is = elim (bit_cases b bit) [
-  | inl none ↦ let same : m ≡ 0 = is ∙ selected-zero b _ _ none in rw (same, none) (omega arith)
-  | inr one ↦ let same : m ≡ (x + (P - y)) % P = is ∙ selected-one b _ _ one in rw one (omega arith)
-]
-
-with_product : (b x y m : ℕ) → x < P → y < P → IsBit b → m ≡ selected b ((x + (P - y)) % P) 0 → (y + m) % P ≡ passed (b == 1) y x
-with_product b x y m xs ys bit is = elim (bit_cases b bit) [
+products : (b x y m : ℕ) → x < P → y < P → IsBit b → m ≡ selected b ((x + (P - y)) % P) 0
+    → ((x + (P - m)) % P ≡ passed (b == 1) x y) × ((y + m) % P ≡ passed (b == 1) y x)
+products b x y m xs ys bit is = elim (bit_cases b bit) [
   | inl none ↦ let same : m ≡ 0 = is ∙ selected-zero b _ _ none in rw (same, none) (omega arith)
   | inr one ↦ let same : m ≡ (x + (P - y)) % P = is ∙ selected-one b _ _ one in rw one (omega arith)
 ]
@@ -73,12 +68,12 @@ module _ (z : List ℕ) (assigns : Assigns z) (b m : ℕ) (x y : Combination) (b
   value_less : value (less x (wire m)) z ≡ passed (b == 1) (value x z) (value y z)
   value_less =
       value-less x (wire m) z ∙ ap (λ n. (value x z + (P - n)) % P) (value-wire assigns m)
-      ∙ less_product b (value x z) (value y z) (slice_index z m) (value-below x z) (value-below y z) bit product_is
+      ∙ (products b (value x z) (value y z) (slice_index z m) (value-below x z) (value-below y z) bit product_is).0
 
   value_with : value (y ++ wire m) z ≡ passed (b == 1) (value y z) (value x z)
   value_with =
       value-append y (wire m) z ∙ ap (λ n. (value y z + n) % P) (value-wire assigns m)
-      ∙ with_product b (value x z) (value y z) (slice_index z m) (value-below x z) (value-below y z) bit product_is
+      ∙ (products b (value x z) (value y z) (slice_index z m) (value-below x z) (value-below y z) bit product_is).1
 
 -- a wire that is with another the sum of two combinations
 module _ (z : List ℕ) (assigns : Assigns z) (x y : Combination) (p next : ℕ) where
