@@ -1,5 +1,5 @@
 -- The laws of a bit.
-use Rattle.std.proofs.Common.{◌⊎◌, ◌≡◌, ℕ, ◌*◌, ◌%◌, inl, inr, refl, arith, eq-zero-or-pos}
+use Rattle.std.proofs.Common.{◌⊎◌, ◌≡◌, ℕ, ◌*◌, ◌%◌, inl, inr, arith, eq-zero-or-pos}
 use Rattle.tv_core.proofs.CombinationLaws.{value-wire, wire-below}
 use Rattle.tv_core.proofs.PrimeLaws.{p_bit}
 use Rattle.tv_core.specs.Circuits.{put}
@@ -23,7 +23,3 @@ bit_sound z next w assigns meets = search (arith, value-wire, p_bit, wire-below)
 pub bit_complete : BitIsComplete
 unfolding bit_of put
 bit_complete z next w assigns bit = search (arith, value-wire, square)
-
-pub bit_next : (w next : ℕ) → (bit_of w next).next ≡ next
-unfolding bit_of put
-bit_next w next = refl

@@ -23,14 +23,11 @@ pub gated_complete : GatedIsComplete
 unfolding gated_of put
 gated_complete = search (arith, no_difference, mul-zero, value-empty, zero-mul)
 
-pub gated_next : (gate x y : Combination) (next : ℕ) → (gated_of gate x y next).next ≡ next
-unfolding gated_of put
-gated_next gate x y next = refl
-
 pub gated_sizes : GatedSizes
+unfolding gated_of put
 gated_sizes = record {
-  end = gated_next;
-  fills = λ gate x y next. gated_next gate x y next ∙ sym (add-zero next);
+  end = λ gate x y next. refl;
+  fills = λ gate x y next. sym (add-zero next);
   in_field = InField-none;
 }
 
@@ -47,15 +44,8 @@ length-less x y = length-append x (scaled (P - 1) y) ∙ ap (λ n. length x + n)
 pub terms-append : (a b : List Constraint) → terms_in (a ++ b) ≡ terms_in a + terms_in b
 terms-append a b = sum_by-append (λ (c : Constraint). length c.a + length c.b + length c.c) a b
 
-pub gated_constraints : (gate x y : Combination) (next : ℕ) → length (gated_of gate x y next).list ≡ 1
-unfolding gated_of put
-gated_constraints gate x y next = refl
-
-pub gated_terms : (gate x y : Combination) (next : ℕ) → terms_in (gated_of gate x y next).list ≡ length gate + length x + length y
-unfolding gated_of put
-gated_terms gate x y next = omega (arith, length-less x y)
-
 pub gated_cost_laws : GatedCosts
-gated_cost_laws = record { constraints = gated_constraints; terms = gated_terms }
+unfolding gated_of put
+gated_cost_laws = record { constraints = λ gate x y next. refl; terms = λ gate x y next. omega (arith, length-less x y) }
 
 pub ruleset gated_laws = (gated_sound, gated_complete, gated_sizes, gated_cost_laws)

@@ -1,6 +1,7 @@
 pub mod BitLaws
 pub mod DoubleRowLaws
 pub mod GateLaws
+pub mod Growing
 pub mod NewBitsLaws
 pub mod NonzeroLaws
 pub mod NormalLaws

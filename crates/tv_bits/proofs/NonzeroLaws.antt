@@ -7,7 +7,6 @@ use Rattle.tv_core.proofs.FieldLaws.{InField-none, InField-cons}
 use Rattle.tv_core.proofs.InverseLaws.{mul-inverse_of, inverse_of-below}
 use Rattle.tv_core.proofs.PrimeLaws.{p_zero_product_below}
 use Rattle.tv_core.specs.Circuits.{fresh, put, pure, ◌>>=◌}
-use Rattle.tv_core.specs.Constraints.{Combination}
 use Rattle.tv_core.specs.Inverse.{inverse_of}
 use Rattle.tv_core.specs.declared.field.TheConstants.{P}
 use Rattle.tv_bits.specs.Nonzero.{nonzero_flag, nonzero_of, NonzeroIsSound, NonzeroIsComplete, NonzeroSizes}
@@ -36,23 +35,15 @@ pub nonzero_complete : NonzeroIsComplete
 unfolding nonzero_of ◌>>=◌ fresh put pure
 nonzero_complete z next x assigns has = search (arith, flag_meets, value-below, value-wire, value-one_less)
 
--- what the circuit answers, and where it ends
-pub nonzero_answer : (x : Combination) (next : ℕ) → (nonzero_of x next).answer ≡ next
-unfolding nonzero_of fresh put pure ◌>>=◌
-nonzero_answer x next = refl
-
-pub nonzero_next : (x : Combination) (next : ℕ) → (nonzero_of x next).next ≡ next + 2
-unfolding nonzero_of fresh put pure ◌>>=◌
-nonzero_next x next = omega arith
-
 nonzero_flag-below : (v : ℕ) → nonzero_flag v < P
 nonzero_flag-below v = grind (arith, nat_tests)
 
 pub nonzero_sizes : NonzeroSizes
+unfolding nonzero_of fresh put pure ◌>>=◌
 nonzero_sizes = record {
-  answer = nonzero_answer;
-  end = nonzero_next;
-  fills = λ x v next. nonzero_next x next;
+  answer = λ x next. refl;
+  end = λ x next. omega arith;
+  fills = λ x v next. omega arith;
   in_field = λ v. InField-cons (nonzero_flag v) (inverse_of v ∷ []) (nonzero_flag-below v) (InField-cons (inverse_of v) [] (inverse_of-below v) InField-none);
 }
 

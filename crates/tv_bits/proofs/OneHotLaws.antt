@@ -67,10 +67,6 @@ unfolding mark_of fresh put ◌>>=◌
 mark_complete z x i at v assigns is cold = search (arith, mark_value, cases_eq, zero_product, less_itself)
 
 -- ---- the row
-pub onehot_answer : (x : Bits) (next : ℕ) → (onehot_of x next).answer ≡ next
-unfolding onehot_of here put pure ◌>>=◌
-onehot_answer x next = refl
-
 pub onehot_next : (x : Bits) (next : ℕ) → (onehot_of x next).next ≡ next + 2 ^ x.n
 unfolding onehot_of here put pure ◌>>=◌
 onehot_next x next = turn-next (bits_combination x.first x.n) next (2 ^ x.n)

@@ -112,7 +112,3 @@ two_ands_sound z next x_a y_a x_b y_b γ m assigns p q r s meets =
 pub two_ands_complete : TwoAndsAreComplete
 unfolding two_ands_of put
 two_ands_complete z next x_a y_a x_b y_b γ m assigns p q r s is = search (arith, product, of_met, square_sum, square_gap, mod-eq_of_lt, value-below, rest)
-
-pub two_ands_next : (x_a y_a x_b y_b : Combination) (γ : ℕ) (m : Combination) (next : ℕ) → (two_ands_of x_a y_a x_b y_b γ m next).next ≡ next
-unfolding two_ands_of put
-two_ands_next x_a y_a x_b y_b γ m next = refl

@@ -5,7 +5,7 @@ use Rattle.tv_core.proofs.CombinationLaws.{value-append, value-scaled, value-les
 use Rattle.tv_core.proofs.DifferenceLaws.{same_of_minus, cancel_minus}
 use Rattle.tv_core.proofs.NormalLaws.{value-normal}
 use Rattle.tv_core.specs.Circuits.{fresh, put, pure, ◌>>=◌}
-use Rattle.tv_core.specs.Combinations.{wire, less}
+use Rattle.tv_core.specs.Combinations.{less}
 use Rattle.tv_core.specs.Constraints.{Combination, value}
 use Rattle.tv_core.specs.Laws.{Assigns}
 use Rattle.tv_core.specs.Normal.{normal}
@@ -33,14 +33,6 @@ sound_by b x y w xs ys ws bit e = search (arith, bit_cases, same_of_minus, times
 pub complete_by : (b x y w : ℕ) → y < P → IsBit b → w ≡ selected b x y → b * ((x + (P - y)) % P) % P ≡ (w + (P - y)) % P
 complete_by b x y w ys bit e = search (arith, bit_cases, times_zero, selected-zero, times_one, mod-lt, selected-one)
 
-pub pick_answer : (b x y : Combination) (next : ℕ) → (pick_of b x y next).answer ≡ next
-unfolding pick_of fresh put pure ◌>>=◌
-pick_answer b x y next = refl
-
-pub pick_next : (b x y : Combination) (next : ℕ) → (pick_of b x y next).next ≡ next + 1
-unfolding pick_of fresh put pure ◌>>=◌
-pick_next b x y next = refl
-
 -- the two sides of the constraint
 module _ (z : List ℕ) (assigns : Assigns z) (b : Combination) (w : ℕ) (x y : Combination) where
   value-factor : value (normal (less x y)) z ≡ (value x z + (P - value y z)) % P
@@ -62,10 +54,12 @@ pick_complete z next b x y assigns bit has = search (arith, left, complete_by, v
 
 -- ---- the same where the bit is a wire
 pub select_answer : (b : ℕ) (x y : Combination) (next : ℕ) → (select_of b x y next).answer ≡ next
-select_answer b x y next = pick_answer (wire b) x y next
+unfolding pick_of fresh put pure ◌>>=◌
+select_answer b x y next = refl
 
 pub select_next : (b : ℕ) (x y : Combination) (next : ℕ) → (select_of b x y next).next ≡ next + 1
-select_next b x y next = pick_next (wire b) x y next
+unfolding pick_of fresh put pure ◌>>=◌
+select_next b x y next = refl
 
 pub select_sound : SelectIsSound
 select_sound z next b x y assigns bit meets = search (arith, value-wire, pick_sound)

@@ -1,25 +1,26 @@
 -- How many wires the gadgets of bits make, which they answer, and that their values are as many, and of the field.
-use Rattle.std.proofs.Common.{◌≡◌, ℕ, ◌+◌, ◌<◌, ◌^◌, [], ◌∷◌, length, sym, ◌∙◌, ap, arith, add-zero}
+use Rattle.std.proofs.Common.{◌≡◌, ℕ, ◌+◌, ◌<◌, ◌^◌, [], ◌∷◌, length, refl, sym, ◌∙◌, ap, arith, add-zero}
 use Rattle.std.specs.Int.{bit_at}
 use Rattle.std.proofs.lemmas.Bool.Decides.{nat_tests}
 use Rattle.std.proofs.lemmas.Nat.Bits.{bit_at-lt}
 use Rattle.tv_core.proofs.BelowLaws.{length-each_below}
 use Rattle.tv_core.proofs.FieldLaws.{InField-none, InField-cons, InField-each_below}
 use Rattle.tv_core.proofs.InverseLaws.{inverse_of-below}
+use Rattle.tv_core.specs.Circuits.{here, fresh, put, pure, ◌>>=◌}
 use Rattle.tv_core.specs.Inverse.{inverse_of}
 use Rattle.tv_core.specs.Laws.{InField}
 use Rattle.tv_core.specs.declared.field.TheConstants.{P}
-use Rattle.tv_bits.proofs.BitLaws.{bit_next, bit_sound, bit_complete}
-use Rattle.tv_bits.proofs.OneHotLaws.{onehot_answer, onehot_next}
-use Rattle.tv_bits.proofs.PairLaws.{two_ands_next, two_ands_sound, two_ands_complete}
-use Rattle.tv_bits.proofs.SelectLaws.{pick_answer, pick_next, select_answer, select_next, pick_sound, pick_complete}
+use Rattle.tv_bits.proofs.BitLaws.{bit_sound, bit_complete}
+use Rattle.tv_bits.proofs.OneHotLaws.{onehot_next}
+use Rattle.tv_bits.proofs.PairLaws.{two_ands_sound, two_ands_complete}
+use Rattle.tv_bits.proofs.SelectLaws.{select_answer, select_next, pick_sound, pick_complete}
 use Rattle.tv_bits.proofs.BitsLaws.{new_bits_answer, new_bits_next, bits_answer, bits_next, new_bits_sound, new_bits_complete, bits_sound, bits_complete}
 use Rattle.tv_bits.proofs.ZeroLaws.{zero_answer, zero_next, zero_sound, zero_complete}
-use Rattle.tv_bits.specs.Bit.{BitSizes}
+use Rattle.tv_bits.specs.Bit.{bit_of, BitSizes}
 use Rattle.tv_bits.specs.Bits.{bits_values, NewBitsSizes, BitsSizes}
-use Rattle.tv_bits.specs.OneHot.{one_at, onehot_values, OneHotSizes}
-use Rattle.tv_bits.specs.Pairs.{TwoAndsSizes}
-use Rattle.tv_bits.specs.Select.{selected, select_values, PickSizes, SelectSizes}
+use Rattle.tv_bits.specs.OneHot.{one_at, onehot_values, onehot_of, OneHotSizes}
+use Rattle.tv_bits.specs.Pairs.{two_ands_of, TwoAndsSizes}
+use Rattle.tv_bits.specs.Select.{selected, pick_of, select_values, PickSizes, SelectSizes}
 use Rattle.tv_bits.specs.Zero.{zero_flag, zero_values, ZeroSizes}
 
 pub length-bits : (v n : ℕ) → length (bits_values v n) ≡ n
@@ -29,9 +30,10 @@ pub bits_in_field : (v n : ℕ) → InField (bits_values v n)
 bits_in_field v n = InField-each_below (bit_at v) (λ i. let bit = bit_at-lt v i in omega arith) n
 
 pub bit_sizes : BitSizes
+unfolding bit_of put
 bit_sizes = record {
-  end = bit_next;
-  fills = λ w next. bit_next w next ∙ sym (add-zero next);
+  end = λ w next. refl;
+  fills = λ w next. sym (add-zero next);
   in_field = InField-none;
 }
 
@@ -72,10 +74,11 @@ pub select_in_field : (c v w : ℕ) → v < P → w < P → InField (select_valu
 select_in_field c v w h k = InField-cons (selected c v w) [] (selected-below c v w h k) InField-none
 
 pub pick_sizes : PickSizes
+unfolding pick_of fresh put pure ◌>>=◌
 pick_sizes = record {
-  answer = pick_answer;
-  end = pick_next;
-  fills = λ b x y c v w next. pick_next b x y next;
+  answer = λ b x y next. refl;
+  end = λ b x y next. refl;
+  fills = λ b x y c v w next. refl;
   in_field = select_in_field;
 }
 
@@ -94,17 +97,19 @@ pub onehot_in_field : (v n : ℕ) → InField (onehot_values v n)
 onehot_in_field v n = InField-each_below (one_at v) (one_at-below v) (2 ^ n)
 
 pub onehot_sizes : OneHotSizes
+unfolding onehot_of here put pure ◌>>=◌
 onehot_sizes = record {
-  answer = onehot_answer;
+  answer = λ x next. refl;
   end = onehot_next;
   fills = λ x v next. onehot_next x next ∙ ap (λ k. next + k) (sym (length-each_below (2 ^ x.n) (one_at v)));
   in_field = onehot_in_field;
 }
 
 pub two_ands_sizes : TwoAndsSizes
+unfolding two_ands_of put
 two_ands_sizes = record {
-  end = two_ands_next;
-  fills = λ x_a y_a x_b y_b γ m next. two_ands_next x_a y_a x_b y_b γ m next ∙ sym (add-zero next);
+  end = λ x_a y_a x_b y_b γ m next. refl;
+  fills = λ x_a y_a x_b y_b γ m next. sym (add-zero next);
   in_field = InField-none;
 }
 

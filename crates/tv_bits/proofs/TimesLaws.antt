@@ -64,14 +64,6 @@ kept_sizes = record {
 }
 
 -- ---- a ratio
-pub ratio_answer : (x y : Combination) (next : ℕ) → (ratio_of x y next).answer ≡ next
-unfolding ratio_of fresh put pure ◌>>=◌
-ratio_answer x y next = refl
-
-pub ratio_next : (x y : Combination) (next : ℕ) → (ratio_of x y next).next ≡ next + 1
-unfolding ratio_of fresh put pure ◌>>=◌
-ratio_next x y next = refl
-
 pub ratio_sound : RatioIsSound
 unfolding ratio_of fresh put pure ◌>>=◌
 ratio_sound z next x y assigns meets = ap (λ n. value x z * n % P) (sym (value-wire assigns next)) ∙ meets.0
@@ -93,10 +85,11 @@ pub ratio_divides : RatioDivides
 ratio_divides a b small zero = search (arith, cases_eq, zero_times, mul-mod_second, turned, mul-mod_first, mul-inverse_of, times_one)
 
 pub ratio_sizes : RatioSizes
+unfolding ratio_of fresh put pure ◌>>=◌
 ratio_sizes = record {
-  answer = ratio_answer;
-  end = ratio_next;
-  fills = λ x y a b next. ratio_next x y next;
+  answer = λ x y next. refl;
+  end = λ x y next. refl;
+  fills = λ x y a b next. refl;
   in_field = λ a b. InField-cons (ratio a b) [] (residue_below (b * inverse_of a)) InField-none;
 }
 

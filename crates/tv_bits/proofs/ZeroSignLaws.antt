@@ -1,6 +1,6 @@
 -- The laws of the sign where a wire is 0.
 use Rattle.std.proofs.Common.{◌≡◌, ◌≢◌, ℕ, ◌+◌, ◌-◌, ◌*◌, ◌%◌, ◌<◌, [], ◌∷◌, refl, sym, ◌∙◌, ap, ap₂, arith, zero-mul, mul-zero}
-use Rattle.std.proofs.Common.{length, length-append}
+use Rattle.std.proofs.Common.{length-append}
 use Rattle.std.specs.Prelude.{slice_index}
 use Rattle.std.proofs.lemmas.Bool.{cases_eq}
 use Rattle.std.proofs.lemmas.Bool.Decides.{nat_tests}
@@ -9,9 +9,8 @@ use Rattle.tv_core.proofs.FieldLaws.{InField-none, InField-cons}
 use Rattle.tv_core.proofs.PrimeLaws.{p_zero_product_below}
 use Rattle.tv_core.specs.Circuits.{fresh, put, pure, ◌>>=◌}
 use Rattle.tv_core.specs.Combinations.{wire}
-use Rattle.tv_core.specs.Constraints.{Combination, value}
+use Rattle.tv_core.specs.Constraints.{value}
 use Rattle.tv_core.specs.Inverse.{inverse_of}
-use Rattle.tv_core.specs.Meanings.{terms_in}
 use Rattle.tv_core.specs.declared.field.TheConstants.{P}
 use Rattle.tv_bits.proofs.TimesLaws.{ratio_divides, residue_below}
 use Rattle.tv_bits.specs.Ratio.{ratio}
@@ -59,26 +58,19 @@ zero_sign_complete z next y f sign assigns is has =
       (ap₂ (λ m n. m * n % P) (value-wire assigns y) (value-wire assigns f ∙ is) ∙ numbers.1, tt),
     )
 
-zero_sign_next : (y f : ℕ) (sign : Combination) (next : ℕ) → (zero_sign_of y f sign next).next ≡ next + 1
-unfolding zero_sign_of fresh put pure ◌>>=◌
-zero_sign_next y f sign next = refl
-
 pub zero_sign_sizes : ZeroSignSizes
+unfolding zero_sign_of fresh put pure ◌>>=◌
 zero_sign_sizes = record {
-  end = zero_sign_next;
-  fills = λ y f sign v s next. zero_sign_next y f sign next;
+  end = λ y f sign next. refl;
+  fills = λ y f sign v s next. refl;
   in_field = λ v s. InField-cons (ratio v s) [] (residue_below (s * inverse_of v)) InField-none;
 }
 
-zero_sign_count : (y f : ℕ) (sign : Combination) (next : ℕ) → length (zero_sign_of y f sign next).list ≡ 2
-unfolding zero_sign_of fresh put pure ◌>>=◌
-zero_sign_count y f sign next = refl
-
-zero_sign_terms : (y f : ℕ) (sign : Combination) (next : ℕ) → terms_in (zero_sign_of y f sign next).list ≡ length sign + 5
-unfolding zero_sign_of fresh put pure ◌>>=◌
-zero_sign_terms y f sign next = omega (arith, length-append sign ((P - 1, f) ∷ []))
-
 pub zero_sign_costs : ZeroSignCosts
-zero_sign_costs = record { constraints = zero_sign_count; terms = zero_sign_terms }
+unfolding zero_sign_of fresh put pure ◌>>=◌
+zero_sign_costs = record {
+  constraints = λ y f sign next. refl;
+  terms = λ y f sign next. omega (arith, length-append sign ((P - 1, f) ∷ []));
+}
 
 pub ruleset zero_sign_laws = (zero_sign_sound, zero_sign_complete, zero_sign_sizes, zero_sign_costs)

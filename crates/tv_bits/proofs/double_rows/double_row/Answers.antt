@@ -1,4 +1,5 @@
 use Rattle.std.proofs.Common.{arith}
+use Rattle.tv_bits.proofs.Growing.{less_room, room_after}
 use Rattle.tv_core.proofs.Chain.{refused, all_then, all_pure, some_then, some_first}
 use Rattle.tv_bits.specs.DoubleRow.{double_row_of}
 use Rattle.tv_bits.proofs.double_rows.double_row.Goals as goal
@@ -21,26 +22,13 @@ returns-clause-puts g c =
     all_then _ c.in_ok-row.ensures.puts (all_then _ edge all_pure)
 
 pub row_wires-requires : goal.row_wires-requires
-row_wires-requires g c = record {
-  width = c.requires.width;
-  room = record {
-    whole = c.requires.room.whole;
-    constant = c.requires.room.constant;
-    wires = omega (arith, c.requires.room.wires);
-    constraints = omega (arith, c.requires.room.constraints);
-  };
-}
+row_wires-requires g c = record { width = c.requires.width; room = less_room c.requires.room (omega arith) (omega arith) }
 
 pub ratio_by-requires : goal.ratio_by-requires
 ratio_by-requires g c =
     let row = c.in_ok-row.ensures in
     record {
-      room = record {
-        whole = row.grows.whole;
-        constant = omega (arith, c.requires.room.constant, row.grows.wires);
-        wires = omega (arith, c.requires.room.wires, row.grows.wires);
-        constraints = omega (arith, c.requires.room.constraints, row.grows.constraints);
-      };
+      room = room_after row.grows c.requires.room (omega arith) (omega arith);
       x_made = omega (arith, c.set_above_edge.ensures.top, c.requires.signed_made, row.words_below, row.grows.wires);
       y_made = omega (arith, c.set_wire.ensures.top, row.words_below);
     }

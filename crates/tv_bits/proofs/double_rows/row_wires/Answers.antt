@@ -1,4 +1,5 @@
 use Rattle.std.proofs.Common.{arith}
+use Rattle.tv_bits.proofs.Growing.{less_room, both, room_after}
 use Rattle.tv_core.proofs.Chain.{refused, all_then, all_pure, some_then, some_first}
 use Rattle.tv_bits.specs.DoubleRow.{row_wires_of}
 use Rattle.tv_bits.proofs.double_rows.row_wires.Goals as goal
@@ -26,26 +27,14 @@ returns-clause-puts g c =
     all_then _ c.in_ok-first.ensures.puts (all_then _ c.in_ok-low.ensures.puts (all_then _ high all_pure))
 
 pub new_bits_by-requires : goal.new_bits_by-requires
-new_bits_by-requires g c = record {
-  room = record {
-    whole = c.requires.room.whole;
-    constant = c.requires.room.constant;
-    wires = omega (arith, c.requires.room.wires);
-    constraints = omega (arith, c.requires.room.constraints);
-  };
-}
+new_bits_by-requires g c = record { room = less_room c.requires.room (omega arith) (omega arith) }
 
 pub word-requires : goal.word-requires
 word-requires g c =
     let made = c.in_ok-first.ensures in
     record {
       width = c.requires.width;
-      room = record {
-        whole = made.grows.whole;
-        constant = omega (arith, c.requires.room.constant, made.grows.wires);
-        wires = omega (arith, c.requires.room.wires, made.grows.wires);
-        constraints = omega (arith, c.requires.room.constraints, made.grows.constraints);
-      };
+      room = room_after made.grows c.requires.room (omega arith) (omega arith);
       made = omega (arith, made.size, made.below);
     }
 
@@ -55,22 +44,11 @@ word-requires-2 g c =
     let low = c.in_ok-low.ensures.grows in
     record {
       width = c.requires.width;
-      room = record {
-        whole = low.whole;
-        constant = omega (arith, c.requires.room.constant, made.grows.wires, low.wires);
-        wires = omega (arith, c.requires.room.wires, made.grows.wires, low.wires);
-        constraints = omega (arith, c.requires.room.constraints, made.grows.constraints, low.constraints);
-      };
+      room = room_after (both made.grows low) c.requires.room (omega arith) (omega arith);
       made = omega (arith, c.offset.ensures, made.size, made.below, low.wires);
     }
 
 pub returns-clause-grows : goal.returns-clause-grows
 returns-clause-grows g c =
-    let made = c.in_ok-first.ensures.grows in
-    let low = c.in_ok-low.ensures.grows in
-    let high = c.in_ok-high.ensures.grows in
-    record {
-      wires = omega (arith, made.wires, low.wires, high.wires);
-      constraints = omega (arith, made.constraints, low.constraints, high.constraints);
-      whole = high.whole;
-    }
+    let words = both c.in_ok-low.ensures.grows c.in_ok-high.ensures.grows in
+    both c.in_ok-first.ensures.grows words

@@ -1,4 +1,5 @@
-use Rattle.std.proofs.Common.{arith}
+use Rattle.std.proofs.Common.{refl, arith}
+use Rattle.tv_bits.proofs.Growing.{within, kept, both, put_fits, made_by, top_wire}
 use Rattle.tv_core.proofs.Chain.{refused, all_then, all_pure, some_then, some_first}
 use Rattle.tv_bits.specs.Nonzero.{nonzero_of}
 use Rattle.tv_bits.proofs.nonzeros.nonzero_by.Goals as goal
@@ -26,43 +27,32 @@ returns-in_err-put-2-clause-puts g c =
 
 pub put-requires : goal.put-requires
 put-requires g c =
-    let flag = c.fresh-flag.ensures.grows in
     let hint = c.fresh-hint.ensures.grows in
+    let made = both c.fresh-flag.ensures.grows hint in
     record {
-      whole = hint.whole;
-      room = omega (arith, c.requires.room.constraints, flag.constraints, hint.constraints);
-      a_made = omega (arith, c.requires.x_made, flag.wires, hint.wires);
-      b_made = omega (arith, c.set_wire.ensures.top, c.fresh-hint.ensures.next, hint.wires);
-      c_made = omega (arith, c.set_wire-2.ensures.top, c.fresh-flag.ensures.next, flag.wires, hint.wires);
+      whole = made.whole;
+      room = put_fits made c.requires.room refl;
+      a_made = within made c.requires.x_made;
+      b_made = top_wire c.set_wire.ensures.top (made_by hint c.fresh-hint.ensures.next);
+      c_made = top_wire c.set_wire-2.ensures.top (kept hint (made_by c.fresh-flag.ensures.grows c.fresh-flag.ensures.next));
     }
 
 pub put-requires-2 : goal.put-requires-2
 put-requires-2 g c =
-    let flag = c.fresh-flag.ensures.grows in
-    let hint = c.fresh-hint.ensures.grows in
-    let grown = c.in_ok-put.ensures.grows in
+    let made = both (both c.fresh-flag.ensures.grows c.fresh-hint.ensures.grows) c.in_ok-put.ensures.grows in
     record {
-      whole = grown.whole;
-      room = omega (arith, c.requires.room.constraints, flag.constraints, hint.constraints, grown.constraints);
-      a_made = omega (arith, c.requires.x_made, flag.wires, hint.wires, grown.wires);
-      b_made = omega (arith, c.set_difference.ensures.top, c.fresh-flag.ensures.next, flag.wires, hint.wires, grown.wires);
+      whole = made.whole;
+      room = put_fits made c.requires.room refl;
+      a_made = within made c.requires.x_made;
+      b_made = omega (arith, c.set_difference.ensures.top, c.fresh-flag.ensures.next, made.wires);
       c_made = rw c.clear.ensures (omega arith);
     }
 
 pub returns-clause-grows : goal.returns-clause-grows
 returns-clause-grows g c =
-    let flag = c.fresh-flag.ensures.grows in
-    let hint = c.fresh-hint.ensures.grows in
-    let one = c.in_ok-put.ensures.grows in
-    let two = c.in_ok-put-2.ensures.grows in
-    record {
-      wires = omega (arith, flag.wires, hint.wires, one.wires, two.wires);
-      constraints = omega (arith, flag.constraints, hint.constraints, one.constraints, two.constraints);
-      whole = two.whole;
-    }
+    both (both (both c.fresh-flag.ensures.grows c.fresh-hint.ensures.grows) c.in_ok-put.ensures.grows) c.in_ok-put-2.ensures.grows
 
 pub returns-clause-below : goal.returns-clause-below
 returns-clause-below g c =
-    let flag = c.fresh-flag.ensures.grows in
-    let hint = c.fresh-hint.ensures.grows in
-    omega (arith, c.fresh-flag.ensures.next, flag.wires, hint.wires, c.in_ok-put.ensures.grows.wires, c.in_ok-put-2.ensures.grows.wires)
+    kept (both (both c.fresh-hint.ensures.grows c.in_ok-put.ensures.grows) c.in_ok-put-2.ensures.grows)
+    (made_by c.fresh-flag.ensures.grows c.fresh-flag.ensures.next)

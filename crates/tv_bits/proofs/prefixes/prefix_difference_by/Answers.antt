@@ -1,4 +1,5 @@
 use Rattle.std.proofs.Common.{◌≡◌, ℕ, ◌*◌, ap, arith, mul-zero}
+use Rattle.tv_bits.proofs.Growing.{both, room_after}
 use Rattle.tv_core.proofs.Chain.{refused}
 use Rattle.tv_core.specs.Combinations.{top}
 use Rattle.tv_core.specs.Constraints.{Combination}
@@ -25,7 +26,7 @@ loop-i-preserved g c =
     let made = c.set_wire.ensures.terms in
     record {
       puts = one_product g.S.Sink.meaning factor c.loop-i.i _ _ _ _ _ _ c.loop-i.invariant.puts product made;
-      grows = record { wires = omega (arith, grown.wires); constraints = omega (arith, grown.constraints); whole = grown.whole };
+      grows = both c.loop-i.invariant.grows grown;
       made = omega (arith, ap top made, c.in_ok-w.ensures.below);
     }
 
@@ -49,12 +50,7 @@ pub times_by-requires : goal.times_by-requires
 times_by-requires g c =
     let grown = c.loop-i.invariant.grows in
     record {
-      room = record {
-        whole = grown.whole;
-        constant = omega (arith, c.requires.room.constant, grown.wires);
-        wires = omega (arith, c.requires.room.wires, grown.wires);
-        constraints = omega (arith, c.requires.room.constraints, grown.constraints);
-      };
+      room = room_after grown c.requires.room (omega arith) (omega arith);
       x_made = c.loop-i.invariant.made;
       y_made = omega (arith, c.set_prefix_less-in-loop-i.ensures.top, c.requires.made, grown.wires);
     }

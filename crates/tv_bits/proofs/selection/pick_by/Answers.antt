@@ -1,4 +1,5 @@
 use Rattle.std.proofs.Common.{arith}
+use Rattle.tv_bits.proofs.Growing.{kept, both, made_by}
 use Rattle.tv_core.proofs.Chain.{refused, all_then, all_pure, some_then, some_first}
 use Rattle.tv_bits.specs.Select.{pick_of}
 use Rattle.tv_bits.proofs.selection.pick_by.Goals as goal
@@ -27,10 +28,7 @@ put-requires g c =
     }
 
 pub returns-clause-grows : goal.returns-clause-grows
-returns-clause-grows g c =
-    let made = c.fresh-w.ensures.grows in
-    let added = c.in_ok-put.ensures.grows in
-    record { wires = omega (arith, made.wires, added.wires); constraints = omega (arith, made.constraints, added.constraints); whole = added.whole }
+returns-clause-grows g c = both c.fresh-w.ensures.grows c.in_ok-put.ensures.grows
 
 pub returns-clause-below : goal.returns-clause-below
-returns-clause-below g c = omega (arith, c.fresh-w.ensures.next, c.fresh-w.ensures.grows.wires, c.in_ok-put.ensures.grows.wires)
+returns-clause-below g c = kept c.in_ok-put.ensures.grows (made_by c.fresh-w.ensures.grows c.fresh-w.ensures.next)

@@ -1,0 +1,79 @@
+-- What stands below the next wire, and the room that is left, after calls one after another. Where the numbers are
+-- numerals, `refl` proves that there is room.
+use Rattle.std.proofs.Common.{◌≡◌, ℕ, ◌+◌, ◌-◌, ◌^◌, ◌≤◌, ◌<◌, leb, true, Result, Ok, Err, IfOk, arith}
+use Rattle.std.proofs.lemmas.Bool.{leb-true}
+use Rattle.tv_bits.specs.Bits.{AreBitsBelow}
+use Rattle.tv_bits.specs.declared.bit_wires.Bits.{Bits}
+use Rattle.tv_core.proofs.Chain.{puts_turn, turn_refused}
+use Rattle.tv_core.specs.Circuits.{Circuit, turns}
+use Rattle.tv_core.specs.Sinks.{Meaning, PutsAll, PutsSome, Grows, Room}
+use Rattle.tv_core.specs.declared.sink.SinkFault.{SinkFault}
+
+module _ {S : Type 0} {m : Meaning S} {a : S} {x y : ℕ} (r : Room m a x y) where
+  pub less_room : {p q : ℕ} → p ≤ x → q ≤ y → Room m a p q
+  less_room e f = record { whole = r.whole; constant = r.constant; wires = omega (arith, r.wires); constraints = omega (arith, r.constraints) }
+
+  pub fewer : {p q : ℕ} → leb p x ≡ true → leb q y ≡ true → Room m a p q
+  fewer e f = less_room (leb-true _ _ e) (leb-true _ _ f)
+
+  pub fresh_fits : leb 1 x ≡ true → m.wires a < 2 ^ 32 - 1
+  fresh_fits e = omega (arith, r.wires, leb-true 1 x e)
+
+  pub fits : m.wires a < 2 ^ 32
+  fits = omega (arith, r.wires)
+
+module _ {S : Type 0} {m : Meaning S} {a b : S} {k l : ℕ} (g : Grows m a b k l) where
+  pub within : {t : ℕ} → t ≤ m.wires a → t ≤ m.wires b
+  within h = omega (arith, g.wires, h)
+
+  pub kept : {w : ℕ} → w < m.wires a → w < m.wires b
+  kept h = omega (arith, g.wires, h)
+
+  pub bits_within : {n : ℕ} {x : Bits} → AreBitsBelow (m.wires a) n x → AreBitsBelow (m.wires b) n x
+  bits_within h = record { size = h.size; below = within h.below }
+
+  pub both : {c : S} {p q : ℕ} → Grows m b c p q → Grows m a c (k + p) (l + q)
+  both h = record { wires = omega (arith, g.wires, h.wires); constraints = omega (arith, g.constraints, h.constraints); whole = h.whole }
+
+  -- the same for a last call, whose result is the whole's
+  pub both_in : {T E : Type 0} (c : S) (p q : ℕ) (result : Result T E) → IfOk result (λ _. Grows m b c p q) → IfOk result (λ _. Grows m a c (k + p) (l + q))
+  both_in c p q (Ok done) h = both h
+  both_in c p q (Err why) h = tt
+
+  pub grows_as : {p q : ℕ} → k ≡ p → l ≡ q → Grows m a b p q
+  grows_as e f = record { wires = omega (arith, g.wires, e); constraints = omega (arith, g.constraints, f); whole = g.whole }
+
+  module _ {x y : ℕ} (r : Room m a x y) where
+    pub room_after : {p q : ℕ} → k + p ≤ x → l + q ≤ y → Room m b p q
+    room_after e f = record {
+      whole = g.whole;
+      constant = omega (arith, r.constant, g.wires);
+      wires = omega (arith, r.wires, g.wires, e);
+      constraints = omega (arith, r.constraints, g.constraints, f);
+    }
+
+    pub left : {p q : ℕ} → leb (k + p) x ≡ true → leb (l + q) y ≡ true → Room m b p q
+    left e f = room_after (leb-true _ _ e) (leb-true _ _ f)
+
+    pub fresh_after : leb (k + 1) x ≡ true → m.wires b < 2 ^ 32 - 1
+    fresh_after e = omega (arith, r.wires, g.wires, leb-true _ _ e)
+
+    pub put_fits : leb (l + 1) y ≡ true → m.constraints b < 2 ^ 32 - 1
+    put_fits e = omega (arith, r.constraints, g.constraints, leb-true _ _ e)
+
+-- a new wire
+pub made_by : {S : Type 0} {m : Meaning S} {a b : S} {l w : ℕ} → Grows m a b 1 l → w ≡ m.wires a → w < m.wires b
+made_by g e = omega (arith, g.wires, e)
+
+-- ---- a loop: one more turn, and a turn that is refused
+module _ {S : Type 0} {m : Meaning S} (piece : ℕ → Unit {0} → Circuit (Unit {0})) (i : ℕ) {old mid new : S}
+    (p : PutsAll m old mid (turns i piece tt) tt) where
+  pub one_turn : PutsAll m mid new (piece i tt) tt → PutsAll m old new (turns (i + 1) piece tt) tt
+  one_turn q = puts_turn m i piece tt tt tt old mid new p q
+
+  pub turn_some : {n : ℕ} {fault : SinkFault} → i < n → PutsSome m mid new (piece i tt) fault → PutsSome m old new (turns n piece tt) fault
+  turn_some h q = turn_refused m _ i piece tt tt old mid new _ h p q
+
+-- ---- combinations of wires
+pub top_wire : {t w n : ℕ} → t ≡ w + 1 → w < n → t ≤ n
+top_wire e h = omega arith
