@@ -103,28 +103,11 @@ cubic_normal roots i h some k l = elim (eq-zero-or-pos i) [
     more : 0 < i → IsNormal (long_cubic roots i)
     more positive =
         let square = square_small i h in
-        let n = negative_small (i * i) (square_positive i positive) (omega (arith, square)) in
-        let third : i * i * i < P = omega (arith, product_number (i * i) i square h) in (
-          omega arith,
-          mul-pos (square_positive i positive) positive,
-          third,
-          (
-            omega arith,
-            omega (arith, n, square),
-            omega (arith, n, square_positive i positive),
-            (
-              omega arith,
-              positive,
-              omega arith,
-              (
-                omega arith,
-                omega arith,
-                omega arith,
-                tt,
-              ),
-            ),
-          ),
-        )
+        let squared = square_positive i positive in
+        let n = negative_small (i * i) squared (omega (arith, square)) in
+        let cube = mul-pos squared positive in
+        let third : i * i * i < P = omega (arith, product_number (i * i) i square h) in
+        search arith
 
 departure_normal : (reg curve i : ℕ) → i < 16 → reg < curve → IsNormal (departure reg curve i)
 departure_normal reg curve i h below = elim (eq-zero-or-pos i) [
@@ -135,32 +118,10 @@ departure_normal reg curve i h below = elim (eq-zero-or-pos i) [
     more : 0 < i → IsNormal (long_departure reg curve i)
     more positive =
         let square = square_small i h in
+        let some = square_positive i positive in
         let m = negative_small i positive (omega arith) in
-        let n = negative_small (i * i) (square_positive i positive) (omega (arith, square)) in (
-          omega arith,
-          omega arith,
-          omega arith,
-          (
-            omega arith,
-            omega arith,
-            omega arith,
-            (
-              omega arith,
-              omega (arith, m),
-              omega (arith, m),
-              (
-                omega arith,
-                omega (arith, n, square),
-                omega (
-                  arith,
-                  n,
-                  square_positive i positive,
-                ),
-                tt,
-              ),
-            ),
-          ),
-        )
+        let n = negative_small (i * i) some (omega (arith, square)) in
+        search arith
 
 passes_normal : (roots : Roots) (curve reg i next : ℕ) → i < 16 → 0 < roots.sum → roots.sum < roots.pairs → roots.pairs < roots.product → reg < curve
     → AreNormal (passes_of roots curve reg i next).list
@@ -179,17 +140,7 @@ curve_normal roots regs next some k l below =
 
 point_normal : (n : Combination) (curve next : ℕ) → IsNormal n → curve + 3 ≤ next → AreNormal (point_of n curve next).list
 unfolding point_of times_of fresh put pure ◌>>=◌
-point_normal n curve next is below = (
-  record { a = is; b = (omega arith, omega arith, omega arith, tt); c = (omega arith, omega arith, omega arith, tt) },
-  (
-    record {
-      a = is;
-      b = (omega arith, omega arith, omega arith, (omega arith, omega arith, omega arith, tt));
-      c = (omega arith, omega arith, omega arith, (omega arith, omega arith, omega arith, tt));
-    },
-    tt,
-  ),
-)
+point_normal n curve next is below = search arith
 
 -- where the sums stand
 record RootsPlaced (roots : Roots) (next : ℕ) : Type 0 where

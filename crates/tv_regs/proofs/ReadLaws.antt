@@ -1,13 +1,13 @@
 -- The laws of reading a register.
-use Rattle.std.proofs.Common.{◌≡◌, ℕ, ◌+◌, List, [], inl, inr, refl, sym, ◌∙◌, ap, arith, mod-lt}
+use Rattle.std.proofs.Common.{ℕ, ◌+◌, List, [], inl, inr, refl, sym, ◌∙◌, ap, arith, mod-lt}
 use Rattle.std.specs.Prelude.{slice_index}
 use Rattle.std.proofs.lemmas.Bool.{cases_eq}
 use Rattle.tv_core.proofs.CombinationLaws.{wire-below}
 use Rattle.tv_core.proofs.DifferenceLaws.{same_of_minus}
 use Rattle.tv_core.proofs.FieldLaws.{InField-none, InField-cons}
-use Rattle.tv_core.proofs.LoopLaws.{turn_met, turns_met, turns-next}
+use Rattle.tv_core.proofs.LoopLaws.{turn_met, turns_met}
 use Rattle.tv_core.proofs.MeetsLaws.{Meets-split, Meets-join}
-use Rattle.tv_core.specs.Circuits.{fresh, put, pure, ◌>>=◌}
+use Rattle.tv_core.specs.Circuits.{fresh, put, pure, turns, ◌>>=◌}
 use Rattle.tv_core.specs.Laws.{InField}
 use Rattle.tv_core.specs.Loops.{sequence}
 use Rattle.tv_regs.proofs.Gates.{times_itself, word_of, product_value, word_below}
@@ -41,25 +41,14 @@ read_reg_complete z next sel regs i size assigns row has =
     Meets-join z (sequence 16 (read_turn next sel regs) (next + 1)).list [] turns tt
 
 -- ---- where the circuit ends, and what it answers
-read_turn-next : (w sel : ℕ) (regs : List ℕ) (i at : ℕ) → (read_turn w sel regs i at).next ≡ at + 0
-unfolding read_of put
-read_turn-next w sel regs i at = omega arith
-
-pub read_reg_answer : (sel : ℕ) (regs : List ℕ) (next : ℕ) → (read_reg_of sel regs next).answer ≡ next
-unfolding read_reg_of fresh put pure ◌>>=◌
-read_reg_answer sel regs next = refl
-
-pub read_reg_next : (sel : ℕ) (regs : List ℕ) (next : ℕ) → (read_reg_of sel regs next).next ≡ next + 1
-unfolding read_reg_of fresh put pure ◌>>=◌
-read_reg_next sel regs next = turns-next (λ i _. read_turn next sel regs i) tt (next + 1) 0 16 (λ i a at. read_turn-next next sel regs i at) ∙ omega arith
-
 pub read_reg_in_field : (i : ℕ) (words : List ℕ) → InField words → InField (read_reg_values i words)
 read_reg_in_field i words small = InField-cons (slice_index words i) [] (word_below words i small) InField-none
 
 pub read_reg_sizes : ReadRegSizes
+unfolding read_reg_of read_of turns fresh put pure ◌>>=◌
 read_reg_sizes = record {
-  answer = read_reg_answer;
-  end = read_reg_next;
-  fills = λ sel regs i words next. read_reg_next sel regs next;
+  answer = λ sel regs next. refl;
+  end = λ sel regs next. refl;
+  fills = λ sel regs i words next. refl;
   in_field = read_reg_in_field;
 }

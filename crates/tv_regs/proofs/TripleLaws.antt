@@ -29,7 +29,6 @@ use Rattle.tv_core.specs.Combinations.{wire, scaled, less, top}
 use Rattle.tv_core.specs.Constraints.{Combination, value}
 use Rattle.tv_core.specs.Laws.{Assigns, Meets, HasFrom, InField}
 use Rattle.tv_core.specs.Loops.{sequence}
-use Rattle.tv_core.specs.Meanings.{terms_in}
 use Rattle.tv_core.specs.Normal.{normal, IsNormal}
 use Rattle.tv_core.specs.declared.field.TheConstants.{P}
 use Rattle.tv_regs.proofs.Gates.{word_of, word_below}
@@ -40,7 +39,6 @@ use Rattle.tv_regs.specs.Triple.{triple_values, roots_values, curve_values, pass
 use Rattle.tv_regs.specs.Triple.{point_values, other_number, AreNumbers, TripleIsSound, TripleIsComplete, TripleSizes, TripleCosts}
 use Rattle.tv_regs.specs.declared.triple.Curve.{Curve}
 use Rattle.tv_regs.specs.declared.triple.Roots.{Roots}
-use Rattle.tv_regs.specs.declared.triple.Triple.{Triple}
 
 -- ---- the numbers
 -- the wires of the roots hold three numbers, the sums of their products by one, two and three
@@ -346,14 +344,6 @@ pub roots_next : (stores target source named : Combination) (next : ℕ) → (ro
 unfolding roots_of sums_of pairs_of times_of pick_of fresh put pure ◌>>=◌
 roots_next stores target source named next = omega arith
 
-roots_answer : (stores target source named : Combination) (next : ℕ) → (roots_of stores target source named next).answer.dest ≡ next
-unfolding roots_of sums_of pairs_of times_of pick_of fresh put pure ◌>>=◌
-roots_answer stores target source named next = refl
-
-roots_other : (stores target source named : Combination) (next : ℕ) → (roots_of stores target source named next).answer.other ≡ next + 1
-unfolding roots_of sums_of pairs_of times_of pick_of fresh put pure ◌>>=◌
-roots_other stores target source named next = refl
-
 pub curve_answer : (roots : Roots) (regs : List ℕ) (next : ℕ) → (curve_of roots regs next).answer ≡ next
 unfolding curve_of fresh pure ◌>>=◌
 curve_answer roots regs next = refl
@@ -361,10 +351,6 @@ curve_answer roots regs next = refl
 pub curve_next : (roots : Roots) (regs : List ℕ) (next : ℕ) → (curve_of roots regs next).next ≡ next + 19
 unfolding curve_of fresh pure ◌>>=◌
 curve_next roots regs next = turn_at roots next regs (next + 1 + 1 + 1) 16 ∙ omega arith
-
-point_answer : (x : Combination) (curve next : ℕ) → (point_of x curve next).answer ≡ next + 1
-unfolding point_of times_of fresh put pure ◌>>=◌
-point_answer x curve next = refl
 
 pub point_next : (x : Combination) (curve next : ℕ) → (point_of x curve next).next ≡ next + 2
 unfolding point_of times_of fresh put pure ◌>>=◌
@@ -375,50 +361,17 @@ words_in_field z assigns [] = InField-none
 words_in_field z assigns (reg ∷ regs) = InField-cons (slice_index z reg) (words_at z regs) (wire-below assigns reg) (words_in_field z assigns regs)
 
 -- ---- the whole
-abbrev five : ℕ → ℕ → ℕ → ℕ → ℕ → Triple
-five d o a b c = record { dest = d; other = o; other_word = a; named_word = b; dest_word = c }
-
 abbrev three : ℕ → ℕ → ℕ → Curve
 three a b c = record { level = a; slope = b; bend = c }
 
 pub triple_end : (stores target source named : Combination) (regs : List ℕ) (next : ℕ) → (triple_of stores target source named regs next).next ≡ next + 31
-unfolding triple_of pure ◌>>=◌
-triple_end stores target source named regs next =
-    let roots = roots_of stores target source named next in
-    let curve = curve_of roots.answer regs roots.next in
-    let other = point_of (wire roots.answer.other) curve.answer curve.next in
-    let third = point_of named curve.answer other.next in
-    omega (
-      arith,
-      roots_next stores target source named next,
-      curve_next roots.answer regs roots.next,
-      point_next (wire roots.answer.other) curve.answer curve.next,
-      point_next named curve.answer other.next,
-      point_next (wire roots.answer.dest) curve.answer third.next,
-    )
+unfolding triple_of roots_of sums_of pairs_of curve_of passes_of point_of ratio_of times_of pick_of turns fresh put pure ◌>>=◌
+triple_end stores target source named regs next = omega arith
 
 pub triple_answer : (stores target source named : Combination) (regs : List ℕ) (next : ℕ)
     → (triple_of stores target source named regs next).answer ≡ triple_wires next
-unfolding triple_of pure ◌>>=◌
-triple_answer stores target source named regs next =
-    let roots = roots_of stores target source named next in
-    let curve = curve_of roots.answer regs roots.next in
-    let other = point_of (wire roots.answer.other) curve.answer curve.next in
-    let third = point_of named curve.answer other.next in
-    let e1 = roots_next stores target source named next in
-    let e2 = curve_next roots.answer regs roots.next in
-    let e3 = point_next (wire roots.answer.other) curve.answer curve.next in
-    let e4 = point_next named curve.answer other.next in
-    let first : (point_of (wire roots.answer.other) curve.answer curve.next).answer ≡ next + 26 = point_answer (wire roots.answer.other) curve.answer curve.next
-    ∙ omega (arith, e1, e2) in
-    let second : (point_of named curve.answer other.next).answer ≡ next + 28 = point_answer named curve.answer other.next ∙ omega (arith, e1, e2, e3) in
-    let last : (point_of (wire roots.answer.dest) curve.answer third.next).answer ≡ next + 30 = point_answer (wire roots.answer.dest) curve.answer third.next
-    ∙ omega (arith, e1, e2, e3, e4) in
-    all_wires (roots_answer stores target source named next) (roots_other stores target source named next) first second last
-  where
-    all_wires : {d o a b c x y u v t : ℕ} → d ≡ x → o ≡ y → a ≡ u → b ≡ v → c ≡ t
-        → five d o a b c ≡ five x y u v t
-    all_wires e f g h k = rw (e, f, g, h, k) refl
+unfolding triple_of roots_of sums_of pairs_of curve_of passes_of point_of ratio_of times_of pick_of turns fresh put pure ◌>>=◌
+triple_answer stores target source named regs next = search arith
 
 pub triple_sound : TripleIsSound
 unfolding triple_of pure ◌>>=◌
@@ -509,11 +462,8 @@ triple_complete z next stores target source named regs size assigns numbers has 
 
 -- ---- the values are as many as the wires, and in the field
 length-triple : (o b d : ℕ) (words : List ℕ) → length (triple_values o b d words) ≡ 31
-length-triple o b d words =
-    let c = curve_through o b d words in
-    let ratios = each_below 16 (passing o b d words) in
-    let points = point_values o c.bend words ++ (point_values b c.bend words ++ point_values d c.bend words) in
-    omega (arith, length-append ratios points, length-each_below 16 (passing o b d words))
+unfolding each_below
+length-triple o b d words = refl
 
 point_in_field : (n g : ℕ) (words : List ℕ) → InField words → InField (point_values n g words)
 point_in_field n g words small = InField-cons (n * g % P) (slice_index words n ∷ []) (residue_below (n * g))
@@ -552,11 +502,6 @@ triple_sizes = record {
 }
 
 -- ---- how many constraints and terms
-pub triple_constraints : (stores target source named : Combination) (regs : List ℕ) (next : ℕ)
-    → length (triple_of stores target source named regs next).list ≡ 28
-unfolding triple_of roots_of sums_of pairs_of curve_of passes_of point_of ratio_of times_of pick_of turns fresh put pure ◌>>=◌
-triple_constraints stores target source named regs next = refl
-
 -- the new wire less the source's number, made normal: the wire comes last
 commuted : (a b : ℕ) → (a + b) % P ≡ (b + a) % P
 commuted a b = omega arith
@@ -570,18 +515,17 @@ less_source source w is below =
     (λ z. value-normal z (less (wire w) source) ∙ value-append (wire w) (scaled (P - 1) source) z
     ∙ commuted (value (wire w) z) (value (scaled (P - 1) source) z) ∙ sym (value-append (scaled (P - 1) source) (wire w) z))
 
-pub triple_terms : (stores target source named : Combination) (regs : List ℕ) (next : ℕ) → IsNormal source → top source ≤ next
-    → terms_in (triple_of stores target source named regs next).list ≡ length stores + length target + 2 * length source + 5 * length named + 178
-unfolding triple_of roots_of sums_of pairs_of curve_of passes_of point_of ratio_of times_of pick_of turns fresh put pure ◌>>=◌
-triple_terms stores target source named regs next is below =
-    omega (
-      arith,
-      ap length (less_source source next is below) ∙ length-negated source next,
-      length-negated source (next + 1),
-      length-append (named ++ wire next) (wire (next + 1)),
-      length-append named (wire next),
-      length-append named (wire (next + 1)),
-    )
-
 pub triple_costs : TripleCosts
-triple_costs = record { constraints = triple_constraints; terms = triple_terms }
+unfolding triple_of roots_of sums_of pairs_of curve_of passes_of point_of ratio_of times_of pick_of turns fresh put pure ◌>>=◌
+triple_costs = record {
+  constraints = λ stores target source named regs next. refl;
+  terms = λ stores target source named regs next is below.
+      omega (
+        arith,
+        ap length (less_source source next is below) ∙ length-negated source next,
+        length-negated source (next + 1),
+        length-append (named ++ wire next) (wire (next + 1)),
+        length-append named (wire next),
+        length-append named (wire (next + 1)),
+      );
+}

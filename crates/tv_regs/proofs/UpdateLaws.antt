@@ -22,7 +22,6 @@ use Rattle.tv_core.specs.Combinations.{wire, scaled}
 use Rattle.tv_core.specs.Constraints.{value}
 use Rattle.tv_core.specs.Laws.{Assigns}
 use Rattle.tv_core.specs.Loops.{sequence}
-use Rattle.tv_core.specs.Meanings.{terms_in}
 use Rattle.tv_core.specs.declared.field.TheConstants.{P}
 use Rattle.tv_regs.proofs.Gates.{word_of}
 use Rattle.tv_regs.proofs.TripleLaws.{value-rise, other_branch}
@@ -166,28 +165,14 @@ update_complete z next on dest word result regs i assigns is has =
     )
 
 -- ---- where the circuit ends, what it answers, and what it costs
-pub update_answer : (on dest word result : ℕ) (regs : List ℕ) (next : ℕ) → (update_of on dest word result regs next).answer ≡ range_with_len next 16
-unfolding update_of here put pure ◌>>=◌
-update_answer on dest word result regs next = refl
-
-pub update_next : (on dest word result : ℕ) (regs : List ℕ) (next : ℕ) → (update_of on dest word result regs next).next ≡ next + 16
-unfolding update_of here put pure ◌>>=◌
-update_next on dest word result regs next = turn_at dest regs next 16
-
 pub update_sizes : UpdateSizes
+unfolding update_of here put pure ◌>>=◌
 update_sizes = record {
-  answer = update_answer;
-  end = update_next;
-  fills = λ on dest word result regs words size next. update_next on dest word result regs next ∙ ap (λ k. next + k) (sym size);
+  answer = λ on dest word result regs next. refl;
+  end = λ on dest word result regs next. turn_at dest regs next 16;
+  fills = λ on dest word result regs words size next. turn_at dest regs next 16 ∙ ap (λ k. next + k) (sym size);
 }
 
-update_constraints : (on dest word result : ℕ) (regs : List ℕ) (next : ℕ) → length (update_of on dest word result regs next).list ≡ 17
-unfolding update_of stays_of turns here fresh put pure ◌>>=◌
-update_constraints on dest word result regs next = refl
-
-update_terms : (on dest word result : ℕ) (regs : List ℕ) (next : ℕ) → terms_in (update_of on dest word result regs next).list ≡ 98
-unfolding update_of stays_of turns here fresh put pure ◌>>=◌ each_below weighted
-update_terms on dest word result regs next = refl
-
 pub update_costs : UpdateCosts
-update_costs = record { constraints = update_constraints; terms = update_terms }
+unfolding update_of stays_of turns here fresh put pure ◌>>=◌ each_below weighted
+update_costs = record { constraints = λ on dest word result regs next. refl; terms = λ on dest word result regs next. refl }

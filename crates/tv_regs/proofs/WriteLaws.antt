@@ -225,14 +225,6 @@ write_reg_complete z next sel on x regs i size assigns row bit has =
     none a b h e = omega arith
 
 -- ---- where the circuit ends, and what it answers
-pub write_reg_answer : (sel on : ℕ) (x : Combination) (regs : List ℕ) (next : ℕ) → (write_reg_of sel on x regs next).answer ≡ range_with_len (next + 1) 16
-unfolding write_reg_of tie_of here fresh put pure ◌>>=◌
-write_reg_answer sel on x regs next = refl
-
-pub write_reg_next : (sel on : ℕ) (x : Combination) (regs : List ℕ) (next : ℕ) → (write_reg_of sel on x regs next).next ≡ next + 17
-unfolding write_reg_of tie_of here fresh put pure ◌>>=◌
-write_reg_next sel on x regs next = turn_at next sel regs (next + 1) 16 ∙ omega arith
-
 written_in_field : (b : Bool) (v i : ℕ) (words : List ℕ) → v < P → InField words → InField (written_regs b v i words)
 written_in_field true v i words small others = All-set (λ k. k < P) words i v small others
 written_in_field false v i words small others = others
@@ -243,10 +235,11 @@ write_reg_in_field b v i words small others =
     InField-cons (slice_index (written_regs b v i words) i) (written_regs b v i words) (word_below (written_regs b v i words) i after) after
 
 pub write_reg_sizes : WriteRegSizes
+unfolding write_reg_of tie_of here fresh put pure ◌>>=◌
 write_reg_sizes = record {
-  answer = write_reg_answer;
-  end = write_reg_next;
-  fills = λ sel on x regs b v i words size next. omega (arith, write_reg_next sel on x regs next, length-written b v i words);
+  answer = λ sel on x regs next. refl;
+  end = λ sel on x regs next. omega (arith, turn_at next sel regs (next + 1) 16);
+  fills = λ sel on x regs b v i words size next. omega (arith, turn_at next sel regs (next + 1) 16, length-written b v i words);
   in_field = write_reg_in_field;
 }
 

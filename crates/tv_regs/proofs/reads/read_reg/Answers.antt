@@ -1,7 +1,7 @@
-use Rattle.std.proofs.Common.{◌≡◌, ℕ, ◌<◌, length, arith}
+use Rattle.std.proofs.Common.{◌≡◌, ◌<◌, length, arith}
 use Rattle.std.proofs.lemmas.Grind.{get_or_default_zero}
-use Rattle.tv_core.proofs.Chain.{puts_no_turn, puts_turn, turn_refused, refused, all_then, all_pure, some_then, some_first}
-use Rattle.tv_core.specs.Circuits.{Circuit}
+use Rattle.tv_bits.proofs.Growing.{both, one_turn, turn_some}
+use Rattle.tv_core.proofs.Chain.{puts_no_turn, refused, all_then, all_pure, some_then, some_first}
 use Rattle.tv_regs.proofs.Gates.{wires_top-at}
 use Rattle.tv_regs.specs.Reads.{read_turn, read_reg_of}
 use Rattle.tv_regs.proofs.reads.read_reg.Goals as goal
@@ -14,26 +14,20 @@ loop-i-init g c = record {
 
 pub loop-i-preserved : goal.loop-i-preserved
 loop-i-preserved g c =
-    let piece : ℕ → Unit {0} → Circuit (Unit {0}) = λ i _. read_turn c.fresh-w.result c.args.sel c.args.regs.now i in
-    let grown = c.in_ok-read.ensures.grows in
     let within : c.loop-i.i < length c.args.regs.now = omega arith in
     let turn = rw (c.offset.ensures, get_or_default_zero c.args.regs.now c.loop-i.i c.index-regs-i.result within) at c.in_ok-read.ensures.puts in
     record {
-      puts = puts_turn g.S.Sink.meaning _ piece tt _ _ _ _ _ c.loop-i.invariant.puts turn;
-      grows = record { wires = omega (arith, grown.wires); constraints = omega (arith, grown.constraints); whole = grown.whole };
+      puts = one_turn _ _ c.loop-i.invariant.puts turn;
+      grows = both c.loop-i.invariant.grows c.in_ok-read.ensures.grows;
     }
 
 pub returns-in_err-read-clause-puts : goal.returns-in_err-read-clause-puts
 unfolding read_reg_of
 returns-in_err-read-clause-puts g c =
-    let m = g.S.Sink.meaning in
-    let piece : ℕ → Unit {0} → Circuit (Unit {0}) = λ i _. read_turn c.fresh-w.result c.args.sel c.args.regs.now i in
     let within : c.loop-i.i < 16 = omega arith in
     let inside : c.loop-i.i < length c.args.regs.now = omega arith in
     let read = rw (c.offset.ensures, get_or_default_zero c.args.regs.now c.loop-i.i c.index-regs-i.result inside) at c.in_err-read.ensures.puts in
-    let turn = turn_refused m 16 c.loop-i.i piece tt tt c.fresh-w.new.self c.loop-i.s c.read.new.s c.in_err-read.field-0.0 within c.loop-i.invariant.puts read
-    in
-    refused _ _ _ _ _ c.from_residual.ensures.1 (some_then _ c.fresh-w.ensures.puts (some_first _ turn))
+    refused _ _ _ _ _ c.from_residual.ensures.1 (some_then _ c.fresh-w.ensures.puts (some_first _ (turn_some _ _ c.loop-i.invariant.puts within read)))
 
 pub returns-clause-puts : goal.returns-clause-puts
 unfolding read_reg_of

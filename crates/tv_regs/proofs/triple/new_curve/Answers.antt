@@ -1,7 +1,7 @@
-use Rattle.std.proofs.Common.{◌≡◌, ℕ, ◌<◌, length, arith}
+use Rattle.std.proofs.Common.{◌≡◌, ◌<◌, length, arith}
 use Rattle.std.proofs.lemmas.Grind.{get_or_default_zero}
-use Rattle.tv_core.proofs.Chain.{puts_no_turn, puts_turn, turn_refused, refused, all_then, all_pure, some_then, some_first}
-use Rattle.tv_core.specs.Circuits.{Circuit}
+use Rattle.tv_bits.proofs.Growing.{both, one_turn, turn_some}
+use Rattle.tv_core.proofs.Chain.{puts_no_turn, refused, all_then, all_pure, some_then, some_first}
 use Rattle.tv_regs.proofs.Gates.{wires_top-at}
 use Rattle.tv_regs.specs.Triple.{passes_turn, curve_of}
 use Rattle.tv_regs.proofs.triple.new_curve.Goals as goal
@@ -14,13 +14,11 @@ loop-i-init g c = record {
 
 pub loop-i-preserved : goal.loop-i-preserved
 loop-i-preserved g c =
-    let piece : ℕ → Unit {0} → Circuit (Unit {0}) = λ i _. passes_turn c.args.roots.now c.fresh-curve.result c.args.regs.now i in
-    let grown = c.in_ok-passes.ensures.grows in
     let within : c.loop-i.i < length c.args.regs.now = omega arith in
     let turn = rw (get_or_default_zero c.args.regs.now c.loop-i.i c.index-regs-i.result within) at c.in_ok-passes.ensures.puts in
     record {
-      puts = puts_turn g.S.Sink.meaning _ piece tt _ _ _ _ _ c.loop-i.invariant.puts turn;
-      grows = record { wires = omega (arith, grown.wires); constraints = omega (arith, grown.constraints); whole = grown.whole };
+      puts = one_turn _ _ c.loop-i.invariant.puts turn;
+      grows = both c.loop-i.invariant.grows c.in_ok-passes.ensures.grows;
     }
 
 pub passes-requires-clause-reg_made : goal.passes-requires-clause-reg_made
@@ -31,15 +29,11 @@ passes-requires-clause-reg_made g c =
 pub returns-in_err-passes-clause-puts : goal.returns-in_err-passes-clause-puts
 unfolding curve_of
 returns-in_err-passes-clause-puts g c =
-    let m = g.S.Sink.meaning in
-    let piece : ℕ → Unit {0} → Circuit (Unit {0}) = λ i _. passes_turn c.args.roots.now c.fresh-curve.result c.args.regs.now i in
     let within : c.loop-i.i < 16 = omega arith in
     let inside : c.loop-i.i < length c.args.regs.now = omega arith in
     let passes = rw (get_or_default_zero c.args.regs.now c.loop-i.i c.index-regs-i.result inside) at c.in_err-passes.ensures.puts in
-    let turn = turn_refused m 16 c.loop-i.i piece tt tt c.fresh-bend.new.self c.loop-i.s c.passes.new.s c.in_err-passes.field-0.0 within c.loop-i.invariant.puts
-    passes in
     refused _ _ _ _ _ c.from_residual.ensures.1 (some_then _ c.fresh-curve.ensures.puts (some_then _ c.fresh-slope.ensures.puts
-    (some_then _ c.fresh-bend.ensures.puts (some_first _ turn))))
+    (some_then _ c.fresh-bend.ensures.puts (some_first _ (turn_some _ _ c.loop-i.invariant.puts within passes)))))
 
 pub returns-clause-puts : goal.returns-clause-puts
 unfolding curve_of

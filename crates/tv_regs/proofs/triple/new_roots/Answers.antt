@@ -1,7 +1,9 @@
+use Rattle.std.proofs.Common.{refl}
+use Rattle.tv_bits.proofs.Growing.{fewer, within, kept, both, both_in, left}
 use Rattle.tv_core.proofs.Chain.{refused, some_then, some_first}
 use Rattle.tv_core.proofs.TailCalls.{puts_in_then}
 use Rattle.tv_regs.specs.Triple.{roots_of}
-use Rattle.tv_regs.proofs.Rooms.{low, high, top_number, kept_room, pick_rises, pick_room, sums_rise, kept_rises, sums_room, roots_grow}
+use Rattle.tv_regs.proofs.Rooms.{top_number}
 use Rattle.tv_regs.proofs.triple.new_roots.Goals as goal
 
 pub returns-in_err-dest-clause-puts : goal.returns-in_err-dest-clause-puts
@@ -27,26 +29,25 @@ returns-clause-puts g c =
 pub kept_by-requires : goal.kept_by-requires
 kept_by-requires g c =
     let names = c.requires.names_made in
-    record { room = kept_room c.requires.room; x_made = top_number _ c.set_number.ensures.top names.dest names.dest_made }
+    record { room = fewer c.requires.room refl refl; x_made = top_number _ c.set_number.ensures.top names.dest names.dest_made }
 
 pub pick_by-requires-clause-room : goal.pick_by-requires-clause-room
-pick_by-requires-clause-room g c = pick_room c.requires.room c.in_ok-dest.ensures.grows
+pick_by-requires-clause-room g c = left c.in_ok-dest.ensures.grows c.requires.room refl refl
 
 pub pick_by-requires-clause-b_made : goal.pick_by-requires-clause-b_made
-pick_by-requires-clause-b_made g c = high c.requires.stores_made (pick_rises c.requires.room c.in_ok-dest.ensures.grows)
+pick_by-requires-clause-b_made g c = within c.in_ok-dest.ensures.grows c.requires.stores_made
 
 pub sums-requires : goal.sums-requires
 sums-requires g c =
     let r = c.requires in
-    let g1 = c.in_ok-dest.ensures.grows in
-    let g2 = c.in_ok-other.ensures.grows in
+    let g2 = both c.in_ok-dest.ensures.grows c.in_ok-other.ensures.grows in
     record {
-      room = sums_room r.room g1 g2;
+      room = left g2 r.room refl refl;
       named_short = r.names_made.named;
-      named_made = high r.names_made.named_made (sums_rise r.room g1 g2);
-      dest_made = low c.in_ok-dest.ensures.below (kept_rises r.room g1 g2);
+      named_made = within g2 r.names_made.named_made;
+      dest_made = kept c.in_ok-other.ensures.grows c.in_ok-dest.ensures.below;
       other_made = c.in_ok-other.ensures.below;
     }
 
 pub returns-clause-grows : goal.returns-clause-grows
-returns-clause-grows g c = roots_grow c.requires.room c.in_ok-dest.ensures.grows c.in_ok-other.ensures.grows _ c.sums.result c.sums.ensures.grows
+returns-clause-grows g c = both_in (both c.in_ok-dest.ensures.grows c.in_ok-other.ensures.grows) _ _ _ c.sums.result c.sums.ensures.grows

@@ -1,8 +1,8 @@
-use Rattle.std.proofs.Common.{◌∙◌}
+use Rattle.std.proofs.Common.{refl, ◌∙◌}
+use Rattle.tv_bits.proofs.Growing.{fewer, within, kept, both, left, top_wire}
 use Rattle.tv_bits.specs.Number.{number_of}
 use Rattle.tv_core.proofs.Chain.{refused, all_then, all_pure, some_then, some_first}
-use Rattle.tv_regs.proofs.Rooms.{low, high, top_number, top_wire, roots_room, curve_rises, curve_room, other_rises, other_room, named_rises}
-use Rattle.tv_regs.proofs.Rooms.{names_rise, named_room, dest_rises, roots_rise, dest_room, triple_grow}
+use Rattle.tv_regs.proofs.Rooms.{top_number}
 use Rattle.tv_regs.proofs.TripleLaws.{triple_answer}
 use Rattle.tv_regs.specs.Triple.{triple_of}
 use Rattle.tv_regs.proofs.triple.read_triple.Goals as goal
@@ -65,51 +65,44 @@ returns-clause-places g c = (returns-clause-puts g c).answers
 pub new_roots-requires : goal.new_roots-requires
 new_roots-requires g c =
     let r = c.requires in
-    record { room = roots_room r.room; stores_made = r.stores_made; names_made = r.names_made }
+    record { room = fewer r.room refl refl; stores_made = r.stores_made; names_made = r.names_made }
 
 pub new_curve-requires : goal.new_curve-requires
 new_curve-requires g c =
-    let r = c.requires in
-    let g1 = c.in_ok-roots.ensures.grows in
-    record { room = curve_room r.room g1; roots_made = c.in_ok-roots.ensures.below; regs_made = high r.regs_made (curve_rises r.room g1) }
+    let roots = c.in_ok-roots.ensures in
+    record { room = left roots.grows c.requires.room refl refl; roots_made = roots.below; regs_made = within roots.grows c.requires.regs_made }
 
 pub point-requires : goal.point-requires
 point-requires g c =
-    let r = c.requires in
-    let g1 = c.in_ok-roots.ensures.grows in
-    let g2 = c.in_ok-curve.ensures.grows in
+    let curve = c.in_ok-curve.ensures in
     record {
-      room = other_room r.room g1 g2;
-      n_made = top_wire c.set_wire.ensures.top (low c.in_ok-roots.ensures.below.other (other_rises r.room g1 g2));
-      curve_made = c.in_ok-curve.ensures.below;
+      room = left (both c.in_ok-roots.ensures.grows curve.grows) c.requires.room refl refl;
+      n_made = top_wire c.set_wire.ensures.top (kept curve.grows c.in_ok-roots.ensures.below.other);
+      curve_made = curve.below;
     }
 
 pub point-requires-2 : goal.point-requires-2
 point-requires-2 g c =
-    let r = c.requires in
-    let g1 = c.in_ok-roots.ensures.grows in
-    let g2 = c.in_ok-curve.ensures.grows in
-    let g3 = c.in_ok-other_word.ensures.grows in
+    let names = c.requires.names_made in
+    let other = c.in_ok-other_word.ensures.grows in
+    let all = both (both c.in_ok-roots.ensures.grows c.in_ok-curve.ensures.grows) other in
     record {
-      room = named_room r.room g1 g2 g3;
-      n_made = top_number _ c.set_number.ensures.top r.names_made.named (high r.names_made.named_made (names_rise r.room g1 g2 g3));
-      curve_made = high c.in_ok-curve.ensures.below (named_rises r.room g1 g2 g3);
+      room = left all c.requires.room refl refl;
+      n_made = top_number _ c.set_number.ensures.top names.named (within all names.named_made);
+      curve_made = within other c.in_ok-curve.ensures.below;
     }
 
 pub point-requires-3 : goal.point-requires-3
 point-requires-3 g c =
-    let r = c.requires in
-    let g1 = c.in_ok-roots.ensures.grows in
-    let g2 = c.in_ok-curve.ensures.grows in
-    let g3 = c.in_ok-other_word.ensures.grows in
-    let g4 = c.in_ok-named_word.ensures.grows in
+    let words = both c.in_ok-other_word.ensures.grows c.in_ok-named_word.ensures.grows in
+    let after_roots = both c.in_ok-curve.ensures.grows words in
     record {
-      room = dest_room r.room g1 g2 g3 g4;
-      n_made = top_wire c.set_wire-2.ensures.top (low c.in_ok-roots.ensures.below.dest (roots_rise r.room g1 g2 g3 g4));
-      curve_made = high c.in_ok-curve.ensures.below (dest_rises r.room g1 g2 g3 g4);
+      room = left (both c.in_ok-roots.ensures.grows after_roots) c.requires.room refl refl;
+      n_made = top_wire c.set_wire-2.ensures.top (kept after_roots c.in_ok-roots.ensures.below.dest);
+      curve_made = within words c.in_ok-curve.ensures.below;
     }
 
 pub returns-clause-grows : goal.returns-clause-grows
 returns-clause-grows g c =
-    triple_grow c.requires.room c.in_ok-roots.ensures.grows c.in_ok-curve.ensures.grows c.in_ok-other_word.ensures.grows c.in_ok-named_word.ensures.grows
-    c.in_ok-dest_word.ensures.grows
+    both (both c.in_ok-roots.ensures.grows c.in_ok-curve.ensures.grows)
+    (both (both c.in_ok-other_word.ensures.grows c.in_ok-named_word.ensures.grows) c.in_ok-dest_word.ensures.grows)

@@ -1,7 +1,8 @@
+use Rattle.std.proofs.Common.{refl}
+use Rattle.tv_bits.proofs.Growing.{fewer, within, kept, both, left, top_wire}
 use Rattle.tv_core.proofs.Chain.{refused, all_then, all_pure, some_then, some_first}
 use Rattle.tv_regs.specs.Triple.{sums_of}
-use Rattle.tv_regs.proofs.Rooms.{top_number, top_more, top_wire, short_number, short_more, low, high, first_room, second_room, third_room, fourth_room}
-use Rattle.tv_regs.proofs.Rooms.{rise1, rise2, rise3, pair_rises, sums_grow, roots_under}
+use Rattle.tv_regs.proofs.Rooms.{top_number, top_more, short_number, short_more}
 use Rattle.tv_regs.proofs.triple.sums.Goals as goal
 
 pub returns-in_err-sum-clause-puts : goal.returns-in_err-sum-clause-puts
@@ -54,7 +55,7 @@ kept_by-requires g c =
     let r = c.requires in
     let number = top_number _ c.set_number.ensures.top r.named_short r.named_made in
     record {
-      room = first_room r.room;
+      room = fewer r.room refl refl;
       x_made = top_more c.plus-2.ensures.top (top_more c.plus.ensures.top number r.dest_made) r.other_made;
     }
 
@@ -62,11 +63,10 @@ pub times_by-requires : goal.times_by-requires
 times_by-requires g c =
     let r = c.requires in
     let g1 = c.in_ok-sum.ensures.grows in
-    let rise = rise1 r.room g1 in
     record {
-      room = second_room r.room g1;
-      x_made = top_wire c.set_wire.ensures.top (low r.other_made rise);
-      y_made = top_number _ c.set_number-2.ensures.top r.named_short (high r.named_made rise);
+      room = left g1 r.room refl refl;
+      x_made = top_wire c.set_wire.ensures.top (kept g1 r.other_made);
+      y_made = top_number _ c.set_number-2.ensures.top r.named_short (within g1 r.named_made);
     }
 
 pub plus-requires-3 : goal.plus-requires-3
@@ -75,35 +75,38 @@ plus-requires-3 g c = short_number c.set_number-2.ensures.len c.requires.named_s
 pub pairs-requires : goal.pairs-requires
 pairs-requires g c =
     let r = c.requires in
-    let g1 = c.in_ok-sum.ensures.grows in
-    let g2 = c.in_ok-pair.ensures.grows in
-    let rise = rise2 r.room g1 g2 in
-    let number = top_number _ c.set_number-2.ensures.top r.named_short (high r.named_made rise) in
+    let g2 = both c.in_ok-sum.ensures.grows c.in_ok-pair.ensures.grows in
+    let number = top_number _ c.set_number-2.ensures.top r.named_short (within g2 r.named_made) in
     record {
-      room = third_room r.room g1 g2;
-      x_made = top_more c.plus-3.ensures.top number (low r.other_made rise);
-      dest_made = low r.dest_made rise;
+      room = left g2 r.room refl refl;
+      x_made = top_more c.plus-3.ensures.top number (kept g2 r.other_made);
+      dest_made = kept g2 r.dest_made;
       pair_made = c.in_ok-pair.ensures.below;
     }
 
 pub times_by-requires-2 : goal.times_by-requires-2
 times_by-requires-2 g c =
-    let r = c.requires in
-    let g1 = c.in_ok-sum.ensures.grows in
-    let g2 = c.in_ok-pair.ensures.grows in
-    let g3 = c.in_ok-pairs.ensures.grows in
+    let pairs = c.in_ok-pairs.ensures.grows in
+    let g3 = both (both c.in_ok-sum.ensures.grows c.in_ok-pair.ensures.grows) pairs in
     record {
-      room = fourth_room r.room g1 g2 g3;
-      x_made = top_wire c.set_wire-2.ensures.top (low c.in_ok-pair.ensures.below (pair_rises r.room g1 g2 g3));
-      y_made = top_wire c.set_wire-3.ensures.top (low r.dest_made (rise3 r.room g1 g2 g3));
+      room = left g3 c.requires.room refl refl;
+      x_made = top_wire c.set_wire-2.ensures.top (kept pairs c.in_ok-pair.ensures.below);
+      y_made = top_wire c.set_wire-3.ensures.top (kept g3 c.requires.dest_made);
     }
 
 pub returns-clause-grows : goal.returns-clause-grows
 returns-clause-grows g c =
-    sums_grow c.requires.room c.in_ok-sum.ensures.grows c.in_ok-pair.ensures.grows c.in_ok-pairs.ensures.grows c.in_ok-product.ensures.grows
+    both (both (both c.in_ok-sum.ensures.grows c.in_ok-pair.ensures.grows) c.in_ok-pairs.ensures.grows) c.in_ok-product.ensures.grows
 
 pub returns-clause-below : goal.returns-clause-below
 returns-clause-below g c =
-    let r = c.requires in
-    roots_under r.room c.in_ok-sum.ensures.grows c.in_ok-pair.ensures.grows c.in_ok-pairs.ensures.grows c.in_ok-product.ensures.grows
-    r.dest_made r.other_made c.in_ok-sum.ensures.below c.in_ok-pairs.ensures.below c.in_ok-product.ensures.below
+    let product = c.in_ok-product.ensures in
+    let after_sum = both (both c.in_ok-pair.ensures.grows c.in_ok-pairs.ensures.grows) product.grows in
+    let all = both c.in_ok-sum.ensures.grows after_sum in
+    record {
+      dest = kept all c.requires.dest_made;
+      other = kept all c.requires.other_made;
+      sum = kept after_sum c.in_ok-sum.ensures.below;
+      pairs = kept product.grows c.in_ok-pairs.ensures.below;
+      product = product.below;
+    }

@@ -1,8 +1,8 @@
-use Rattle.std.proofs.Common.{◌≡◌, ℕ, ◌<◌, length, arith}
+use Rattle.std.proofs.Common.{◌≡◌, ◌<◌, length, arith}
 use Rattle.std.proofs.lemmas.Grind.{get_or_default_zero}
-use Rattle.tv_core.proofs.Chain.{puts_no_turn, puts_turn, turn_refused, refused, all_then, all_pure, some_then, some_first}
+use Rattle.tv_bits.proofs.Growing.{both, one_turn, turn_some}
+use Rattle.tv_core.proofs.Chain.{puts_no_turn, refused, all_then, all_pure, some_then, some_first}
 use Rattle.tv_core.proofs.LoopLaws.{puts_here_as}
-use Rattle.tv_core.specs.Circuits.{Circuit}
 use Rattle.tv_regs.proofs.Gates.{wires_top-at}
 use Rattle.tv_regs.specs.Update.{stays_turn, update_of}
 use Rattle.tv_regs.proofs.update.update_register.Goals as goal
@@ -15,13 +15,11 @@ loop-i-init g c = record {
 
 pub loop-i-preserved : goal.loop-i-preserved
 loop-i-preserved g c =
-    let piece : ℕ → Unit {0} → Circuit (Unit {0}) = λ i _. stays_turn c.args.write.now.dest c.args.regs.now i in
-    let grown = c.in_ok-stays.ensures.grows in
     let within : c.loop-i.i < length c.args.regs.now = omega arith in
     let turn = rw (get_or_default_zero c.args.regs.now c.loop-i.i c.index-regs-i.result within) at c.in_ok-stays.ensures.puts in
     record {
-      puts = puts_turn g.S.Sink.meaning _ piece tt _ _ _ _ _ c.loop-i.invariant.puts turn;
-      grows = record { wires = omega (arith, grown.wires); constraints = omega (arith, grown.constraints); whole = grown.whole };
+      puts = one_turn _ _ c.loop-i.invariant.puts turn;
+      grows = both c.loop-i.invariant.grows c.in_ok-stays.ensures.grows;
     }
 
 pub stays-requires-clause-reg_made : goal.stays-requires-clause-reg_made
@@ -33,13 +31,11 @@ pub returns-in_err-stays-clause-puts : goal.returns-in_err-stays-clause-puts
 unfolding update_of
 returns-in_err-stays-clause-puts g c =
     let m = g.S.Sink.meaning in
-    let piece : ℕ → Unit {0} → Circuit (Unit {0}) = λ i _. stays_turn c.args.write.now.dest c.args.regs.now i in
     let within : c.loop-i.i < 16 = omega arith in
     let inside : c.loop-i.i < length c.args.regs.now = omega arith in
     let stays = rw (get_or_default_zero c.args.regs.now c.loop-i.i c.index-regs-i.result inside) at c.in_err-stays.ensures.puts in
     let first = puts_here_as m c.args.s.now c.wires.result c.wires.ensures in
-    let turn = turn_refused m 16 c.loop-i.i piece tt tt c.args.s.now c.loop-i.s c.stays.new.s c.in_err-stays.field-0.0 within c.loop-i.invariant.puts stays in
-    refused _ _ _ _ _ c.from_residual.ensures.1 (some_then _ first (some_first _ turn))
+    refused _ _ _ _ _ c.from_residual.ensures.1 (some_then _ first (some_first _ (turn_some _ _ c.loop-i.invariant.puts within stays)))
 
 pub returns-in_err-put-clause-puts : goal.returns-in_err-put-clause-puts
 unfolding update_of

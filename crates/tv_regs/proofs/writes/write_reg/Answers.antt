@@ -1,8 +1,8 @@
-use Rattle.std.proofs.Common.{◌≡◌, ℕ, ◌<◌, length, arith}
+use Rattle.std.proofs.Common.{◌≡◌, ◌<◌, length, arith}
 use Rattle.std.proofs.lemmas.Grind.{get_or_default_zero}
-use Rattle.tv_core.proofs.Chain.{puts_no_turn, puts_turn, turn_refused, refused, all_then, all_pure, some_then, some_first}
+use Rattle.tv_bits.proofs.Growing.{both, one_turn, turn_some}
+use Rattle.tv_core.proofs.Chain.{puts_no_turn, refused, all_then, all_pure, some_then, some_first}
 use Rattle.tv_core.proofs.LoopLaws.{puts_here_as}
-use Rattle.tv_core.specs.Circuits.{Circuit}
 use Rattle.tv_regs.proofs.Gates.{wires_top-at}
 use Rattle.tv_regs.specs.Writes.{write_of, write_turn, write_reg_of}
 use Rattle.tv_regs.proofs.writes.write_reg.Goals as goal
@@ -16,13 +16,11 @@ loop-i-init g c = record {
 pub loop-i-preserved : goal.loop-i-preserved
 unfolding write_of
 loop-i-preserved g c =
-    let piece : ℕ → Unit {0} → Circuit (Unit {0}) = λ i _. write_turn c.fresh-v.result c.args.sel c.args.regs.now i in
-    let grown = c.in_ok-select_wires.ensures.grows in
     let within : c.loop-i.i < length c.args.regs.now = omega arith in
     let turn = rw (c.offset.ensures, get_or_default_zero c.args.regs.now c.loop-i.i c.index-regs-i.result within) at c.in_ok-select_wires.ensures.puts in
     record {
-      puts = puts_turn g.S.Sink.meaning _ piece tt _ _ _ _ _ c.loop-i.invariant.puts (all_then _ turn all_pure);
-      grows = record { wires = omega (arith, grown.wires); constraints = omega (arith, grown.constraints); whole = grown.whole };
+      puts = one_turn _ _ c.loop-i.invariant.puts (all_then _ turn all_pure);
+      grows = both c.loop-i.invariant.grows c.in_ok-select_wires.ensures.grows;
     }
 
 pub select_wires-requires-clause-y_made : goal.select_wires-requires-clause-y_made
@@ -34,14 +32,12 @@ pub returns-in_err-select_wires-clause-puts : goal.returns-in_err-select_wires-c
 unfolding write_reg_of write_of
 returns-in_err-select_wires-clause-puts g c =
     let m = g.S.Sink.meaning in
-    let piece : ℕ → Unit {0} → Circuit (Unit {0}) = λ i _. write_turn c.fresh-v.result c.args.sel c.args.regs.now i in
     let within : c.loop-i.i < 16 = omega arith in
     let inside : c.loop-i.i < length c.args.regs.now = omega arith in
     let write = rw (c.offset.ensures, get_or_default_zero c.args.regs.now c.loop-i.i c.index-regs-i.result inside) at c.in_err-select_wires.ensures.puts in
     let first = puts_here_as m c.fresh-v.new.self c.wires.result c.wires.ensures in
-    let turn = turn_refused m 16 c.loop-i.i piece tt tt c.fresh-v.new.self c.loop-i.s c.select_wires.new.s c.in_err-select_wires.field-0.0 within
-    c.loop-i.invariant.puts (some_first _ write) in
-    refused _ _ _ _ _ c.from_residual.ensures.1 (some_then _ c.fresh-v.ensures.puts (some_then _ first (some_first _ turn)))
+    refused _ _ _ _ _ c.from_residual.ensures.1 (some_then _ c.fresh-v.ensures.puts (some_then _ first
+    (some_first _ (turn_some _ _ c.loop-i.invariant.puts within (some_first _ write)))))
 
 pub returns-in_err-tie-clause-puts : goal.returns-in_err-tie-clause-puts
 unfolding write_reg_of
