@@ -2,8 +2,8 @@
 use Rattle.std.proofs.Common.{◌≡◌, ℕ, ◌+◌, ◌-◌, ◌/◌, ◌%◌, ◌^◌, ◌<◌, ◌==◌, if◌then◌else◌, List, ◌++◌, length, inl, inr, refl, sym, ◌∙◌, ap, subst, arith}
 use Rattle.std.specs.Prelude.{slice_index}
 use Rattle.tv_bits.proofs.BitLaws.{bit_cases}
-use Rattle.tv_bits.proofs.OneHotLaws.{onehot_sound, onehot_complete, onehot_answer, onehot_next}
-use Rattle.tv_bits.proofs.SizeLaws.{onehot_in_field}
+use Rattle.tv_bits.proofs.OneHotLaws.{onehot_sound, onehot_complete, onehot_next}
+use Rattle.tv_bits.proofs.SizeLaws.{onehot_in_field, onehot_sizes}
 use Rattle.tv_bits.proofs.BitNumbers.{HasBits-low, HasBits-high, HasBits-bit_at}
 use Rattle.tv_bits.specs.Bits.{HasBits, part}
 use Rattle.tv_bits.specs.OneHot.{onehot_of, onehot_values, one_at}
@@ -116,7 +116,7 @@ module _ (w : ℕ) (h a : Bits) (next : ℕ) where
 
   pub fields_answer : (fields_of w h a next).answer ≡ fields_wires w h next
   unfolding fields_of pure ◌>>=◌
-  fields_answer = search (arith, onehot_answer, op_end, dest_end, source_end)
+  fields_answer = search (arith, onehot_sizes.answer, op_end, dest_end, source_end)
 
 fields_length : (i : Instr) → length (fields_values i) ≡ 80
 unfolding each_below

@@ -371,18 +371,7 @@ instruction_answer w next =
 
 length-instruction : (w : ℕ) → IsWidth w → (head tail : ℕ) → length (instruction_values w head tail) ≡ 2 * w + 26
 length-instruction w width head tail =
-    let v = head % 2 ^ (w - 5) in
-    let k = field (w - 5) 5 head in
-    let words : List ℕ = bits_values tail w ++ head ∷ tail ∷ [] in
-    omega (
-      arith,
-      length-append (bits_values v (w - 5)) (opcode_values k ++ words),
-      length-append (opcode_values k) words,
-      length-append (bits_values tail w) (head ∷ tail ∷ []),
-      length-bits v (w - 5),
-      length-each_below 29 (one_at (place_of k)),
-      length-bits tail w,
-    )
+    search (arith, length-append, length-bits, length-each_below)
 
 instruction_in_field : (w : ℕ) → IsWidth w → (head tail : ℕ) → head < 2 ^ w → tail < 2 ^ w → InField (instruction_values w head tail)
 instruction_in_field w width head tail hs ts =
@@ -404,15 +393,11 @@ instruction_sizes = record {
 }
 
 -- ---- how many constraints and terms
-instruction_constraints : (w : ℕ) → IsWidth w → (next : ℕ) → length (instruction_of w next).list ≡ 2 * w + 27
-unfolding instruction_of new_bits_of new_bit bit_of times_of turns here fresh put pure ◌>>=◌
-instruction_constraints w width next = for_widths (λ w. length (instruction_of w next).list ≡ 2 * w + 27) refl refl w width
-
-instruction_terms : (w : ℕ) → IsWidth w → (next : ℕ) → terms_in (instruction_of w next).list ≡ 8 * w + 130
-unfolding instruction_of new_bits_of new_bit bit_of times_of turns here fresh put pure ◌>>=◌ weighted
-instruction_terms w width next = for_widths (λ w. terms_in (instruction_of w next).list ≡ 8 * w + 130) refl refl w width
-
 pub instruction_costs : InstructionCosts
-instruction_costs = record { constraints = instruction_constraints; terms = instruction_terms }
+unfolding instruction_of new_bits_of new_bit bit_of times_of turns here fresh put pure ◌>>=◌ weighted
+instruction_costs = record {
+  constraints = λ w width next. for_widths (λ w. length (instruction_of w next).list ≡ 2 * w + 27) refl refl w width;
+  terms = λ w width next. for_widths (λ w. terms_in (instruction_of w next).list ≡ 8 * w + 130) refl refl w width;
+}
 
 pub ruleset instruction_laws = (instruction_sound, instruction_complete, instruction_sizes, instruction_costs)

@@ -1,6 +1,7 @@
 //! The fields of an instruction, from the bits of its two words.
-ghost use Rattle.std.specs.Prelude.{◌≡◌, ◌+◌, ◌≤◌, ◌<◌, false, max, IfOk, OnOk};
-ghost use Rattle.tv_bits.specs.Bits.{AreBitsBelow};
+ghost use Rattle.std.specs.Prelude.{◌≡◌, ◌+◌, ◌^◌, ◌≤◌, ◌<◌, false, max, IfOk, OnOk};
+ghost use Rattle.tv_bits.specs.Bits.{AreBitsBelow, part};
+ghost use Rattle.tv_bits.specs.OneHot.{onehot_of};
 ghost use Rattle.tv_core.specs.Values.{GivesIn};
 ghost use Rattle.tv_core.specs.Sinks.{PutsIn, Grows, Room};
 ghost use Rattle.tv_decode.specs.Fields.{fields_of, fields_values, FieldsAreSound};
@@ -10,7 +11,7 @@ ghost use Rattle.tv_word.specs.Widths.{IsWidth};
 
 use crate::records::Fields;
 use tv_bits::{Bits, fill_onehot, onehot_by};
-use tv_core::{Put, Scratch, Sink, Values};
+use tv_core::{Put, Scratch, Sink, Values, Wire};
 use tv_isa::decode;
 
 /// Returns the fields of the instruction in the bits of two words of `W` bits, as constrained
@@ -30,10 +31,10 @@ pub fn fields<const W: u32, S: Sink>(s: &mut S, h: &Bits, a: &Bits) -> Put<Field
         ≤ S.meaning.wires s.new) }
 {
     let mut scratch = Scratch::new();
-    let op = onehot_by(s, &mut scratch, &h.part(W - 5, 5))?;
-    let dest = onehot_by(s, &mut scratch, &h.part(W - 10, 4))?;
-    let source = onehot_by(s, &mut scratch, &h.part(W - 14, 4))?;
-    let reg = onehot_by(s, &mut scratch, &a.part(0, 4))?;
+    let op = row_of::<W, S>(s, &mut scratch, h, W - 5, 5)?;
+    let dest = row_of::<W, S>(s, &mut scratch, h, W - 10, 4)?;
+    let source = row_of::<W, S>(s, &mut scratch, h, W - 14, 4)?;
+    let reg = row_of::<W, S>(s, &mut scratch, a, 0, 4)?;
     Ok(Fields {
         op,
         imm: h.first.offset(W - 6),
@@ -41,6 +42,25 @@ pub fn fields<const W: u32, S: Sink>(s: &mut S, h: &Bits, a: &Bits) -> Put<Field
         source,
         reg,
     })
+}
+
+// The row of `n` bits of a word, from place `low` on.
+fn row_of<const W: u32, S: Sink>(
+    s: &mut S,
+    scratch: &mut Scratch,
+    word: &Bits,
+    low: u32,
+    n: u32,
+) -> Put<Wire>
+    requires room { Room S.meaning s.old (2 ^ n) (2 ^ n + 1) }
+    requires short { n ≤ 5 }
+    requires enough { low + n ≤ W }
+    requires word { AreBitsBelow (S.meaning.wires s.old) W word.now }
+    ensures puts { PutsIn S.meaning s.old s.new (onehot_of (part word.now low n)) result }
+    ensures grows { IfOk result (λ _. Grows S.meaning s.old s.new (2 ^ n) (2 ^ n + 1)) }
+    ensures below { IfOk result (λ first. first + 2 ^ n ≤ S.meaning.wires s.new) }
+{
+    onehot_by(s, scratch, &word.part(low, n))
 }
 
 /// Assigns the 80 values of the wires that `fields` makes for bits that represent `h` and `a`.

@@ -1,9 +1,9 @@
-use Rattle.std.proofs.Common.{◌∙◌}
+use Rattle.std.proofs.Common.{refl, ◌∙◌}
+use Rattle.tv_bits.proofs.Growing.{fewer, fits, within, both, left}
 use Rattle.tv_core.proofs.Chain.{refused, all_then, all_pure, some_then, some_first}
 use Rattle.tv_decode.proofs.InstructionLaws.{instruction_answer}
 use Rattle.tv_decode.specs.Instructions.{instruction_of}
-use Rattle.tv_decode.proofs.Rooms.{row_made, head_made, through, small, within, low_short, second_short, low_length, one_room, second_rises}
-use Rattle.tv_decode.proofs.Rooms.{head_room, low_rises, row_rises, head_fits, tail_room, tail_rises, tail_fits, instruction_grow}
+use Rattle.tv_decode.proofs.Rooms.{words_room, instruction_grow, row_made, head_made, through, small, low_short, second_short, low_length}
 use Rattle.tv_decode.proofs.instructions.instruction.Goals as goal
 
 pub returns-in_err-low-clause-puts : goal.returns-in_err-low-clause-puts
@@ -56,88 +56,63 @@ returns-clause-places g c = (returns-clause-puts g c).answers ∙ instruction_an
 
 pub one_opcode-requires : goal.one_opcode-requires
 one_opcode-requires g c =
-    let r = c.requires in
-    let low = c.in_ok-low.ensures in
     let row = c.in_ok-row.ensures in
-    let second = c.in_ok-second.ensures in
-    record {
-      room = one_room r.width r.room low.grows row.grows second.grows;
-      op_made = row_made _ row.below row.size (second_rises r.width r.room low.grows row.grows second.grows);
-    }
+    let second = c.in_ok-second.ensures.grows in
+    let bits = both (both c.in_ok-low.ensures.grows row.grows) second in
+    record { room = fewer (words_room c.requires.width bits c.requires.room) refl refl; op_made = within second (row_made _ row.below row.size) }
 
 pub set_number-requires : goal.set_number-requires
 set_number-requires g c =
-    let r = c.requires in
     let low = c.in_ok-low.ensures in
-    let row = c.in_ok-row.ensures in
-    let second = c.in_ok-second.ensures in
-    let g4 = c.in_ok-one_opcode.ensures.grows in
+    let after = both c.in_ok-row.ensures.grows c.in_ok-second.ensures.grows in
+    let bits = both (both low.grows c.in_ok-row.ensures.grows) c.in_ok-second.ensures.grows in
     record {
-      short = low_short r.width low.size;
-      within = small low.below (low_rises r.width r.room low.grows row.grows second.grows g4)
-          (head_fits r.width r.room low.grows row.grows second.grows g4);
+      short = low_short c.requires.width low.size;
+      within = small (within after low.below) (fits (words_room c.requires.width bits c.requires.room));
     }
 
 pub plus_opcodes-requires : goal.plus_opcodes-requires
 plus_opcodes-requires g c =
     let r = c.requires in
-    let low = c.in_ok-low.ensures in
     let row = c.in_ok-row.ensures in
-    let second = c.in_ok-second.ensures in
-    let g4 = c.in_ok-one_opcode.ensures.grows in
-    let made = row_made _ row.below row.size (row_rises r.width r.room low.grows row.grows second.grows g4) in
+    let second = c.in_ok-second.ensures.grows in
+    let bits = both (both c.in_ok-low.ensures.grows row.grows) second in
     record {
       width = r.width;
-      within = within made (head_fits r.width r.room low.grows row.grows second.grows g4);
-      room = low_length r.width c.set_number.ensures.len low.size;
+      within = small (within second (row_made _ row.below row.size)) (fits (words_room r.width bits r.room));
+      room = low_length r.width c.set_number.ensures.len c.in_ok-low.ensures.size;
     }
 
 pub kept_by-requires : goal.kept_by-requires
 kept_by-requires g c =
-    let r = c.requires in
     let low = c.in_ok-low.ensures in
     let row = c.in_ok-row.ensures in
-    let second = c.in_ok-second.ensures in
-    let g4 = c.in_ok-one_opcode.ensures.grows in
+    let one = c.in_ok-one_opcode.ensures.grows in
+    let second = both c.in_ok-second.ensures.grows one in
+    let bits = both (both low.grows row.grows) c.in_ok-second.ensures.grows in
     record {
-      room = head_room r.width r.room low.grows row.grows second.grows g4;
-      x_made = head_made _ c.plus_opcodes.ensures.top c.set_number.ensures.top low.below (low_rises r.width r.room low.grows row.grows second.grows g4)
-          (row_made _ row.below row.size (row_rises r.width r.room low.grows row.grows second.grows g4));
+      room = left one (words_room c.requires.width bits c.requires.room) refl refl;
+      x_made = head_made _ c.plus_opcodes.ensures.top c.set_number.ensures.top (within second (within row.grows low.below))
+          (within second (row_made _ row.below row.size));
     }
 
 pub set_number-requires-2 : goal.set_number-requires-2
 set_number-requires-2 g c =
-    let r = c.requires in
-    let low = c.in_ok-low.ensures in
-    let row = c.in_ok-row.ensures in
     let second = c.in_ok-second.ensures in
-    let g4 = c.in_ok-one_opcode.ensures.grows in
-    let g5 = c.in_ok-head.ensures.grows in
-    record {
-      short = second_short r.width second.size;
-      within = small second.below (tail_rises r.width r.room low.grows row.grows second.grows g4 g5)
-          (tail_fits r.width r.room low.grows row.grows second.grows g4 g5);
-    }
+    let bits = both (both c.in_ok-low.ensures.grows c.in_ok-row.ensures.grows) second.grows in
+    record { short = second_short c.requires.width second.size; within = small second.below (fits (words_room c.requires.width bits c.requires.room)) }
 
 pub kept_by-requires-2 : goal.kept_by-requires-2
 kept_by-requires-2 g c =
-    let r = c.requires in
-    let low = c.in_ok-low.ensures in
-    let row = c.in_ok-row.ensures in
     let second = c.in_ok-second.ensures in
-    let g4 = c.in_ok-one_opcode.ensures.grows in
-    let g5 = c.in_ok-head.ensures.grows in
+    let words = both c.in_ok-one_opcode.ensures.grows c.in_ok-head.ensures.grows in
+    let bits = both (both c.in_ok-low.ensures.grows c.in_ok-row.ensures.grows) second.grows in
     record {
-      room = tail_room r.width r.room low.grows row.grows second.grows g4 g5;
-      x_made = through c.set_number-2.ensures.top second.below (tail_rises r.width r.room low.grows row.grows second.grows g4 g5);
+      room = left words (words_room c.requires.width bits c.requires.room) refl refl;
+      x_made = through c.set_number-2.ensures.top (within words second.below);
     }
 
 pub returns-clause-grows : goal.returns-clause-grows
 returns-clause-grows g c =
-    let r = c.requires in
-    let low = c.in_ok-low.ensures in
-    let row = c.in_ok-row.ensures in
-    let second = c.in_ok-second.ensures in
-    let g4 = c.in_ok-one_opcode.ensures.grows in
-    let g5 = c.in_ok-head.ensures.grows in
-    instruction_grow r.width r.room low.grows row.grows second.grows g4 g5 c.in_ok-tail.ensures.grows
+    let bits = both (both c.in_ok-low.ensures.grows c.in_ok-row.ensures.grows) c.in_ok-second.ensures.grows in
+    instruction_grow c.requires.width bits (both (both c.in_ok-one_opcode.ensures.grows c.in_ok-head.ensures.grows) c.in_ok-tail.ensures.grows)
