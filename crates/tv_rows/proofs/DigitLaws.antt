@@ -16,7 +16,6 @@ use Rattle.tv_core.proofs.FieldLaws.{InField-none}
 use Rattle.tv_core.specs.Circuits.{put, ◌>>=◌}
 use Rattle.tv_core.specs.Constraints.{Combination, value}
 use Rattle.tv_core.specs.Laws.{Meets}
-use Rattle.tv_core.specs.Meanings.{terms_in}
 use Rattle.tv_core.specs.declared.field.TheConstants.{P}
 use Rattle.tv_rows.proofs.DigitNumbers.{number_of, sums, parts, SameDigits, bitwise_from, same_digits, bitwise_row, or_sum}
 use Rattle.tv_rows.specs.Digits.{digits_combination, digit_sum, digits_of, bitwise_of, AreBitwise}
@@ -168,14 +167,11 @@ bitwise_complete = record {
 }
 
 -- ---- sizes and costs
-bitwise_next : (w : ℕ) (gate : Combination) (x y : Bits) (row : DoubleRow) (next : ℕ) → (bitwise_of w gate x y row next).next ≡ next
-unfolding bitwise_of digits_of put ◌>>=◌
-bitwise_next w gate x y row next = refl
-
 pub bitwise_sizes : BitwiseSizes
+unfolding bitwise_of digits_of put ◌>>=◌
 bitwise_sizes = record {
-  end = bitwise_next;
-  fills = λ w gate x y row next. bitwise_next w gate x y row next ∙ sym (add-zero next);
+  end = λ w gate x y row next. refl;
+  fills = λ w gate x y row next. sym (add-zero next);
   in_field = InField-none;
 }
 
@@ -185,17 +181,12 @@ length-digits k first n = length-weighted first n (λ j. k * BASE ^ j % P)
 length-sum : (w n x y row : ℕ) → length (digit_sum w n x y row) ≡ 4 * n
 length-sum w n x y row = search (arith, length-append, length-digits)
 
-bitwise_count : (w : ℕ) (gate : Combination) (x y : Bits) (row : DoubleRow) (next : ℕ) → length (bitwise_of w gate x y row next).list ≡ 2
-unfolding bitwise_of digits_of put ◌>>=◌
-bitwise_count w gate x y row next = refl
-
 halved : (w : ℕ) → IsWidth w → 2 * (w / 2) ≡ w
 halved w width = grind arith
 
-bitwise_terms : (w : ℕ) → IsWidth w → (gate : Combination) (x y : Bits) (row : DoubleRow) (next : ℕ)
-    → terms_in (bitwise_of w gate x y row next).list ≡ 2 * length gate + 4 * w
-unfolding bitwise_of digits_of put ◌>>=◌
-bitwise_terms w width gate x y row next = search (arith, length-sum, halved)
-
 pub bitwise_cost_laws : BitwiseCosts
-bitwise_cost_laws = record { constraints = bitwise_count; terms = bitwise_terms }
+unfolding bitwise_of digits_of put ◌>>=◌
+bitwise_cost_laws = record {
+  constraints = λ w gate x y row next. refl;
+  terms = λ w width gate x y row next. search (arith, length-sum, halved);
+}

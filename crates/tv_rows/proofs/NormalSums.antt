@@ -45,27 +45,11 @@ pub row_difference_normal : (w : ℕ) → IsWidth w → (gate by_sign strict : C
 unfolding row_difference_of times_of gated_of fresh put pure ◌>>=◌
 row_difference_normal w width gate by_sign strict x y row next g signed n below some_x x_y signs y_low rises made =
     let some = negated_some w width in
-    let subtracted : IsNormalFrom (x.word + 1) (scaled (P - 1) (subtrahend w y.word row next)) = (
-      omega arith,
-      omega arith,
-      omega arith,
-      (
-        omega arith,
-        omega arith,
-        omega arith,
-        (omega arith, some, omega arith, (omega arith, some, omega arith, tt)),
-      ),
-    ) in
+    let subtracted : IsNormalFrom (x.word + 1) (scaled (P - 1) (subtrahend w y.word row next)) = search arith in
     let second : IsNormalConstraint (record { a = gate; b = less (minuend w strict x.word) (subtrahend w y.word row next); c = [] }) = record {
       a = g;
       b = normal_append 0 (x.word + 1) (minuend w strict x.word) (scaled (P - 1) (subtrahend w y.word row next))
           (minuend_normal w width strict x.word n below some_x) (top-minuend w strict x.word below) (omega arith) subtracted;
       c = tt;
-    } in (
-      record {
-        a = signed;
-        b = (omega arith, omega arith, omega arith, (omega arith, omega arith, omega arith, tt));
-        c = (omega arith, omega arith, omega arith, tt);
-      },
-      (second, tt),
-    )
+    } in
+    (record { a = signed; b = search arith; c = search arith }, (second, tt))

@@ -1,11 +1,11 @@
 -- The laws of a difference in a row.
-use Rattle.std.proofs.Common.{◌≡◌, ℕ, ◌+◌, ◌-◌, ◌*◌, ◌%◌, ◌^◌, ◌<◌, List, [], ◌∷◌, ◌++◌, length, sym, ◌∙◌, ap, ap₂, arith}
+use Rattle.std.proofs.Common.{◌≡◌, ℕ, ◌+◌, ◌-◌, ◌*◌, ◌%◌, ◌^◌, ◌<◌, List, [], ◌∷◌, ◌++◌, refl, sym, ◌∙◌, ap, ap₂, arith}
 use Rattle.std.specs.Prelude.{slice_index}
 use Rattle.std.specs.Int.{bit_at}
 use Rattle.std.proofs.lemmas.List.{length-append}
 use Rattle.std.proofs.lemmas.Nat.{mul-mod_first}
 use Rattle.tv_bits.proofs.DoubleRowLaws.{value-row_number}
-use Rattle.tv_bits.proofs.GateLaws.{gated_sound, gated_complete, gated_next, gated_constraints, gated_terms, length-scaled, terms-append}
+use Rattle.tv_bits.proofs.GateLaws.{gated_sound, gated_complete, length-scaled, length-less}
 use Rattle.tv_bits.proofs.TimesLaws.{times_sound, times_complete, times_sizes}
 use Rattle.tv_bits.specs.DoubleRow.{whole, row_number}
 use Rattle.tv_bits.specs.Gate.{gated_of}
@@ -17,10 +17,9 @@ use Rattle.tv_core.specs.Circuits.{fresh, put, pure, ◌>>=◌}
 use Rattle.tv_core.specs.Combinations.{wire, scaled}
 use Rattle.tv_core.specs.Constraints.{Combination, value}
 use Rattle.tv_core.specs.Laws.{Assigns, Meets, HasFrom}
-use Rattle.tv_core.specs.Meanings.{terms_in}
 use Rattle.tv_core.specs.declared.field.TheConstants.{P}
 use Rattle.tv_rows.proofs.RowDifferenceNumbers.{difference_sound, difference_met, difference_row, bit_small}
-use Rattle.tv_rows.specs.RowDifference.{comparing, sign_difference, minuend, subtrahend, row_difference_of, row_difference_values, RowDifferenceIsSound}
+use Rattle.tv_rows.specs.RowDifference.{sign_difference, minuend, subtrahend, row_difference_of, row_difference_values, RowDifferenceIsSound}
 use Rattle.tv_rows.specs.RowDifference.{RowDifferenceIsComplete, RowDifferenceSizes, RowDifferenceCosts}
 
 -- ---- the combinations
@@ -106,34 +105,23 @@ row_difference_complete = record {
   );
 }
 
-pub row_difference_next : (w : ℕ) (gate by_sign strict : Combination) (x y : SignedWord) (row : DoubleRow) (next : ℕ)
-    → (row_difference_of w gate (comparing by_sign strict) x y row next).next ≡ next + 1
-unfolding row_difference_of times_of fresh put pure ◌>>=◌
-row_difference_next w gate by_sign strict x y row next = gated_next gate (minuend w strict x.word) (subtrahend w y.word row next) (next + 1)
-
 pub row_difference_sizes : RowDifferenceSizes
+unfolding row_difference_of times_of gated_of fresh put pure ◌>>=◌
 row_difference_sizes = record {
-  end = row_difference_next;
-  fills = λ w gate by_sign strict x y row v a b next. row_difference_next w gate by_sign strict x y row next;
+  end = λ w gate by_sign strict x y row next. refl;
+  fills = λ w gate by_sign strict x y row v a b next. refl;
   in_field = λ w v a b. times_sizes.in_field v ((bit_at a (w - 1) + (P - bit_at b (w - 1))) % P);
 }
 
-row_difference_constraints : (w : ℕ) (gate by_sign strict : Combination) (x y : SignedWord) (row : DoubleRow) (next : ℕ)
-    → length (row_difference_of w gate (comparing by_sign strict) x y row next).list ≡ 2
-unfolding row_difference_of times_of fresh put pure ◌>>=◌
-row_difference_constraints w gate by_sign strict x y row next = search (arith, gated_constraints)
-
-row_difference_terms : (w : ℕ) (gate by_sign strict : Combination) (x y : SignedWord) (row : DoubleRow) (next : ℕ)
-    → terms_in (row_difference_of w gate (comparing by_sign strict) x y row next).list ≡ length gate + length by_sign + length strict + 9
-unfolding row_difference_of times_of fresh put pure ◌>>=◌
-row_difference_terms w gate by_sign strict x y row next =
-    omega (
-      arith,
-      terms-append (times_of by_sign (sign_difference x y) next).list (gated_of gate (minuend w strict x.word) (subtrahend w y.word row next) (next + 1)).list,
-      gated_terms gate (minuend w strict x.word) (subtrahend w y.word row next) (next + 1),
-      length-append (scaled (P - 1) strict) (wire x.word),
-      length-scaled (P - 1) strict,
-    )
-
 pub row_difference_cost_laws : RowDifferenceCosts
-row_difference_cost_laws = record { constraints = row_difference_constraints; terms = row_difference_terms }
+unfolding row_difference_of times_of gated_of fresh put pure ◌>>=◌
+row_difference_cost_laws = record {
+  constraints = λ w gate by_sign strict x y row next. refl;
+  terms = λ w gate by_sign strict x y row next.
+      omega (
+        arith,
+        length-less (minuend w strict x.word) (subtrahend w y.word row next),
+        length-append (scaled (P - 1) strict) (wire x.word),
+        length-scaled (P - 1) strict,
+      );
+}

@@ -1,19 +1,19 @@
 -- The laws of shifts on a row of twice a word's width.
-use Rattle.std.proofs.Common.{◌≡◌, ℕ, ◌+◌, ◌*◌, ◌%◌, ◌^◌, List, [], length, sym, ◌∙◌, ap, ap₂, arith, add-zero}
+use Rattle.std.proofs.Common.{◌≡◌, ℕ, ◌+◌, ◌*◌, ◌%◌, ◌^◌, List, [], refl, sym, ◌∙◌, ap, ap₂, arith, add-zero}
 use Rattle.std.specs.Prelude.{slice_index}
 use Rattle.std.proofs.lemmas.Nat.{mul-mod_first}
 use Rattle.tv_bits.proofs.DoubleRowLaws.{value-row_number}
-use Rattle.tv_bits.proofs.GateLaws.{gated_sound, gated_complete, gated_next, gated_constraints, gated_terms, terms-append}
+use Rattle.tv_bits.proofs.GateLaws.{gated_sound, gated_complete}
 use Rattle.tv_bits.proofs.TimesLaws.{times_sound, times_complete, times_sizes}
 use Rattle.tv_bits.specs.DoubleRow.{whole, row_number}
+use Rattle.tv_bits.specs.Gate.{gated_of}
 use Rattle.tv_bits.specs.Times.{times_of}
 use Rattle.tv_bits.specs.declared.double_rows.DoubleRow.{DoubleRow}
 use Rattle.tv_core.proofs.CombinationLaws.{value-wire, value-cons, value-empty}
 use Rattle.tv_core.specs.Circuits.{fresh, put, pure, ◌>>=◌}
 use Rattle.tv_core.specs.Combinations.{wire}
-use Rattle.tv_core.specs.Constraints.{Combination, value}
+use Rattle.tv_core.specs.Constraints.{value}
 use Rattle.tv_core.specs.Laws.{Assigns, Meets, HasFrom}
-use Rattle.tv_core.specs.Meanings.{terms_in}
 use Rattle.tv_core.specs.declared.field.TheConstants.{P}
 use Rattle.tv_rows.proofs.RowShiftNumbers.{right_row, right_times, right_number, right_low_is, right_high_is}
 use Rattle.tv_rows.specs.RowShift.{raised, right_shift_of, right_shift_values}
@@ -67,25 +67,14 @@ right_shift_complete = record {
       ((right_met w z next power row assigns has).0, gated_complete.off z (next + 1) gate (raised w v) (wire next) none);
 }
 
-right_shift_next : (w : ℕ) (gate : Combination) (v power : ℕ) (row : DoubleRow) (next : ℕ) → (right_shift_of w gate v power row next).next ≡ next + 1
-unfolding right_shift_of times_of fresh put pure ◌>>=◌
-right_shift_next w gate v power row next = gated_next gate (raised w v) (wire next) (next + 1)
-
 pub right_shift_sizes : RightShiftSizes
+unfolding right_shift_of times_of gated_of fresh put pure ◌>>=◌
 right_shift_sizes = record {
-  end = right_shift_next;
-  fills = λ w gate v power row low high k next. right_shift_next w gate v power row next;
+  end = λ w gate v power row next. refl;
+  fills = λ w gate v power row low high k next. refl;
   in_field = λ w low high k. times_sizes.in_field (whole w low high) k;
 }
 
-right_shift_count : (w : ℕ) (gate : Combination) (v power : ℕ) (row : DoubleRow) (next : ℕ) → length (right_shift_of w gate v power row next).list ≡ 2
-unfolding right_shift_of times_of fresh put pure ◌>>=◌
-right_shift_count w gate v power row next = omega (arith, gated_constraints gate (raised w v) (wire next) (next + 1))
-
-right_shift_terms : (w : ℕ) (gate : Combination) (v power : ℕ) (row : DoubleRow) (next : ℕ)
-    → terms_in (right_shift_of w gate v power row next).list ≡ length gate + 6
-unfolding right_shift_of times_of fresh put pure ◌>>=◌
-right_shift_terms w gate v power row next = search (arith, terms-append, gated_terms)
-
 pub right_shift_cost_laws : RightShiftCosts
-right_shift_cost_laws = record { constraints = right_shift_count; terms = right_shift_terms }
+unfolding right_shift_of times_of gated_of fresh put pure ◌>>=◌
+right_shift_cost_laws = record { constraints = λ w gate v power row next. refl; terms = λ w gate v power row next. omega arith }

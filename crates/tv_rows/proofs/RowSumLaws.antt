@@ -3,7 +3,7 @@ use Rattle.std.proofs.Common.{◌≡◌, ℕ, ◌+◌, ◌*◌, ◌%◌, ◌^◌
 use Rattle.std.specs.Prelude.{slice_index}
 use Rattle.std.proofs.lemmas.Bool.Decides.{nat_tests}
 use Rattle.tv_bits.proofs.DoubleRowLaws.{value-row_number}
-use Rattle.tv_bits.proofs.GateLaws.{gated_sound, gated_complete, gated_sizes, gated_constraints, gated_terms}
+use Rattle.tv_bits.proofs.GateLaws.{gated_sound, gated_complete, gated_sizes, gated_cost_laws}
 use Rattle.tv_bits.proofs.RowNumbers.{row_below, row_is, row_low}
 use Rattle.tv_bits.specs.DoubleRow.{IsRow, whole, row_number}
 use Rattle.tv_bits.specs.declared.double_rows.DoubleRow.{DoubleRow}
@@ -68,8 +68,8 @@ row_sum_sizes = record {
 pub row_sum_cost_laws : RowSumCosts
 unfolding row_sum_of
 row_sum_cost_laws = record {
-  constraints = λ w gate x y row next. gated_constraints gate (wire x ++ wire y) (row_number w row) next;
-  terms = λ w gate x y row next. gated_terms gate (wire x ++ wire y) (row_number w row) next ∙ omega arith;
+  constraints = λ w gate x y row next. gated_cost_laws.constraints gate (wire x ++ wire y) (row_number w row) next;
+  terms = λ w gate x y row next. gated_cost_laws.terms gate (wire x ++ wire y) (row_number w row) next ∙ omega arith;
 }
 
 pub ruleset row_sum_laws = (row_sum_sound, row_sum_complete, row_sum_sizes, row_sum_cost_laws)
