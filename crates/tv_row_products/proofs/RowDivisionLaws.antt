@@ -1,5 +1,5 @@
 -- The laws of a division in a row.
-use Rattle.std.proofs.Common.{◌≡◌, ℕ, ◌+◌, ◌-◌, ◌*◌, ◌%◌, ◌^◌, ◌<◌, List, [], ◌∷◌, ◌++◌, length, refl, sym, ◌∙◌, ap, ap₂, arith, zero-mul, one-mul}
+use Rattle.std.proofs.Common.{◌≡◌, ℕ, ◌+◌, ◌-◌, ◌*◌, ◌%◌, ◌^◌, ◌<◌, List, [], ◌∷◌, ◌++◌, refl, sym, ◌∙◌, ap, ap₂, arith, zero-mul, one-mul}
 use Rattle.std.proofs.Common.{mod-eq_of_lt}
 use Rattle.std.specs.Prelude.{slice_index}
 use Rattle.tv_bits.proofs.GateLaws.{gated_sound, gated_complete}
@@ -21,7 +21,6 @@ use Rattle.tv_core.specs.Circuits.{fresh, put, pure, ◌>>=◌}
 use Rattle.tv_core.specs.Combinations.{wire}
 use Rattle.tv_core.specs.Constraints.{Combination, value}
 use Rattle.tv_core.specs.Laws.{Assigns, Meets, HasFrom}
-use Rattle.tv_core.specs.Meanings.{terms_in}
 use Rattle.tv_core.specs.declared.field.TheConstants.{P}
 use Rattle.tv_row_products.proofs.RowDivisionNumbers.{Divides, Divides-sound, division_row, below_word, division_met}
 use Rattle.tv_row_products.specs.RowDivision.{dividing, IsRowDivision, below_divisor, room_below, bits_less, row_division_of, row_division_values, RowDivisionIsSound}
@@ -187,16 +186,6 @@ module _ (w : ℕ) (width : IsWidth w) (z : List ℕ) (next : ℕ) (gate : Combi
       (ap (λ n. n * value (room_below w x y by_zero row) z % P) none ∙ ap (λ n. n % P) (zero-mul (value (room_below w x y by_zero row) z))
       ∙ tie_same (slice_index z x) (slice_index z x) refl ∙ sym (value-bits_less z assigns w width x bits (slice_index z x) s))
 
-pub row_division_answer : (w : ℕ) (gate : Combination) (x y by_zero : ℕ) (bits : Bits) (row : DoubleRow) (next : ℕ)
-    → (row_division_of w gate (dividing x y by_zero) bits row next).answer ≡ next
-unfolding row_division_of times_of gated_of fresh put pure ◌>>=◌
-row_division_answer w gate x y flag bits row next = refl
-
-pub row_division_next : (w : ℕ) (gate : Combination) (x y by_zero : ℕ) (bits : Bits) (row : DoubleRow) (next : ℕ)
-    → (row_division_of w gate (dividing x y by_zero) bits row next).next ≡ next + 2
-unfolding row_division_of times_of gated_of fresh put pure ◌>>=◌
-row_division_next w gate x y flag bits row next = omega arith
-
 kept_times : (w : ℕ) (z : List ℕ) (next : ℕ) (gate : Combination) (x y by_zero : ℕ) (bits : Bits) (row : DoubleRow) → Assigns z
     → Meets z (row_division_of w gate (dividing x y by_zero) bits row next).list
     → slice_index z (row_division_of w gate (dividing x y by_zero) bits row next).answer ≡ slice_index z by_zero * slice_index z x % P
@@ -211,25 +200,20 @@ pub row_division_complete : RowDivisionIsComplete
 row_division_complete = search (arith, division_row, below_word, on_met, off_met)
 
 pub row_division_sizes : RowDivisionSizes
+unfolding row_division_of times_of gated_of fresh put pure ◌>>=◌
 row_division_sizes = record {
-  answer = row_division_answer;
-  end = row_division_next;
-  fills = λ w gate x y by_zero bits row f a q b next. row_division_next w gate x y by_zero bits row next;
+  answer = λ w gate x y by_zero bits row next. refl;
+  end = λ w gate x y by_zero bits row next. omega arith;
+  fills = λ w gate x y by_zero bits row f a q b next. omega arith;
   in_field = λ f a q b. InField-cons (f * a % P) (q * ((b + f) % P) % P ∷ []) (residue_below (f * a))
       (InField-cons (q * ((b + f) % P) % P) [] (residue_below (q * ((b + f) % P))) InField-none);
 }
 
-row_division_constraints : (w : ℕ) (gate : Combination) (x y by_zero : ℕ) (bits : Bits) (row : DoubleRow) (next : ℕ)
-    → length (row_division_of w gate (dividing x y by_zero) bits row next).list ≡ 4
-unfolding row_division_of times_of gated_of fresh put pure ◌>>=◌
-row_division_constraints w gate x y flag bits row next = refl
-
-row_division_terms : (w : ℕ) (gate : Combination) (x y by_zero : ℕ) (bits : Bits) (row : DoubleRow) (next : ℕ)
-    → terms_in (row_division_of w gate (dividing x y by_zero) bits row next).list ≡ 2 * length gate + w + 17
-unfolding row_division_of times_of gated_of fresh put pure ◌>>=◌
-row_division_terms w gate x y flag bits row next = omega (arith, length-weighted bits.first w (λ i. 2 ^ i % P))
-
 pub row_division_cost_laws : RowDivisionCosts
-row_division_cost_laws = record { constraints = row_division_constraints; terms = row_division_terms }
+unfolding row_division_of times_of gated_of fresh put pure ◌>>=◌
+row_division_cost_laws = record {
+  constraints = λ w gate x y by_zero bits row next. refl;
+  terms = λ w gate x y by_zero bits row next. omega (arith, length-weighted bits.first w (λ i. 2 ^ i % P));
+}
 
 pub ruleset row_division_laws = (row_division_sound, row_division_complete, row_division_sizes, row_division_cost_laws)

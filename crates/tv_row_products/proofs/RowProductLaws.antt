@@ -1,21 +1,21 @@
 -- The laws of a product in a row.
-use Rattle.std.proofs.Common.{◌≡◌, ℕ, ◌+◌, ◌-◌, ◌*◌, ◌%◌, ◌^◌, ◌<◌, ◌≤◌, List, length, arith}
+use Rattle.std.proofs.Common.{◌≡◌, ℕ, ◌+◌, ◌-◌, ◌*◌, ◌%◌, ◌^◌, ◌<◌, ◌≤◌, List, refl, arith}
 use Rattle.std.specs.Prelude.{slice_index}
 use Rattle.std.proofs.lemmas.Nat.{mul-le}
 use Rattle.tv_bits.proofs.DoubleRowLaws.{value-row_number}
-use Rattle.tv_bits.proofs.GateLaws.{gated_sound, gated_complete, gated_next, gated_constraints, gated_terms, terms-append}
+use Rattle.tv_bits.proofs.GateLaws.{gated_sound, gated_complete}
 use Rattle.tv_bits.proofs.RowNumbers.{row_below, row_is, row_low, row_high, row_of, row_whole}
 use Rattle.tv_bits.proofs.TimesLaws.{times_sizes}
 use Rattle.tv_bits.proofs.WireProducts.{wires_sound, wires_complete}
 use Rattle.tv_bits.specs.DoubleRow.{row_number}
+use Rattle.tv_bits.specs.Gate.{gated_of}
 use Rattle.tv_bits.specs.Times.{times_of}
 use Rattle.tv_bits.specs.declared.double_rows.DoubleRow.{DoubleRow}
 use Rattle.tv_core.proofs.CombinationLaws.{value-wire}
 use Rattle.tv_core.specs.Circuits.{fresh, put, pure, ◌>>=◌}
 use Rattle.tv_core.specs.Combinations.{wire}
-use Rattle.tv_core.specs.Constraints.{Combination, value}
+use Rattle.tv_core.specs.Constraints.{value}
 use Rattle.tv_core.specs.Laws.{Assigns}
-use Rattle.tv_core.specs.Meanings.{terms_in}
 use Rattle.tv_core.specs.declared.field.TheConstants.{P}
 use Rattle.tv_row_products.specs.RowProduct.{IsRowProduct, row_product_of, RowProductIsSound, RowProductIsComplete, RowProductSizes}
 use Rattle.tv_row_products.specs.RowProduct.{RowProductCosts}
@@ -50,26 +50,16 @@ row_product_complete = record {
       ((wires_complete z next x y assigns has.0).0, gated_complete.off z (next + 1) gate (row_number w row) (wire next) none);
 }
 
-pub row_product_next : (w : ℕ) (gate : Combination) (x y : ℕ) (row : DoubleRow) (next : ℕ) → (row_product_of w gate x y row next).next ≡ next + 1
-unfolding row_product_of times_of fresh put pure ◌>>=◌
-row_product_next w gate x y row next = gated_next gate (row_number w row) (wire next) (next + 1)
-
 pub row_product_sizes : RowProductSizes
+unfolding row_product_of times_of gated_of fresh put pure ◌>>=◌
 row_product_sizes = record {
-  end = row_product_next;
-  fills = λ w gate x y row a b next. row_product_next w gate x y row next;
+  end = λ w gate x y row next. refl;
+  fills = λ w gate x y row a b next. refl;
   in_field = times_sizes.in_field;
 }
 
-row_product_constraints : (w : ℕ) (gate : Combination) (x y : ℕ) (row : DoubleRow) (next : ℕ) → length (row_product_of w gate x y row next).list ≡ 2
-unfolding row_product_of times_of fresh put pure ◌>>=◌
-row_product_constraints w gate x y row next = omega (arith, gated_constraints gate (row_number w row) (wire next) (next + 1))
-
-row_product_terms : (w : ℕ) (gate : Combination) (x y : ℕ) (row : DoubleRow) (next : ℕ) → terms_in (row_product_of w gate x y row next).list ≡ length gate + 6
-unfolding row_product_of times_of fresh put pure ◌>>=◌
-row_product_terms w gate x y row next = search (arith, terms-append, gated_terms)
-
 pub row_product_cost_laws : RowProductCosts
-row_product_cost_laws = record { constraints = row_product_constraints; terms = row_product_terms }
+unfolding row_product_of times_of gated_of fresh put pure ◌>>=◌
+row_product_cost_laws = record { constraints = λ w gate x y row next. refl; terms = λ w gate x y row next. omega arith }
 
 pub ruleset row_product_laws = (row_product_sound, row_product_complete, row_product_sizes, row_product_cost_laws)

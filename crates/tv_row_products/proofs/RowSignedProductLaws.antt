@@ -1,13 +1,14 @@
 -- The laws of a signed product in a row.
-use Rattle.std.proofs.Common.{◌≡◌, ℕ, ◌+◌, ◌-◌, ◌*◌, ◌/◌, ◌%◌, ◌^◌, ◌<◌, List, [], ◌∷◌, length, refl, sym, ◌∙◌, ap, ap₂, arith}
+use Rattle.std.proofs.Common.{◌≡◌, ℕ, ◌+◌, ◌-◌, ◌*◌, ◌/◌, ◌%◌, ◌^◌, ◌<◌, List, [], ◌∷◌, refl, sym, ◌∙◌, ap, ap₂, arith}
 use Rattle.std.specs.Prelude.{slice_index}
 use Rattle.std.specs.Int.{bit_at}
 use Rattle.tv_bits.proofs.DoubleRowLaws.{value-row_number}
-use Rattle.tv_bits.proofs.GateLaws.{gated_sound, gated_complete, gated_next, gated_constraints, gated_terms, terms-append}
+use Rattle.tv_bits.proofs.GateLaws.{gated_sound, gated_complete}
 use Rattle.tv_bits.proofs.RowNumbers.{row_low, row_high, row_whole}
 use Rattle.tv_bits.proofs.BitNumbers.{HasBits-below, HasBits-bit_at}
 use Rattle.tv_bits.proofs.TimesLaws.{times_sound, times_complete, times_sizes}
 use Rattle.tv_bits.specs.DoubleRow.{HasRowBits, whole, row_number}
+use Rattle.tv_bits.specs.Gate.{gated_of}
 use Rattle.tv_bits.specs.Nonzero.{nonzero_flag}
 use Rattle.tv_bits.specs.SignedWords.{HoldsSigned}
 use Rattle.tv_bits.specs.Times.{times_of}
@@ -16,9 +17,8 @@ use Rattle.tv_bits.specs.declared.signed_words.SignedWord.{SignedWord}
 use Rattle.tv_core.proofs.CombinationLaws.{value-cons, value-wire, value-empty}
 use Rattle.tv_core.specs.Circuits.{fresh, put, pure, ◌>>=◌}
 use Rattle.tv_core.specs.Combinations.{wire}
-use Rattle.tv_core.specs.Constraints.{Combination, value}
+use Rattle.tv_core.specs.Constraints.{value}
 use Rattle.tv_core.specs.Laws.{Assigns, Meets, HasFrom}
-use Rattle.tv_core.specs.Meanings.{terms_in}
 use Rattle.tv_core.specs.declared.field.TheConstants.{P}
 use Rattle.tv_row_products.proofs.SignedNumbers.{Stands, Stands-product, Stands-signed, Stands-exact, Stands-meets, signed_value, most_product, twos-below, over_flag}
 use Rattle.tv_row_products.specs.RowSignedProduct.{IsRowSignedProduct, sign_weight, signed_word, signed_in, signed_row, row_signed_product_of}
@@ -143,27 +143,14 @@ row_signed_product_complete = record {
       ((product_met w z next x y assigns has).0, gated_complete.off z (next + 1) gate (signed_row w row) (wire next) none);
 }
 
-pub row_signed_product_next : (w : ℕ) (gate : Combination) (x y : SignedWord) (row : DoubleRow) (next : ℕ)
-    → (row_signed_product_of w gate x y row next).next ≡ next + 1
-unfolding row_signed_product_of times_of fresh put pure ◌>>=◌
-row_signed_product_next w gate x y row next = gated_next gate (signed_row w row) (wire next) (next + 1)
-
 pub row_signed_product_sizes : RowSignedProductSizes
+unfolding row_signed_product_of times_of gated_of fresh put pure ◌>>=◌
 row_signed_product_sizes = record {
-  end = row_signed_product_next;
-  fills = λ w gate x y row a s b t next. row_signed_product_next w gate x y row next;
+  end = λ w gate x y row next. refl;
+  fills = λ w gate x y row a s b t next. refl;
   in_field = λ w a s b t. times_sizes.in_field (signed_in w a s) (signed_in w b t);
 }
 
-row_signed_product_constraints : (w : ℕ) (gate : Combination) (x y : SignedWord) (row : DoubleRow) (next : ℕ)
-    → length (row_signed_product_of w gate x y row next).list ≡ 2
-unfolding row_signed_product_of times_of fresh put pure ◌>>=◌
-row_signed_product_constraints w gate x y row next = omega (arith, gated_constraints gate (signed_row w row) (wire next) (next + 1))
-
-row_signed_product_terms : (w : ℕ) (gate : Combination) (x y : SignedWord) (row : DoubleRow) (next : ℕ)
-    → terms_in (row_signed_product_of w gate x y row next).list ≡ length gate + 9
-unfolding row_signed_product_of times_of fresh put pure ◌>>=◌
-row_signed_product_terms w gate x y row next = search (arith, terms-append, gated_terms)
-
 pub row_signed_product_cost_laws : RowSignedProductCosts
-row_signed_product_cost_laws = record { constraints = row_signed_product_constraints; terms = row_signed_product_terms }
+unfolding row_signed_product_of times_of gated_of fresh put pure ◌>>=◌
+row_signed_product_cost_laws = record { constraints = λ w gate x y row next. refl; terms = λ w gate x y row next. omega arith }
