@@ -21,7 +21,7 @@ use Rattle.tv_bits.specs.Bit.{IsBit}
 use Rattle.tv_bits.specs.Bits.{HasBits, binary_value, bits_combination, new_bits_of}
 use Rattle.tv_bits.specs.declared.bit_wires.Bits.{Bits}
 use Rattle.tv_muldiv.proofs.HalvesLaws.{length-halves, halves_are, halves_in_field}
-use Rattle.tv_bits.proofs.NonzeroLaws.{nonzero_answer, nonzero_sound, nonzero_complete, nonzero_sizes}
+use Rattle.tv_bits.proofs.NonzeroLaws.{nonzero_sound, nonzero_complete, nonzero_sizes}
 use Rattle.tv_word.proofs.WidthLaws.{width_short}
 use Rattle.tv_word.specs.Widths.{IsWidth}
 use Rattle.tv_bits.specs.Nonzero.{nonzero_of, nonzero_flag, nonzero_values}
@@ -139,7 +139,7 @@ product_sound w width z next x y a b assigns p q meets =
     rw (product_answer w width x y next) (record {
       low = HasBits-low z next w w (a * b) two;
       high = high;
-      over = rw nonzero_answer at (nonzero_sound z (next + 2 * w) (bits_combination (next + w) w) assigns both.1)
+      over = rw nonzero_sizes.answer at (nonzero_sound z (next + 2 * w) (bits_combination (next + w) w) assigns both.1)
           ∙ ap nonzero_flag (value-bits_below high (omega arith));
     })
 

@@ -230,9 +230,6 @@ quotient_complete w width z next x y a b assigns p q has =
     quotient_whole w z x y next wires division below
 
 -- ---- how many values there are, and that they are numbers of the field
-length-above : (w a b : ℕ) → length (above_values w a b) ≡ w / 4 + 2
-length-above w a b = simp (length-append, length-each_below, length-products) (omega arith)
-
 length-quotient_values : (w a b : ℕ) → length (quotient_values w a b) ≡ 2 * w + w / 4 + 4
 length-quotient_values w a b = simp (length-append, length-each_below, length-products) (omega arith)
 

@@ -1,7 +1,7 @@
 -- Division by numbers modulo P.
-use Rattle.std.proofs.Common.{◌≡◌, ◌≢◌, ℕ, ◌+◌, ◌-◌, ◌*◌, ◌/◌, ◌%◌, ◌^◌, ◌<◌, ◌≤◌, inl, inr, refl, sym, ◌∙◌, ap, ap₂, arith, mod-lt, mul_comm, mul-zero}
+use Rattle.std.proofs.Common.{◌≡◌, ◌≢◌, ℕ, ◌+◌, ◌-◌, ◌*◌, ◌/◌, ◌%◌, ◌^◌, ◌<◌, ◌≤◌, inl, inr, sym, ◌∙◌, ap, arith, mod-lt, mul-zero}
 use Rattle.std.proofs.Common.{one-mul, zero-mul}
-use Rattle.std.proofs.Math.Nat.{div-add-mod, div-le_self}
+use Rattle.std.proofs.Math.Nat.{div-le_self}
 use Rattle.std.proofs.lemmas.Bool.{cases_eq}
 use Rattle.std.proofs.lemmas.Bool.Decides.{nat_tests}
 use Rattle.std.proofs.lemmas.Nat.{mul-le, div-mul-add, mod-mul-add}
@@ -26,13 +26,7 @@ pub record Divides (w a b q r by_zero gate above : ℕ) : Type 0 where
   pub whole : q * b % P ≡ ((a + (P - r)) % P + (P - gate)) % P
   pub below : IsPrefixDifference (w / 4) 4 b r (((above + 1) % P + (P - by_zero)) % P)
 
--- ---- the two cases of the definitions
-gate-zero : (a b : ℕ) → b ≡ 0 → gate_in a b ≡ a
-gate-zero a b none = rw none refl
-
-gate-other : (a b : ℕ) → b ≢ 0 → gate_in a b ≡ 0
-gate-other a b some = grind (arith, nat_tests)
-
+-- ---- the words are small
 pub quotient-small : (a b most : ℕ) → a < most → udiv_result a b < most
 quotient-small a b most h = let less = div-le_self a b in grind (arith, nat_tests)
 
@@ -122,9 +116,6 @@ module _ (w : ℕ) (width : IsWidth w) (a b : ℕ) (h : a < 2 ^ w) (k : b < 2 ^ 
 
   gated : zero_flag b * ((a + udiv_result a b) % P) % P ≡ gate_in a b
   gated = grind (arith, nat_tests)
-
-  whole_some : b ≢ 0 → udiv_result a b * b + umod_result a b ≡ a
-  whole_some some = ap₂ (λ m n. m * b + n) (quotient-other a b some) (remainder-other a b some) ∙ ap (λ n. n + a % b) (mul_comm (a / b) b) ∙ div-add-mod a b
 
   whole : udiv_result a b * b % P ≡ ((a + (P - umod_result a b)) % P + (P - gate_in a b)) % P
   whole = search (arith, cases_eq, mul-zero)

@@ -14,7 +14,7 @@ use Rattle.tv_bits.proofs.BitsLaws.{new_bits_answer, new_bits_next}
 use Rattle.tv_bits.specs.Bits.{HasBits, binary_value, bits_combination, new_bits_of}
 use Rattle.tv_bits.specs.declared.bit_wires.Bits.{Bits}
 use Rattle.tv_muldiv.proofs.HalvesLaws.{length-halves, halves_are, halves_in_field}
-use Rattle.tv_bits.proofs.NonzeroLaws.{nonzero_answer, nonzero_sound, nonzero_complete, nonzero_sizes}
+use Rattle.tv_bits.proofs.NonzeroLaws.{nonzero_sound, nonzero_complete, nonzero_sizes}
 use Rattle.tv_row_products.proofs.SignedNumbers.{signed_value, most_product, Stands, Stands-product, Stands-signed, Stands-exact, Stands-meets, twos-below, over_flag}
 use Rattle.tv_bits.specs.Nonzero.{nonzero_of, nonzero_flag, nonzero_values}
 use Rattle.tv_row_products.specs.RowSignedProduct.{excess_in}
@@ -123,7 +123,7 @@ signed_high_sound w width z next x y a b assigns p q meets =
     let flag = over_flag w width product (product_twos w a b) (signed_product w a b) (product_stands z w width x y a b p q) refl in
     rw signed_high_answer (record {
       high = HasBits-high z next w w (product_twos w a b) two;
-      over = rw nonzero_answer at (nonzero_sound z (next + 2 * w) (excess next w) assigns both.1)
+      over = rw nonzero_sizes.answer at (nonzero_sound z (next + 2 * w) (excess next w) assigns both.1)
           ∙ ap nonzero_flag (value-excess z w width next (product_twos w a b) s) ∙ flag;
     })
 
