@@ -1,10 +1,10 @@
 -- Where a shift ends and what it answers; its values are as many as its wires, and in the field.
-use Rattle.std.proofs.Common.{◌≡◌, ℕ, zero, suc, ◌+◌, ◌-◌, ◌*◌, ◌/◌, ◌%◌, ◌^◌, ◌<◌, [], ◌∷◌, ◌++◌, length, length-append, inl, inr, ◌∙◌, ap, arith, mod-lt}
+use Rattle.std.proofs.Common.{◌≡◌, ℕ, zero, suc, ◌+◌, ◌-◌, ◌*◌, ◌/◌, ◌%◌, ◌^◌, ◌<◌, [], ◌∷◌, ◌++◌, length, length-append, ◌∙◌, ap, arith, mod-lt}
 use Rattle.std.proofs.Math.Nat.{div-le_self}
 use Rattle.std.proofs.lemmas.Nat.{pow_pos}
 use Rattle.std.proofs.lemmas.Nat.Bits.{bit_at-lt}
 use Rattle.std.specs.Int.{bit_at}
-use Rattle.tv_bits.proofs.BitLaws.{bit_cases}
+use Rattle.tv_bits.proofs.BitLaws.{product_bit}
 use Rattle.tv_bits.proofs.SelectLaws.{select_next}
 use Rattle.tv_bits.proofs.SizeLaws.{bits_in_field, zero_in_field}
 use Rattle.tv_bits.proofs.ZeroLaws.{zero_next}
@@ -20,7 +20,7 @@ use Rattle.tv_core.proofs.FieldLaws.{InField-none, InField-cons, InField-append,
 use Rattle.tv_shift.proofs.HalfLaws.{halves_next}
 use Rattle.tv_shift.proofs.LevelValues.{values-none, values-more, length-values}
 use Rattle.tv_shift.proofs.MaskLaws.{masked_next}
-use Rattle.tv_bits.proofs.TimesLaws.{times_next, ratio_next, times_answer}
+use Rattle.tv_bits.proofs.TimesLaws.{times_next, ratio_sizes, times_answer}
 use Rattle.tv_shift.proofs.ShiftNumbers.{products_half, half_left-below, half_right-below}
 use Rattle.tv_shift.proofs.ThermometerLaws.{below-bit, thermometer_next}
 use Rattle.tv_shift.specs.Masks.{masked_value, half_log, mask_value}
@@ -48,7 +48,7 @@ half_next w b x next = select_next b _ _ _ ∙ ap (λ k. k + 1) (select_next b _
 
 pub rest_next : (w : ℕ) (parts : Parts) (half : Shift) (next : ℕ) → (by_rest_of w parts half next).next ≡ next + 1 + 1
 unfolding by_rest_of pure ◌>>=◌
-rest_next w parts half next = ratio_next _ _ _ ∙ ap (λ n. n + 1) (times_next _ _ next)
+rest_next w parts half next = ratio_sizes.end _ _ _ ∙ ap (λ n. n + 1) (times_next _ _ next)
 
 ends_next : (in_range : ℕ) (near : Shift) (next : ℕ) → (ends_of in_range near next).next ≡ next + 1 + 1
 unfolding ends_of pure ◌>>=◌
@@ -87,9 +87,6 @@ shift_fills : (w : ℕ) → IsWidth w → (x y : Bits) (v d : ℕ) → Fills (sh
 shift_fills w width x y v d next = search (arith, shift_next, length-append, length-parts)
 
 -- ---- the values are below the prime
-bit_in_field : (a b : ℕ) → IsBit a → IsBit b → a * b < P
-bit_in_field a b h k = elim (bit_cases a h) [ inl none ↦ rw none (omega arith) | inr one ↦ rw one (omega (arith, k)) ]
-
 mask-bit : (w s : ℕ) (part : Part) (i : ℕ) → IsBit (mask_value w s part i)
 mask-bit w s Low i = below-bit i s
 mask-bit w s High i = below-bit (w / 2 - 1 - i) s
@@ -102,18 +99,16 @@ masked-below w width part s u i =
     small : (m n : ℕ) → IsBit m → IsBit n → m + 2 ^ (w / 4) * n < P
     small m n h k = grind arith
 
-    product : (a b : ℕ) → IsBit a → IsBit b → IsBit (a * b)
-    product a b h k = elim (bit_cases a h) [ inl none ↦ rw none (omega arith) | inr one ↦ rw one (omega (arith, k)) ]
-
     pair : (a b c e : ℕ) → IsBit a → IsBit b → IsBit c → IsBit e → a * b + 2 ^ (w / 4) * (c * e) < P
-    pair a b c e p q r t = small (a * b) (c * e) (product a b p q) (product c e r t)
+    pair a b c e p q r t = small (a * b) (c * e) (product_bit a b p q) (product_bit c e r t)
 
 levels-below : (k y : ℕ) → InField (thermometer_values k y)
 levels-below zero y = rw values-none InField-none
 levels-below (suc k) y =
     rw values-more
     (InField-append (thermometer_values k y) (level_values y k) (levels-below k y)
-    (InField-each_below (level_value y k) (λ j. bit_in_field (bit_at y k) (below j (y % 2 ^ k)) (bit_at-lt y k) (below-bit j (y % 2 ^ k))) (2 ^ k - 1)))
+    (InField-each_below (level_value y k) (λ j.
+    let bit = product_bit (bit_at y k) (below j (y % 2 ^ k)) (bit_at-lt y k) (below-bit j (y % 2 ^ k)) in omega arith) (2 ^ k - 1)))
 
 parts-below : (w : ℕ) → IsWidth w → (v d : ℕ) → InField (parts_values w v d)
 parts-below w width v d = search (arith, InField-append, bits_in_field, levels-below, InField-each_below, masked-below)

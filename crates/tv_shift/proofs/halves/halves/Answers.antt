@@ -1,8 +1,8 @@
 use Rattle.std.proofs.lemmas.Grind.{common_steps}
-use Rattle.std.proofs.Common.{◌≡◌, ℕ, arith}
-use Rattle.tv_core.proofs.Chain.{puts_no_turn, puts_turn, turn_refused, refused, all_then, all_pure, some_then, some_first}
+use Rattle.std.proofs.Common.{◌≡◌, arith}
+use Rattle.tv_bits.proofs.Growing.{both, one_turn, turn_some}
+use Rattle.tv_core.proofs.Chain.{puts_no_turn, refused, all_then, all_pure, some_then, some_first}
 use Rattle.tv_core.proofs.LoopLaws.{puts_here_as}
-use Rattle.tv_core.specs.Circuits.{Circuit}
 use Rattle.tv_shift.specs.Halves.{half_bit_of, halves_of}
 use Rattle.tv_shift.proofs.halves.halves.Goals as goal
 
@@ -12,24 +12,18 @@ loop-i-init g c = grind (arith, common_steps, puts_no_turn)
 pub loop-i-preserved : goal.loop-i-preserved
 unfolding half_bit_of
 loop-i-preserved g c =
-    let piece : ℕ → Unit {0} → Circuit (Unit {0}) = λ i _. half_bit_of c.args.n c.args.b c.args.word i in
-    let grown = c.in_ok-select_wires.ensures.grows in
     let one = rw (c.offset.ensures, c.offset-in-loop-i.ensures) at c.in_ok-select_wires.ensures.puts in
     record {
-      puts = puts_turn g.S.Sink.meaning _ piece tt _ _ _ _ _ c.loop-i.invariant.puts (all_then _ one all_pure);
-      grows = record { wires = omega (arith, grown.wires); constraints = omega (arith, grown.constraints); whole = grown.whole };
+      puts = one_turn _ _ c.loop-i.invariant.puts (all_then _ one all_pure);
+      grows = both c.loop-i.invariant.grows c.in_ok-select_wires.ensures.grows;
     }
 
 pub returns-in_err-select_wires-clause-puts : goal.returns-in_err-select_wires-clause-puts
 unfolding halves_of half_bit_of
 returns-in_err-select_wires-clause-puts g c =
-    let m = g.S.Sink.meaning in
-    let piece : ℕ → Unit {0} → Circuit (Unit {0}) = λ i _. half_bit_of c.args.n c.args.b c.args.word i in
     let one = rw (c.offset.ensures, c.offset-in-loop-i.ensures) at c.in_err-select_wires.ensures.puts in
-    let turn = turn_refused m c.args.n c.loop-i.i piece tt tt c.args.s.now c.loop-i.s c.select_wires.new.s c.in_err-select_wires.field-0.0 c.loop-i-test.true
-    c.loop-i.invariant.puts (some_first _ one) in
-    let first = puts_here_as m c.args.s.now c.wires.result c.wires.ensures in
-    refused _ _ _ _ _ c.from_residual.ensures.1 (some_then _ first (some_first _ turn))
+    let first = puts_here_as g.S.Sink.meaning c.args.s.now c.wires.result c.wires.ensures in
+    refused _ _ _ _ _ c.from_residual.ensures.1 (some_then _ first (some_first _ (turn_some _ _ c.loop-i.invariant.puts c.loop-i-test.true (some_first _ one))))
 
 pub returns-clause-puts : goal.returns-clause-puts
 unfolding halves_of

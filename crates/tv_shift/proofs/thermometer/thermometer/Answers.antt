@@ -1,10 +1,10 @@
 use Rattle.std.proofs.lemmas.Grind.{common_steps}
-use Rattle.std.proofs.Common.{◌≡◌, ℕ, ◌+◌, arith}
-use Rattle.tv_core.proofs.Chain.{puts_no_turn, puts_turn, turn_refused, refused, all_then, all_pure, some_then, some_first}
+use Rattle.std.proofs.Common.{◌≡◌, arith}
+use Rattle.tv_bits.proofs.Growing.{both, grows_as, one_turn, turn_some}
+use Rattle.tv_core.proofs.Chain.{puts_no_turn, refused, all_then, all_pure, some_then, some_first}
 use Rattle.tv_core.proofs.LoopLaws.{puts_here_as}
-use Rattle.tv_core.specs.Circuits.{Circuit}
 use Rattle.tv_shift.proofs.MarkTerms.{products-more, products-up}
-use Rattle.tv_shift.specs.Thermometer.{bit_level_of, thermometer_of}
+use Rattle.tv_shift.specs.Thermometer.{thermometer_of}
 use Rattle.tv_shift.proofs.thermometer.thermometer.Goals as goal
 
 pub loop-i-init : goal.loop-i-init
@@ -12,25 +12,17 @@ loop-i-init g c = grind (arith, common_steps, puts_no_turn)
 
 pub loop-i-preserved : goal.loop-i-preserved
 loop-i-preserved g c =
-    let piece : ℕ → Unit {0} → Circuit (Unit {0}) = λ i _. bit_level_of c.args.bits c.wires.result i in
-    let grown = c.in_ok-level.ensures.grows in
+    let more = products-more c.loop-i.i in
     record {
-      puts = puts_turn g.S.Sink.meaning _ piece tt _ _ _ _ _ c.loop-i.invariant.puts c.in_ok-level.ensures.puts;
-      grows = record {
-        wires = omega (arith, grown.wires, products-more c.loop-i.i);
-        constraints = omega (arith, grown.constraints, products-more c.loop-i.i);
-        whole = grown.whole;
-      };
+      puts = one_turn _ _ c.loop-i.invariant.puts c.in_ok-level.ensures.puts;
+      grows = grows_as (both c.loop-i.invariant.grows c.in_ok-level.ensures.grows) (omega (arith, more)) (omega (arith, more));
     }
 
 pub returns-in_err-level-clause-puts : goal.returns-in_err-level-clause-puts
 unfolding thermometer_of
 returns-in_err-level-clause-puts g c =
-    let m = g.S.Sink.meaning in
-    let piece : ℕ → Unit {0} → Circuit (Unit {0}) = λ i _. bit_level_of c.args.bits c.wires.result i in
-    let turn = turn_refused m c.args.k c.loop-i.i piece tt tt c.args.s.now c.loop-i.s c.level.new.s c.in_err-level.field-0.0 c.loop-i-test.true
-    c.loop-i.invariant.puts c.in_err-level.ensures.puts in
-    let first = puts_here_as m c.args.s.now c.wires.result c.wires.ensures in
+    let turn = turn_some _ _ c.loop-i.invariant.puts c.loop-i-test.true c.in_err-level.ensures.puts in
+    let first = puts_here_as g.S.Sink.meaning c.args.s.now c.wires.result c.wires.ensures in
     refused _ _ _ _ _ c.from_residual.ensures.1 (some_then _ first (some_first _ turn))
 
 pub returns-clause-puts : goal.returns-clause-puts
