@@ -1,3 +1,4 @@
+pub mod More
 pub mod Reads
 pub mod Writes
 pub mod Triple

@@ -14,7 +14,8 @@ ghost use Rattle.tv_core.specs.Inverse.{inverse_of};
 ghost use Rattle.tv_core.specs.Sinks.{PutsIn, Grows, Room};
 ghost use Rattle.tv_core.specs.declared.field.TheConstants.{P};
 ghost use Rattle.tv_bits.specs.Wires.{wires_top};
-ghost use Rattle.tv_regs.specs.Triple.{roots_of, sums_of, pairs_of, cubic, departure};
+ghost use Rattle.tv_regs.specs.More.{more_of};
+ghost use Rattle.tv_regs.specs.Triple.{roots_of, sums_of, cubic, departure};
 ghost use Rattle.tv_regs.specs.Triple.{passes_of, curve_of, point_of, triple_of, triple_wires};
 ghost use Rattle.tv_regs.specs.Triple.{AreNames};
 ghost use Rattle.tv_regs.specs.Triple.{AreRoots, curve_through, minus, passing, roots_values};
@@ -176,9 +177,9 @@ fn sums<S: Sink>(
     scratch.b.set_wire(other);
     let pair = times_by(s, &mut scratch.c, &scratch.b, &scratch.a)?;
     scratch.a.plus(F::ONE, other);
-    let pairs = pairs(s, &scratch.a, &mut scratch.b, &mut scratch.c, dest, pair)?;
-    scratch.a.set_wire(pair);
     scratch.b.set_wire(dest);
+    let pairs = more_by(s, &mut scratch.c, &scratch.b, &scratch.a, pair)?;
+    scratch.a.set_wire(pair);
     let product = times_by(s, &mut scratch.c, &scratch.a, &scratch.b)?;
     Ok(Roots {
         dest,
@@ -189,30 +190,22 @@ fn sums<S: Sink>(
     })
 }
 
-// A wire that is `dest` times `x`, and `pair`.
-fn pairs<S: Sink>(
-    s: &mut S,
-    x: &Lc,
-    factor: &mut Lc,
-    product: &mut Lc,
-    dest: Wire,
-    pair: Wire,
-) -> Put<Wire>
+// A wire that is `x` times `y`, and `old`.
+fn more_by<S: Sink>(s: &mut S, product: &mut Lc, x: &Lc, y: &Lc, old: Wire) -> Put<Wire>
     requires room { Room S.meaning s.old 1 1 }
     requires x_made { top x.now ≤ S.meaning.wires s.old }
-    requires dest_made { dest < S.meaning.wires s.old }
-    requires pair_made { pair < S.meaning.wires s.old }
-    ensures puts { PutsIn S.meaning s.old s.new (pairs_of dest x.now pair) result }
+    requires y_made { top y.now ≤ S.meaning.wires s.old }
+    requires old_made { old < S.meaning.wires s.old }
+    ensures puts { PutsIn S.meaning s.old s.new (more_of x.now y.now old) result }
     ensures grows { IfOk result (λ _. Grows S.meaning s.old s.new 1 1) }
-    ensures below { IfOk result (λ pairs. pairs < S.meaning.wires s.new) }
+    ensures below { IfOk result (λ new. new < S.meaning.wires s.new) }
 {
-    let pairs = s.fresh();
-    factor.set_wire(dest);
+    let new = s.fresh();
     product.clear();
-    product.plus(-F::ONE, pair);
-    product.plus(F::ONE, pairs);
-    s.put(factor, x, product)?;
-    Ok(pairs)
+    product.plus(-F::ONE, old);
+    product.plus(F::ONE, new);
+    s.put(x, y, product)?;
+    Ok(new)
 }
 
 // The first of three wires that are the coefficients of a curve through the registers at the
@@ -302,14 +295,9 @@ fn point<S: Sink>(s: &mut S, n: &Lc, factor: &mut Lc, product: &mut Lc, curve: W
 {
     factor.set_wire(curve.offset(2));
     let bend = times_by(s, product, n, factor)?;
-    let word = s.fresh();
     factor.set_wire(curve.offset(1));
     factor.plus(F::ONE, bend);
-    product.clear();
-    product.plus(-F::ONE, curve);
-    product.plus(F::ONE, word);
-    s.put(n, factor, product)?;
-    Ok(word)
+    more_by(s, product, n, factor, curve)
 }
 
 /// Assigns the 31 values of the wires that `read_triple` makes, for the numbers of the three

@@ -1,46 +1,47 @@
 use Rattle.std.proofs.Common.{refl}
 use Rattle.tv_bits.proofs.Growing.{fewer, within, kept, both, left, top_wire}
 use Rattle.tv_core.proofs.Chain.{refused, all_then, all_pure, some_then, some_first}
-use Rattle.tv_regs.specs.Triple.{sums_of}
+use Rattle.tv_regs.specs.More.{more_of}
+use Rattle.tv_regs.specs.Triple.{pairs_of, sums_of}
 use Rattle.tv_regs.proofs.Rooms.{top_number, top_more, short_number, short_more}
 use Rattle.tv_regs.proofs.triple.sums.Goals as goal
 
 pub returns-in_err-sum-clause-puts : goal.returns-in_err-sum-clause-puts
-unfolding sums_of
+unfolding sums_of pairs_of more_of
 returns-in_err-sum-clause-puts g c =
     let sum = rw (c.plus-2.ensures.terms, c.plus.ensures.terms, c.set_number.ensures.terms) at c.in_err-sum.ensures.puts in
     refused _ _ _ _ _ c.from_residual.ensures.1 (some_first _ sum)
 
 pub returns-in_err-pair-clause-puts : goal.returns-in_err-pair-clause-puts
-unfolding sums_of
+unfolding sums_of pairs_of more_of
 returns-in_err-pair-clause-puts g c =
     let sum = rw (c.plus-2.ensures.terms, c.plus.ensures.terms, c.set_number.ensures.terms) at c.in_ok-sum.ensures.puts in
     let pair = rw (c.set_wire.ensures.terms, c.set_number-2.ensures.terms) at c.in_err-pair.ensures.puts in
     refused _ _ _ _ _ c.from_residual-in_err-pair.ensures.1 (some_then _ sum (some_first _ pair))
 
 pub returns-in_err-pairs-clause-puts : goal.returns-in_err-pairs-clause-puts
-unfolding sums_of
+unfolding sums_of pairs_of more_of
 returns-in_err-pairs-clause-puts g c =
     let sum = rw (c.plus-2.ensures.terms, c.plus.ensures.terms, c.set_number.ensures.terms) at c.in_ok-sum.ensures.puts in
     let pair = rw (c.set_wire.ensures.terms, c.set_number-2.ensures.terms) at c.in_ok-pair.ensures.puts in
-    let pairs = rw (c.plus-3.ensures.terms, c.set_number-2.ensures.terms) at c.in_err-pairs.ensures.puts in
+    let pairs = rw (c.set_wire-2.ensures.terms, c.plus-3.ensures.terms, c.set_number-2.ensures.terms) at c.in_err-pairs.ensures.puts in
     refused _ _ _ _ _ c.from_residual-in_err-pairs.ensures.1 (some_then _ sum (some_then _ pair (some_first _ pairs)))
 
 pub returns-in_err-product-clause-puts : goal.returns-in_err-product-clause-puts
-unfolding sums_of
+unfolding sums_of pairs_of more_of
 returns-in_err-product-clause-puts g c =
     let sum = rw (c.plus-2.ensures.terms, c.plus.ensures.terms, c.set_number.ensures.terms) at c.in_ok-sum.ensures.puts in
     let pair = rw (c.set_wire.ensures.terms, c.set_number-2.ensures.terms) at c.in_ok-pair.ensures.puts in
-    let pairs = rw (c.plus-3.ensures.terms, c.set_number-2.ensures.terms) at c.in_ok-pairs.ensures.puts in
+    let pairs = rw (c.set_wire-2.ensures.terms, c.plus-3.ensures.terms, c.set_number-2.ensures.terms) at c.in_ok-pairs.ensures.puts in
     let product = rw (c.set_wire-2.ensures.terms, c.set_wire-3.ensures.terms) at c.in_err-product.ensures.puts in
     refused _ _ _ _ _ c.from_residual-in_err-product.ensures.1 (some_then _ sum (some_then _ pair (some_then _ pairs (some_first _ product))))
 
 pub returns-clause-puts : goal.returns-clause-puts
-unfolding sums_of
+unfolding sums_of pairs_of more_of
 returns-clause-puts g c =
     let sum = rw (c.plus-2.ensures.terms, c.plus.ensures.terms, c.set_number.ensures.terms) at c.in_ok-sum.ensures.puts in
     let pair = rw (c.set_wire.ensures.terms, c.set_number-2.ensures.terms) at c.in_ok-pair.ensures.puts in
-    let pairs = rw (c.plus-3.ensures.terms, c.set_number-2.ensures.terms) at c.in_ok-pairs.ensures.puts in
+    let pairs = rw (c.set_wire-2.ensures.terms, c.plus-3.ensures.terms, c.set_number-2.ensures.terms) at c.in_ok-pairs.ensures.puts in
     let product = rw (c.set_wire-2.ensures.terms, c.set_wire-3.ensures.terms) at c.in_ok-product.ensures.puts in
     all_then _ sum (all_then _ pair (all_then _ pairs (all_then _ product all_pure)))
 
@@ -72,16 +73,16 @@ times_by-requires g c =
 pub plus-requires-3 : goal.plus-requires-3
 plus-requires-3 g c = short_number c.set_number-2.ensures.len c.requires.named_short
 
-pub pairs-requires : goal.pairs-requires
-pairs-requires g c =
+pub more_by-requires : goal.more_by-requires
+more_by-requires g c =
     let r = c.requires in
     let g2 = both c.in_ok-sum.ensures.grows c.in_ok-pair.ensures.grows in
     let number = top_number _ c.set_number-2.ensures.top r.named_short (within g2 r.named_made) in
     record {
       room = left g2 r.room refl refl;
-      x_made = top_more c.plus-3.ensures.top number (kept g2 r.other_made);
-      dest_made = kept g2 r.dest_made;
-      pair_made = c.in_ok-pair.ensures.below;
+      x_made = top_wire c.set_wire-2.ensures.top (kept g2 r.dest_made);
+      y_made = top_more c.plus-3.ensures.top number (kept g2 r.other_made);
+      old_made = c.in_ok-pair.ensures.below;
     }
 
 pub times_by-requires-2 : goal.times_by-requires-2
@@ -90,8 +91,8 @@ times_by-requires-2 g c =
     let g3 = both (both c.in_ok-sum.ensures.grows c.in_ok-pair.ensures.grows) pairs in
     record {
       room = left g3 c.requires.room refl refl;
-      x_made = top_wire c.set_wire-2.ensures.top (kept pairs c.in_ok-pair.ensures.below);
-      y_made = top_wire c.set_wire-3.ensures.top (kept g3 c.requires.dest_made);
+      x_made = top_wire c.set_wire-3.ensures.top (kept pairs c.in_ok-pair.ensures.below);
+      y_made = top_wire c.set_wire-2.ensures.top (kept g3 c.requires.dest_made);
     }
 
 pub returns-clause-grows : goal.returns-clause-grows

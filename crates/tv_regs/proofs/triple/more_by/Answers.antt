@@ -1,0 +1,40 @@
+use Rattle.std.proofs.Common.{refl}
+use Rattle.tv_bits.proofs.Growing.{fresh_fits, within, kept, both, put_fits, made_by}
+use Rattle.tv_core.proofs.Chain.{refused, all_then, all_pure, some_then, some_first}
+use Rattle.tv_regs.specs.More.{more_of}
+use Rattle.tv_regs.proofs.Rooms.{top_more, top_none}
+use Rattle.tv_regs.proofs.triple.more_by.Goals as goal
+
+pub returns-in_err-put-clause-puts : goal.returns-in_err-put-clause-puts
+unfolding more_of
+returns-in_err-put-clause-puts g c =
+    let sides = rw (c.plus-2.ensures.terms, c.plus.ensures.terms, c.clear.ensures, c.neg.ensures) at c.in_err-put.ensures.puts in
+    refused _ _ _ _ _ c.from_residual.ensures.1 (some_then _ c.fresh-new.ensures.puts (some_first _ sides))
+
+pub returns-clause-puts : goal.returns-clause-puts
+unfolding more_of
+returns-clause-puts g c =
+    let sides = rw (c.plus-2.ensures.terms, c.plus.ensures.terms, c.clear.ensures, c.neg.ensures) at c.in_ok-put.ensures.puts in
+    all_then _ c.fresh-new.ensures.puts (all_then _ sides all_pure)
+
+pub fresh-new-requires : goal.fresh-new-requires
+fresh-new-requires g c = record { whole = c.requires.room.whole; room = fresh_fits c.requires.room refl }
+
+pub put-requires : goal.put-requires
+put-requires g c =
+    let r = c.requires in
+    let g1 = c.fresh-new.ensures.grows in
+    let first = top_more c.plus.ensures.top (top_none c.clear.ensures) (kept g1 r.old_made) in
+    record {
+      whole = g1.whole;
+      room = put_fits g1 r.room refl;
+      a_made = within g1 r.x_made;
+      b_made = within g1 r.y_made;
+      c_made = top_more c.plus-2.ensures.top first (made_by g1 c.fresh-new.ensures.next);
+    }
+
+pub returns-clause-grows : goal.returns-clause-grows
+returns-clause-grows g c = both c.fresh-new.ensures.grows c.in_ok-put.ensures.grows
+
+pub returns-clause-below : goal.returns-clause-below
+returns-clause-below g c = kept c.in_ok-put.ensures.grows (made_by c.fresh-new.ensures.grows c.fresh-new.ensures.next)
