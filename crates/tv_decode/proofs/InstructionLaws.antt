@@ -339,35 +339,19 @@ instruction_complete w width z next head tail assigns head_word tail_word used h
     )
 
 -- ---- where the circuit ends, and what it answers
-abbrev wires_at : ℕ → ℕ → ℕ → ℕ → ℕ → ℕ → InstructionWires
-wires_at w first op second head tail = record {
-  low = record { first = first; n = w - 5 };
-  op = op;
-  second = record { first = second; n = w };
-  head = head;
-  tail = tail;
-}
-
 pub instruction_end : (w : ℕ) → IsWidth w → (next : ℕ) → (instruction_of w next).next ≡ next + (2 * w + 26)
 unfolding instruction_of here pure put ◌>>=◌
 instruction_end w width next = search (arith, new_bits_next, kept_next)
 
 pub instruction_answer : (w next : ℕ) → (instruction_of w next).answer ≡ instruction_wires w next
-unfolding instruction_of new_bits_of here pure put ◌>>=◌
+unfolding instruction_of times_of new_bits_of here fresh put pure ◌>>=◌
 instruction_answer w next =
     let low = new_bits_of (w - 5) next in
     let row = new_bits_of 29 low.next in
-    let second = new_bits_of w row.next in
-    let e1 : low.next ≡ next + (w - 5) = new_bits_next (w - 5) next in
-    let e2 : row.next ≡ next + (w - 5) + 29 = new_bits_next 29 low.next ∙ ap (λ n. n + 29) e1 in
-    let e3 : second.next ≡ next + (w - 5) + 29 + w = new_bits_next w row.next ∙ ap (λ n. n + w) e2 in
-    let e4 = kept_next (head_of w next low.next) second.next ∙ ap (λ n. n + 1) e3 in
-    all_wires w next e1 e2 (kept_answer (head_of w next low.next) second.next
-    ∙ e3) (kept_answer (bits_combination row.next w) (kept_of (head_of w next low.next) second.next).next ∙ e4)
-  where
-    all_wires : (w first : ℕ) {op second head tail a b c d : ℕ} → op ≡ a → second ≡ b → head ≡ c → tail ≡ d
-        → wires_at w first op second head tail ≡ wires_at w first a b c d
-    all_wires w first e f g h = rw (e, f, g, h) refl
+    let e1 = new_bits_next (w - 5) next in
+    let e2 = new_bits_next 29 low.next in
+    let e3 = new_bits_next w row.next in
+    search arith
 
 length-instruction : (w : ℕ) → IsWidth w → (head tail : ℕ) → length (instruction_values w head tail) ≡ 2 * w + 26
 length-instruction w width head tail =
@@ -375,14 +359,11 @@ length-instruction w width head tail =
 
 instruction_in_field : (w : ℕ) → IsWidth w → (head tail : ℕ) → head < 2 ^ w → tail < 2 ^ w → InField (instruction_values w head tail)
 instruction_in_field w width head tail hs ts =
-    let v = head % 2 ^ (w - 5) in
-    let k = field (w - 5) 5 head in
-    let words : List ℕ = bits_values tail w ++ head ∷ tail ∷ [] in
+    let p = place_of (field (w - 5) 5 head) in
     let word : 2 ^ w < P = grind arith in
     let both = InField-cons head (tail ∷ []) (omega (arith, hs, word)) (InField-cons tail [] (omega (arith, ts, word)) InField-none) in
-    let last = InField-append (bits_values tail w) (head ∷ tail ∷ []) (bits_in_field tail w) both in
-    let row = InField-each_below (one_at (place_of k)) (λ i. let bit = one_at-bit (place_of k) i in omega arith) 29 in
-    InField-append (bits_values v (w - 5)) (opcode_values k ++ words) (bits_in_field v (w - 5)) (InField-append (opcode_values k) words row last)
+    let row = InField-each_below (one_at p) (λ i. let bit = one_at-bit p i in omega arith) 29 in
+    InField-append _ _ (bits_in_field (head % 2 ^ (w - 5)) (w - 5)) (InField-append _ _ row (InField-append _ _ (bits_in_field tail w) both))
 
 pub instruction_sizes : InstructionSizes
 instruction_sizes = record {
