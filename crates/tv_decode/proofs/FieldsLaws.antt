@@ -25,6 +25,15 @@ pub field_bits_are : (z : List ℕ) (w first low count more v : ℕ) → low + (
 field_bits_are z w first low count more v size s =
     HasBits-low z (first + low) count more (v / 2 ^ low) (HasBits-high z first low (count + more) v (subst (λ n. HasBits z first n v) (sym size) s))
 
+pub word_reg_bits : (z : List ℕ) (w : ℕ) → IsWidth w → (first a : ℕ) → HasBits z first w a → HasBits z (first + 0) 4 (a % 16)
+word_reg_bits z w width first a r =
+    let same : first ≡ first + 0 = omega arith in
+    let size : w ≡ 4 + (w - 4) = omega arith in
+    subst (λ k. HasBits z k 4 (a % 16)) same (HasBits-low z first 4 (w - 4) a (subst (λ n. HasBits z first n a) size r))
+
+pub by_parity : (n : ℕ) → n < 2 → n ≡ (if n == 1 then 1 else 0)
+by_parity n small = elim (bit_cases n small) [ inl none ↦ rw none refl | inr one ↦ rw one refl ]
+
 module _ (w : ℕ) (width : IsWidth w) (z : List ℕ) (h a : Bits) (v u : ℕ) (s : HasBits z h.first w v) (r : HasBits z a.first w u) where
   op_bits_are : HasBits z (h.first + (w - 5)) 5 (field (w - 5) 5 v)
   op_bits_are = field_bits_are z w h.first (w - 5) 5 0 v (omega arith) s
@@ -36,16 +45,10 @@ module _ (w : ℕ) (width : IsWidth w) (z : List ℕ) (h a : Bits) (v u : ℕ) (
   source_bits_are = field_bits_are z w h.first (w - 14) 4 10 v (omega arith) s
 
   reg_bits_are : HasBits z (a.first + 0) 4 (u % 16)
-  reg_bits_are =
-      let same : a.first ≡ a.first + 0 = omega arith in
-      let size : w ≡ 4 + (w - 4) = omega arith in
-      subst (λ k. HasBits z k 4 (u % 16)) same (HasBits-low z a.first 4 (w - 4) u (subst (λ n. HasBits z a.first n u) size r))
+  reg_bits_are = word_reg_bits z w width a.first u r
 
   imm_bit : slice_index z (h.first + (w - 6)) ≡ (if field (w - 6) 1 v == 1 then 1 else 0)
   imm_bit = let b = HasBits-bit_at s (w - 6) (omega arith) in b ∙ by_parity (v / 2 ^ (w - 6) % 2) (omega arith)
-    where
-      by_parity : (n : ℕ) → n < 2 → n ≡ (if n == 1 then 1 else 0)
-      by_parity n small = elim (bit_cases n small) [ inl none ↦ rw none refl | inr one ↦ rw one refl ]
 
 pub fields_sound : FieldsAreSound
 unfolding fields_of pure ◌>>=◌

@@ -1,5 +1,5 @@
 -- The laws of an instruction with a row of the used opcodes.
-use Rattle.std.proofs.Common.{◌⊎◌, ◌≡◌, ◌≢◌, ℕ, zero, suc, ◌+◌, ◌-◌, ◌*◌, ◌%◌, ◌^◌, ◌<◌, ◌≤◌, ◌==◌, true, if◌then◌else◌, List, [], ◌∷◌, ◌++◌, length}
+use Rattle.std.proofs.Common.{◌⊎◌, ◌≡◌, ◌≢◌, ℕ, zero, suc, ◌+◌, ◌-◌, ◌*◌, ◌%◌, ◌^◌, ◌<◌, ◌≤◌, ◌==◌, true, List, [], ◌∷◌, ◌++◌, length}
 use Rattle.std.proofs.Common.{inl, inr, refl, sym, ◌∙◌, ap, ap₂, subst, arith, mod-lt, eq-eqb, mul-zero, mul-one, zero-mul}
 use Rattle.std.specs.Prelude.{slice_index}
 use Rattle.std.proofs.lemmas.Bool.{cases_eq, cases_lt}
@@ -10,7 +10,7 @@ use Rattle.tv_bits.proofs.BitLaws.{bit_cases}
 use Rattle.tv_bits.proofs.NewBitsLaws.{bits_are, bits_met}
 use Rattle.tv_bits.proofs.OneHotLaws.{value-onehot, one_at-same, one_at-other}
 use Rattle.tv_bits.proofs.SizeLaws.{bits_in_field, length-bits}
-use Rattle.tv_bits.proofs.BitNumbers.{HasBits-low, HasBits-bit_at, HasBits-below, HasBits-from_values, value-bits_below}
+use Rattle.tv_bits.proofs.BitNumbers.{HasBits-bit_at, HasBits-below, HasBits-from_values, value-bits_below}
 use Rattle.tv_bits.proofs.BitsLaws.{new_bits_next, new_bits_complete}
 use Rattle.tv_bits.proofs.TimesLaws.{kept_sound, kept_complete, kept_answer, kept_next}
 use Rattle.tv_bits.specs.Bit.{IsBit, bit_of}
@@ -33,7 +33,7 @@ use Rattle.tv_decode.specs.Instructions.{IsOpcodeRow, opcode_values, opcode_weig
 use Rattle.tv_decode.specs.Instructions.{instruction_values, IsDecoded, InstructionIsSound, InstructionIsComplete, InstructionSizes, InstructionCosts}
 use Rattle.tv_decode.specs.Instructions.{OpcodeWireIsRight}
 use Rattle.tv_decode.specs.declared.records.InstructionWires.{InstructionWires}
-use Rattle.tv_decode.proofs.FieldsLaws.{field_bits_are}
+use Rattle.tv_decode.proofs.FieldsLaws.{field_bits_are, word_reg_bits, by_parity}
 use Rattle.tv_isa.specs.Instruction.{field, decode}
 use Rattle.tv_isa.specs.Opcodes.{is_used, place_of, opcode_at}
 use Rattle.tv_word.proofs.WidthLaws.{for_widths}
@@ -201,15 +201,6 @@ module _ (z : List ℕ) (w : ℕ) (width : IsWidth w) (low op v p : ℕ) (s : Ha
       joined a b h = omega arith
 
 -- ---- what two words and their row say of the wires
-reg_bits_are : (z : List ℕ) (w : ℕ) → IsWidth w → (first a : ℕ) → HasBits z first w a → HasBits z (first + 0) 4 (a % 16)
-reg_bits_are z w width first a r =
-    let same : first ≡ first + 0 = omega arith in
-    let size : w ≡ 4 + (w - 4) = omega arith in
-    subst (λ k. HasBits z k 4 (a % 16)) same (HasBits-low z first 4 (w - 4) a (subst (λ n. HasBits z first n a) size r))
-
-by_parity : (n : ℕ) → n < 2 → n ≡ (if n == 1 then 1 else 0)
-by_parity n small = elim (bit_cases n small) [ inl none ↦ rw none refl | inr one ↦ rw one refl ]
-
 module _ (z : List ℕ) (w : ℕ) (width : IsWidth w) (made : InstructionWires) (v p a : ℕ) (low : HasBits z made.low.first (w - 5) v)
     (row : IsOneHot z made.op 29 p) (second : HasBits z made.second.first w a) where
   abbrev h : ℕ
@@ -236,7 +227,7 @@ module _ (z : List ℕ) (w : ℕ) (width : IsWidth w) (made : InstructionWires) 
         imm = bit ∙ sym (whole_imm w width v k below op_below) ∙ by_parity (field (w - 6) 1 h) imm_small;
         dest = dest ∙ sym (whole_dest w width v k below op_below);
         source = source ∙ sym (whole_source w width v k below op_below);
-        register = value-bits_below (reg_bits_are z w width made.second.first a second) (omega arith);
+        register = value-bits_below (word_reg_bits z w width made.second.first a second) (omega arith);
         second = second;
       }
 
