@@ -25,7 +25,7 @@ use Rattle.tv_core.specs.Loops.{sequence}
 use Rattle.tv_core.specs.declared.field.TheConstants.{P}
 use Rattle.tv_regs.proofs.Gates.{word_of}
 use Rattle.tv_regs.proofs.TripleLaws.{value-rise, other_branch}
-use Rattle.tv_regs.proofs.TripleNumbers.{minus_below}
+use Rattle.tv_regs.proofs.TripleNumbers.{minus_below, minus_itself}
 use Rattle.tv_regs.proofs.WriteLaws.{sum_apart, value-regs_sum, length-written, written_other, written_here, has_at}
 use Rattle.tv_bits.specs.Wires.{words_at}
 use Rattle.tv_regs.specs.Triple.{minus}
@@ -123,9 +123,6 @@ update_sound z next on dest word result regs i assigns is meets =
       | inr apart ↦ others j (omega arith) apart ∙ sym (word_of z regs j (omega arith)) ∙ sym (written_other isOn (slice_index z result) i j words apart)
     ])
 
-none_left : (a b : ℕ) → b < P → a ≡ b → minus a b ≡ 0
-none_left a b h e = omega arith
-
 times_none : (a b : ℕ) → b ≡ 0 → a * b % P ≡ 0
 times_none a b none = rw none (omega arith)
 
@@ -152,8 +149,8 @@ update_complete z next on dest word result regs i assigns is has =
     let new = (sequence j (stays_turn dest regs) next).next in (
       ap₂ (λ a b. a * b % P) (value-number_less z assigns dest i is.number is.within j h) (value-rise z reg new assigns
           ∙ ap (λ k. minus (slice_index z k) (slice_index z reg)) (turn_at dest regs next j)) ∙ elim (cases_eq j i) [
-            | inl same ↦ times_zero (minus i j) _ (none_left i j (let w = is.within in omega arith) (sym same))
-            | inr apart ↦ times_none (minus i j) _ (none_left (slice_index z (next + j)) (slice_index z reg) (wire-below assigns reg) (others j h apart))
+            | inl same ↦ times_zero (minus i j) _ (minus_itself i j (let w = is.within in omega arith) (sym same))
+            | inr apart ↦ times_none (minus i j) _ (minus_itself (slice_index z (next + j)) (slice_index z reg) (wire-below assigns (next + j)) (others j h apart))
           ],
       tt,
     )) in
