@@ -6,13 +6,11 @@ use Rattle.std.specs.Prelude.{slice_index}
 use Rattle.std.proofs.lemmas.Bool.{cases_eq}
 use Rattle.std.proofs.lemmas.List.{ext_get_or, length-map}
 use Rattle.std.proofs.lemmas.List.FromFn.{get_or-map-range_with_len}
-use Rattle.tv_bits.proofs.BitLaws.{bit_cases}
-use Rattle.tv_bits.proofs.SelectLaws.{times_one, times_zero}
-use Rattle.tv_bits.specs.Bit.{IsBit}
+use Rattle.tv_bits.proofs.SelectLaws.{times_zero, sound_by, complete_by}
 use Rattle.tv_bits.specs.OneHot.{row_sum}
 use Rattle.tv_core.proofs.BelowLaws.{value-weighted}
 use Rattle.tv_core.proofs.CombinationLaws.{value-append, value-scaled, value-wire, value-cons, wire-below}
-use Rattle.tv_core.proofs.DifferenceLaws.{same_of_minus, cancel_minus}
+use Rattle.tv_core.proofs.DifferenceLaws.{same_of_minus}
 use Rattle.tv_core.proofs.LoopLaws.{turn_met, turns_met, turns-next}
 use Rattle.tv_core.proofs.MeetsLaws.{Meets-split, Meets-join}
 use Rattle.tv_core.proofs.PrimeLaws.{p_zero_product_below}
@@ -74,19 +72,7 @@ module _ (z : List ℕ) (assigns : Assigns z) (regs : List ℕ) (first i : ℕ) 
       ∙ flat_sums (sum_below 16 f) (sum_below 16 g) (slice_index z (first + i)) (slice_index z (slice_index regs i)) (wire-below assigns (first + i))
       (wire-below assigns (slice_index regs i)) balance
 
--- ---- the last constraint, as numbers
-on_sound : (on x new old : ℕ) → IsBit on → x < P → new < P → old < P → on * minus x old % P ≡ minus new old → new ≡ (if on == 1 then x else old)
-on_sound on x new old bit xs ns os e = elim (bit_cases on bit) [
-  | inl none ↦ same_of_minus new old ns os (sym e ∙ times_zero on _ none) ∙ sym (ap (λ n. if n == 1 then x else old) none)
-  | inr one ↦ cancel_minus new x old ns xs os (sym e ∙ times_one on _ one (minus_below x old)) ∙ sym (ap (λ n. if n == 1 then x else old) one)
-]
-
-on_complete : (on x new old : ℕ) → IsBit on → old < P → new ≡ (if on == 1 then x else old) → on * minus x old % P ≡ minus new old
-on_complete on x new old bit os e = elim (bit_cases on bit) [
-  | inl none ↦ let same : new ≡ old = e ∙ ap (λ n. if n == 1 then x else old) none in times_zero on _ none ∙ omega arith
-  | inr one ↦ times_one on _ one (minus_below x old) ∙ ap (λ n. minus n old) (sym (e ∙ ap (λ n. if n == 1 then x else old) one))
-]
-
+-- ---- the last constraint is a choice's
 pub update_sound : UpdateIsSound
 unfolding update_of stays_of here fresh put pure ◌>>=◌
 update_sound z next on dest word result regs i assigns is meets =
@@ -110,8 +96,8 @@ update_sound z next on dest word result regs i assigns is meets =
     let same_old : slice_index z word ≡ old = is.old ∙ word_of z regs i inside in
     let sides = ap₂ (λ a b. a * b % P) (sym (value-wire assigns on)) (ap (minus (slice_index z result)) (sym same_old)
     ∙ sym (value-rise z word result assigns)) ∙ split.1.0 ∙ value-sum_rise z assigns regs next i is.within others in
-    let here_new = on_sound (slice_index z on) (slice_index z result) (slice_index z (next + i)) old is.bit (wire-below assigns result)
-    (wire-below assigns (next + i)) (wire-below assigns (slice_index regs i)) sides in
+    let here_new = sound_by (slice_index z on) (slice_index z result) old (slice_index z (next + i)) (wire-below assigns result)
+    (wire-below assigns (slice_index regs i)) (wire-below assigns (next + i)) is.bit sides in
     let count : length words ≡ 16 = length-map regs (λ w. slice_index z w) ∙ is.size in
     let new_count : length (words_at z (range_with_len next 16)) ≡ 16 = refl in
     ext_get_or 0 (words_at z (range_with_len next 16)) (written_regs isOn (slice_index z result) i words) (new_count
@@ -154,7 +140,7 @@ update_complete z next on dest word result regs i assigns is has =
           ],
       tt,
     )) in
-    let sides = on_complete (slice_index z on) x (slice_index z (next + i)) old is.bit (wire-below assigns (slice_index regs i)) here_new in
+    let sides = complete_by (slice_index z on) x old (slice_index z (next + i)) (wire-below assigns (slice_index regs i)) is.bit here_new in
     Meets-join z (sequence 16 (stays_turn dest regs) next).list _ turns (
       ap₂ (λ a b. a * b % P) (value-wire assigns on) (value-rise z word result assigns ∙ ap (minus x) same_old) ∙ sides
           ∙ sym (value-sum_rise z assigns regs next i is.within others),
