@@ -33,16 +33,12 @@ wide_normal y next above within = search (arith, low_normal, factor_normal, wire
 abbrev power_at : ℕ → Type 0
 power_at w = (y : Bits) (next : ℕ) → 0 < y.first → y.first + w ≤ next → AreNormal (shift_power_of w y next).list
 
-power_16 : power_at 16
-unfolding shift_power_of
-power_16 y next above within = low_normal y.first next above (omega arith)
-
-power_32 : power_at 32
-unfolding shift_power_of
-power_32 y next above within = wide_normal y.first next above (omega arith)
-
 pub shift_power_normal : (w : ℕ) → IsWidth w → (y : Bits) (next : ℕ) → 0 < y.first → y.first + w ≤ next → AreNormal (shift_power_of w y next).list
-shift_power_normal = for_widths power_at power_16 power_32
+unfolding shift_power_of
+shift_power_normal =
+    for_widths power_at
+    (λ y next above within. low_normal y.first next above (omega arith))
+    (λ y next above within. wide_normal y.first next above (omega arith))
 
 -- ---- the row
 pub right_shift_normal : (w : ℕ) → IsWidth w → (gate : Combination) (v power : ℕ) (row : DoubleRow) (next : ℕ) → IsNormal gate

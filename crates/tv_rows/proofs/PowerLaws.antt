@@ -97,31 +97,23 @@ abbrev sound_at : ℕ → Type 0
 sound_at w = (z : List ℕ) (next : ℕ) (y : Bits) (d : ℕ) → Assigns z → HasBits z y.first w d
     → Meets z (shift_power_of w y next).list → IsShiftPower w z (shift_power_of w y next).answer d
 
-sound_16 : sound_at 16
-unfolding shift_power_of
-sound_16 z next y d assigns s meets = low_sound z assigns y.first 16 d s next (omega arith) meets
-
-sound_32 : sound_at 32
-unfolding shift_power_of
-sound_32 z next y d assigns s meets = wide_sound z assigns y.first 32 d s next (omega arith) meets
-
 pub shift_power_sound : ShiftPowerIsSound
-shift_power_sound = for_widths sound_at sound_16 sound_32
+unfolding shift_power_of
+shift_power_sound =
+    for_widths sound_at
+    (λ z next y d assigns s meets. low_sound z assigns y.first 16 d s next (omega arith) meets)
+    (λ z next y d assigns s meets. wide_sound z assigns y.first 32 d s next (omega arith) meets)
 
 abbrev complete_at : ℕ → Type 0
 complete_at w = (z : List ℕ) (next : ℕ) (y : Bits) (d : ℕ) → Assigns z → HasBits z y.first w d
     → HasFrom z next (shift_power_values w d) → Meets z (shift_power_of w y next).list
 
-complete_16 : complete_at 16
-unfolding shift_power_of
-complete_16 z next y d assigns s has = low_complete z assigns y.first 16 d s next (omega arith) has
-
-complete_32 : complete_at 32
-unfolding shift_power_of
-complete_32 z next y d assigns s has = wide_complete z assigns y.first 32 d s next (omega arith) has
-
 pub shift_power_complete : ShiftPowerIsComplete
-shift_power_complete = for_widths complete_at complete_16 complete_32
+unfolding shift_power_of
+shift_power_complete =
+    for_widths complete_at
+    (λ z next y d assigns s has. low_complete z assigns y.first 16 d s next (omega arith) has)
+    (λ z next y d assigns s has. wide_complete z assigns y.first 32 d s next (omega arith) has)
 
 -- ---- sizes and costs
 module _ (y : Bits) (next : ℕ) where
