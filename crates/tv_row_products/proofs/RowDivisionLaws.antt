@@ -80,13 +80,15 @@ tie_off a v h k e = omega arith
 tie_same : (a v : ℕ) → a ≡ v → 0 ≡ ((P - 1) * a + v) % P
 tie_same a v e = omega arith
 
+kept_times : (w : ℕ) (z : List ℕ) (next : ℕ) (gate : Combination) (x y by_zero : ℕ) (bits : Bits) (row : DoubleRow) → Assigns z
+    → Meets z (row_division_of w gate (dividing x y by_zero) bits row next).list → slice_index z next ≡ slice_index z by_zero * slice_index z x % P
+unfolding row_division_of times_of fresh put pure ◌>>=◌
+kept_times w z next gate x y by_zero bits row assigns meets =
+    times_sound z next (wire by_zero) (wire x) assigns (meets.0, tt) ∙ ap₂ (λ m n. m * n % P) (value-wire assigns by_zero) (value-wire assigns x)
+
 module _ (w : ℕ) (width : IsWidth w) (z : List ℕ) (next : ℕ) (gate : Combination) (x y by_zero : ℕ) (bits : Bits) (row : DoubleRow) (assigns : Assigns z) where
   sums : Combination
   sums = wire row.low ++ (wire next ++ wire (next + 1))
-
-  kept_is : Meets z (row_division_of w gate (dividing x y by_zero) bits row next).list → slice_index z next ≡ slice_index z by_zero * slice_index z x % P
-  unfolding row_division_of times_of fresh put pure ◌>>=◌
-  kept_is meets = times_sound z next (wire by_zero) (wire x) assigns (meets.0, tt) ∙ ap₂ (λ m n. m * n % P) (value-wire assigns by_zero) (value-wire assigns x)
 
   product_is : Meets z (row_division_of w gate (dividing x y by_zero) bits row next).list
       → slice_index z (next + 1) ≡ slice_index z row.high * ((slice_index z y + slice_index z by_zero) % P) % P
@@ -114,7 +116,7 @@ module _ (w : ℕ) (width : IsWidth w) (z : List ℕ) (next : ℕ) (gate : Combi
       ∙ value-bits_less z assigns w width x bits v s in
       let divided = Divides-sound w width a (slice_index z y) (slice_index z row.low) (slice_index z row.high) (slice_index z by_zero) (slice_index z next)
       (slice_index z (next + 1)) v a_word b_word (HasBits-below s) bit r (record {
-        keeps = sym (kept_is meets);
+        keeps = sym (kept_times w z next gate x y by_zero bits row assigns meets);
         multiplies = sym (product_is meets);
         parts = mod-eq_of_lt (wire-below assigns x) ∙ parts_are one meets;
         below = tie_on a (slice_index z y) (slice_index z row.low) (2 ^ w * slice_index z by_zero) v tie;
@@ -186,14 +188,8 @@ module _ (w : ℕ) (width : IsWidth w) (z : List ℕ) (next : ℕ) (gate : Combi
       (ap (λ n. n * value (room_below w x y by_zero row) z % P) none ∙ ap (λ n. n % P) (zero-mul (value (room_below w x y by_zero row) z))
       ∙ tie_same (slice_index z x) (slice_index z x) refl ∙ sym (value-bits_less z assigns w width x bits (slice_index z x) s))
 
-kept_times : (w : ℕ) (z : List ℕ) (next : ℕ) (gate : Combination) (x y by_zero : ℕ) (bits : Bits) (row : DoubleRow) → Assigns z
-    → Meets z (row_division_of w gate (dividing x y by_zero) bits row next).list
-    → slice_index z (row_division_of w gate (dividing x y by_zero) bits row next).answer ≡ slice_index z by_zero * slice_index z x % P
-unfolding row_division_of times_of gated_of fresh put pure ◌>>=◌
-kept_times w z next gate x y flag bits row assigns meets = times_sound z next (wire flag) (wire x) assigns (meets.0, tt)
-    ∙ ap₂ (λ m n. m * n % P) (value-wire assigns flag) (value-wire assigns x)
-
 pub row_division_sound : RowDivisionIsSound
+unfolding row_division_of times_of gated_of fresh put pure ◌>>=◌
 row_division_sound = search (arith, kept_times, on_by, off_by)
 
 pub row_division_complete : RowDivisionIsComplete
