@@ -7,6 +7,7 @@ pub mod NormalStates
 pub mod NormalTapes
 pub mod OpcodeLaws
 pub mod OperandLaws
+pub mod Settled
 pub mod Sized
 pub mod TapeFills
 pub mod TapeGates

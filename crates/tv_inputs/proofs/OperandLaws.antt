@@ -1,7 +1,6 @@
 -- The laws of the operand.
 use Rattle.std.proofs.Common.{◌≡◌, ℕ, ◌+◌, ◌-◌, ◌*◌, ◌%◌, ◌^◌, ◌<◌, Bool, true, false, if◌then◌else◌, List, [], ◌∷◌, length, length-append, refl}
 use Rattle.std.proofs.Common.{sym, ◌∙◌, ap, ap₂, subst, arith}
-use Rattle.std.specs.Prelude.{slice_index}
 use Rattle.tv_bits.proofs.DoubleRowLaws.{new_bits_constraints, new_bits_terms}
 use Rattle.tv_bits.proofs.SizeLaws.{length-bits, bits_in_field}
 use Rattle.tv_bits.proofs.BitsLaws.{bits_sound, bits_complete, bits_answer, new_bits_next, new_bits_answer}
@@ -10,20 +9,19 @@ use Rattle.tv_bits.specs.declared.bit_wires.Bits.{Bits}
 use Rattle.tv_core.proofs.BelowLaws.{length-weighted}
 use Rattle.tv_core.proofs.CombinationLaws.{value-wire}
 use Rattle.tv_core.proofs.FieldLaws.{InField-cons}
-use Rattle.tv_core.proofs.MeetsLaws.{Meets-split, Meets-join}
 use Rattle.tv_core.specs.Circuits.{fresh, put, pure, ◌>>=◌}
-use Rattle.tv_core.specs.Combinations.{wire, constant, scaled}
+use Rattle.tv_core.specs.Combinations.{wire, constant}
 use Rattle.tv_core.specs.Constraints.{Combination, value}
 use Rattle.tv_core.specs.Laws.{HasFrom}
 use Rattle.tv_core.specs.declared.field.TheConstants.{P}
+use Rattle.tv_inputs.proofs.Settled.{Settles, sum_then, settles_to}
 use Rattle.tv_word.proofs.WidthLaws.{width_short}
 use Rattle.tv_word.specs.Widths.{IsWidth}
-use Rattle.tv_inputs.proofs.AccumulationLaws.{accumulated_sound, accumulated_complete, accumulated_next}
 use Rattle.tv_inputs.proofs.FieldNumbers.{small_word}
 use Rattle.tv_inputs.proofs.Sized.{Sized, sized_then, sized_pure, sized_as, sized_put}
 use Rattle.tv_inputs.proofs.TapeGates.{value-two}
-use Rattle.tv_inputs.specs.Accumulation.{closed_of, accumulated_of}
-use Rattle.tv_inputs.specs.Operand.{operand_of, HasOperand, OperandIsSound, OperandIsComplete, OperandSizes, OperandCosts}
+use Rattle.tv_inputs.specs.Accumulation.{closed_of}
+use Rattle.tv_inputs.specs.Operand.{operand_of, HasOperand, OperandIsSound, OperandIsComplete, OperandSizes, OperandCosts, operand_values, IsOperand}
 use Rattle.tv_inputs.specs.declared.records.OperandWires.{OperandWires}
 use Rattle.tv_word.specs.Word.{flag_of}
 
@@ -43,40 +41,28 @@ module _ (w : ℕ) (width : IsWidth w) (z : List ℕ) (imm tail register : ℕ) 
       ap₂ (λ m n. (m + n) % P) (value-wire has.assigns register ∙ has.held) (ap₂ (λ m n. m * n) (value-wire has.assigns imm ∙ has.bit) parts)
       ∙ picked immediate second named (small_word w width second has.second_word) (small_word w width named has.named_word)
 
+  operand_settled : Settles z (operand_of w imm tail register) (operand_values w (if immediate then second else named))
+      (λ a. IsOperand w z a (if immediate then second else named))
+  unfolding operand_of
+  operand_settled =
+      let assigns = has.assigns in
+      let most = width_short w width in
+      let small = word_below w immediate second named has.second_word has.named_word in
+      sum_then assigns _ (wire register) (wire imm) ((1, tail) ∷ (P - 1, register) ∷ []) sum_is (λ word is_word.
+      let is = value-wire assigns word ∙ is_word in
+      settles_to (bits_of (wire word) w) _ {S = λ b. HasBits z b.first w (if immediate then second else named)} (record {
+        sound = λ next meets. subst (λ v. HasBits z (bits_of (wire word) w next).answer.first w v) is (bits_sound z next (wire word) w (omega arith) assigns meets);
+        complete = λ next values. bits_complete z next (wire word) w (subst (λ v. v < 2 ^ w) (sym is) small) assigns
+            (subst (λ v. HasFrom z next (bits_values v w)) (sym is) values);
+      }) (λ bits are. record { word = is_word; bits = are }))
+
 pub operand_sound : OperandIsSound
-unfolding operand_of pure ◌>>=◌
-operand_sound w width z next imm tail register immediate second named has meets =
-    let assigns = has.assigns in
-    let most = width_short w width in
-    let word = accumulated_of (wire register) (wire imm) ((1, tail) ∷ (P - 1, register) ∷ []) next in
-    let bits = bits_of (wire word.answer) w word.next in
-    let m1 = Meets-split z word.list _ meets in
-    let m2 = Meets-split z bits.list _ m1.1 in
-    let is_word : slice_index z word.answer ≡ (if immediate then second else named) =
-    accumulated_sound z next (wire register) (wire imm) ((1, tail) ∷ (P - 1, register) ∷ []) assigns m1.0
-    ∙ sum_is w width z imm tail register immediate second named has in
-    record {
-      word = is_word;
-      bits = subst (λ v. HasBits z bits.answer.first w v) (value-wire assigns word.answer ∙ is_word)
-          (bits_sound z word.next (wire word.answer) w (omega arith) assigns m2.0);
-    }
+operand_sound w width z next imm tail register immediate second named has =
+    (operand_settled w width z imm tail register immediate second named has).sound next
 
 pub operand_complete : OperandIsComplete
-unfolding operand_of pure ◌>>=◌
-operand_complete w width z next imm tail register immediate second named has values =
-    let assigns = has.assigns in
-    let a = if immediate then second else named in
-    let word = accumulated_of (wire register) (wire imm) ((1, tail) ∷ (P - 1, register) ∷ []) next in
-    let bits = bits_of (wire word.answer) w word.next in
-    let sum = sum_is w width z imm tail register immediate second named has in
-    let m1 = accumulated_complete z next (wire register) (wire imm) ((1, tail) ∷ (P - 1, register) ∷ []) assigns (values.0 ∙ sym sum, tt) in
-    let is_word : value (wire word.answer) z ≡ a =
-    value-wire assigns word.answer ∙ accumulated_sound z next (wire register) (wire imm) ((1, tail) ∷ (P - 1, register) ∷ []) assigns m1 ∙ sum in
-    let small = subst (λ v. v < 2 ^ w) (sym is_word) (word_below w immediate second named has.second_word has.named_word) in
-    let there : HasFrom z word.next (bits_values a w) = subst (λ n. HasFrom z n (bits_values a w))
-    (sym (accumulated_next (wire register) (wire imm) ((1, tail) ∷ (P - 1, register) ∷ []) next)) values.1 in
-    let m2 = bits_complete z word.next (wire word.answer) w small assigns (subst (λ v. HasFrom z word.next (bits_values v w)) (sym is_word) there) in
-    Meets-join z word.list _ m1 (Meets-join z bits.list _ m2 tt)
+operand_complete w width z next imm tail register immediate second named has =
+    (operand_settled w width z imm tail register immediate second named has).complete next
 
 -- ---- sizes and costs
 with_bits : ℕ → Bits → OperandWires
@@ -97,23 +83,17 @@ new_bits_sized n = record { end = new_bits_next n; count = new_bits_constraints 
 pub bits_sized : (x : Combination) (n : ℕ) → Sized (bits_of x n) n (n + 1) (4 * n + 1 + length x)
 unfolding bits_of
 bits_sized x n =
-    sized_as (bits_of x n) (n + 0) (n + (1 + 0)) (3 * n + (n + 1 + length x + 0)) n (n + 1) (4 * n + 1 + length x)
-    (sized_then (new_bits_of n) _ n n (3 * n) 0 (1 + 0) (n + 1 + length x + 0) (new_bits_sized n)
-    (λ next. sized_then (put (bits_combination (new_bits_of n next).answer.first (new_bits_of n next).answer.n) (constant 1) x) _ 0 1 (n + 1 + length x) 0 0 0
-    (sized_as _ 0 1 _ 0 1 (n + 1 + length x)
+    sized_as (sized_then _ (new_bits_sized n) (λ next. sized_then _ (sized_as
     (sized_put (bits_combination (new_bits_of n next).answer.first (new_bits_of n next).answer.n) (constant 1) x) refl refl
-    (ap (λ k. k + 1 + length x) (length-weighted (new_bits_of n next).answer.first (new_bits_of n next).answer.n (λ i. 2 ^ i % P) ∙ ap (λ (b : Bits). b.n)
-    (new_bits_answer n next))))
+    (ap (λ k. k + 1 + length x) (length-weighted (new_bits_of n next).answer.first (new_bits_of n next).answer.n (λ i. 2 ^ i % P)
+    ∙ ap (λ (b : Bits). b.n) (new_bits_answer n next))))
     (λ at. sized_pure _)))
     (omega arith) (omega arith) (omega arith)
 
 operand_sized : (w imm tail register : ℕ) → Sized (operand_of w imm tail register) (w + 1) (w + 2) (4 * w + 7)
 unfolding operand_of
 operand_sized w imm tail register =
-    sized_as (operand_of w imm tail register) (1 + (w + 0)) (1 + (w + 1 + 0)) (5 + (4 * w + 1 + 1 + 0)) (w + 1) (w + 2) (4 * w + 7)
-    (sized_then _ _ 1 1 5 (w + 0) (w + 1 + 0) (4 * w + 1 + 1 + 0) (accumulated_sized _ (wire imm) ((1, tail) ∷ (P - 1, register) ∷ []))
-    (λ next. sized_then (bits_of (wire (closed_of (scaled (P - 1) (wire register)) (wire imm) ((1, tail) ∷ (P - 1, register) ∷ []) next).answer) w) _ w
-    (w + 1) (4 * w + 1 + 1) 0 0 0 (bits_sized _ w) (λ at. sized_pure _)))
+    sized_as (sized_then _ (accumulated_sized _ (wire imm) ((1, tail) ∷ (P - 1, register) ∷ [])) (λ next. sized_then _ (bits_sized _ w) (λ at. sized_pure _)))
     (omega arith) (omega arith) (omega arith)
 
 pub operand_sizes : OperandSizes

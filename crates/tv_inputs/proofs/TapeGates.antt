@@ -64,6 +64,10 @@ if_zero_sound z next g x assigns meets =
     (meets.0 ∙ value-less g (wire next) z ∙ ap (λ n. (value g z + (P - n)) % P) (value-wire assigns next))
     (ap (λ n. value x z * n % P) (sym (value-wire assigns next)) ∙ meets.1.0)
 
+pub if_zero_next : (g x : Combination) (next : ℕ) → (if_zero_of g x next).next ≡ next + 2
+unfolding if_zero_of fresh put pure ◌>>=◌
+if_zero_next g x next = omega arith
+
 pub unless_zero_by : (x h g w : ℕ) → x < P → g < P → w < P → x * h % P ≡ w → x * ((g + (P - w)) % P) % P ≡ 0 → w ≡ (if x == 0 then 0 else g)
 unless_zero_by x h g w xs gs ws first second = elim (cases_eq x 0) [
   | inl none ↦ sym first ∙ ap (λ n. n * h % P) none ∙ ap (λ n. n % P) (zero-mul h) ∙ sym (ap (λ b. if b then 0 else g) (eq-eqb x 0 none))
@@ -149,57 +153,58 @@ rest_number : (b r a t q : ℕ) → b < P → r < P → a < P → t < P → (r +
 rest_number b r a t q hb hr ha ht e = omega arith
 
 -- g is the number of those that read tape 0, which is 0 or 1
-pub primary_sound : (z : List ℕ) (next n before reads aux g : ℕ) → Assigns z → n < 2 ^ 29 → slice_index z before ≤ n → g < 2
-    → (slice_index z reads + (P - slice_index z aux)) % P ≡ g
-    → Meets z (primary_of n before reads aux next).list
-    → slice_index z (primary_of n before reads aux next).answer ≡ slice_index z before + (if n - slice_index z before == 0 then 0 else g)
-unfolding primary_of fresh put pure ◌>>=◌
-primary_sound z next n before reads aux g assigns short within bit is meets =
-    let b = slice_index z before in
-    let t = slice_index z next in
-    let left = left_value z n before assigns ∙ left_number n b within short in
-    let rise = value-two z (P - 1) 1 before next ∙ rise_number b t (wire-below assigns before) (wire-below assigns next) in
-    let rest = value-four z 1 1 (P - 1) (P - 1) before reads aux next
-    ∙ rest_number b (slice_index z reads) (slice_index z aux) t g (wire-below assigns before) (wire-below assigns reads) (wire-below assigns aux)
-    (wire-below assigns next) is in
-    let first = ap (λ m. m * value (wire (next + 1)) z % P) (sym left) ∙ meets.0 ∙ rise in
-    let second = ap₂ (λ m k. m * k % P) (sym left) (sym rest) ∙ meets.1.0 in
-    let d : (t + (P - b)) % P ≡ (if n - b == 0 then 0 else g) = unless_zero_by (n - b) (value (wire (next + 1)) z) g ((t + (P - b)) % P) (omega arith)
-    (omega arith) (mod-lt _ (omega arith)) first second in
-    back b t _ (wire-below assigns next) (omega arith) (choice (n - b == 0) g bit) d
-  where
-    choice : (c : Bool) (g : ℕ) → g < 2 → (if c then 0 else g) < 2
-    choice true g h = omega arith
-    choice false g h = h
+module _ (z : List ℕ) (n before reads aux g : ℕ) (assigns : Assigns z) (short : n < 2 ^ 29) (within : slice_index z before ≤ n) (bit : g < 2)
+    (is : (slice_index z reads + (P - slice_index z aux)) % P ≡ g) where
+  abbrev b : ℕ
+  b = slice_index z before
 
-    back : (b t d : ℕ) → t < P → b < 2 ^ 29 → d < 2 → (t + (P - b)) % P ≡ d → t ≡ b + d
-    back b t d h k l e = omega arith
+  abbrev more : ℕ
+  more = if n - slice_index z before == 0 then 0 else g
 
-pub primary_complete : (z : List ℕ) (next n before reads aux g : ℕ) → Assigns z → n < 2 ^ 29 → slice_index z before ≤ n → g < 2
-    → (slice_index z reads + (P - slice_index z aux)) % P ≡ g
-    → slice_index z next ≡ slice_index z before + (if n - slice_index z before == 0 then 0 else g)
-    → slice_index z (next + 1) ≡ inverse_of (n - slice_index z before) * g % P
-    → Meets z (primary_of n before reads aux next).list
-unfolding primary_of fresh put pure ◌>>=◌
-primary_complete z next n before reads aux g assigns short within bit is e hint =
-    let b = slice_index z before in
-    let t = slice_index z next in
-    let left = left_value z n before assigns ∙ left_number n b within short in
-    let rise = value-two z (P - 1) 1 before next ∙ rise_number b t (wire-below assigns before) (wire-below assigns next) in
-    let rest = value-four z 1 1 (P - 1) (P - 1) before reads aux next
-    ∙ rest_number b (slice_index z reads) (slice_index z aux) t g (wire-below assigns before) (wire-below assigns reads) (wire-below assigns aux)
-    (wire-below assigns next) is in
-    let c : ℕ = if n - b == 0 then 0 else g in
-    let d : (t + (P - b)) % P ≡ c = forth b t c (omega arith) (choice (n - b == 0) g bit) e in
-    let both = unless_zero_complete_by (n - b) (slice_index z (next + 1)) g ((t + (P - b)) % P) (omega arith) (omega arith) (mod-lt _ (omega arith)) d hint in
-    (ap₂ (λ m k. m * k % P) left (value-wire assigns (next + 1)) ∙ both.0 ∙ sym rise, (ap₂ (λ m k. m * k % P) left rest ∙ both.1, tt))
-  where
-    choice : (c : Bool) (g : ℕ) → g < 2 → (if c then 0 else g) < 2
-    choice true g h = omega arith
-    choice false g h = h
+  left : value (left_in n before) z ≡ n - b
+  left = left_value z n before assigns ∙ left_number n b within short
 
-    forth : (b t d : ℕ) → b < 2 ^ 29 → d < 2 → t ≡ b + d → (t + (P - b)) % P ≡ d
-    forth b t d k l e = omega arith
+  rise : (t : ℕ) → value ((P - 1, before) ∷ (1, t) ∷ []) z ≡ (slice_index z t + (P - b)) % P
+  rise t = value-two z (P - 1) 1 before t ∙ rise_number b (slice_index z t) (wire-below assigns before) (wire-below assigns t)
+
+  rest : (t : ℕ) → value ((1, before) ∷ (1, reads) ∷ (P - 1, aux) ∷ (P - 1, t) ∷ []) z ≡ (g + (P - (slice_index z t + (P - b)) % P)) % P
+  rest t = value-four z 1 1 (P - 1) (P - 1) before reads aux t
+      ∙ rest_number b (slice_index z reads) (slice_index z aux) (slice_index z t) g (wire-below assigns before) (wire-below assigns reads)
+      (wire-below assigns aux) (wire-below assigns t) is
+
+  more_bit : more < 2
+  more_bit = choice (n - b == 0)
+    where
+      choice : (c : Bool) → (if c then 0 else g) < 2
+      choice true = omega arith
+      choice false = bit
+
+  pub primary_sound : (next : ℕ) → Meets z (primary_of n before reads aux next).list
+      → slice_index z (primary_of n before reads aux next).answer ≡ slice_index z before + (if n - slice_index z before == 0 then 0 else g)
+  unfolding primary_of fresh put pure ◌>>=◌
+  primary_sound next meets =
+      let t = slice_index z next in
+      let first = ap (λ m. m * value (wire (next + 1)) z % P) (sym left) ∙ meets.0 ∙ rise next in
+      let second = ap₂ (λ m k. m * k % P) (sym left) (sym (rest next)) ∙ meets.1.0 in
+      let d : (t + (P - b)) % P ≡ more = unless_zero_by (n - b) (value (wire (next + 1)) z) g ((t + (P - b)) % P) (omega arith)
+      (omega arith) (mod-lt _ (omega arith)) first second in
+      back t more (wire-below assigns next) more_bit d
+    where
+      back : (t d : ℕ) → t < P → d < 2 → (t + (P - b)) % P ≡ d → t ≡ b + d
+      back t d h l e = omega arith
+
+  pub primary_complete : (next : ℕ) → slice_index z next ≡ slice_index z before + (if n - slice_index z before == 0 then 0 else g)
+      → slice_index z (next + 1) ≡ inverse_of (n - slice_index z before) * g % P
+      → Meets z (primary_of n before reads aux next).list
+  unfolding primary_of fresh put pure ◌>>=◌
+  primary_complete next e hint =
+      let t = slice_index z next in
+      let d : (t + (P - b)) % P ≡ more = forth t more more_bit e in
+      let both = unless_zero_complete_by (n - b) (slice_index z (next + 1)) g ((t + (P - b)) % P) (omega arith) (omega arith) (mod-lt _ (omega arith)) d hint in
+      (ap₂ (λ m k. m * k % P) left (value-wire assigns (next + 1)) ∙ both.0 ∙ sym (rise next), (ap₂ (λ m k. m * k % P) left (rest next) ∙ both.1, tt))
+    where
+      forth : (t d : ℕ) → d < 2 → t ≡ b + d → (t + (P - b)) % P ≡ d
+      forth t d l e = omega arith
 
 -- ---- the auxiliary tape
 -- either a word is taken and the tape has not ended, or none is taken and it now has
@@ -251,22 +256,26 @@ sum_number b t e h k l = omega arith
 delta_number : (b e : ℕ) → b < P → e < P → ((P - 1) * b + 1 * e) % P ≡ (e + (P - b)) % P
 delta_number b e h k = omega arith
 
+-- the two constraints' sums, the bit being `ended` before and `after` after the step
+module _ (z : List ℕ) (assigns : Assigns z) (ended takes after : ℕ) where
+  sum : value ((P - 1, ended) ∷ (1, takes) ∷ (1, after) ∷ []) z ≡ (slice_index z takes + (slice_index z after + (P - slice_index z ended)) % P) % P
+  sum = value-three z (P - 1) 1 1 ended takes after
+      ∙ sum_number (slice_index z ended) (slice_index z takes) (slice_index z after) (wire-below assigns ended) (wire-below assigns takes) (wire-below assigns after)
+
+  delta : value ((P - 1, ended) ∷ (1, after) ∷ []) z ≡ (slice_index z after + (P - slice_index z ended)) % P
+  delta = value-two z (P - 1) 1 ended after ∙ delta_number (slice_index z ended) (slice_index z after) (wire-below assigns ended) (wire-below assigns after)
+
 pub auxiliary_sound : (z : List ℕ) (next taken aux before : ℕ) (reads : Bool) → Assigns z → slice_index z aux ≡ flag_of reads → IsBit (slice_index z before)
     → Meets z (auxiliary_of taken aux before next).list
     → Takes (if reads then slice_index z before == 0 else false) (slice_index z before) (slice_index z next) (slice_index z (next + 1))
 unfolding auxiliary_of fresh put pure ◌>>=◌
 auxiliary_sound z next taken aux before reads assigns is bit meets =
     let b = slice_index z before in
-    let t = slice_index z next in
-    let e = slice_index z (next + 1) in
-    let bs = wire-below assigns before in
-    let ts = wire-below assigns next in
-    let es = wire-below assigns (next + 1) in
-    let sum = value-three z (P - 1) 1 1 before next (next + 1) ∙ sum_number b t e bs ts es in
-    let delta = value-two z (P - 1) 1 before (next + 1) ∙ delta_number b e bs es in
-    let left = ap₂ (λ m n. m * n % P) (sym is ∙ sym (value-wire assigns aux)) (sym (value-one_less assigns before)) ∙ meets.0 ∙ sum in
-    let right = ap₂ (λ m n. m * n % P) (sym (value-wire assigns next)) (sym delta) ∙ meets.1.0 in
-    taking_by (if reads then b == 0 else false) b t e bs ts es (asked_is reads b bit ∙ left) right (zeroth reads b bit)
+    let left = ap₂ (λ m n. m * n % P) (sym is ∙ sym (value-wire assigns aux)) (sym (value-one_less assigns before)) ∙ meets.0
+    ∙ sum z assigns before next (next + 1) in
+    let right = ap₂ (λ m n. m * n % P) (sym (value-wire assigns next)) (sym (delta z assigns before next (next + 1))) ∙ meets.1.0 in
+    taking_by (if reads then b == 0 else false) b (slice_index z next) (slice_index z (next + 1)) (wire-below assigns before) (wire-below assigns next)
+    (wire-below assigns (next + 1)) (asked_is reads b bit ∙ left) right (zeroth reads b bit)
   where
     asked_is : (r : Bool) (b : ℕ) → IsBit b → flag_of (if r then b == 0 else false) ≡ flag_of r * ((1 + (P - b)) % P) % P
     asked_is true b bit = elim (bit_cases b bit) [ inl none ↦ rw none refl | inr one ↦ rw one refl ]
@@ -306,16 +315,9 @@ pub auxiliary_complete : (z : List ℕ) (next taken aux before : ℕ) (r t : Boo
     → Meets z (auxiliary_of taken aux before next).list
 unfolding auxiliary_of fresh put pure ◌>>=◌
 auxiliary_complete z next taken aux before r t assigns is is_takes bit asked e =
-    let b = slice_index z before in
-    let ended = slice_index z (next + 1) in
-    let bs = wire-below assigns before in
-    let ts = wire-below assigns next in
-    let es = wire-below assigns (next + 1) in
-    let sum = value-three z (P - 1) 1 1 before next (next + 1) ∙ sum_number b (slice_index z next) ended bs ts es
-    ∙ ap (λ m. (m + (ended + (P - b)) % P) % P) is_takes in
-    let delta = value-two z (P - 1) 1 before (next + 1) ∙ delta_number b ended bs es in
-    let both = taking_numbers r t b ended bit asked e in (
+    let both = taking_numbers r t (slice_index z before) (slice_index z (next + 1)) bit asked e in
+    let change = (slice_index z (next + 1) + (P - slice_index z before)) % P in (
       ap₂ (λ m n. m * n % P) (value-wire assigns aux ∙ is) (value-one_less assigns before) ∙ both.0
-          ∙ sym sum,
-      (ap₂ (λ m n. m * n % P) (value-wire assigns next ∙ is_takes) delta ∙ both.1, tt),
+          ∙ sym (sum z assigns before next (next + 1) ∙ ap (λ m. (m + change) % P) is_takes),
+      (ap₂ (λ m n. m * n % P) (value-wire assigns next ∙ is_takes) (delta z assigns before next (next + 1)) ∙ both.1, tt),
     )

@@ -1,31 +1,32 @@
 -- What an assignment that meets the tapes' constraints has.
 use Rattle.std.proofs.Common.{◌≡◌, ℕ, ◌+◌, ◌-◌, ◌*◌, ◌/◌, ◌%◌, ◌<◌, ◌≤◌, ◌==◌, nat_lt, not, ◌&&◌, Bool, true, false, if◌then◌else◌, [], ◌∷◌, inl, inr, refl}
-use Rattle.std.proofs.Common.{sym, ◌∙◌, ap, ap₂, subst, arith, zero-mul, true≢false}
+use Rattle.std.proofs.Common.{sym, ◌∙◌, ap, ap₂, subst, arith, zero-mul, true≢false, List}
 use Rattle.std.specs.Int.{bit_at}
 use Rattle.std.specs.Prelude.{slice_index}
 use Rattle.std.proofs.lemmas.Bool.{cases_eq, cases_lt, eq-eqb, eqb-true, ne_eqb, lt-ltb, le-ltb, and_parts}
 use Rattle.tv_bits.proofs.BitNumbers.{HasBits-bit_at}
-use Rattle.tv_bits.proofs.TimesLaws.{times_sound}
 use Rattle.tv_bits.specs.Bit.{IsBit}
-use Rattle.tv_bits.specs.Times.{times_of}
 use Rattle.tv_core.proofs.CombinationLaws.{value-wire}
-use Rattle.tv_core.proofs.MeetsLaws.{Meets-split}
 use Rattle.tv_core.specs.Circuits.{fresh, put, pure, ◌>>=◌}
 use Rattle.tv_core.specs.Combinations.{wire}
-use Rattle.tv_core.specs.Constraints.{value}
+use Rattle.tv_core.specs.Inverse.{inverse_of}
 use Rattle.tv_core.specs.declared.field.TheConstants.{P}
+use Rattle.tv_inputs.proofs.Settled.{Settles, if_zero_then, times_then, settles_then}
+use Rattle.tv_inputs.specs.declared.records.OperandWires.{OperandWires}
+use Rattle.tv_inputs.specs.declared.records.StateWires.{StateWires}
 use Rattle.tv_isa.specs.Opcodes.{among}
 use Rattle.tv_isa.specs.declared.instr.Instr.{Instr}
-use Rattle.tv_numbers.specs.Numbers.{operand_word, asks, takes_primary}
+use Rattle.tv_numbers.specs.Numbers.{operand_word, asks, takes_primary, stepped}
 use Rattle.tv_numbers.specs.Views.{View}
 use Rattle.tv_word.proofs.FlagLaws.{flag_small}
 use Rattle.tv_word.proofs.WidthLaws.{width_short}
 use Rattle.tv_inputs.proofs.OpcodeLaws.{opcode_sum_sound}
-use Rattle.tv_inputs.proofs.TapeGates.{if_zero_sound, primary_sound, auxiliary_sound}
+use Rattle.tv_inputs.proofs.TapeGates.{primary_sound, auxiliary_sound, primary_complete, auxiliary_complete}
 use Rattle.tv_inputs.proofs.UpperLaws.{upper_once}
 use Rattle.tv_inputs.specs.OpcodeSums.{opcode_sum}
 use Rattle.tv_inputs.specs.Operand.{upper_of}
-use Rattle.tv_inputs.specs.Tapes.{if_zero_of, primary_of, auxiliary_of, tapes_of, TapesAreSound}
+use Rattle.tv_inputs.specs.Tapes.{primary_of, auxiliary_of, tapes_of, TapesAreSound, HasTapes, tapes_values, AreTapes}
+use Rattle.tv_word.specs.Widths.{IsWidth}
 use Rattle.tv_word.specs.Word.{flag_of}
 
 -- ---- tests
@@ -126,46 +127,83 @@ one_tape v i n true asked p =
     apart a e f = absurd (omega arith)
 one_tape v i n false asked p = refl
 
+primary_next : (n before reads aux next : ℕ) → (primary_of n before reads aux next).next ≡ next + 2
+unfolding primary_of fresh put pure ◌>>=◌
+primary_next n before reads aux next = omega arith
+
 -- ---- the tapes
+-- `takes` is whether a word of the auxiliary tape is taken, where one is asked for
+module _ (w : ℕ) (width : IsWidth w) (z : List ℕ) (n : ℕ) (state : StateWires) (op : ℕ) (a : OperandWires) (v : View) (i : Instr) (o : ℕ) (takes : Bool)
+    (has : HasTapes w z (record { state = state; op = op; operand = a }) n v i) (may : takes ≡ true → asks v i ≡ true) where
+  abbrev at : ℕ
+  at = operand_word v i
+
+  abbrev k : Bool
+  k = i.op == 30
+
+  abbrev zero_read : Bool
+  zero_read = (i.op == 30) && (operand_word v i == 0)
+
+  abbrev after : ℕ
+  after = if takes_primary v i n then v.taken + 1 else v.taken
+
+  low : slice_index z a.bits.first ≡ at % 2
+  low =
+      let most = width_short w width in
+      ap (λ w. slice_index z w) (let e : a.bits.first ≡ a.bits.first + 0 = omega arith in e)
+      ∙ HasBits-bit_at has.operand.bits 0 (omega arith) ∙ (let e : bit_at at 0 ≡ at % 2 = omega arith in e)
+
+  primary_settled : (reads aux : ℕ) → (slice_index z reads + (P - slice_index z aux)) % P ≡ flag_of zero_read
+      → Settles z (primary_of n state.taken_of_primary reads aux) (after ∷ inverse_of (n - v.taken) * flag_of zero_read % P ∷ []) (λ t. slice_index z t ≡ after)
+  primary_settled reads aux none =
+      let before = state.taken_of_primary in
+      let within = subst (λ t. t ≤ n) (sym has.before) has.within in
+      let rise = ap (λ t. t + (if n - t == 0 then 0 else flag_of zero_read)) has.before ∙ more_by zero_read n v.taken has.within in
+      record {
+        sound = λ next meets.
+            primary_sound z n before reads aux (flag_of zero_read) has.assigns has.short within (flag_small zero_read) none next meets ∙ rise;
+        complete = λ next values.
+            primary_complete z n before reads aux (flag_of zero_read) has.assigns has.short within (flag_small zero_read) none next
+            (values.0 ∙ sym rise) (values.1.0 ∙ sym (ap (λ t. inverse_of (n - t) * flag_of zero_read % P) has.before));
+      }
+
+  auxiliary_settled : (taken aux : ℕ) → slice_index z taken ≡ after → slice_index z aux ≡ flag_of (k && (at == 1))
+      → Settles z (auxiliary_of taken aux state.aux_ended) (flag_of takes ∷ (stepped w n v i o takes).ended ∷ []) (λ t. AreTapes z t n v i)
+  unfolding auxiliary_of fresh put pure ◌>>=◌
+  auxiliary_settled taken aux is_taken is_aux =
+      let bit = subst IsBit (sym has.ended) has.bit in
+      let asking : (if k && (at == 1) then slice_index z state.aux_ended == 0 else false) ≡ asks v i =
+      and_if (k && (at == 1)) (slice_index z state.aux_ended == 0) ∙ ap (λ e. (k && (at == 1)) && (e == 0)) has.ended in
+      record {
+        sound = λ next meets.
+            let takings = auxiliary_sound z next taken aux state.aux_ended (k && (at == 1)) has.assigns is_aux bit meets in
+            record {
+              taken = is_taken;
+              takes = takings.took;
+              asked = λ t. sym asking ∙ takings.only t;
+              ended = takings.ends ∙ ap₂ (λ q e. if q then (if slice_index z next == 1 then e else 1) else e) asking has.ended
+                  ∙ ends_by (asks v i) (slice_index z next == 1) v.ended _ refl;
+            };
+        complete = λ next values.
+            auxiliary_complete z next taken aux state.aux_ended (k && (at == 1)) takes has.assigns is_aux values.0 bit
+            (λ t. ap (λ e. (k && (at == 1)) && (e == 0)) has.ended ∙ may t)
+            (values.1.0 ∙ sym (ap (λ e. if ((k && (at == 1)) && (e == 0)) && not takes then 1 else e) has.ended));
+      }
+
+  pub tapes_settled : Settles z (tapes_of w n state op a) (tapes_values w n v i o takes) (λ t. AreTapes z t n v i)
+  unfolding tapes_of
+  tapes_settled =
+      let assigns = has.assigns in
+      let most = width_short w width in
+      if_zero_then assigns _ (opcode_sum op (30 ∷ [])) (upper_of 1 a 1)
+      (opcode_sum_sound z op i.op (30 ∷ []) has.opcode refl ∙ ap flag_of (among_one 30 i.op)) (upper_once w width z a at 1 assigns has.operand (omega arith))
+      (λ reads is_reads.
+      let reading = reading_by k at (slice_index z a.bits.first) (slice_index z reads) (slice_index z reads * slice_index z a.bits.first % P) low is_reads refl in
+      times_then assigns _ (wire reads) (wire a.bits.first)
+      (ap₂ (λ m n. m * n % P) (value-wire assigns reads) (value-wire assigns a.bits.first) ∙ reading.one) (λ aux is_aux.
+      let none = ap (λ m. (slice_index z reads + (P - m)) % P) (is_aux ∙ sym reading.one) ∙ reading.none in
+      settles_then (primary_of n state.taken_of_primary reads aux) _ (after ∷ inverse_of (n - v.taken) * flag_of zero_read % P ∷ []) _
+      (primary_next n state.taken_of_primary reads aux) (primary_settled reads aux none) (λ taken is_taken. auxiliary_settled taken aux is_taken is_aux)))
+
 pub tapes_sound : TapesAreSound
-unfolding tapes_of auxiliary_of fresh put pure ◌>>=◌
-tapes_sound w width z next n state op a v i has meets =
-    let at = operand_word v i in
-    let k = i.op == 30 in
-    let assigns = has.assigns in
-    let most = width_short w width in
-    let before = state.taken_of_primary in
-    let upper = upper_of 1 a 1 in
-    let reads = if_zero_of (opcode_sum op (30 ∷ [])) upper next in
-    let aux = times_of (wire reads.answer) (wire a.bits.first) reads.next in
-    let primary = primary_of n before reads.answer aux.answer aux.next in
-    let m1 = Meets-split z reads.list _ meets in
-    let m2 = Meets-split z aux.list _ m1.1 in
-    let m3 = Meets-split z primary.list _ m2.1 in
-    let high : value upper z ≡ at / 2 = upper_once w width z a at 1 assigns has.operand (omega arith) in
-    let low : slice_index z a.bits.first ≡ at % 2 = ap (λ w. slice_index z w) (let e : a.bits.first ≡ a.bits.first + 0 = omega arith in e)
-    ∙ HasBits-bit_at has.operand.bits 0 (omega arith) ∙ (let e : bit_at at 0 ≡ at % 2 = omega arith in e) in
-    let is_reads : slice_index z reads.answer ≡ (if at / 2 == 0 then flag_of k else 0) =
-    if_zero_sound z next (opcode_sum op (30 ∷ [])) upper assigns m1.0
-    ∙ ap₂ (λ x g. if x == 0 then g else 0) high (opcode_sum_sound z op i.op (30 ∷ []) has.opcode refl ∙ ap flag_of (among_one 30 i.op)) in
-    let is_aux : slice_index z aux.answer ≡ slice_index z reads.answer * slice_index z a.bits.first % P =
-    times_sound z reads.next (wire reads.answer) (wire a.bits.first) assigns m2.0
-    ∙ ap₂ (λ m n. m * n % P) (value-wire assigns reads.answer) (value-wire assigns a.bits.first) in
-    let reading = reading_by k at (slice_index z a.bits.first) (slice_index z reads.answer) (slice_index z aux.answer) low is_reads is_aux in
-    let zero_read = k && (at == 0) in
-    let is_taken : slice_index z primary.answer ≡ (if takes_primary v i n then v.taken + 1 else v.taken) =
-    primary_sound z aux.next n before reads.answer aux.answer (flag_of zero_read) assigns has.short (subst (λ t. t ≤ n) (sym has.before) has.within)
-    (flag_small zero_read) reading.none m3.0
-    ∙ ap (λ t. t + (if n - t == 0 then 0 else flag_of zero_read)) has.before ∙ more_by zero_read n v.taken has.within in
-    let takes = primary.next in
-    let takings = auxiliary_sound z primary.next primary.answer aux.answer state.aux_ended (k && (at == 1)) assigns reading.one
-    (subst IsBit (sym has.ended) has.bit) m3.1 in
-    let asking : (if k && (at == 1) then slice_index z state.aux_ended == 0 else false) ≡ asks v i =
-    and_if (k && (at == 1)) (slice_index z state.aux_ended == 0) ∙ ap (λ e. (k && (at == 1)) && (e == 0)) has.ended in
-    record {
-      taken = is_taken;
-      takes = takings.took;
-      asked = λ t. sym asking ∙ takings.only t;
-      ended = takings.ends ∙ ap₂ (λ q e. if q then (if slice_index z takes == 1 then e else 1) else e) asking has.ended
-          ∙ ends_by (asks v i) (slice_index z takes == 1) v.ended _ refl;
-    }
+tapes_sound w width z next n state op a v i has = (tapes_settled w width z n state op a v i 0 false has (λ e. absurd (true≢false (sym e)))).sound next
