@@ -4,18 +4,17 @@ use Rattle.std.proofs.Common.{sym, ◌∙◌, ap, ap₂, arith, mod-lt}
 use Rattle.std.specs.Int.{bit_at}
 use Rattle.std.specs.Prelude.{slice_index}
 use Rattle.std.proofs.lemmas.Bool.{cases_eq, ne_eqb}
-use Rattle.tv_bits.proofs.TimesLaws.{times_sound, times_complete, times_next}
 use Rattle.tv_bits.specs.Times.{times_of}
 use Rattle.tv_bits.specs.declared.bit_wires.Bits.{Bits}
 use Rattle.tv_core.proofs.CombinationLaws.{value-wire, value-append, value-cons, wire-below}
 use Rattle.tv_core.proofs.FieldLaws.{InField-cons, InField-none}
-use Rattle.tv_core.proofs.MeetsLaws.{Meets-split, Meets-join}
 use Rattle.tv_core.specs.Circuits.{fresh, put, pure, ◌>>=◌}
 use Rattle.tv_core.specs.Combinations.{wire}
 use Rattle.tv_core.specs.Constraints.{value}
 use Rattle.tv_core.specs.Laws.{InField}
 use Rattle.tv_core.specs.Meanings.{terms_in}
 use Rattle.tv_core.specs.declared.field.TheConstants.{P}
+use Rattle.tv_inputs.proofs.Settled.{Settles, times_then, settles_sum}
 use Rattle.tv_isa.specs.Opcodes.{among, chosen, keeper_ops}
 use Rattle.tv_isa.specs.declared.instr.Instr.{Instr}
 use Rattle.tv_numbers.specs.Numbers.{operand_word, other_word, takes_primary, found}
@@ -24,7 +23,6 @@ use Rattle.tv_numbers.proofs.Cases.{chosen_in}
 use Rattle.tv_numbers.specs.Views.{View}
 use Rattle.tv_word.proofs.FlagLaws.{flag_small}
 use Rattle.tv_word.specs.Widths.{IsWidth}
-use Rattle.tv_inputs.proofs.AccumulationLaws.{accumulated_sound, accumulated_complete}
 use Rattle.tv_inputs.proofs.FieldNumbers.{flag_in_field, either}
 use Rattle.tv_parts.proofs.FlagLaws.{raised_ops, flag_sum, FlagCase, flag_number}
 use Rattle.tv_inputs.proofs.OpcodeLaws.{opcode_sum_sound}
@@ -127,45 +125,22 @@ module _ (w : ℕ) (width : IsWidth w) (z : List ℕ) (n : ℕ) (state : StateWi
       product_small true = omega (arith, has.bit)
       product_small false = omega arith
 
--- ---- the laws
+  -- ---- the laws
+  flag_settled : Settles z (next_flag_of w state op x f t) (flag_values w (input_of n v i low) (took z t) (slice_index z f))
+      (λ k. slice_index z k ≡ flag_in w n v i low (took z t))
+  unfolding next_flag_of
+  flag_settled =
+      times_then has.assigns _ (opcode_sum op (11 ∷ [])) ((P - 1, f) ∷ (1, x.first + (w - 1)) ∷ []) left_is (λ left is_left.
+      times_then has.assigns _ (opcode_sum op (12 ∷ [])) ((P - 1, f) ∷ (1, x.first) ∷ []) right_is (λ right is_right.
+      settles_sum has.assigns (tested_in state.taken_of_primary op f t left right) (opcode_sum op keeper_ops) (wire state.flag)
+      (flag_value left right is_left is_right)))
+
 -- the table's flag doesn't depend on the data word
 pub flag_sound : FlagIsSound
-unfolding next_flag_of ◌>>=◌
-flag_sound w width z next n state op x f t v i low high result y o has meets =
-    let assigns = has.assigns in
-    let left = times_of (opcode_sum op (11 ∷ [])) ((P - 1, f) ∷ (1, x.first + (w - 1)) ∷ []) next in
-    let right = times_of (opcode_sum op (12 ∷ [])) ((P - 1, f) ∷ (1, x.first) ∷ []) left.next in
-    let m1 = Meets-split z left.list _ meets in
-    let m2 = Meets-split z right.list _ m1.1 in
-    let is_left = times_sound z next (opcode_sum op (11 ∷ [])) ((P - 1, f) ∷ (1, x.first + (w - 1)) ∷ []) assigns m1.0
-    ∙ left_is w width z n state op x f t v i low high result y has in
-    let is_right = times_sound z left.next (opcode_sum op (12 ∷ [])) ((P - 1, f) ∷ (1, x.first) ∷ []) assigns m2.0
-    ∙ right_is w width z n state op x f t v i low high result y has in
-    accumulated_sound z right.next (tested_in state.taken_of_primary op f t left.answer right.answer) (opcode_sum op keeper_ops) (wire state.flag) assigns m2.1
-    ∙ flag_value w width z n state op x f t v i low high result y has left.answer right.answer is_left is_right
+flag_sound w width z next n state op x f t v i low high result y o has = (flag_settled w width z n state op x f t v i low high result y has).sound next
 
 pub flag_complete : FlagIsComplete
-unfolding next_flag_of ◌>>=◌
-flag_complete w width z next n state op x f t v i low high result y o has values =
-    let assigns = has.assigns in
-    let left = times_of (opcode_sum op (11 ∷ [])) ((P - 1, f) ∷ (1, x.first + (w - 1)) ∷ []) next in
-    let right = times_of (opcode_sum op (12 ∷ [])) ((P - 1, f) ∷ (1, x.first) ∷ []) left.next in
-    let e1 : left.next ≡ next + 1 = times_next (opcode_sum op (11 ∷ [])) ((P - 1, f) ∷ (1, x.first + (w - 1)) ∷ []) next in
-    let e2 : right.next ≡ next + 1 + 1 = times_next (opcode_sum op (12 ∷ [])) ((P - 1, f) ∷ (1, x.first) ∷ []) left.next ∙ ap (λ m. m + 1) e1 in
-    let left_number = left_is w width z n state op x f t v i low high result y has in
-    let right_number = right_is w width z n state op x f t v i low high result y has in
-    let m1 = times_complete z next (opcode_sum op (11 ∷ [])) ((P - 1, f) ∷ (1, x.first + (w - 1)) ∷ []) assigns (values.0 ∙ sym left_number, tt) in
-    let m2 = times_complete z left.next (opcode_sum op (12 ∷ [])) ((P - 1, f) ∷ (1, x.first) ∷ []) assigns
-    (ap (λ k. slice_index z k) e1 ∙ values.1.0 ∙ sym right_number, tt) in
-    let is_left = times_sound z next (opcode_sum op (11 ∷ [])) ((P - 1, f) ∷ (1, x.first + (w - 1)) ∷ []) assigns m1 ∙ left_number in
-    let is_right = times_sound z left.next (opcode_sum op (12 ∷ [])) ((P - 1, f) ∷ (1, x.first) ∷ []) assigns m2 ∙ right_number in
-    let m3 = accumulated_complete z right.next (tested_in state.taken_of_primary op f t left.answer right.answer) (opcode_sum op keeper_ops)
-    (wire state.flag) assigns (
-      ap (λ k. slice_index z k) e2 ∙ values.1.1.0
-          ∙ sym (flag_value w width z n state op x f t v i low high result y has left.answer right.answer is_left is_right),
-      tt,
-    ) in
-    Meets-join z left.list _ m1 (Meets-join z right.list _ m2 m3)
+flag_complete w width z next n state op x f t v i low high result y o has = (flag_settled w width z n state op x f t v i low high result y has).complete next
 
 flag_shape : (w : ℕ) (state : StateWires) (op : ℕ) (x : Bits) (f : ℕ) (t : TapeWires) (next : ℕ) → let made = next_flag_of w state op x f t next in
     (made.answer ≡ next + 2) × (made.next ≡ next + 3) × (length made.list ≡ 3) × (terms_in made.list ≡ 35)

@@ -4,20 +4,19 @@ use Rattle.std.proofs.Common.{sym, ◌∙◌, ap, ap₂, subst, arith, mod-lt}
 use Rattle.std.specs.Prelude.{slice_index}
 use Rattle.std.proofs.lemmas.Bool.{eqb-true, ne_eqb}
 use Rattle.tv_bits.proofs.BitNumbers.{HasBits-below}
-use Rattle.tv_bits.proofs.TimesLaws.{times_sound, times_complete, times_next}
 use Rattle.tv_bits.specs.Bits.{HasBits, bits_combination}
 use Rattle.tv_bits.specs.Times.{times_of}
 use Rattle.tv_core.proofs.CombinationLaws.{value-wire, value-append, value-cons, wire-below}
 use Rattle.tv_core.proofs.FieldLaws.{InField-cons, InField-none, InField-append}
-use Rattle.tv_core.proofs.MeetsLaws.{Meets-split, Meets-join, HasFrom-split}
 use Rattle.tv_core.specs.Below.{weighted}
 use Rattle.tv_core.specs.Circuits.{fresh, put, pure, ◌>>=◌}
 use Rattle.tv_core.specs.Combinations.{wire, constant}
 use Rattle.tv_core.specs.Constraints.{Combination, value}
-use Rattle.tv_core.specs.Laws.{Meets, HasFrom, InField}
+use Rattle.tv_core.specs.Laws.{InField, Fills}
 use Rattle.tv_core.specs.Meanings.{terms_in}
 use Rattle.tv_core.specs.declared.field.TheConstants.{P}
 use Rattle.tv_core.specs.declared.limits.TheConstants.{TAPE_CELLS, NULL_CELL}
+use Rattle.tv_inputs.proofs.Settled.{Settles, sum_then, times_then, settles_sum, settles_then, settles_to, settles_pure}
 use Rattle.tv_isa.specs.Opcodes.{among, memory_ops}
 use Rattle.tv_isa.specs.declared.instr.Instr.{Instr}
 use Rattle.tv_mem.specs.Bytes.{byte_of}
@@ -27,17 +26,16 @@ use Rattle.tv_step.specs.Rows.{word_size}
 use Rattle.tv_step.specs.Trace.{tape_cell}
 use Rattle.tv_word.proofs.WidthLaws.{for_widths, word_small}
 use Rattle.tv_word.specs.Widths.{IsWidth}
-use Rattle.tv_inputs.proofs.AccumulationLaws.{accumulated_sound, accumulated_complete, accumulated_next}
 use Rattle.tv_inputs.proofs.FieldNumbers.{small_word, byte_small, either, flag_times}
-use Rattle.tv_parts.proofs.MemoryLaws.{located_is, line_cell, line_old, word_below, power_two, power_four, put_in_by, place_small, byte_value}
-use Rattle.tv_parts.proofs.MemoryLaws.{low_bit, next_bit, parity_bit, new_by, byte_laws}
+use Rattle.tv_parts.proofs.MemoryLaws.{located_is, line_cell, line_old, word_below, power_two, power_four, put_in_by, place_small, byte_value, byte_settled}
+use Rattle.tv_parts.proofs.MemoryLaws.{low_bit, next_bit, parity_bit, new_by}
 use Rattle.tv_inputs.proofs.OpcodeLaws.{opcode_sum_sound}
 use Rattle.tv_inputs.proofs.TapeGates.{value-two, value-four}
 use Rattle.tv_inputs.proofs.TapeLaws.{among_one}
-use Rattle.tv_inputs.specs.Accumulation.{closed_of, accumulated_of}
+use Rattle.tv_inputs.specs.Accumulation.{closed_of}
 use Rattle.tv_inputs.specs.Inputs.{input_of}
 use Rattle.tv_parts.specs.Memory.{located_line, byte_of_pair, byte_of_four, byte_at_of, power_in, new_of, memory_of, line_values, byte_values, gained}
-use Rattle.tv_parts.specs.Memory.{new_values, memory_values, HasMemory, MemoryIsSound, MemoryIsComplete, MemorySizes, MemoryCosts}
+use Rattle.tv_parts.specs.Memory.{new_values, memory_values, HasMemory, MemoryIsSound, MemoryIsComplete, MemorySizes, MemoryCosts, AreStored}
 use Rattle.tv_inputs.specs.OpcodeSums.{opcode_sum}
 use Rattle.tv_inputs.specs.Operand.{upper_of}
 use Rattle.tv_inputs.specs.Tapes.{primary_in}
@@ -64,6 +62,28 @@ power_is z a both at one is w width = for_widths (λ w. HasBits z a w at → val
         ∙ ap₂ (λ m b. (1 * m + 255 * b + 65535 * slice_index z (a + 1) + 16711425 * slice_index z both) % P) one b0
         ∙ ap₂ (λ b c. (1 * 1 + 255 * (at % 2) + 65535 * b + 16711425 * c) % P) b1 (is ∙ ap₂ (λ b c. b * c % P) b0 b1)
         ∙ power_four at (at % 2) (at / 2 % 2) (parity_bit at) (parity_bit (at / 2)) (omega arith)
+
+-- ---- where the parts end
+line_next : (w : ℕ) (state : StateWires) (op : ℕ) (a : OperandWires) (word : ℕ) (t : TapeWires) (next : ℕ)
+    → (located_line w state op a word t next).next ≡ next + 3
+unfolding located_line times_of closed_of fresh put pure ◌>>=◌
+line_next w state op a word t next = omega arith
+
+two_fills : (bits a o at : ℕ) → Fills (byte_at_of 16 bits a) (byte_values 16 o at)
+unfolding byte_at_of byte_of_pair closed_of fresh put pure ◌>>=◌
+two_fills bits a o at next = refl
+
+four_fills : (bits a o at : ℕ) → Fills (byte_at_of 32 bits a) (byte_values 32 o at)
+unfolding byte_at_of byte_of_four byte_of_pair closed_of fresh put pure ◌>>=◌
+four_fills bits a o at next = omega arith
+
+byte_fills : (w : ℕ) → IsWidth w → (bits a o at : ℕ) → Fills (byte_at_of w bits a) (byte_values w o at)
+byte_fills w width = for_widths (λ w. (bits a o at : ℕ) → Fills (byte_at_of w bits a) (byte_values w o at)) two_fills four_fills w width
+
+-- the wires are those of the data line
+record AreLine (w : ℕ) (z : List ℕ) (line : LineWires) (n : ℕ) (v : View) (i : Instr) (o : ℕ) : Type 0 where
+  pub cell : slice_index z line.cell ≡ (data_line w n v i o 0).cell
+  pub old : slice_index z line.old ≡ old_in n v i o
 
 -- ---- the word after the step
 module _ (w : ℕ) (width : IsWidth w) (z : List ℕ) (n : ℕ) (state : StateWires) (op : ℕ) (a : OperandWires) (d : DataWires) (t : TapeWires) (v : View)
@@ -118,160 +138,47 @@ module _ (w : ℕ) (width : IsWidth w) (z : List ℕ) (n : ℕ) (state : StateWi
       kept : (k : ℕ) → i.op ≡ k → among memory_ops k ≡ true → old_in n v i o ≡ o
       kept k e f = ap (λ b. if b || takes_primary v i n then o else 0) (ap (among memory_ops) e ∙ f)
 
--- ---- where the parts end
-line_next : (w : ℕ) (state : StateWires) (op : ℕ) (a : OperandWires) (word : ℕ) (t : TapeWires) (next : ℕ)
-    → (located_line w state op a word t next).next ≡ next + 3
-unfolding located_line times_of closed_of fresh put pure ◌>>=◌
-line_next w state op a word t next = omega arith
+  -- ---- the parts
+  line_settled : Settles z (located_line w state op a d.word t) (line_values w n v i o) (λ line. AreLine w z line n v i o)
+  unfolding located_line
+  line_settled =
+      sum_then has.assigns _ (constant NULL_CELL) (opcode_sum op memory_ops) ((P - NULL_CELL, 0) ∷ upper_of 1 a (w / 16))
+      (located_is w width z n state op a d t v i x o has) (λ located is_located.
+      sum_then has.assigns _ (wire located) (primary_in state t) ((TAPE_CELLS, 0) ∷ (1, state.taken_of_primary) ∷ (P - 1, located) ∷ [])
+      (line_cell w width z n state op a d t v i x o has located is_located) (λ cell is_cell.
+      times_then has.assigns _ ((P - 1, state.taken_of_primary) ∷ (opcode_sum op memory_ops ++ wire t.taken)) (wire d.word)
+      (line_old w width z n state op a d t v i x o has) (λ old is_old.
+      settles_pure _ (record { cell = is_cell; old = is_old }))))
 
-two_next : (bits a next : ℕ) → (byte_at_of 16 bits a next).next ≡ next + 1
-unfolding byte_at_of byte_of_pair closed_of fresh put pure ◌>>=◌
-two_next bits a next = refl
+  new_settled : (line : LineWires) (byte : ℕ) → slice_index z line.old ≡ old_in n v i o → slice_index z byte ≡ byte_of o j
+      → Settles z (new_of w op d a line byte) (new_values w (input_of n v i o) x) (λ k. slice_index z k ≡ (data_line w n v i o 0).new)
+  unfolding new_of
+  new_settled line byte is_old is_byte =
+      times_then has.assigns _ (power_in w a.bits.first d.both) (change_terms byte) (change_is byte is_byte) (λ change is_change.
+      times_then has.assigns _ (opcode_sum op (26 ∷ [])) (wire change) (changed_is change is_change) (λ changed is_changed.
+      settles_sum has.assigns (wire line.old ++ wire changed) (opcode_sum op (28 ∷ [])) ((1, d.other) ∷ (P - 1, d.word) ∷ [])
+      (new_is line.old changed is_old is_changed)))
 
-four_next : (bits a next : ℕ) → (byte_at_of 32 bits a next).next ≡ next + 3
-unfolding byte_at_of byte_of_four byte_of_pair closed_of fresh put pure ◌>>=◌
-four_next bits a next = omega arith
+  -- ---- the laws
+  memory_settled : Settles z (memory_of w state op a d t) (memory_values w (input_of n v i o) x) (λ s. AreStored w z s (input_of n v i o))
+  unfolding memory_of
+  memory_settled =
+      settles_then (located_line w state op a d.word t) _ (line_values w n v i o) (byte_values w o at ++ new_values w (input_of n v i o) x)
+      (line_next w state op a d.word t) line_settled (λ line are.
+      settles_then (byte_at_of w d.bits a.bits.first) _ (byte_values w o at) (new_values w (input_of n v i o) x) (byte_fills w width d.bits a.bits.first o at)
+      (byte_settled z d.bits a.bits.first o at has.assigns w width has.bits has.operand.bits) (λ byte is_byte.
+      settles_to (new_of w op d a line byte) _ (new_settled line byte are.old is_byte) (λ new is_new. record {
+        cell = are.cell;
+        old = are.old;
+        new = is_new;
+        byte = is_byte;
+      })))
 
-byte_next : (w : ℕ) → IsWidth w → (bits a next : ℕ) → (byte_at_of w bits a next).next ≡ next + (w / 8 - 1)
-byte_next w width = for_widths (λ w. (bits a next : ℕ) → (byte_at_of w bits a next).next ≡ next + (w / 8 - 1)) two_next four_next w width
-
--- ---- the parts
-record AreLine (w : ℕ) (z : List ℕ) (line : LineWires) (n : ℕ) (v : View) (i : Instr) (o : ℕ) : Type 0 where
-  pub cell : slice_index z line.cell ≡ (data_line w n v i o 0).cell
-  pub old : slice_index z line.old ≡ old_in n v i o
-
-line_sound : (w : ℕ) (width : IsWidth w) (z : List ℕ) (next n : ℕ) (state : StateWires) (op : ℕ) (a : OperandWires) (d : DataWires) (t : TapeWires) (v : View)
-    (i : Instr) (x o : ℕ)
-    → HasMemory w z (record { state = state; op = op; operand = a; tapes = t }) d (input_of n v i o) x
-    → Meets z (located_line w state op a d.word t next).list → AreLine w z (located_line w state op a d.word t next).answer n v i o
-unfolding located_line pure ◌>>=◌
-line_sound w width z next n state op a d t v i x o has meets =
-    let assigns = has.assigns in
-    let cells = (P - NULL_CELL, 0) ∷ upper_of 1 a (w / 16) in
-    let located = accumulated_of (constant NULL_CELL) (opcode_sum op memory_ops) cells next in
-    let tape = (TAPE_CELLS, 0) ∷ (1, state.taken_of_primary) ∷ (P - 1, located.answer) ∷ [] in
-    let cell = accumulated_of (wire located.answer) (primary_in state t) tape located.next in
-    let gate = (P - 1, state.taken_of_primary) ∷ (opcode_sum op memory_ops ++ wire t.taken) in
-    let old = times_of gate (wire d.word) cell.next in
-    let m1 = Meets-split z located.list _ meets in
-    let m2 = Meets-split z cell.list _ m1.1 in
-    let m3 = Meets-split z old.list _ m2.1 in
-    let is = accumulated_sound z next (constant NULL_CELL) (opcode_sum op memory_ops) cells assigns m1.0 ∙ located_is w width z n state op a d t v i x o has in
-    record {
-      cell = accumulated_sound z located.next (wire located.answer) (primary_in state t) tape assigns m2.0
-          ∙ line_cell w width z n state op a d t v i x o has located.answer is;
-      old = times_sound z cell.next gate (wire d.word) assigns m3.0 ∙ line_old w width z n state op a d t v i x o has;
-    }
-
-line_complete : (w : ℕ) (width : IsWidth w) (z : List ℕ) (next n : ℕ) (state : StateWires) (op : ℕ) (a : OperandWires) (d : DataWires) (t : TapeWires)
-    (v : View) (i : Instr) (x o : ℕ)
-    → HasMemory w z (record { state = state; op = op; operand = a; tapes = t }) d (input_of n v i o) x
-    → HasFrom z next (line_values w n v i o) → Meets z (located_line w state op a d.word t next).list
-unfolding located_line pure ◌>>=◌
-line_complete w width z next n state op a d t v i x o has values =
-    let assigns = has.assigns in
-    let cells = (P - NULL_CELL, 0) ∷ upper_of 1 a (w / 16) in
-    let located = accumulated_of (constant NULL_CELL) (opcode_sum op memory_ops) cells next in
-    let tape = (TAPE_CELLS, 0) ∷ (1, state.taken_of_primary) ∷ (P - 1, located.answer) ∷ [] in
-    let cell = accumulated_of (wire located.answer) (primary_in state t) tape located.next in
-    let gate = (P - 1, state.taken_of_primary) ∷ (opcode_sum op memory_ops ++ wire t.taken) in
-    let old = times_of gate (wire d.word) cell.next in
-    let e1 : located.next ≡ next + 1 = accumulated_next (constant NULL_CELL) (opcode_sum op memory_ops) cells next in
-    let e2 : cell.next ≡ next + 1 + 1 = accumulated_next (wire located.answer) (primary_in state t) tape located.next ∙ ap (λ k. k + 1) e1 in
-    let number = located_is w width z n state op a d t v i x o has in
-    let m1 = accumulated_complete z next (constant NULL_CELL) (opcode_sum op memory_ops) cells assigns (values.0 ∙ sym number, tt) in
-    let is = accumulated_sound z next (constant NULL_CELL) (opcode_sum op memory_ops) cells assigns m1 ∙ number in
-    let m2 = accumulated_complete z located.next (wire located.answer) (primary_in state t) tape assigns
-    (ap (λ k. slice_index z k) e1 ∙ values.1.0 ∙ sym (line_cell w width z n state op a d t v i x o has located.answer is), tt) in
-    let m3 = times_complete z cell.next gate (wire d.word) assigns
-    (ap (λ k. slice_index z k) e2 ∙ values.1.1.0 ∙ sym (line_old w width z n state op a d t v i x o has), tt) in
-    Meets-join z located.list _ m1 (Meets-join z cell.list _ m2 (Meets-join z old.list _ m3 tt))
-
-new_sound : (w : ℕ) (width : IsWidth w) (z : List ℕ) (next n : ℕ) (state : StateWires) (op : ℕ) (a : OperandWires) (d : DataWires) (t : TapeWires) (v : View)
-    (i : Instr) (x o : ℕ)
-    → HasMemory w z (record { state = state; op = op; operand = a; tapes = t }) d (input_of n v i o) x
-    → (line : LineWires) (byte : ℕ) → slice_index z line.old ≡ old_in n v i o → slice_index z byte ≡ byte_of o (operand_word v i % word_size w)
-    → Meets z (new_of w op d a line byte next).list → slice_index z (new_of w op d a line byte next).answer ≡ (data_line w n v i o 0).new
-unfolding new_of ◌>>=◌
-new_sound w width z next n state op a d t v i x o has line byte is_old is_byte meets =
-    let assigns = has.assigns in
-    let other = bits_combination d.x.first 8 ++ (P - 1, byte) ∷ [] in
-    let change = times_of (power_in w a.bits.first d.both) other next in
-    let changed = times_of (opcode_sum op (26 ∷ [])) (wire change.answer) change.next in
-    let m1 = Meets-split z change.list _ meets in
-    let m2 = Meets-split z changed.list _ m1.1 in
-    let is_change = times_sound z next (power_in w a.bits.first d.both) other assigns m1.0 ∙ change_is w width z n state op a d t v i x o has byte is_byte in
-    let is_changed = times_sound z change.next (opcode_sum op (26 ∷ [])) (wire change.answer) assigns m2.0
-    ∙ changed_is w width z n state op a d t v i x o has change.answer is_change in
-    accumulated_sound z changed.next (wire line.old ++ wire changed.answer) (opcode_sum op (28 ∷ [])) ((1, d.other) ∷ (P - 1, d.word) ∷ []) assigns m2.1
-    ∙ new_is w width z n state op a d t v i x o has line.old changed.answer is_old is_changed
-
-new_complete : (w : ℕ) (width : IsWidth w) (z : List ℕ) (next n : ℕ) (state : StateWires) (op : ℕ) (a : OperandWires) (d : DataWires) (t : TapeWires) (v : View)
-    (i : Instr) (x o : ℕ)
-    → HasMemory w z (record { state = state; op = op; operand = a; tapes = t }) d (input_of n v i o) x
-    → (line : LineWires) (byte : ℕ) → slice_index z line.old ≡ old_in n v i o → slice_index z byte ≡ byte_of o (operand_word v i % word_size w)
-    → HasFrom z next (new_values w (input_of n v i o) x) → Meets z (new_of w op d a line byte next).list
-unfolding new_of ◌>>=◌
-new_complete w width z next n state op a d t v i x o has line byte is_old is_byte values =
-    let assigns = has.assigns in
-    let other = bits_combination d.x.first 8 ++ (P - 1, byte) ∷ [] in
-    let change = times_of (power_in w a.bits.first d.both) other next in
-    let changed = times_of (opcode_sum op (26 ∷ [])) (wire change.answer) change.next in
-    let e1 : change.next ≡ next + 1 = times_next (power_in w a.bits.first d.both) other next in
-    let e2 : changed.next ≡ next + 1 + 1 = times_next (opcode_sum op (26 ∷ [])) (wire change.answer) change.next ∙ ap (λ k. k + 1) e1 in
-    let change_number = change_is w width z n state op a d t v i x o has byte is_byte in
-    let m1 = times_complete z next (power_in w a.bits.first d.both) other assigns (values.0 ∙ sym change_number, tt) in
-    let is_change = times_sound z next (power_in w a.bits.first d.both) other assigns m1 ∙ change_number in
-    let changed_number = changed_is w width z n state op a d t v i x o has change.answer is_change in
-    let m2 = times_complete z change.next (opcode_sum op (26 ∷ [])) (wire change.answer) assigns
-    (ap (λ k. slice_index z k) e1 ∙ values.1.0 ∙ sym changed_number, tt) in
-    let is_changed = times_sound z change.next (opcode_sum op (26 ∷ [])) (wire change.answer) assigns m2 ∙ changed_number in
-    let m3 = accumulated_complete z changed.next (wire line.old ++ wire changed.answer) (opcode_sum op (28 ∷ [])) ((1, d.other) ∷ (P - 1, d.word) ∷ []) assigns
-    (ap (λ k. slice_index z k) e2 ∙ values.1.1.0 ∙ sym (new_is w width z n state op a d t v i x o has line.old changed.answer is_old is_changed), tt) in
-    Meets-join z change.list _ m1 (Meets-join z changed.list _ m2 m3)
-
--- ---- the laws
 pub memory_sound : MemoryIsSound
-unfolding memory_of pure ◌>>=◌
-memory_sound w width z next n state op a d t v i x o has meets =
-    let line = located_line w state op a d.word t next in
-    let byte = byte_at_of w d.bits a.bits.first line.next in
-    let new = new_of w op d a line.answer byte.answer byte.next in
-    let m1 = Meets-split z line.list _ meets in
-    let m2 = Meets-split z byte.list _ m1.1 in
-    let m3 = Meets-split z new.list _ m2.1 in
-    let are = line_sound w width z next n state op a d t v i x o has m1.0 in
-    let is_byte = (byte_laws z line.next d.bits a.bits.first o (operand_word v i) has.assigns w width has.bits has.operand.bits).0 m2.0 in
-    record {
-      cell = are.cell;
-      old = are.old;
-      new = new_sound w width z byte.next n state op a d t v i x o has line.answer byte.answer are.old is_byte m3.0;
-      byte = is_byte;
-    }
-
-byte_length : (w : ℕ) → IsWidth w → (o a : ℕ) → length (byte_values w o a) ≡ w / 8 - 1
-byte_length w width o a = for_widths (λ w. length (byte_values w o a) ≡ w / 8 - 1) refl refl w width
+memory_sound w width z next n state op a d t v i x o has = (memory_settled w width z n state op a d t v i x o has).sound next
 
 pub memory_complete : MemoryIsComplete
-unfolding memory_of pure ◌>>=◌
-memory_complete w width z next n state op a d t v i x o has values =
-    let at = operand_word v i in
-    let line = located_line w state op a d.word t next in
-    let byte = byte_at_of w d.bits a.bits.first line.next in
-    let new = new_of w op d a line.answer byte.answer byte.next in
-    let e1 : line.next ≡ next + 3 = line_next w state op a d.word t next in
-    let e2 : byte.next ≡ next + 3 + length (byte_values w o at) = byte_next w width d.bits a.bits.first line.next
-    ∙ ap₂ (λ m k. m + k) e1 (sym (byte_length w width o at)) in
-    let first = HasFrom-split z next (line_values w n v i o) (byte_values w o at ++ new_values w (input_of n v i o) x) values in
-    let second = HasFrom-split z (next + 3) (byte_values w o at) (new_values w (input_of n v i o) x) first.1 in
-    let m1 = line_complete w width z next n state op a d t v i x o has first.0 in
-    let are = line_sound w width z next n state op a d t v i x o has m1 in
-    let laws = byte_laws z line.next d.bits a.bits.first o at has.assigns w width has.bits has.operand.bits in
-    let m2 = laws.1 (subst (λ k. HasFrom z k (byte_values w o at)) (sym e1) second.0) in
-    let is_byte = laws.0 m2 in
-    let m3 = new_complete w width z byte.next n state op a d t v i x o has line.answer byte.answer are.old is_byte
-    (subst (λ k. HasFrom z k (new_values w (input_of n v i o) x)) (sym e2) second.1) in
-    Meets-join z line.list _ m1 (Meets-join z byte.list _ m2 (Meets-join z new.list _ m3 tt))
+memory_complete w width z next n state op a d t v i x o has = (memory_settled w width z n state op a d t v i x o has).complete next
 
 -- ---- sizes and costs
 abbrev wires_from : ℕ → ℕ → ℕ → ℕ → StoreWires

@@ -9,13 +9,13 @@ use Rattle.tv_bits.proofs.BitNumbers.{value-bits_below, HasBits-below, HasBits-h
 use Rattle.tv_bits.specs.Bit.{IsBit}
 use Rattle.tv_bits.specs.Bits.{HasBits, bits_combination}
 use Rattle.tv_core.proofs.CombinationLaws.{value-wire, value-append, value-cons, value-scaled, value-constant, value-below}
-use Rattle.tv_core.proofs.MeetsLaws.{Meets-split, Meets-join}
-use Rattle.tv_core.specs.Circuits.{put, ◌>>=◌}
+use Rattle.tv_core.specs.Circuits.{put}
 use Rattle.tv_core.specs.Combinations.{wire, constant, scaled}
 use Rattle.tv_core.specs.Constraints.{Combination, value}
-use Rattle.tv_core.specs.Laws.{Assigns, Meets, HasFrom}
+use Rattle.tv_core.specs.Laws.{Assigns}
 use Rattle.tv_core.specs.declared.field.TheConstants.{P}
 use Rattle.tv_core.specs.declared.limits.TheConstants.{TAPE_CELLS, NULL_CELL}
+use Rattle.tv_inputs.proofs.Settled.{Settles, sum_then, settles_sum}
 use Rattle.tv_isa.specs.Opcodes.{among, memory_ops}
 use Rattle.tv_isa.specs.declared.instr.Instr.{Instr}
 use Rattle.tv_mem.specs.Bytes.{byte_of}
@@ -25,13 +25,11 @@ use Rattle.tv_step.specs.Rows.{word_size}
 use Rattle.tv_step.specs.Trace.{tape_cell}
 use Rattle.tv_word.proofs.WidthLaws.{width_short, for_widths}
 use Rattle.tv_word.specs.Widths.{IsWidth}
-use Rattle.tv_inputs.proofs.AccumulationLaws.{accumulated_sound, accumulated_complete, accumulated_next}
 use Rattle.tv_inputs.proofs.FieldNumbers.{small_word, byte_small, flag_times}
 use Rattle.tv_inputs.proofs.TapeLaws.{no_primary}
 use Rattle.tv_inputs.proofs.OpcodeLaws.{opcode_sum_sound}
 use Rattle.tv_inputs.proofs.TapeGates.{value-two, value-three}
 use Rattle.tv_inputs.proofs.UpperLaws.{upper_once}
-use Rattle.tv_inputs.specs.Accumulation.{accumulated_of}
 use Rattle.tv_inputs.specs.Inputs.{input_of}
 use Rattle.tv_parts.specs.Memory.{byte_of_pair, byte_of_four, byte_at_of, byte_values, gained, HasMemory}
 use Rattle.tv_inputs.specs.OpcodeSums.{opcode_sum}
@@ -225,7 +223,7 @@ next_bit z first w at some s = HasBits-bit_at s 1 some ∙ (let e : bit_at at 1 
 pub parity_bit : (n : ℕ) → IsBit (n % 2)
 parity_bit n = omega arith
 
-module _ (z : List ℕ) (next bits a o at : ℕ) (assigns : Assigns z) where
+module _ (z : List ℕ) (bits a o at : ℕ) (assigns : Assigns z) where
   -- one of two bytes, from number j on
   pair_is : (w j k : ℕ) → (first : ℕ) → first ≡ bits + 8 * j → 8 * j + (16 + k) ≡ w → HasBits z bits w o → slice_index z a ≡ at % 2
       → (value (bits_combination first 8) z + value (wire a) z * value (scaled (P - 1) (bits_combination first 8) ++ bits_combination (first + 8) 8) z) % P
@@ -249,55 +247,28 @@ module _ (z : List ℕ) (next bits a o at : ℕ) (assigns : Assigns z) where
 
   abbrev Byte : ℕ → Type 0
   Byte w = HasBits z bits w o → HasBits z a w at
-      → (Meets z (byte_at_of w bits a next).list → slice_index z (byte_at_of w bits a next).answer ≡ byte_of o (at % (w / 8)))
-      × (HasFrom z next (byte_values w o at) → Meets z (byte_at_of w bits a next).list)
+      → Settles z (byte_at_of w bits a) (byte_values w o at) (λ k. slice_index z k ≡ byte_of o (at % (w / 8)))
 
   two_byte : Byte 16
   unfolding byte_at_of byte_of_pair
   two_byte s r =
-      let value_is = pair_is 16 0 0 bits (omega arith) refl s (low_bit z a 16 at (omega arith) r) ∙ choice_low in (
-        (λ meets. accumulated_sound z next (bits_combination bits 8) (wire a)
-            (scaled (P - 1) (bits_combination bits 8) ++ bits_combination (bits + 8) 8) assigns meets ∙ value_is),
-        (λ has. accumulated_complete z next (bits_combination bits 8) (wire a)
-            (scaled (P - 1) (bits_combination bits 8) ++ bits_combination (bits + 8) 8) assigns (has.0 ∙ sym value_is, tt)),
-      )
+      settles_sum assigns (bits_combination bits 8) (wire a) (scaled (P - 1) (bits_combination bits 8) ++ bits_combination (bits + 8) 8)
+      (pair_is 16 0 0 bits (omega arith) refl s (low_bit z a 16 at (omega arith) r) ∙ choice_low)
 
   four_byte : Byte 32
-  unfolding byte_at_of byte_of_four byte_of_pair ◌>>=◌
+  unfolding byte_at_of byte_of_four byte_of_pair
   four_byte s r =
       let b0 = low_bit z a 32 at (omega arith) r in
       let b1 = next_bit z a 32 at (omega arith) r in
-      let low_is = pair_is 32 0 16 bits (omega arith) refl s b0 ∙ choice_low in
-      let high_is = pair_is 32 2 0 (bits + 16) (omega arith) refl s b0 ∙ choice_high in
-      let low_bits = bits_combination bits 8 in
-      let low_rest = scaled (P - 1) low_bits ++ bits_combination (bits + 8) 8 in
-      let high_bits = bits_combination (bits + 16) 8 in
-      let high_rest = scaled (P - 1) high_bits ++ bits_combination (bits + 16 + 8) 8 in
-      let low = accumulated_of low_bits (wire a) low_rest next in
-      let high = accumulated_of high_bits (wire a) high_rest low.next in
-      let e1 : low.next ≡ next + 1 = accumulated_next low_bits (wire a) low_rest next in
-      let e2 : high.next ≡ next + 1 + 1 = accumulated_next high_bits (wire a) high_rest low.next ∙ ap (λ k. k + 1) e1 in
-      let last : slice_index z low.answer ≡ byte_of o (at % 2) → slice_index z high.answer ≡ byte_of o (2 + at % 2)
-      → (value (wire low.answer) z + value (wire (a + 1)) z * value ((P - 1, low.answer) ∷ (1, high.answer) ∷ []) z) % P ≡ byte_of o (at % 4) =
-      λ l h. ap₂ (λ m k. (m + k) % P) (value-wire assigns low.answer ∙ l)
-      (ap₂ (λ b k. b * k) (value-wire assigns (a + 1) ∙ b1) (value-two z (P - 1) 1 low.answer high.answer ∙ ap₂ (λ m k. ((P - 1) * m + 1 * k) % P) l h))
+      sum_then assigns _ (bits_combination bits 8) (wire a) (scaled (P - 1) (bits_combination bits 8) ++ bits_combination (bits + 8) 8)
+      (pair_is 32 0 16 bits (omega arith) refl s b0 ∙ choice_low) (λ low is_low.
+      sum_then assigns _ (bits_combination (bits + 16) 8) (wire a) (scaled (P - 1) (bits_combination (bits + 16) 8) ++ bits_combination (bits + 16 + 8) 8)
+      (pair_is 32 2 0 (bits + 16) (omega arith) refl s b0 ∙ choice_high) (λ high is_high.
+      settles_sum assigns (wire low) (wire (a + 1)) ((P - 1, low) ∷ (1, high) ∷ [])
+      (ap₂ (λ m k. (m + k) % P) (value-wire assigns low ∙ is_low) (ap₂ (λ b k. b * k) (value-wire assigns (a + 1) ∙ b1)
+      (value-two z (P - 1) 1 low high ∙ ap₂ (λ m k. ((P - 1) * m + 1 * k) % P) is_low is_high))
       ∙ four_number (at / 2 % 2) (byte_of o (2 + at % 2)) (byte_of o (at % 2)) (parity_bit (at / 2)) (byte_small o (2 + at % 2)) (byte_small o (at % 2))
-      ∙ choice_four in (
-        (λ meets.
-            let m1 = Meets-split z low.list _ meets in
-            let m2 = Meets-split z high.list _ m1.1 in
-            accumulated_sound z high.next (wire low.answer) (wire (a + 1)) ((P - 1, low.answer) ∷ (1, high.answer) ∷ []) assigns m2.1
-            ∙ last (accumulated_sound z next low_bits (wire a) low_rest assigns m1.0 ∙ low_is)
-            (accumulated_sound z low.next high_bits (wire a) high_rest assigns m2.0 ∙ high_is)),
-        (λ has.
-            let m1 = accumulated_complete z next low_bits (wire a) low_rest assigns (has.0 ∙ sym low_is, tt) in
-            let m2 = accumulated_complete z low.next high_bits (wire a) high_rest assigns (ap (λ k. slice_index z k) e1 ∙ has.1.0 ∙ sym high_is, tt) in
-            let value_is = last (accumulated_sound z next low_bits (wire a) low_rest assigns m1 ∙ low_is)
-            (accumulated_sound z low.next high_bits (wire a) high_rest assigns m2 ∙ high_is) in
-            let m3 = accumulated_complete z high.next (wire low.answer) (wire (a + 1)) ((P - 1, low.answer) ∷ (1, high.answer) ∷ []) assigns
-            (ap (λ k. slice_index z k) e2 ∙ has.1.1.0 ∙ sym value_is, tt) in
-            Meets-join z low.list _ m1 (Meets-join z high.list _ m2 m3)),
-      )
+      ∙ choice_four)))
     where
       four_number : (b x y : ℕ) → IsBit b → x < P → y < P → (y + b * (((P - 1) * y + 1 * x) % P)) % P ≡ (if b == 1 then x else y)
       four_number b x y s h k = elim (bit_cases b s) [
@@ -305,5 +276,5 @@ module _ (z : List ℕ) (next bits a o at : ℕ) (assigns : Assigns z) where
         | inr one ↦ rw one (let d : (y + 1 * (((P - 1) * y + 1 * x) % P)) % P ≡ x = omega arith in d)
       ]
 
-  pub byte_laws : (w : ℕ) → IsWidth w → Byte w
-  byte_laws w width = for_widths Byte two_byte four_byte w width
+  pub byte_settled : (w : ℕ) → IsWidth w → Byte w
+  byte_settled w width = for_widths Byte two_byte four_byte w width

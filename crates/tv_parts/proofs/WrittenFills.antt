@@ -8,26 +8,29 @@ use Rattle.std.proofs.lemmas.List.{length-set}
 use Rattle.tv_bits.proofs.GateLaws.{terms-append}
 use Rattle.tv_bits.specs.Bit.{IsBit}
 use Rattle.tv_core.proofs.CombinationLaws.{value-wire}
-use Rattle.tv_core.proofs.MeetsLaws.{Meets-join}
 use Rattle.tv_core.specs.Circuits.{fresh, put, pure, ◌>>=◌}
 use Rattle.tv_core.specs.Combinations.{wire}
 use Rattle.tv_core.specs.Constraints.{value}
 use Rattle.tv_core.specs.Laws.{HasFrom}
 use Rattle.tv_core.specs.Meanings.{terms_in}
 use Rattle.tv_core.specs.declared.field.TheConstants.{P}
+use Rattle.tv_inputs.proofs.Settled.{Settles, sum_then}
+use Rattle.tv_inputs.specs.Inputs.{input_of}
 use Rattle.tv_isa.specs.Opcodes.{among, writer_ops}
+use Rattle.tv_isa.specs.declared.instr.Instr.{Instr}
 use Rattle.tv_numbers.specs.Numbers.{writes, stepped, result_in}
-use Rattle.tv_regs.proofs.UpdateLaws.{update_complete, update_sizes, update_costs}
+use Rattle.tv_numbers.specs.Views.{View}
+use Rattle.tv_regs.proofs.UpdateLaws.{update_complete, update_sizes, update_costs, update_sound}
 use Rattle.tv_bits.specs.Wires.{words_at}
-use Rattle.tv_regs.specs.Update.{update_of}
+use Rattle.tv_regs.specs.Update.{update_of, IsWrite}
 use Rattle.tv_regs.specs.Writes.{written_regs}
 use Rattle.tv_regs.specs.declared.triple.Triple.{Triple}
-use Rattle.tv_inputs.proofs.AccumulationLaws.{accumulated_complete, accumulated_answer, accumulated_next}
+use Rattle.tv_inputs.proofs.AccumulationLaws.{accumulated_next}
 use Rattle.tv_inputs.proofs.OpcodeLaws.{opcode_sum_sound}
 use Rattle.tv_inputs.proofs.TapeFills.{flag_test}
 use Rattle.tv_inputs.proofs.TapeLaws.{among_one}
 use Rattle.tv_inputs.specs.Accumulation.{accumulated_of, closed_of}
-use Rattle.tv_parts.specs.Written.{written_of}
+use Rattle.tv_parts.specs.Written.{written_of, HasWritten, written_values}
 use Rattle.tv_inputs.specs.OpcodeSums.{opcode_sum}
 use Rattle.tv_parts.specs.Written.{WrittenIsComplete, WrittenSizes, WrittenCosts}
 use Rattle.tv_inputs.specs.declared.records.StateWires.{StateWires}
@@ -59,32 +62,43 @@ regs_where false x y d words e = refl
 pub none_of : (k : ℕ) → (k == 19) ≡ true → among writer_ops k ≡ false
 none_of k e = elim (cases_eq k 19) [ inl same ↦ ap (among writer_ops) same | inr apart ↦ absurd (true≢false (sym e ∙ ne_eqb k 19 apart)) ]
 
+module _ (w : ℕ) (z : List ℕ) (n : ℕ) (state : StateWires) (op : ℕ) (regs : Triple) (result : ℕ) (v : View) (i : Instr) (o : ℕ) (takes : Bool)
+    (has : HasWritten w z (record { state = state; op = op; regs = regs; result = result }) (input_of n v i o) takes) where
+  abbrev does : Bool
+  does = writes w n v i o takes
+
+  on_is : (value (opcode_sum op writer_ops) z + value (opcode_sum op (19 ∷ [])) z * value (wire state.flag) z) % P ≡ flag_of does
+  on_is =
+      ap₂ (λ a b. (a + b) % P) (opcode_sum_sound z op i.op writer_ops has.opcode refl) (ap₂ (λ c f. c * f)
+      (opcode_sum_sound z op i.op (19 ∷ []) has.opcode refl ∙ ap flag_of (among_one 19 i.op)) (value-wire has.assigns state.flag ∙ has.flag))
+      ∙ on_number (among writer_ops i.op) (i.op == 19) v.flag has.bit (none_of i.op)
+
+  after : (on : ℕ) → slice_index z on ≡ flag_of does
+      → written_regs (slice_index z on == 1) (slice_index z result) i.dest (words_at z state.regs) ≡ (stepped w n v i o takes).regs
+  after on is =
+      ap₂ (λ b l. written_regs b (slice_index z result) i.dest l) (ap (λ k. k == 1) is ∙ flag_test does) has.words
+      ∙ regs_where does (slice_index z result) (result_in w n v i o takes) i.dest v.regs (λ e. has.word (writes_among i.op v.flag e))
+
+  pub written_settled : Settles z (written_of op state regs result) (written_values w n v i o takes) (λ l. words_at z l ≡ (stepped w n v i o takes).regs)
+  unfolding written_of
+  written_settled =
+      sum_then has.assigns _ (opcode_sum op writer_ops) (opcode_sum op (19 ∷ [])) (wire state.flag) on_is (λ on is.
+      let is_write : IsWrite z on regs.dest regs.dest_word state.regs i.dest = record {
+        size = has.size;
+        bit = subst IsBit (sym is) (flag_small does);
+        number = has.dest;
+        within = has.within;
+        old = has.dest_word ∙ ap (λ l. slice_index l i.dest) (sym has.words);
+      } in
+      record {
+        sound = λ next meets. update_sound z next on regs.dest regs.dest_word result state.regs i.dest has.assigns is_write meets ∙ after on is;
+        complete = λ next values.
+            update_complete z next on regs.dest regs.dest_word result state.regs i.dest has.assigns is_write
+            (subst (λ l. HasFrom z next l) (sym (after on is)) values);
+      })
+
 pub written_complete : WrittenIsComplete
-unfolding written_of ◌>>=◌
-written_complete w z next n state op regs result v i o takes has from =
-    let on = accumulated_of (opcode_sum op writer_ops) (opcode_sum op (19 ∷ [])) (wire state.flag) next in
-    let does : Bool = writes w n v i o takes in
-    let on_is : (value (opcode_sum op writer_ops) z + value (opcode_sum op (19 ∷ [])) z * value (wire state.flag) z) % P ≡ flag_of does =
-    ap₂ (λ a b. (a + b) % P) (opcode_sum_sound z op i.op writer_ops has.opcode refl)
-    (ap₂ (λ c f. c * f) (opcode_sum_sound z op i.op (19 ∷ []) has.opcode refl ∙ ap flag_of (among_one 19 i.op)) (value-wire has.assigns state.flag ∙ has.flag))
-    ∙ on_number (among writer_ops i.op) (i.op == 19) v.flag has.bit (none_of i.op) in
-    let on_at : slice_index z on.answer ≡ flag_of does = ap (slice_index z)
-    (accumulated_answer (opcode_sum op writer_ops) (opcode_sum op (19 ∷ [])) (wire state.flag) next) ∙ from.0 in
-    let first = accumulated_complete z next (opcode_sum op writer_ops) (opcode_sum op (19 ∷ [])) (wire state.flag) has.assigns (from.0 ∙ sym on_is, tt) in
-    let after : written_regs (slice_index z on.answer == 1) (slice_index z result) i.dest (words_at z state.regs) ≡ (stepped w n v i o takes).regs =
-    ap₂ (λ b l. written_regs b (slice_index z result) i.dest l) (ap (λ k. k == 1) on_at ∙ flag_test does) has.words
-    ∙ regs_where does (slice_index z result) (result_in w n v i o takes) i.dest v.regs (λ e. has.word (writes_among i.op v.flag e)) in
-    let rest : HasFrom z on.next (written_regs (slice_index z on.answer == 1) (slice_index z result) i.dest (words_at z state.regs)) =
-    subst (λ l. HasFrom z on.next l) (sym after)
-    (subst (λ k. HasFrom z k (stepped w n v i o takes).regs)
-    (sym (accumulated_next (opcode_sum op writer_ops) (opcode_sum op (19 ∷ [])) (wire state.flag) next)) from.1) in
-    Meets-join z on.list _ first (update_complete z on.next on.answer regs.dest regs.dest_word result state.regs i.dest has.assigns (record {
-      size = has.size;
-      bit = subst IsBit (sym on_at) (flag_small does);
-      number = has.dest;
-      within = has.within;
-      old = has.dest_word ∙ ap (λ l. slice_index l i.dest) (sym has.words);
-    }) rest)
+written_complete w z next n state op regs result v i o takes has = (written_settled w z n state op regs result v i o takes has).complete next
 
 written_answer : (op : ℕ) (state : StateWires) (regs : Triple) (result next : ℕ) → (written_of op state regs result next).answer ≡ range_with_len (next + 1) 16
 unfolding written_of ◌>>=◌
