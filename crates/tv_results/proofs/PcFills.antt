@@ -1,13 +1,12 @@
 -- The laws of the next program counter.
 use Rattle.std.proofs.Common.{◌≡◌, ℕ, ◌+◌, ◌-◌, ◌*◌, ◌/◌, ◌%◌, ◌^◌, ◌<◌, ◌==◌, not, Bool, true, false, if◌then◌else◌, List, [], ◌∷◌, ◌++◌, length}
-use Rattle.std.proofs.Common.{length-append, refl, sym, ◌∙◌, ap, ap₂, subst, arith}
+use Rattle.std.proofs.Common.{length-append, refl, ◌∙◌, ap, ap₂, subst, arith}
 use Rattle.std.specs.Prelude.{slice_index}
 use Rattle.tv_bits.proofs.BitNumbers.{HasBits-below}
-use Rattle.tv_bits.proofs.TimesLaws.{times_sound, times_complete, times_next, residue_below}
+use Rattle.tv_bits.proofs.TimesLaws.{residue_below}
 use Rattle.tv_bits.specs.Times.{times_of}
 use Rattle.tv_core.proofs.CombinationLaws.{value-wire, value-append, value-cons, value-below}
 use Rattle.tv_core.proofs.FieldLaws.{InField-cons, InField-none}
-use Rattle.tv_core.proofs.MeetsLaws.{Meets-split, Meets-join}
 use Rattle.tv_core.specs.Circuits.{fresh, put, pure, ◌>>=◌}
 use Rattle.tv_core.specs.Combinations.{wire}
 use Rattle.tv_core.specs.Constraints.{Combination, value}
@@ -15,6 +14,7 @@ use Rattle.tv_core.specs.Inverse.{inverse_of}
 use Rattle.tv_core.specs.Laws.{InField}
 use Rattle.tv_core.specs.Meanings.{terms_in}
 use Rattle.tv_core.specs.declared.field.TheConstants.{P}
+use Rattle.tv_inputs.proofs.Settled.{Settles, if_zero_then, times_then, settles_sum}
 use Rattle.tv_isa.specs.Opcodes.{chosen, place_of}
 use Rattle.tv_isa.specs.declared.instr.Instr.{Instr}
 use Rattle.tv_numbers.specs.Numbers.{operand_word}
@@ -23,13 +23,11 @@ use Rattle.tv_numbers.specs.Views.{View}
 use Rattle.tv_word.proofs.FlagLaws.{flag_small}
 use Rattle.tv_word.proofs.WidthLaws.{for_widths}
 use Rattle.tv_word.specs.Widths.{IsWidth}
-use Rattle.tv_inputs.proofs.AccumulationLaws.{accumulated_sound, accumulated_complete}
 use Rattle.tv_inputs.proofs.OpcodeLaws.{opcode_wire_is}
 use Rattle.tv_numbers.proofs.Cases.{chosen_in}
 use Rattle.tv_results.proofs.PcLaws.{distance, wrap_of, after_of, flag_jump, jump_gate, target_by, jump_number, pc_number}
 use Rattle.tv_inputs.proofs.FieldNumbers.{flag_in_field, either}
-use Rattle.tv_inputs.proofs.TapeFills.{if_zero_next}
-use Rattle.tv_inputs.proofs.TapeGates.{value-two, value-three, value-four, if_zero_sound, if_zero_complete}
+use Rattle.tv_inputs.proofs.TapeGates.{value-two, value-three, value-four}
 use Rattle.tv_inputs.proofs.UpperLaws.{upper_is, length-upper}
 use Rattle.tv_inputs.specs.Accumulation.{closed_of}
 use Rattle.tv_inputs.specs.Operand.{upper_of}
@@ -134,53 +132,23 @@ module _ (w : ℕ) (width : IsWidth w) (z : List ℕ) (state : StateWires) (op :
       first : (c n : ℕ) → (c * 1 + n) % P ≡ (c + n) % P
       first c n = omega arith
 
--- ---- the laws
+  -- ---- the laws
+  pc_settled : Settles z (pc_of w state op a) (pc_values w v i) (λ k. slice_index z k ≡ chosen (pcs w v.pc (operand_word v i) v.flag) i.op)
+  unfolding pc_of
+  pc_settled =
+      if_zero_then has.assigns _ (goes_in op) (from_last w state.pc) goes_is from_is (λ wraps is_wraps.
+      times_then has.assigns _ (wire state.flag) ((1, op + place_of 21) ∷ (P - 1, op + place_of 22) ∷ [])
+      (ap₂ (λ m n. m * n % P) (value-wire has.assigns state.flag ∙ has.flag) by_flag_is) (λ jumps is_jumps.
+      settles_sum has.assigns (after_in w state.pc (op + place_of 31) wraps) ((1, op + place_of 20) ∷ (1, op + place_of 22) ∷ (1, jumps) ∷ [])
+      (jump_in w state.pc (op + place_of 31) a wraps)
+      (ap₂ (λ m n. (m + n) % P) (after_value wraps is_wraps) (ap₂ (λ m n. m * n) (gate_is jumps is_jumps) (jump_value wraps is_wraps))
+      ∙ pc_number w width v.pc at v.flag has.small has.aligned (HasBits-below has.operand.bits) has.bit i.op has.opcode.within has.opcode.used)))
+
 pub pc_sound : PcIsSound
-unfolding pc_of ◌>>=◌
-pc_sound w width z next state op a v i has meets =
-    let assigns = has.assigns in
-    let wraps = if_zero_of (goes_in op) (from_last w state.pc) next in
-    let flags = (1, op + place_of 21) ∷ (P - 1, op + place_of 22) ∷ [] in
-    let by_flag = times_of (wire state.flag) flags wraps.next in
-    let m1 = Meets-split z wraps.list _ meets in
-    let m2 = Meets-split z by_flag.list _ m1.1 in
-    let is_wraps : slice_index z wraps.answer ≡ wrap_of w v.pc i.op =
-    if_zero_sound z next (goes_in op) (from_last w state.pc) assigns m1.0
-    ∙ ap₂ (λ x g. if x == 0 then g else 0) (from_is w width z state op a v i has) (goes_is w width z state op a v i has) in
-    let is_flag : slice_index z by_flag.answer ≡ flag_jump i.op v.flag =
-    times_sound z wraps.next (wire state.flag) flags assigns m2.0
-    ∙ ap₂ (λ m n. m * n % P) (value-wire assigns state.flag ∙ has.flag) (by_flag_is w width z state op a v i has) in
-    accumulated_sound z by_flag.next (after_in w state.pc (op + place_of 31) wraps.answer)
-    ((1, op + place_of 20) ∷ (1, op + place_of 22) ∷ (1, by_flag.answer) ∷ []) (jump_in w state.pc (op + place_of 31) a wraps.answer) assigns m2.1
-    ∙ ap₂ (λ m n. (m + n) % P) (after_value w width z state op a v i has wraps.answer is_wraps)
-    (ap₂ (λ m n. m * n) (gate_is w width z state op a v i has by_flag.answer is_flag) (jump_value w width z state op a v i has wraps.answer is_wraps))
-    ∙ pc_number w width v.pc (operand_word v i) v.flag has.small has.aligned (HasBits-below has.operand.bits) has.bit i.op has.opcode.within has.opcode.used
+pc_sound w width z next state op a v i has = (pc_settled w width z state op a v i has).sound next
 
 pub pc_complete : PcIsComplete
-unfolding pc_of ◌>>=◌
-pc_complete w width z next state op a v i has values =
-    let assigns = has.assigns in
-    let wraps = if_zero_of (goes_in op) (from_last w state.pc) next in
-    let flags = (1, op + place_of 21) ∷ (P - 1, op + place_of 22) ∷ [] in
-    let by_flag = times_of (wire state.flag) flags wraps.next in
-    let e1 : wraps.next ≡ next + 1 + 1 = if_zero_next (goes_in op) (from_last w state.pc) next in
-    let e2 : by_flag.next ≡ next + 1 + 1 + 1 = times_next (wire state.flag) flags wraps.next ∙ ap (λ m. m + 1) e1 in
-    let from = from_is w width z state op a v i has in
-    let goes = goes_is w width z state op a v i has in
-    let m1 = if_zero_complete z next (goes_in op) (from_last w state.pc) assigns (values.0 ∙ sym (ap₂ (λ x g. if x == 0 then g else 0) from goes))
-    (values.1.0 ∙ sym (ap₂ (λ x g. inverse_of x * g % P) from goes)) in
-    let is_wraps : slice_index z wraps.answer ≡ wrap_of w v.pc i.op = if_zero_sound z next (goes_in op) (from_last w state.pc) assigns m1
-    ∙ ap₂ (λ x g. if x == 0 then g else 0) from goes in
-    let product = ap₂ (λ m n. m * n % P) (value-wire assigns state.flag ∙ has.flag) (by_flag_is w width z state op a v i has) in
-    let m2 = times_complete z wraps.next (wire state.flag) flags assigns (ap (λ k. slice_index z k) e1 ∙ values.1.1.0 ∙ sym product, tt) in
-    let is_flag : slice_index z by_flag.answer ≡ flag_jump i.op v.flag = times_sound z wraps.next (wire state.flag) flags assigns m2 ∙ product in
-    let sum = ap₂ (λ m n. (m + n) % P) (after_value w width z state op a v i has wraps.answer is_wraps)
-    (ap₂ (λ m n. m * n) (gate_is w width z state op a v i has by_flag.answer is_flag) (jump_value w width z state op a v i has wraps.answer is_wraps))
-    ∙ pc_number w width v.pc (operand_word v i) v.flag has.small has.aligned (HasBits-below has.operand.bits) has.bit i.op has.opcode.within has.opcode.used in
-    let m3 = accumulated_complete z by_flag.next (after_in w state.pc (op + place_of 31) wraps.answer)
-    ((1, op + place_of 20) ∷ (1, op + place_of 22) ∷ (1, by_flag.answer) ∷ []) (jump_in w state.pc (op + place_of 31) a wraps.answer) assigns
-    (ap (λ k. slice_index z k) e2 ∙ values.1.1.1.0 ∙ sym sum, tt) in
-    Meets-join z wraps.list _ m1 (Meets-join z by_flag.list _ m2 m3)
+pc_complete w width z next state op a v i has = (pc_settled w width z state op a v i has).complete next
 
 pc_shape : (w : ℕ) (state : StateWires) (op : ℕ) (a : OperandWires) (next : ℕ) → let made = pc_of w state op a next in
     (made.answer ≡ next + 3) × (made.next ≡ next + 4) × (length made.list ≡ 4)

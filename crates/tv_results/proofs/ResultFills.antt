@@ -5,17 +5,16 @@ use Rattle.std.specs.Int.{bit_at}
 use Rattle.std.specs.Prelude.{slice_index}
 use Rattle.std.proofs.lemmas.Bool.{cases_eq, eqb-true, ne_eqb}
 use Rattle.tv_bits.proofs.BitNumbers.{HasBits-below}
-use Rattle.tv_bits.proofs.TimesLaws.{times_sound, times_complete, times_next}
 use Rattle.tv_bits.specs.Times.{times_of}
 use Rattle.tv_core.proofs.CombinationLaws.{value-wire, value-append, value-cons, value-below, wire-below}
 use Rattle.tv_core.proofs.FieldLaws.{InField-cons, InField-none}
-use Rattle.tv_core.proofs.MeetsLaws.{Meets-split, Meets-join}
 use Rattle.tv_core.specs.Circuits.{fresh, put, pure, ◌>>=◌}
 use Rattle.tv_core.specs.Combinations.{wire}
 use Rattle.tv_core.specs.Constraints.{Combination, value}
 use Rattle.tv_core.specs.Laws.{Meets, InField}
 use Rattle.tv_core.specs.Meanings.{terms_in}
 use Rattle.tv_core.specs.declared.field.TheConstants.{P}
+use Rattle.tv_inputs.proofs.Settled.{Settles, times_then, settles_sum, settles_then, settles_to}
 use Rattle.tv_isa.specs.Opcodes.{among, chosen, place_of}
 use Rattle.tv_isa.specs.declared.instr.Instr.{Instr}
 use Rattle.tv_mem.specs.Bytes.{byte_of}
@@ -25,7 +24,6 @@ use Rattle.tv_numbers.specs.Views.{View}
 use Rattle.tv_step.specs.Rows.{word_size}
 use Rattle.tv_word.proofs.WidthLaws.{for_widths}
 use Rattle.tv_word.specs.Widths.{IsWidth}
-use Rattle.tv_inputs.proofs.AccumulationLaws.{accumulated_sound, accumulated_complete}
 use Rattle.tv_inputs.proofs.FieldNumbers.{small_word, byte_small, either, flag_times}
 use Rattle.tv_inputs.proofs.TapeLaws.{no_primary, no_auxiliary, one_tape}
 use Rattle.tv_inputs.proofs.OpcodeLaws.{opcode_sum_sound, opcode_wire_is}
@@ -38,7 +36,7 @@ use Rattle.tv_inputs.specs.Inputs.{input_of}
 use Rattle.tv_inputs.specs.OpcodeSums.{opcode_sum}
 use Rattle.tv_inputs.specs.Operand.{upper_of}
 use Rattle.tv_inputs.specs.Rows.{covers}
-use Rattle.tv_inputs.specs.Results.{low_ops, high_ops, parts_in, signs_in, result_of, tested_of, results_of}
+use Rattle.tv_inputs.specs.Results.{low_ops, high_ops, parts_in, signs_in, result_of, tested_of, results_of, AreResults}
 use Rattle.tv_inputs.specs.TestNumbers.{zero_ops, carry_ops, place_bits, tested_numbers}
 use Rattle.tv_inputs.specs.Results.{HasSources, ResultsAreSound, low_part, high_part, moved_part, result_number, tested_number, results_values}
 use Rattle.tv_inputs.specs.Results.{ResultsAreComplete, ResultsSizes, ResultsCosts}
@@ -110,6 +108,21 @@ pick_four false true c d y v1 v2 v3 v4 p q r s e = q refl
 pick_four false false true d y v1 v2 v3 v4 p q r s e = r refl
 pick_four false false false true y v1 v2 v3 v4 p q r s e = s refl
 pick_four false false false false y v1 v2 v3 v4 p q r s e = absurd (true≢false (sym e))
+
+-- ---- what is answered
+pub result_answer : (w : ℕ) (state : StateWires) (op : ℕ) (a : OperandWires) (from : Sources) (t : TapeWires) (next : ℕ)
+    → (result_of w state op a from t next).answer ≡ next + 1 + 1 + 1
+unfolding result_of times_of closed_of fresh put pure ◌>>=◌
+result_answer w state op a from t next = refl
+
+pub result_next : (w : ℕ) (state : StateWires) (op : ℕ) (a : OperandWires) (from : Sources) (t : TapeWires) (next : ℕ)
+    → (result_of w state op a from t next).next ≡ next + 4
+unfolding result_of times_of closed_of fresh put pure ◌>>=◌
+result_next w state op a from t next = omega arith
+
+tested_answer : (w op : ℕ) (a : OperandWires) (from : Sources) (result next : ℕ) → (tested_of w op a from result next).answer ≡ next
+unfolding tested_of fresh put pure ◌>>=◌
+tested_answer w op a from result next = refl
 
 -- ---- the values
 module _ (w : ℕ) (width : IsWidth w) (z : List ℕ) (n : ℕ) (state : StateWires) (op : ℕ) (a : OperandWires) (from : Sources) (t : TapeWires) (v : View)
@@ -278,89 +291,44 @@ module _ (w : ℕ) (width : IsWidth w) (z : List ℕ) (n : ℕ) (state : StateWi
         ),
       )
 
-  -- ---- the result
-  word_sound : (next : ℕ) → Meets z (result_of w state op a from t next).list
-      → slice_index z (result_of w state op a from t next).answer ≡ result_number w i.op at low high finds
-  unfolding result_of ◌>>=◌
-  word_sound next meets =
-      let l = times_of low_terms (wire from.low) next in
-      let h = times_of (opcode_sum op high_ops) (wire from.high) l.next in
-      let m = times_of moved_terms (wire a.word) h.next in
-      let m1 = Meets-split z l.list _ meets in
-      let m2 = Meets-split z h.list _ m1.1 in
-      let m3 = Meets-split z m.list _ m2.1 in
-      let l_is = times_sound z next low_terms (wire from.low) has.assigns m1.0 ∙ low_is in
-      let h_is = times_sound z l.next (opcode_sum op high_ops) (wire from.high) has.assigns m2.0 ∙ high_is in
-      let m_is = times_sound z h.next moved_terms (wire a.word) has.assigns m3.0 ∙ moved_is in
-      accumulated_sound z m.next (parts_in w (op + place_of 3) l.answer h.answer m.answer) (opcode_sum op (27 ∷ [])) (wire from.byte) has.assigns m3.1
-      ∙ word_is l.answer h.answer m.answer l_is h_is m_is
+  -- ---- the laws
+  word_settled : Settles z (result_of w state op a from t)
+      (low_part i.op low finds ∷ high_part i.op high ∷ moved_part i.op at ∷ result_number w i.op at low high finds ∷ [])
+      (λ k. slice_index z k ≡ result_number w i.op at low high finds)
+  unfolding result_of
+  word_settled =
+      times_then has.assigns _ low_terms (wire from.low) low_is (λ l is_low.
+      times_then has.assigns _ (opcode_sum op high_ops) (wire from.high) high_is (λ h is_high.
+      times_then has.assigns _ moved_terms (wire a.word) moved_is (λ m is_moved.
+      settles_sum has.assigns (parts_in w (op + place_of 3) l h m) (opcode_sum op (27 ∷ [])) (wire from.byte) (word_is l h m is_low is_high is_moved))))
 
-  word_complete : (next : ℕ) → slice_index z next ≡ low_part i.op low finds → slice_index z (next + 1) ≡ high_part i.op high
-      → slice_index z (next + 1 + 1) ≡ moved_part i.op at → slice_index z (next + 1 + 1 + 1) ≡ result_number w i.op at low high finds
-      → Meets z (result_of w state op a from t next).list
-  unfolding result_of ◌>>=◌
-  word_complete next e f g r =
-      let l = times_of low_terms (wire from.low) next in
-      let h = times_of (opcode_sum op high_ops) (wire from.high) l.next in
-      let m = times_of moved_terms (wire a.word) h.next in
-      let e1 : l.next ≡ next + 1 = times_next low_terms (wire from.low) next in
-      let e2 : h.next ≡ next + 1 + 1 = times_next (opcode_sum op high_ops) (wire from.high) l.next ∙ ap (λ k. k + 1) e1 in
-      let e3 : m.next ≡ next + 1 + 1 + 1 = times_next moved_terms (wire a.word) h.next ∙ ap (λ k. k + 1) e2 in
-      let m1 = times_complete z next low_terms (wire from.low) has.assigns (e ∙ sym low_is, tt) in
-      let m2 = times_complete z l.next (opcode_sum op high_ops) (wire from.high) has.assigns (ap (λ k. slice_index z k) e1 ∙ f ∙ sym high_is, tt) in
-      let m3 = times_complete z h.next moved_terms (wire a.word) has.assigns (ap (λ k. slice_index z k) e2 ∙ g ∙ sym moved_is, tt) in
-      let l_is = times_sound z next low_terms (wire from.low) has.assigns m1 ∙ low_is in
-      let h_is = times_sound z l.next (opcode_sum op high_ops) (wire from.high) has.assigns m2 ∙ high_is in
-      let m_is = times_sound z h.next moved_terms (wire a.word) has.assigns m3 ∙ moved_is in
-      let m4 = accumulated_complete z m.next (parts_in w (op + place_of 3) l.answer h.answer m.answer) (opcode_sum op (27 ∷ [])) (wire from.byte) has.assigns
-      (ap (λ k. slice_index z k) e3 ∙ r ∙ sym (word_is l.answer h.answer m.answer l_is h_is m_is), tt) in
-      Meets-join z l.list _ m1 (Meets-join z h.list _ m2 (Meets-join z m.list _ m3 m4))
+  tested_settled : (word : ℕ) → slice_index z word ≡ result_number w i.op at low high finds
+      → Settles z (tested_of w op a from word) (tested_number w i.op at low high (result_number w i.op at low high finds) ∷ [])
+      (λ y. covers (tested_numbers w at low high (slice_index z word)) i.op ≡ true
+      → slice_index z y ≡ chosen (tested_numbers w at low high (slice_index z word)) i.op)
+  tested_settled word is = record {
+    sound = λ next meets e. ap (slice_index z) (tested_answer w op a from word next) ∙ tested_sound next word meets e;
+    complete = λ next values. tested_complete next word (values.0 ∙ sym (ap (tested_number w i.op at low high) is));
+  }
 
--- ---- the laws
-pub result_answer : (w : ℕ) (state : StateWires) (op : ℕ) (a : OperandWires) (from : Sources) (t : TapeWires) (next : ℕ)
-    → (result_of w state op a from t next).answer ≡ next + 1 + 1 + 1
-unfolding result_of times_of closed_of fresh put pure ◌>>=◌
-result_answer w state op a from t next = refl
-
-pub result_next : (w : ℕ) (state : StateWires) (op : ℕ) (a : OperandWires) (from : Sources) (t : TapeWires) (next : ℕ)
-    → (result_of w state op a from t next).next ≡ next + 1 + 1 + 1 + 1
-unfolding result_of times_of closed_of fresh put pure ◌>>=◌
-result_next w state op a from t next = refl
-
-tested_answer : (w op : ℕ) (a : OperandWires) (from : Sources) (result next : ℕ) → (tested_of w op a from result next).answer ≡ next
-unfolding tested_of fresh put pure ◌>>=◌
-tested_answer w op a from result next = refl
+  results_settled : Settles z (results_of w state op a from t) (results_values w i.op at low high finds)
+      (λ r. AreResults w z r (input_of n v i low) high (took z t))
+  unfolding results_of
+  results_settled =
+      settles_then (result_of w state op a from t) _
+      (low_part i.op low finds ∷ high_part i.op high ∷ moved_part i.op at ∷ result_number w i.op at low high finds ∷ [])
+      (tested_number w i.op at low high (result_number w i.op at low high finds) ∷ []) (result_next w state op a from t) word_settled (λ word is.
+      settles_to (tested_of w op a from word) _ (tested_settled word is) (λ y is_tested. record {
+        word = λ e. is ∙ result_is w width (other_word v i) at low high finds (HasBits-below has.operand.bits) i.op e case_of;
+        compared = λ e. is ∙ compared_is w width (other_word v i) at low high finds (HasBits-below has.operand.bits) i.op e case_of;
+        tested = is_tested;
+      }))
 
 pub results_sound : ResultsAreSound
-unfolding results_of pure ◌>>=◌
-results_sound w width z next n state op a from t v i low high has meets =
-    let finds : Bool = takes_primary v i n || took z t in
-    let word = result_of w state op a from t next in
-    let tested = tested_of w op a from word.answer word.next in
-    let m1 = Meets-split z word.list _ meets in
-    let m2 = Meets-split z tested.list _ m1.1 in
-    let is = word_sound w width z n state op a from t v i low high has next m1.0 in
-    let known = case_of w width z n state op a from t v i low high has in
-    record {
-      word = λ e. is ∙ result_is w width (other_word v i) (operand_word v i) low high finds
-          (HasBits-below has.operand.bits) i.op e known;
-      compared = λ e. is ∙ compared_is w width (other_word v i) (operand_word v i) low high finds (HasBits-below has.operand.bits) i.op e known;
-      tested = λ e. ap (λ k. slice_index z k) (tested_answer w op a from word.answer word.next)
-          ∙ tested_sound w width z n state op a from t v i low high has word.next word.answer m2.0 e;
-    }
+results_sound w width z next n state op a from t v i low high has = (results_settled w width z n state op a from t v i low high has).sound next
 
 pub results_complete : ResultsAreComplete
-unfolding results_of pure ◌>>=◌
-results_complete w width z next n state op a from t v i low high has values =
-    let finds : Bool = takes_primary v i n || took z t in
-    let word = result_of w state op a from t next in
-    let tested = tested_of w op a from word.answer word.next in
-    let m1 = word_complete w width z n state op a from t v i low high has next values.0 values.1.0 values.1.1.0 values.1.1.1.0 in
-    let is : slice_index z word.answer ≡ result_number w i.op (operand_word v i) low high finds = ap (λ k. slice_index z k)
-    (result_answer w state op a from t next) ∙ values.1.1.1.0 in
-    let m2 = tested_complete w width z n state op a from t v i low high has word.next word.answer
-    (ap (λ k. slice_index z k) (result_next w state op a from t next) ∙ values.1.1.1.1.0 ∙ sym (ap (tested_number w i.op (operand_word v i) low high) is)) in
-    Meets-join z word.list _ m1 (Meets-join z tested.list _ m2 tt)
+results_complete w width z next n state op a from t v i low high has = (results_settled w width z n state op a from t v i low high has).complete next
 
 abbrev wires_from : ℕ → ℕ → ResultWires
 wires_from a b = record { word = a; tested = b }
