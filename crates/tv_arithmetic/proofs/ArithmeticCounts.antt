@@ -5,7 +5,7 @@ use Rattle.tv_bits.proofs.DoubleRowLaws.{double_row_answer, double_row_sizes, do
 use Rattle.tv_bits.proofs.SizeLaws.{length-bits, bits_in_field}
 use Rattle.tv_bits.proofs.BitsLaws.{new_bits_answer, new_bits_next}
 use Rattle.tv_bits.specs.Bits.{bits_values, new_bits_of}
-use Rattle.tv_bits.specs.DoubleRow.{double_row_of, double_row_values}
+use Rattle.tv_bits.specs.DoubleRow.{double_row_values}
 use Rattle.tv_bits.specs.declared.bit_wires.Bits.{Bits}
 use Rattle.tv_bits.specs.declared.double_rows.DoubleRow.{DoubleRow}
 use Rattle.tv_core.proofs.FieldLaws.{InField-append}
@@ -15,8 +15,6 @@ use Rattle.tv_core.specs.declared.field.TheConstants.{P}
 use Rattle.tv_isa.specs.Opcodes.{among}
 use Rattle.tv_rows.proofs.RowDifferenceLaws.{row_difference_sizes, row_difference_cost_laws}
 use Rattle.tv_rows.proofs.RowSumLaws.{row_sum_sizes, row_sum_cost_laws}
-use Rattle.tv_rows.specs.RowDifference.{comparing, row_difference_of}
-use Rattle.tv_rows.specs.RowSum.{row_sum_of}
 use Rattle.tv_rows.proofs.DigitLaws.{bitwise_sizes, bitwise_cost_laws}
 use Rattle.tv_row_products.proofs.RowDivisionLaws.{row_division_sizes, row_division_cost_laws}
 use Rattle.tv_row_products.proofs.RowProductLaws.{row_product_sizes, row_product_cost_laws}
@@ -26,7 +24,7 @@ use Rattle.tv_row_products.specs.RowProduct.{row_product_of, row_product_values}
 use Rattle.tv_row_products.specs.RowSignedProduct.{row_signed_product_values}
 use Rattle.tv_rows.proofs.PowerLaws.{shift_power_sizes, shift_power_cost_laws}
 use Rattle.tv_rows.proofs.RowShiftLaws.{right_shift_sizes, right_shift_cost_laws}
-use Rattle.tv_rows.specs.Power.{shift_power_of, shift_power_values}
+use Rattle.tv_rows.specs.Power.{shift_power_values}
 use Rattle.tv_rows.specs.RowShift.{right_shift_of, right_shift_values}
 use Rattle.tv_rows.specs.declared.powers.ShiftPower.{ShiftPower}
 use Rattle.tv_word.specs.Widths.{IsWidth}
@@ -46,10 +44,9 @@ module _ (w : ℕ) (width : IsWidth w) (op other f : ℕ) (operand : OperandWire
   unfolding rows_of
   rows_sized =
       let signed = opcode_sum op (8 ∷ []) in
-      sized_as (rows_of w op) (w + (2 * w + 3 + 0)) (w + (2 * w + 3 + 0)) (3 * w + (8 * w + 8 + 1 + 0)) (3 * w + 3) (3 * w + 3) (11 * w + 9)
-      (sized_then (new_bits_of w) _ w w (3 * w) (2 * w + 3 + 0) (2 * w + 3 + 0) (8 * w + 8 + 1 + 0)
-      (record { end = new_bits_next w; count = new_bits_constraints w; size = new_bits_terms w })
-      (λ next. sized_then (double_row_of w signed) _ (2 * w + 3) (2 * w + 3) (8 * w + 8 + 1) 0 0 0
+      sized_as
+      (sized_then _ (record { end = new_bits_next w; count = new_bits_constraints w; size = new_bits_terms w })
+      (λ next. sized_then _
       (record { end = double_row_sizes.end w signed; count = double_row_cost_laws.constraints w signed; size = double_row_cost_laws.terms w signed })
       (λ at. sized_pure _)))
       (omega arith) (omega arith) (omega arith)
@@ -65,15 +62,12 @@ module _ (w : ℕ) (width : IsWidth w) (op other f : ℕ) (operand : OperandWire
         let signed = opcode_sum op signed_ops in
         let strict = opcode_sum op strict_ops in
         let bits = opcode_sum op bitwise_ops in
-        sized_as (sums_of w op other operand r) (0 + (1 + 0)) (1 + (2 + 2)) (5 + (19 + (6 + 4 * w))) 1 5 (4 * w + 30)
-        (sized_then (row_sum_of w add other operand.word r.row) _ 0 1 5 (1 + 0) (2 + 2) (19 + (6 + 4 * w))
-        (record {
+        sized_as (sized_then _ (record {
           end = λ next. row_sum_sizes.end w add other operand.word r.row next ∙ none_more next;
           count = row_sum_cost_laws.constraints w add other operand.word r.row;
           size = row_sum_cost_laws.terms w add other operand.word r.row;
         })
-        (λ next. sized_then (row_difference_of w subtract (comparing signed strict) left right r.row) _ 1 2 19 0 2 (6 + 4 * w)
-        (record {
+        (λ next. sized_then _ (record {
           end = row_difference_sizes.end w subtract signed strict left right r.row;
           count = row_difference_cost_laws.constraints w subtract signed strict left right r.row;
           size = row_difference_cost_laws.terms w subtract signed strict left right r.row;
@@ -92,8 +86,7 @@ module _ (w : ℕ) (width : IsWidth w) (op other f : ℕ) (operand : OperandWire
         let right = with_sign w operand.word operand.bits.first in
         let multiply = opcode_sum op product_ops in
         let signed = opcode_sum op (8 ∷ []) in
-        sized_then (row_product_of w multiply other operand.word r.row) _ 1 2 8 1 2 10
-        (record {
+        sized_then _ (record {
           end = row_product_sizes.end w multiply other operand.word r.row;
           count = row_product_cost_laws.constraints w multiply other operand.word r.row;
           size = row_product_cost_laws.terms w multiply other operand.word r.row;
@@ -125,38 +118,23 @@ module _ (w : ℕ) (width : IsWidth w) (op other f : ℕ) (operand : OperandWire
     unfolding shifts_of
     shifts_sized =
         let divide = opcode_sum op division_ops in
-        sized_as (shifts_of w op other f operand r) (2 + (w / 16 + 2 + (1 + (1 + 0)))) (4 + (w / 16 + 2 + (2 + (2 + 0))))
-        (4 + w + 17 + (w / 4 + 10 + (7 + (7 + 0))))
-        (w / 16 + 6) (w / 16 + 10) (w + w / 4 + 45)
-        (sized_then (row_division_of w divide (dividing other operand.word f) r.x r.row) _ 2 4 (4 + w + 17)
-        (w / 16 + 2 + (1 + (1 + 0))) (w / 16 + 2 + (2 + (2 + 0))) (w / 4 + 10 + (7 + (7 + 0)))
-        (record {
+        sized_as (sized_then _ (record {
           end = row_division_sizes.end w divide other operand.word f r.x r.row;
           count = row_division_cost_laws.constraints w divide other operand.word f r.x r.row;
           size = row_division_cost_laws.terms w divide other operand.word f r.x r.row;
         })
-        (λ next. sized_then (shift_power_of w operand.bits) _ (w / 16 + 2) (w / 16 + 2) (w / 4 + 10) (1 + (1 + 0)) (2 + (2 + 0)) (7 + (7 + 0))
-        (record {
+        (λ next. sized_then _ (record {
           end = shift_power_sizes.end w width operand.bits;
           count = shift_power_cost_laws.constraints w width operand.bits;
           size = shift_power_cost_laws.terms w width operand.bits;
         })
-        (λ at. sized_then (row_product_of w (opcode_sum op (11 ∷ [])) _ _ r.row) _ 1 2 7 (1 + 0) (2 + 0) (7 + 0) (shift_sized _ _).0
-        (λ here. sized_then (right_shift_of w (opcode_sum op (12 ∷ [])) _ _ r.row) _ 1 2 7 0 0 0 (shift_sized _ _).1
-        (λ last. sized_pure _)))))
+        (λ at. sized_then _ (shift_sized _ _).0 (λ here. sized_then _ (shift_sized _ _).1 (λ last. sized_pure _)))))
         (omega arith) (omega arith) (omega arith)
 
   arithmetic_sized : Sized (arithmetic_of w op other f operand) (3 * w + w / 16 + 12) (3 * w + w / 16 + 22) (16 * w + w / 4 + 102)
   unfolding arithmetic_of
   arithmetic_sized =
-      sized_as (arithmetic_of w op other f operand) (3 * w + 3 + (1 + (2 + (w / 16 + 6 + 0)))) (3 * w + 3 + (5 + (4 + (w / 16 + 10 + 0))))
-      (11 * w + 9 + (4 * w + 30 + (18 + (w + w / 4 + 45 + 0)))) (3 * w + w / 16 + 12) (3 * w + w / 16 + 22) (16 * w + w / 4 + 102)
-      (sized_then (rows_of w op) _ (3 * w + 3) (3 * w + 3) (11 * w + 9) (1 + (2 + (w / 16 + 6 + 0))) (5 + (4 + (w / 16 + 10 + 0)))
-      (4 * w + 30 + (18 + (w + w / 4 + 45 + 0))) rows_sized
-      (λ next. sized_then (sums_of w op other operand _) _ 1 5 (4 * w + 30) (2 + (w / 16 + 6 + 0)) (4 + (w / 16 + 10 + 0)) (18 + (w + w / 4 + 45 + 0))
-      (sums_sized _)
-      (λ at. sized_then (products_of w op other operand _) _ 2 4 18 (w / 16 + 6 + 0) (w / 16 + 10 + 0) (w + w / 4 + 45 + 0) (products_sized _)
-      (λ here. sized_then (shifts_of w op other f operand _) _ (w / 16 + 6) (w / 16 + 10) (w + w / 4 + 45) 0 0 0 (shifts_sized _)
+      sized_as (sized_then _ rows_sized (λ next. sized_then _ (sums_sized _) (λ at. sized_then _ (products_sized _) (λ here. sized_then _ (shifts_sized _)
       (λ last. sized_pure _)))))
       (omega arith) (omega arith) (omega arith)
 
