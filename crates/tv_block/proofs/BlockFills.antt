@@ -1,5 +1,5 @@
 -- Where an assignment has a step's values.
-use Rattle.std.proofs.Common.{◌≡◌, ℕ, ◌+◌, ◌/◌, ◌%◌, ◌^◌, ◌<◌, ◌==◌, nat_lt, Bool, true, false, if◌then◌else◌, List, [], ◌∷◌, ◌++◌, length, refl}
+use Rattle.std.proofs.Common.{◌≡◌, ℕ, ◌+◌, ◌/◌, ◌%◌, ◌^◌, ◌==◌, nat_lt, Bool, true, false, if◌then◌else◌, List, [], ◌∷◌, ◌++◌, length, refl}
 use Rattle.std.proofs.Common.{sym, ◌∙◌, ap, ap₂, subst, arith}
 use Rattle.std.specs.Prelude.{slice_index}
 use Rattle.tv_bits.proofs.BitNumbers.{HasBits-below, HasBits-from_values}
@@ -23,7 +23,7 @@ use Rattle.tv_numbers.specs.Laws.{AtNumbers}
 use Rattle.tv_numbers.specs.Numbers.{Transition, transition_of, operand_word, other_word, found, step_words}
 use Rattle.tv_numbers.specs.Views.{View}
 use Rattle.tv_regs.proofs.TripleLaws.{triple_complete, triple_sizes}
-use Rattle.tv_regs.specs.Triple.{AreNumbers, other_number, triple_values}
+use Rattle.tv_regs.specs.Triple.{other_number, triple_values}
 use Rattle.tv_word.proofs.FlagLaws.{flag_small}
 use Rattle.tv_word.specs.Widths.{IsWidth}
 use Rattle.tv_arithmetic.proofs.ArithmeticCounts.{arithmetic_sizes}
@@ -53,10 +53,10 @@ use Rattle.tv_parts.specs.Written.{written_values}
 use Rattle.tv_inputs.specs.declared.records.ResultWires.{ResultWires}
 use Rattle.tv_inputs.specs.declared.records.StateWires.{StateWires}
 use Rattle.tv_block.proofs.BlockChain.{instruction, op, triple, operand, test, made, tapes, memory, results, zero, written, flag, pc}
-use Rattle.tv_block.proofs.BlockLaws.{state_sixteen, other_below, Before, has_operand, operand_in, has_tapes, tapes_in, has_pc, memory_in}
-use Rattle.tv_block.proofs.BlockLaws.{has_sources, results_in, has_flag, step_in}
-use Rattle.tv_block.proofs.PartLaws.{used_again, opcode_of_row, op_below, dest_below, source_below, among_each, AreRegisters, registers_sound}
-use Rattle.tv_block.proofs.PartLaws.{sign_value}
+use Rattle.tv_block.proofs.BlockLaws.{state_sixteen, other_below, Before, has_operand, operand_in, has_tapes, tapes_in, has_pc, memory_in, has_memory}
+use Rattle.tv_block.proofs.BlockLaws.{has_sources, results_in, has_flag, has_written, step_in}
+use Rattle.tv_block.proofs.PartLaws.{used_again, opcode_of_row, op_below, among_each, AreRegisters, registers_sound}
+use Rattle.tv_block.proofs.PartLaws.{sign_value, are_numbers}
 use Rattle.tv_arithmetic.proofs.ShiftTests.{below_width}
 use Rattle.tv_block.specs.Block.{computed_of, data_of, sources_of, effects_of, block_of, transition_in, IsStep}
 use Rattle.tv_block.specs.Complete.{BlockIsComplete}
@@ -169,12 +169,7 @@ front w width z n state at head tail o takes assigns in_range has =
     let source = number_of (source_bits w ins.answer) in
     let named = number_of (register_bits ins.answer) in
     let store_is : value stores z ≡ flag_of (among store_ops i.op) = opcode_sum_sound z ins.answer.op i.op store_ops row refl in
-    let numbers : AreNumbers z stores target source named = record {
-      store = subst IsBit (sym store_is) (flag_small (among store_ops i.op));
-      dest = subst (λ k. k < 16) (sym decoded.dest) (dest_below w head tail);
-      other = subst (λ k. k < 16) (sym decoded.source) (source_below w head tail);
-      third = subst (λ k. k < 16) (sym decoded.register) (omega arith);
-    } in
+    let numbers = are_numbers decoded row in
     let other_is : other_number z stores target source ≡ other_register i =
     register_by (among store_ops i.op) (value stores z) (value target z) (value source z) store_is
     ∙ ap₂ (λ d s. if among store_ops i.op then d else s) decoded.dest decoded.source in
@@ -303,21 +298,9 @@ back w width z n state at head tail o takes assigns in_range fore =
     let mem = memory w n state at in
     let h6 = some_had z t.next mem.next (memory_values w (input_of n v i low) decomposed) r2
     (memory_sizes.fills w width n state row_op taken.answer d t.answer v i decomposed low t.next) rest in
-    let m6 = memory_complete w width z t.next n state row_op taken.answer d t.answer v i decomposed low (record {
-      assigns = assigns;
-      short = in_range.short;
-      within = range.taken;
-      before = refl;
-      opcode = fore.row;
-      operand = fore.is;
-      bits = fore.does.row.low;
-      word = refl;
-      decomposed = fore.decomposed;
-      stored = λ e. ap (λ k. decomposed_word w k x a) e;
-      other = fore.are.other;
-      both = fore.does.both;
-      tapes = are_tapes;
-    }) h6.0 in
+    let m6 = memory_complete w width z t.next n state row_op taken.answer d t.answer v i decomposed low
+    (has_memory known head tail fore.row fore.is fore.does are_tapes decomposed regs.answer.other_word fore.decomposed
+    (λ e. ap (λ k. decomposed_word w k x a) e) fore.are.other) h6.0 in
     let stored = memory_in known head tail fore.row fore.is fore.does are_tapes t.next regs.answer.other_word fore.are.other m6 in
     let from = sources_of w arith_made.answer mem.answer.byte in
     let res = results w n state at in
@@ -341,18 +324,8 @@ back w width z n state at head tail o takes assigns in_range fore =
     let wrote = written w n state at in
     let h9 = some_had z zeros.next wrote.next (written_values w n v i low b) r5
     (written_sizes.fills row_op state regs.answer res.answer.word w n v i low b range.registers zeros.next) h8.1 in
-    let m9 = written_complete w z zeros.next n state row_op regs.answer res.answer.word v i low b (record {
-      assigns = assigns;
-      opcode = fore.row;
-      size = size;
-      words = refl;
-      bit = range.flag;
-      flag = refl;
-      within = dest_below w head tail;
-      dest = fore.are.dest;
-      dest_word = fore.are.dest_word;
-      word = are_results.word;
-    }) h9.0 in
+    let m9 = written_complete w z zeros.next n state row_op regs.answer res.answer.word v i low b
+    (has_written known head tail fore.row fore.is fore.does are_tapes fore.are are_results) h9.0 in
     let flags = flag w n state at in
     let h10 = some_had z wrote.next flags.next (flag_values w (input_of n v i low) b f) r6
     (flag_sizes.fills w state row_op arith_made.answer.x taken.next t.answer n v i low b f wrote.next) h9.1 in

@@ -8,6 +8,7 @@ use Rattle.std.proofs.lemmas.List.Elements.{All-get_or}
 use Rattle.tv_bits.proofs.BitNumbers.{HasBits-below, HasBits-bit_at}
 use Rattle.tv_bits.proofs.ZeroSignLaws.{zero_sign_sound}
 use Rattle.tv_bits.specs.Bit.{IsBit}
+use Rattle.tv_bits.specs.Bits.{HasBits}
 use Rattle.tv_bits.specs.ZeroSign.{zero_sign_of}
 use Rattle.tv_core.proofs.CombinationLaws.{value-append, value-wire, value-constant, value-cons}
 use Rattle.tv_core.proofs.MeetsLaws.{Meets-split}
@@ -23,7 +24,7 @@ use Rattle.tv_decode.specs.declared.records.InstructionWires.{InstructionWires}
 use Rattle.tv_isa.specs.Instruction.{decode}
 use Rattle.tv_isa.specs.Opcodes.{among, store_ops, writer_ops}
 use Rattle.tv_isa.specs.declared.instr.Instr.{Instr}
-use Rattle.tv_isa.specs.declared.opcode.TheConstants.{CMPE, CMOV, ANSWER}
+use Rattle.tv_isa.specs.declared.opcode.TheConstants.{CMPE, CMOV, ANSWER, STORE_B}
 use Rattle.tv_mem.specs.Bytes.{byte_of}
 use Rattle.tv_numbers.proofs.LineRows.{same_line}
 use Rattle.tv_numbers.proofs.RangeLaws.{numbers_stay_in_range}
@@ -47,7 +48,7 @@ use Rattle.tv_inputs.proofs.TapeLaws.{tapes_sound}
 use Rattle.tv_arithmetic.specs.Arithmetic.{shift_ops, division_ops, arithmetic_of, IsArithmetic}
 use Rattle.tv_parts.specs.Flag.{sign_at, next_flag_of, HasFlag}
 use Rattle.tv_inputs.specs.Inputs.{StepInput, input_of, operation_of}
-use Rattle.tv_parts.specs.Memory.{memory_of, AreStored}
+use Rattle.tv_parts.specs.Memory.{memory_of, AreStored, HasMemory}
 use Rattle.tv_inputs.specs.OpcodeSums.{IsOpcode}
 use Rattle.tv_inputs.specs.Operand.{operand_of, IsOperand, HasOperand}
 use Rattle.tv_results.specs.Pc.{pc_of, HasPc}
@@ -55,13 +56,15 @@ use Rattle.tv_inputs.specs.Results.{sign_of, results_of, HasSources, AreResults}
 use Rattle.tv_inputs.specs.TestNumbers.{zero_ops}
 use Rattle.tv_inputs.specs.States.{state_in}
 use Rattle.tv_inputs.specs.Tapes.{tapes_of, took, HasTapes, AreTapes}
-use Rattle.tv_parts.specs.Written.{written_of}
+use Rattle.tv_parts.proofs.WrittenFills.{written_settled}
+use Rattle.tv_parts.specs.Written.{written_of, HasWritten}
 use Rattle.tv_inputs.specs.declared.records.ArithmeticWires.{ArithmeticWires}
 use Rattle.tv_inputs.specs.declared.records.OperandWires.{OperandWires}
 use Rattle.tv_inputs.specs.declared.records.ResultWires.{ResultWires}
 use Rattle.tv_inputs.specs.declared.records.StateWires.{StateWires}
 use Rattle.tv_inputs.specs.declared.records.TapeWires.{TapeWires}
-use Rattle.tv_block.proofs.PartLaws.{opcode_of_row, op_below, dest_below, source_below, among_each, registers_sound, written_sound, sign_value}
+use Rattle.tv_regs.specs.declared.triple.Triple.{Triple}
+use Rattle.tv_block.proofs.PartLaws.{opcode_of_row, op_below, dest_below, source_below, among_each, AreRegisters, registers_sound, sign_value}
 use Rattle.tv_block.proofs.PartLaws.{sign_shift, sign_division}
 use Rattle.tv_block.specs.Block.{registers_of, data_of, sources_of, computed_of, effects_of, block_of, word_inverse, cell_of, BlockIsStep, BlockIsSound}
 use Rattle.tv_word.specs.Word.{flag_of}
@@ -191,24 +194,29 @@ module _ {w : ℕ} {z : List ℕ} {n : ℕ} {state : StateWires} (known : Before
       abbrev input : StepInput
       input = input_of n v i low
 
+      pub has_memory : (word other : ℕ) → HasBits z made.x.first w word → (i.op ≡ STORE_B → word ≡ x) → slice_index z other ≡ x
+          → HasMemory w z (record { state = state; op = op; operand = taken; tapes = t }) (data_of made other) input word
+      has_memory word other decomposed stored held = record {
+        assigns = known.assigns;
+        short = known.short;
+        within = known.range.taken;
+        before = refl;
+        opcode = row;
+        operand = is;
+        bits = does.row.low;
+        word = refl;
+        decomposed = decomposed;
+        stored = stored;
+        other = held;
+        both = does.both;
+        tapes = tapes;
+      }
+
       pub memory_in : (next other : ℕ) → slice_index z other ≡ x → Meets z (memory_of w state op taken (data_of made other) t next).list
           → AreStored w z (memory_of w state op taken (data_of made other) t next).answer input
       memory_in next other held meets =
-          memory_sound w known.width z next n state op taken (data_of made other) t v i does.bits.0 low (record {
-            assigns = known.assigns;
-            short = known.short;
-            within = known.range.taken;
-            before = refl;
-            opcode = row;
-            operand = is;
-            bits = does.row.low;
-            word = refl;
-            decomposed = does.bits.1;
-            stored = λ e. does.bits.1.number ∙ sym (does.same (ap (among division_ops) e)).number;
-            other = held;
-            both = does.both;
-            tapes = tapes;
-          }) meets
+          memory_sound w known.width z next n state op taken (data_of made other) t v i does.bits.0 low
+          (has_memory does.bits.0 other does.bits.1 (λ e. does.bits.1.number ∙ sym (does.same (ap (among division_ops) e)).number) held) meets
 
       pub has_sources : (byte : ℕ) → slice_index z byte ≡ byte_of low (a % word_size w)
           → HasSources w z (record { state = state; op = op; operand = taken; tapes = t }) (sources_of w made byte) input high
@@ -235,6 +243,21 @@ module _ {w : ℕ} {z : List ℕ} {n : ℕ} {state : StateWires} (known : Before
           → AreResults w z (results_of w state op taken (sources_of w made byte) t next).answer input high (took z t)
       results_in next byte is_byte meets =
           results_sound w known.width z next n state op taken (sources_of w made byte) t v i low high (has_sources byte is_byte) meets
+
+      pub has_written : {regs : Triple} {r : ResultWires} → AreRegisters z regs v i → AreResults w z r input high (took z t)
+          → HasWritten w z (record { state = state; op = op; regs = regs; result = r.word }) input (took z t)
+      has_written are results = record {
+        assigns = known.assigns;
+        opcode = row;
+        size = state_sixteen w z n state known.range;
+        words = refl;
+        bit = known.range.flag;
+        flag = refl;
+        within = dest_below w head tail;
+        dest = are.dest;
+        dest_word = are.dest_word;
+        word = results.word;
+      }
 
       -- a result that is tested for 0 is the table's, and at cmpe the low half
       zero_word : (r : ResultWires) → AreResults w z r input high (took z t) → among zero_ops i.op ≡ true
@@ -388,9 +411,8 @@ step_in w width z n state time at short early assigns range meets =
     let are_tapes = tapes_in known head tail row is made.next m5.0 in
     let stored = memory_in known head tail row is does are_tapes tapes.next regs.answer.other_word are.other m6.0 in
     let are_results = results_in known head tail row is does are_tapes memory.next memory.answer.byte stored.byte m7.0 in
-    let regs_are =
-    written_sound w z zeros.next n state op regs.answer results.answer.word v i o takes
-    size assigns row (dest_below w head tail) range.flag refl refl are are_results.word m9.0 in
+    let has_registers = has_written known head tail row is does are_tapes are are_results in
+    let regs_are = (written_settled w z n state op regs.answer results.answer.word v i o takes has_registers).sound zeros.next m9.0 in
     let has_flags = has_flag known head tail row is does are_tapes results.answer are_results is_test in
     let flag_is = flag_sound w width z written.next n state op made.answer.x test tapes.answer v i o (slice_index z made.answer.row.high)
     (slice_index z results.answer.word) (slice_index z results.answer.tested) o has_flags m10.0 in

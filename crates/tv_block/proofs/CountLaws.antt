@@ -94,13 +94,8 @@ module _ (w : ℕ) (width : IsWidth w) where
   computed_sized : (state : StateWires) → Sized (computed_of w state) (6 * w + w / 16 + 71) (6 * w + w / 16 + 79) (28 * w + w / 4 + 451)
   unfolding computed_of
   computed_sized state =
-      sized_as (computed_of w state) _ _ _ (6 * w + w / 16 + 71) (6 * w + w / 16 + 79) (28 * w + w / 4 + 451)
-      (sized_to (instruction_of w) _ _ _ _ _ _ _ instruction_sized
-      (λ a. sized_from (registers_of w state (instruction_of w a).answer) _ (instruction_of w a).next _ _ _ _ _ _ (registers_sized state a)
-      (sized_then (operand_of w _ _ _) _ _ _ _ _ _ _ (operand_sized _ _ _)
-      (λ c. sized_then fresh _ _ _ _ _ _ _ fresh_sized
-      (λ d. sized_then (arithmetic_of w _ _ _ _) _ _ _ _ _ _ _ (arithmetic_sized _ _ _ _)
-      (λ e. sized_pure _))))))
+      sized_as (sized_to _ instruction_sized (λ a. sized_from _ (registers_sized state a) (sized_then _ (operand_sized _ _ _) (λ c. sized_then _ fresh_sized
+      (λ d. sized_then _ (arithmetic_sized _ _ _ _) (λ e. sized_pure _))))))
       (omega arith) (omega arith) (omega arith)
 
   -- ---- what it does
@@ -162,25 +157,15 @@ module _ (w : ℕ) (width : IsWidth w) where
     effects_sized : Sized (effects_of w n state c) (w / 8 + 42) (w / 8 + 47) (2 * w + w / 8 + 2 * (w / 16) + 302 + tape_terms n)
     unfolding effects_of
     effects_sized =
-        sized_as (effects_of w n state c) _ _ _ (w / 8 + 42) (w / 8 + 47) (2 * w + w / 8 + 2 * (w / 16) + 302 + tape_terms n)
-        (sized_then (tapes_of w n state c.instruction.op c.operand) _ _ _ _ _ _ _ tapes_sized
-        (λ h. sized_then (memory_of w state c.instruction.op c.operand _ _) _ _ _ _ _ _ _ (memory_sized _)
-        (λ i. sized_then (results_of w state c.instruction.op c.operand _ _) _ _ _ _ _ _ _ (results_sized _ _)
-        (λ j. sized_then (zero_sign_of _ c.test (sign_of c.instruction.op)) _ _ _ _ _ _ _ (zero_sized _)
-        (λ k. sized_then (written_of c.instruction.op state c.regs _) _ _ _ _ _ _ _ (written_sized _)
-        (λ l. sized_then (next_flag_of w state c.instruction.op c.made.x c.test _) _ _ _ _ _ _ _ (flag_sized _)
-        (λ m. sized_then (pc_of w state c.instruction.op c.operand) _ _ _ _ _ _ _ pc_sized
-        (λ last. sized_pure _))))))))
+        sized_as (sized_then _ tapes_sized (λ h. sized_then _ (memory_sized _) (λ i. sized_then _ (results_sized _ _) (λ j. sized_then _ (zero_sized _)
+        (λ k. sized_then _ (written_sized _) (λ l. sized_then _ (flag_sized _) (λ m. sized_then _ pc_sized (λ last. sized_pure _))))))))
         (omega arith) (omega arith) (omega arith)
 
   -- ---- the whole
   block_sized : (n : ℕ) (state : StateWires) (time : ℕ) → Sized (block_of w n state time) (block_made w) (block_added w) (block_terms w n)
   unfolding block_of
   block_sized n state time =
-      sized_as (block_of w n state time) _ _ _ (block_made w) (block_added w) (block_terms w n)
-      (sized_then (computed_of w state) _ _ _ _ _ _ _ (computed_sized state)
-      (λ a. sized_then (effects_of w n state (computed_of w state a).answer) _ _ _ _ _ _ _ (effects_sized n state (computed_of w state a).answer)
-      (λ b. sized_pure _)))
+      sized_as (sized_then _ (computed_sized state) (λ a. sized_then _ (effects_sized n state (computed_of w state a).answer) (λ b. sized_pure _)))
       (omega (arith, width)) (omega (arith, width))
       (for_widths (λ w. 28 * w + w / 4 + 451 + (2 * w + w / 8 + 2 * (w / 16) + 302 + tape_terms n + 0) ≡ block_terms w n) (omega (arith, both_terms (n == 0)))
       (omega (arith, both_terms (n == 0))) w width)

@@ -3,7 +3,7 @@ pub mod BlockFills
 pub mod BlockLaws
 pub mod CountLaws
 mod FilledValues
-mod Growing
+pub mod Growing
 pub mod MachineFills
 pub mod NormalLaws
 pub mod PartLaws

@@ -1,5 +1,5 @@
 -- What the parts of a step that are made of gadgets alone say: opcode, registers, test and registers written.
-use Rattle.std.proofs.Common.{◌≡◌, ℕ, ◌+◌, ◌-◌, ◌*◌, ◌%◌, ◌<◌, ◌==◌, Bool, true, false, if◌then◌else◌, List, [], ◌∷◌}
+use Rattle.std.proofs.Common.{◌≡◌, ℕ, ◌+◌, ◌-◌, ◌%◌, ◌<◌, ◌==◌, Bool, true, false, if◌then◌else◌, List, [], ◌∷◌}
 use Rattle.std.proofs.Common.{◌++◌, length, inl, inr, refl, sym, ◌∙◌, ap, ap₂, subst, arith, true≢false}
 use Rattle.std.specs.List.{AllByRecursion, list_all}
 use Rattle.std.specs.Prelude.{slice_index}
@@ -7,9 +7,7 @@ use Rattle.std.proofs.lemmas.Bool.{cases_eq, ne_eqb, eqb-true, and_parts}
 use Rattle.std.proofs.lemmas.Bool.Decides.{nat_tests}
 use Rattle.tv_bits.specs.Bit.{IsBit}
 use Rattle.tv_bits.specs.Number.{number_of}
-use Rattle.tv_core.proofs.CombinationLaws.{value-append, value-wire}
-use Rattle.tv_core.proofs.MeetsLaws.{Meets-split}
-use Rattle.tv_core.specs.Circuits.{◌>>=◌}
+use Rattle.tv_core.proofs.CombinationLaws.{value-append}
 use Rattle.tv_core.specs.Combinations.{wire}
 use Rattle.tv_core.specs.Constraints.{Combination, value}
 use Rattle.tv_core.specs.Laws.{Assigns, Meets}
@@ -18,31 +16,23 @@ use Rattle.tv_decode.proofs.InstructionLaws.{opcode_wire}
 use Rattle.tv_decode.specs.Instructions.{dest_bits, source_bits, register_bits, IsOpcodeRow, IsDecoded}
 use Rattle.tv_decode.specs.declared.records.InstructionWires.{InstructionWires}
 use Rattle.tv_isa.specs.Instruction.{decode}
-use Rattle.tv_isa.specs.Opcodes.{among, is_used, unused_ops, store_ops, writer_ops}
+use Rattle.tv_isa.specs.Opcodes.{among, is_used, unused_ops, store_ops}
 use Rattle.tv_isa.specs.declared.instr.Instr.{Instr}
-use Rattle.tv_isa.specs.declared.opcode.TheConstants.{CMOV, USED}
-use Rattle.tv_numbers.specs.Numbers.{other_word, result_in, stepped}
+use Rattle.tv_isa.specs.declared.opcode.TheConstants.{USED}
+use Rattle.tv_numbers.specs.Numbers.{other_word}
 use Rattle.tv_numbers.specs.Views.{View}
 use Rattle.tv_regs.proofs.TripleLaws.{triple_sound}
-use Rattle.tv_regs.proofs.UpdateLaws.{update_sound}
 use Rattle.tv_bits.specs.Wires.{words_at}
 use Rattle.tv_regs.specs.Triple.{AreNumbers}
-use Rattle.tv_regs.specs.Writes.{written_regs}
 use Rattle.tv_regs.specs.declared.triple.Triple.{Triple}
 use Rattle.tv_word.proofs.FlagLaws.{flag_small}
 use Rattle.tv_word.specs.Widths.{IsWidth}
-use Rattle.tv_inputs.proofs.AccumulationLaws.{accumulated_sound}
 use Rattle.tv_inputs.proofs.OpcodeLaws.{opcode_terms_sound, opcode_sum_sound}
-use Rattle.tv_inputs.proofs.TapeFills.{flag_test}
-use Rattle.tv_inputs.proofs.TapeLaws.{among_one}
-use Rattle.tv_parts.proofs.WrittenFills.{on_number, writes_among, regs_where, none_of}
-use Rattle.tv_inputs.specs.Accumulation.{accumulated_of}
 use Rattle.tv_arithmetic.specs.Arithmetic.{shift_ops, division_ops}
 use Rattle.tv_parts.specs.Flag.{sign_at}
 use Rattle.tv_inputs.specs.OpcodeSums.{opcode_sum, opcode_terms, distinct, IsOpcode}
 use Rattle.tv_inputs.specs.Results.{sign_of}
 use Rattle.tv_inputs.specs.States.{state_in}
-use Rattle.tv_parts.specs.Written.{written_of}
 use Rattle.tv_inputs.specs.declared.records.StateWires.{StateWires}
 use Rattle.tv_block.specs.Block.{registers_of}
 use Rattle.tv_word.specs.Word.{flag_of}
@@ -91,6 +81,18 @@ pub word_by : (b : Bool) (g d s : ℕ) (words : List ℕ) → g ≡ flag_of b
 word_by true g d s words e = rw e refl
 word_by false g d s words e = rw e refl
 
+-- the numbers that they are read by
+pub are_numbers : {w : ℕ} {z : List ℕ} {i : InstructionWires} {head tail : ℕ} → IsDecoded z w i head tail → IsOpcode z i.op (decode w head tail).op
+    → AreNumbers z (opcode_sum i.op store_ops) (number_of (dest_bits w i)) (number_of (source_bits w i)) (number_of (register_bits i))
+are_numbers {w} {z} {i} {head} {tail} is row =
+    let stores = among store_ops (decode w head tail).op in
+    record {
+      store = subst IsBit (sym (opcode_sum_sound z i.op (decode w head tail).op store_ops row refl)) (flag_small stores);
+      dest = subst (λ n. n < 16) (sym is.dest) (dest_below w head tail);
+      other = subst (λ n. n < 16) (sym is.source) (source_below w head tail);
+      third = subst (λ n. n < 16) (sym is.register) (omega arith);
+    }
+
 pub registers_sound : (w : ℕ) → IsWidth w → (z : List ℕ) (next : ℕ) (state : StateWires) (i : InstructionWires) (head tail : ℕ)
     → length state.regs ≡ 16 → Assigns z → IsDecoded z w i head tail → Meets z (registers_of w state i next).list
     → AreRegisters z (registers_of w state i next).answer (state_in z state) (decode w head tail)
@@ -103,13 +105,7 @@ registers_sound w width z next state i head tail size assigns is meets =
     let target = number_of (dest_bits w i) in
     let source = number_of (source_bits w i) in
     let named = number_of (register_bits i) in
-    let numbers : AreNumbers z stores target source named = record {
-      store = subst IsBit (sym store_is) (flag_small (among store_ops ins.op));
-      dest = subst (λ n. n < 16) (sym is.dest) (dest_below w head tail);
-      other = subst (λ n. n < 16) (sym is.source) (source_below w head tail);
-      third = subst (λ n. n < 16) (sym is.register) (omega arith);
-    } in
-    let read = triple_sound z next stores target source named state.regs size assigns numbers meets in
+    let read = triple_sound z next stores target source named state.regs size assigns (are_numbers is row) meets in
     record {
       other =
           read.other_word ∙ word_by (among store_ops ins.op) (value stores z) (value target z) (value source z) words store_is
@@ -118,34 +114,6 @@ registers_sound w width z next state i head tail size assigns is meets =
       dest = read.dest ∙ is.dest;
       dest_word = read.dest_word ∙ ap (slice_index words) is.dest;
     }
-
--- ---- the registers after the step
-pub written_sound : (w : ℕ) (z : List ℕ) (next n : ℕ) (state : StateWires) (op : ℕ) (regs : Triple) (result : ℕ)
-    (v : View) (i : Instr) (o : ℕ) (takes : Bool) → length state.regs ≡ 16 → Assigns z → IsOpcode z op i.op → i.dest < 16 → v.flag < 2
-    → slice_index z state.flag ≡ v.flag
-    → words_at z state.regs ≡ v.regs → AreRegisters z regs v i
-    → (among (CMOV ∷ writer_ops) i.op ≡ true → slice_index z result ≡ result_in w n v i o takes)
-    → Meets z (written_of op state regs result next).list → words_at z (written_of op state regs result next).answer ≡ (stepped w n v i o takes).regs
-unfolding written_of ◌>>=◌
-written_sound w z next n state op regs result v i o takes size assigns row within bit flag words are is meets =
-    let writes : Bool = if i.op == CMOV then v.flag == 1 else among writer_ops i.op in
-    let on = accumulated_of (opcode_sum op writer_ops) (opcode_sum op (CMOV ∷ [])) (wire state.flag) next in
-    let m1 = Meets-split z on.list _ meets in
-    let by_flag : value (opcode_sum op (CMOV ∷ [])) z * value (wire state.flag) z ≡ flag_of (i.op == CMOV) * v.flag =
-    ap₂ (λ c f. c * f) (opcode_sum_sound z op i.op (CMOV ∷ []) row refl ∙ ap flag_of (among_one CMOV i.op)) (value-wire assigns state.flag ∙ flag) in
-    let on_at : slice_index z on.answer ≡ flag_of writes =
-    accumulated_sound z next (opcode_sum op writer_ops) (opcode_sum op (CMOV ∷ [])) (wire state.flag) assigns m1.0
-    ∙ ap₂ (λ a b. (a + b) % P) (opcode_sum_sound z op i.op writer_ops row refl) by_flag
-    ∙ on_number (among writer_ops i.op) (i.op == CMOV) v.flag bit (none_of i.op) in
-    update_sound z on.next on.answer regs.dest regs.dest_word result state.regs i.dest assigns (record {
-      size = size;
-      bit = subst IsBit (sym on_at) (flag_small writes);
-      number = are.dest;
-      within = within;
-      old = are.dest_word ∙ ap (λ l. slice_index l i.dest) (sym words);
-    }) m1.1
-    ∙ ap₂ (λ b l. written_regs b (slice_index z result) i.dest l) (ap (λ k. k == 1) on_at ∙ flag_test writes) words
-    ∙ regs_where writes (slice_index z result) (result_in w n v i o takes) i.dest v.regs (λ e. is (writes_among i.op v.flag e))
 
 -- ---- the sign of the test
 abbrev term_at : ℕ → List ℕ → ℕ → ℕ

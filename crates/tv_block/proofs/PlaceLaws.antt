@@ -26,10 +26,7 @@ wires_from next first second third spot answers value = record {
 
 pub same_wires : (a b : StateWires) (c d e f g h : LineLc) (i j : Spot) (k l m n : ℕ) → a ≡ b → c ≡ d → e ≡ f → g ≡ h → i ≡ j → k ≡ l → m ≡ n
     → wires_from a c e g i k m ≡ wires_from b d f h j l n
-same_wires a b c d e f g h i j k l m n e1 e2 e3 e4 e5 e6 e7 =
-    ap (λ x. wires_from x c e g i k m) e1 ∙ (ap (λ x. wires_from b x e g i k m) e2 ∙ (ap (λ x. wires_from b d x g i k m) e3
-    ∙ (ap (λ x. wires_from b d f x i k m) e4 ∙ (ap (λ x. wires_from b d f h x k m) e5
-    ∙ (ap (λ x. wires_from b d f h j x m) e6 ∙ ap (λ x. wires_from b d f h j l x) e7)))))
+same_wires a b c d e f g h i j k l m n e1 e2 e3 e4 e5 e6 e7 = cc
 
 -- what holds of each of three
 pub all_three : {A : Type 0} (Q : A → Type 0) (x y z : A) → Q x → Q y → Q z → All Q (x ∷ y ∷ z ∷ [])

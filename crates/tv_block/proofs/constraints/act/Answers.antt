@@ -1,9 +1,7 @@
-use Rattle.std.proofs.Common.{ℕ, Result, Ok, Err, IfOk}
 use Rattle.tv_core.proofs.Chain.{some_then, some_first, refused}
 use Rattle.tv_core.proofs.TailCalls.{puts_in_then}
-use Rattle.tv_core.specs.Sinks.{Meaning, Grows}
-use Rattle.tv_block.proofs.Growing.{memory_room, memory_before, results_room, results_before, results_tapes, test_room, leave_room}
-use Rattle.tv_block.proofs.Growing.{leave_before, leave_done, effects_grow}
+use Rattle.tv_block.proofs.Growing.{rises, both, now, after, effects_room, effects_grow, if_ok, one_up, state_under, computed_under, before_under}
+use Rattle.tv_block.proofs.Growing.{tapes_under, store_under}
 use Rattle.tv_block.specs.Block.{effects_of}
 use Rattle.tv_block.proofs.constraints.act.Goals as goal
 
@@ -37,65 +35,53 @@ returns-clause-puts g c =
 
 pub store-requires : goal.store-requires
 store-requires g c =
-    let w = g.row.W in
     let r = c.requires in
     let g1 = c.in_ok-tapes.ensures.grows in
-    let before = memory_before w r.room r.state_made r.computed_made g1 in
     record {
       width = r.width;
-      room = memory_room w r.room r.state_made r.computed_made g1;
-      state_made = before.state;
-      computed_made = before.computed;
+      room = now _ _ (after g1 (effects_room _ r.room));
+      state_made = state_under (rises g1) r.state_made;
+      computed_made = computed_under (rises g1) r.computed_made;
       tapes_made = c.in_ok-tapes.ensures.below;
     }
 
 pub results-requires : goal.results-requires
 results-requires g c =
-    let w = g.row.W in
     let r = c.requires in
     let g1 = c.in_ok-tapes.ensures.grows in
     let g2 = c.in_ok-memory.ensures.grows in
     record {
       width = r.width;
-      room = results_room w r.room r.state_made r.computed_made g1 g2;
-      before_made = results_before w r.room r.state_made r.computed_made g1 g2;
+      room = now 25 27 (after g2 (after g1 (effects_room _ r.room)));
+      before_made = before_under (rises (both g1 g2)) r.state_made r.computed_made;
       byte_made = c.in_ok-memory.ensures.below.byte;
-      tapes_made = results_tapes w r.room r.state_made r.computed_made g1 g2 c.in_ok-tapes.ensures.below;
+      tapes_made = tapes_under (rises g2) c.in_ok-tapes.ensures.below;
     }
 
 pub put_test-requires-clause-room : goal.put_test-requires-clause-room
 put_test-requires-clause-room g c =
-    let r = c.requires in
-    test_room g.row.W r.room r.state_made r.computed_made c.in_ok-tapes.ensures.grows c.in_ok-memory.ensures.grows c.in_ok-results.ensures.grows
+    now 24 25 (after c.in_ok-results.ensures.grows (after c.in_ok-memory.ensures.grows (after c.in_ok-tapes.ensures.grows (effects_room _ c.requires.room))))
 
 pub leave-requires : goal.leave-requires
 leave-requires g c =
-    let w = g.row.W in
     let r = c.requires in
     let g1 = c.in_ok-tapes.ensures.grows in
     let g2 = c.in_ok-memory.ensures.grows in
     let g3 = c.in_ok-results.ensures.grows in
     let g4 = c.in_ok-put_test.ensures.grows in
+    let g34 = both g3 g4 in
     record {
       width = r.width;
-      room = leave_room w r.room r.state_made r.computed_made g1 g2 g3 g4;
-      before_made = leave_before w r.room r.state_made r.computed_made g1 g2 g3 g4;
-      done_made = leave_done w r.room r.state_made r.computed_made g1 g2 g3 g4 _ c.in_ok-tapes.ensures.below
-          c.in_ok-memory.ensures.below c.in_ok-results.ensures.below.word;
+      room = after g4 (after g3 (after g2 (after g1 (effects_room _ r.room))));
+      before_made = before_under (rises (both g1 (both g2 g34))) r.state_made r.computed_made;
+      done_made = record {
+        tapes = tapes_under (rises (both g2 g34)) c.in_ok-tapes.ensures.below;
+        memory = store_under (rises g34) c.in_ok-memory.ensures.below;
+        word = one_up (rises g4) c.in_ok-results.ensures.below.word;
+      };
     }
-
--- where the last call succeeds
-if_ok : {S T E : Type 0} {m : Meaning S} {old mid new : S} (result : Result T E) {k l made added : ℕ}
-    → (Grows m mid new k l → Grows m old new made added) → IfOk result (λ _. Grows m mid new k l) → IfOk result (λ _. Grows m old new made added)
-if_ok (Ok done) f h = f h
-if_ok (Err why) f h = tt
 
 pub returns-clause-grows : goal.returns-clause-grows
 returns-clause-grows g c =
-    let w = g.row.W in
-    let r = c.requires in
-    let g1 = c.in_ok-tapes.ensures.grows in
-    let g2 = c.in_ok-memory.ensures.grows in
-    let g3 = c.in_ok-results.ensures.grows in
-    let g4 = c.in_ok-put_test.ensures.grows in
-    if_ok c.leave.result (effects_grow w r.room r.state_made r.computed_made g1 g2 g3 g4) c.leave.ensures.grows
+    if_ok c.leave.result (λ last. effects_grow _ (both c.in_ok-tapes.ensures.grows (both c.in_ok-memory.ensures.grows (both c.in_ok-results.ensures.grows
+    (both c.in_ok-put_test.ensures.grows last))))) c.leave.ensures.grows

@@ -1,6 +1,6 @@
 use Rattle.tv_core.proofs.Chain.{all_then, some_then, some_first, all_pure, refused}
-use Rattle.tv_block.proofs.Growing.{registers_room, registers_state, instruction_under, imm_within, operand_room, imm_under, tail_made, test_fits}
-use Rattle.tv_block.proofs.Growing.{arithmetic_room, operation_under, other_made, test_made, computed_grows, all_computed}
+use Rattle.tv_block.proofs.Growing.{rises, both, now, after, computed_room, computed_grows, next_fits, made_next, within, up, one_up, state_under, triple_under}
+use Rattle.tv_block.proofs.Growing.{operand_under, instruction_under, tail_under, imm_under}
 use Rattle.tv_block.specs.Block.{computed_of}
 use Rattle.tv_block.proofs.constraints.compute.Goals as goal
 
@@ -36,80 +36,78 @@ returns-clause-puts g c =
 
 pub registers-requires : goal.registers-requires
 registers-requires g c =
-    let w = g.row.W in
     let r = c.requires in
     let e1 = c.in_ok-instruction.ensures in
     record {
       width = r.width;
-      room = registers_room w r.width r.room r.state_made e1.grows e1.places;
-      state_made = registers_state w r.width r.room r.state_made e1.grows e1.places;
-      instruction_made = instruction_under w r.width r.room r.state_made e1.grows e1.places;
+      room = now _ _ (after e1.grows (computed_room _ r.room));
+      state_made = state_under (rises e1.grows) r.state_made;
+      instruction_made = instruction_under _ r.width e1.grows e1.places;
     }
 
 pub imm-imm-requires-clause-within : goal.imm-imm-requires-clause-within
 imm-imm-requires-clause-within g c =
-    let w = g.row.W in
-    let r = c.requires in
     let e1 = c.in_ok-instruction.ensures in
-    imm_within w r.width r.room r.state_made e1.grows e1.places
+    within (after e1.grows (computed_room g.row.W c.requires.room)) (instruction_under _ c.requires.width e1.grows e1.places).low
 
 pub put_operand-requires : goal.put_operand-requires
 put_operand-requires g c =
-    let w = g.row.W in
     let r = c.requires in
     let e1 = c.in_ok-instruction.ensures in
     let e2 = c.in_ok-regs.ensures in
     record {
       width = r.width;
-      room = operand_room w r.width r.room r.state_made e1.grows e1.places e2.grows;
-      imm_made = imm_under w r.width r.room r.state_made e1.grows e1.places e2.grows _ c.imm-imm.ensures;
-      tail_made = tail_made w r.width r.room r.state_made e1.grows e1.places e2.grows;
+      room = now _ _ (after e2.grows (after e1.grows (computed_room _ r.room)));
+      imm_made = one_up (rises e2.grows) (imm_under _ r.width e1.grows e1.places c.imm-imm.ensures);
+      tail_made = one_up (rises e2.grows) (tail_under _ r.width e1.grows e1.places);
       register_made = e2.below.named;
     }
 
 pub fresh-test-requires : goal.fresh-test-requires
 fresh-test-requires g c =
-    let w = g.row.W in
-    let r = c.requires in
-    let e1 = c.in_ok-instruction.ensures in
-    let e2 = c.in_ok-regs.ensures in
     let e3 = c.in_ok-operand.ensures in
-    record { whole = e3.grows.whole; room = test_fits w r.width r.room r.state_made e1.grows e1.places e2.grows e3.grows }
+    record {
+      whole = e3.grows.whole;
+      room = next_fits _ (after e3.grows (after c.in_ok-regs.ensures.grows (after c.in_ok-instruction.ensures.grows (computed_room g.row.W c.requires.room))));
+    }
 
 pub put_arithmetic-requires : goal.put_arithmetic-requires
 put_arithmetic-requires g c =
-    let w = g.row.W in
     let r = c.requires in
     let e1 = c.in_ok-instruction.ensures in
     let e2 = c.in_ok-regs.ensures in
     let e3 = c.in_ok-operand.ensures in
     let e4 = c.fresh-test.ensures in
+    let g34 = both e3.grows e4.grows in
     record {
       width = r.width;
-      room = arithmetic_room w r.width r.room r.state_made e1.grows e1.places e2.grows e3.grows e4.grows e2.below e3.below e4.next;
-      operation_made = operation_under w r.width r.room r.state_made e1.grows e1.places e2.grows e3.grows e4.grows e2.below e3.below e4.next;
-      other_made = other_made w r.width r.room r.state_made e1.grows e1.places e2.grows e3.grows e4.grows e2.below e3.below e4.next;
-      f_made = test_made w r.width r.room r.state_made e1.grows e1.places e2.grows e3.grows e4.grows e2.below e3.below e4.next;
+      room = after e4.grows (after e3.grows (after e2.grows (after e1.grows (computed_room _ r.room))));
+      operation_made = record {
+        row = up (rises (both e2.grows g34)) (instruction_under _ r.width e1.grows e1.places).op;
+        operand = operand_under (rises e4.grows) e3.below;
+      };
+      other_made = one_up (rises g34) e2.below.other;
+      f_made = made_next e4.grows e4.next;
     }
 
 pub returns-clause-grows : goal.returns-clause-grows
 returns-clause-grows g c =
-    let w = g.row.W in
-    let r = c.requires in
-    let e1 = c.in_ok-instruction.ensures in
-    let e2 = c.in_ok-regs.ensures in
-    let e3 = c.in_ok-operand.ensures in
-    let e4 = c.fresh-test.ensures in
-    let e5 = c.in_ok-made.ensures in
-    computed_grows w r.width r.room r.state_made e1.grows e1.places e2.grows e3.grows e4.grows e2.below e3.below e4.next e5.grows
+    computed_grows _ (both c.in_ok-instruction.ensures.grows (both c.in_ok-regs.ensures.grows (both c.in_ok-operand.ensures.grows
+    (both c.fresh-test.ensures.grows c.in_ok-made.ensures.grows))))
 
 pub returns-clause-below : goal.returns-clause-below
 returns-clause-below g c =
-    let w = g.row.W in
-    let r = c.requires in
     let e1 = c.in_ok-instruction.ensures in
     let e2 = c.in_ok-regs.ensures in
     let e3 = c.in_ok-operand.ensures in
     let e4 = c.fresh-test.ensures in
     let e5 = c.in_ok-made.ensures in
-    all_computed w r.width r.room r.state_made e1.grows e1.places e2.grows e3.grows e4.grows e2.below e3.below e4.next e5.grows e5.below
+    let g45 = both e4.grows e5.grows in
+    let g345 = both e3.grows g45 in
+    record {
+      op = up (rises (both e2.grows g345)) (instruction_under _ c.requires.width e1.grows e1.places).op;
+      regs = triple_under (rises g345) e2.below;
+      operand = operand_under (rises g45) e3.below;
+      test = one_up (rises e5.grows) (made_next e4.grows e4.next);
+      made = e5.below;
+    }

@@ -1,5 +1,5 @@
 use Rattle.tv_core.proofs.Chain.{all_then, some_then, some_first, all_pure, refused}
-use Rattle.tv_block.proofs.Growing.{flag_room, flag_from, pc_room, pc_before, left_grow, effects_under}
+use Rattle.tv_block.proofs.Growing.{rises, both, now, after, up, one_up, state_under, computed_under, tapes_under, store_under}
 use Rattle.tv_block.proofs.constraints.leave.Goals as goal
 
 pub returns-in_err-regs-clause-puts : goal.returns-in_err-regs-clause-puts
@@ -20,33 +20,46 @@ returns-clause-puts g c =
 
 pub put_flag-requires : goal.put_flag-requires
 put_flag-requires g c =
-    let w = g.row.W in
     let r = c.requires in
     let g5 = c.in_ok-regs.ensures.grows in
-    record { width = r.width; room = flag_room w r.room r.before_made g5; from_made = flag_from w r.room r.before_made g5 r.done_made.tapes }
+    let now_ = computed_under (rises g5) r.before_made.computed in
+    record {
+      width = r.width;
+      room = now 4 4 (after g5 r.room);
+      from_made = record {
+        state = state_under (rises g5) r.before_made.state;
+        row = now_.op;
+        bits = now_.made.rows.x;
+        test = now_.test;
+        tapes = tapes_under (rises g5) r.done_made.tapes;
+      };
+    }
 
 pub put_pc-requires : goal.put_pc-requires
 put_pc-requires g c =
-    let w = g.row.W in
     let r = c.requires in
-    let g5 = c.in_ok-regs.ensures.grows in
-    let g6 = c.in_ok-flag.ensures.grows in
-    let before = pc_before w r.room r.before_made g5 g6 in
+    let g6 = both c.in_ok-regs.ensures.grows c.in_ok-flag.ensures.grows in
+    let now_ = computed_under (rises g6) r.before_made.computed in
     record {
       width = r.width;
-      room = pc_room w r.room r.before_made g5 g6;
-      state_made = before.state;
-      op_made = before.computed.op;
-      operand_made = before.computed.operand;
+      room = after g6 r.room;
+      state_made = state_under (rises g6) r.before_made.state;
+      op_made = now_.op;
+      operand_made = now_.operand;
     }
 
 pub returns-clause-grows : goal.returns-clause-grows
-returns-clause-grows g c =
-    let r = c.requires in
-    left_grow g.row.W r.room r.before_made c.in_ok-regs.ensures.grows c.in_ok-flag.ensures.grows c.in_ok-pc.ensures.grows
+returns-clause-grows g c = both c.in_ok-regs.ensures.grows (both c.in_ok-flag.ensures.grows c.in_ok-pc.ensures.grows)
 
 pub returns-clause-below : goal.returns-clause-below
 returns-clause-below g c =
-    let r = c.requires in
-    effects_under g.row.W r.room r.before_made c.in_ok-regs.ensures.grows c.in_ok-flag.ensures.grows c.in_ok-pc.ensures.grows
-    r.done_made.tapes r.done_made.memory c.in_ok-regs.ensures.below c.in_ok-flag.ensures.below c.in_ok-pc.ensures.below
+    let g7 = c.in_ok-pc.ensures.grows in
+    let g67 = both c.in_ok-flag.ensures.grows g7 in
+    let all = rises (both c.in_ok-regs.ensures.grows g67) in
+    record {
+      tapes = tapes_under all c.requires.done_made.tapes;
+      memory = store_under all c.requires.done_made.memory;
+      regs = up (rises g67) c.in_ok-regs.ensures.below;
+      flag = one_up (rises g7) c.in_ok-flag.ensures.below;
+      pc = c.in_ok-pc.ensures.below;
+    }
