@@ -1,8 +1,8 @@
 -- What a system needs of a step's circuit. A system's laws stand on these records alone; that the circuit of tv_block has
--- them is proved in Systems.
+-- them is proved in Systems, and of its sizes here.
 use Rattle.std.specs.Prelude.{◌≡◌, ℕ, ◌+◌, ◌/◌, ◌^◌, ◌<◌, ◌≤◌, Bool, List, length, Option, Some, is_some}
-use Rattle.tv_block.specs.Block.{transition_in, IsMachineStep}
-use Rattle.tv_block.specs.Complete.{olds_of}
+use Rattle.tv_block.specs.Block.{transition_in, IsMachineStep, block_of}
+use Rattle.tv_block.specs.Complete.{olds_of, block_made}
 use Rattle.tv_inputs.specs.States.{state_in}
 use Rattle.tv_block.specs.declared.records.Block.{Block}
 use Rattle.tv_inputs.specs.declared.records.StateWires.{StateWires}
@@ -18,11 +18,20 @@ use Rattle.tv_step.specs.Runs.{IsDefined}
 use Rattle.tv_step.specs.State.{State}
 use Rattle.tv_step.specs.Trace.{step_lines}
 use Rattle.tv_layout.specs.Blocks.{BlockCircuit, BlockValues, view_of}
+use Rattle.tv_block.proofs.SizeFills.{block_sizes}
+use Rattle.tv_word.specs.Widths.{IsWidth}
 
 -- it makes `made` wires, and three lines, whatever its inputs
 pub record BlockSizes (block : BlockCircuit) (made : ℕ) : Type 0 where
   pub next : (n : ℕ) (state : StateWires) (time next : ℕ) → (block n state time next).next ≡ next + made
   pub three : (n : ℕ) (state : StateWires) (time next : ℕ) → length (block n state time next).answer.lines ≡ 3
+
+-- that of tv_block does
+pub step_sized : (w : ℕ) → IsWidth w → BlockSizes (block_of w) (block_made w)
+step_sized w width = record {
+  next = λ n state time next. block_sizes.end w width n state time next;
+  three = λ n state time next. block_sizes.three w n state time next;
+}
 
 -- the cells of a step's lines: it fetches its instruction's two words from neighbouring cells, which stand before the
 -- null cell, and no line is of a cell after that; one of the null cell leaves 0

@@ -1,6 +1,5 @@
 pub mod Blocks
 pub mod Boot
-pub mod CheckSums
 pub mod Checked
 pub mod Ends
 pub mod Fill
@@ -12,17 +11,12 @@ pub mod Machine
 pub mod MemoryCosts
 pub mod NormalLaws
 pub mod NumberPlaces
-pub mod PartCosts
 pub mod Positions
-pub mod Reduction
-pub mod Rooms
 pub mod Run
 pub mod RunLines
-pub mod Sized
 pub mod Sound
 pub mod SpotPlaces
 pub mod StepCells
-pub mod StepFill
 pub mod Steps
 pub mod StepsFill
 pub mod SystemSizes

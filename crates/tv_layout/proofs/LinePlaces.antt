@@ -26,7 +26,7 @@ use Rattle.tv_lines.specs.Placed.{no_line, line_in}
 use Rattle.tv_argument.specs.Memory.{IsMade}
 use Rattle.tv_word.specs.Widths.{IsWidth}
 use Rattle.tv_layout.proofs.Positions.{steps_next, log_above}
-use Rattle.tv_layout.proofs.Sized.{step_sized}
+use Rattle.tv_layout.proofs.Blocks.{step_sized}
 use Rattle.tv_layout.specs.Layout.{steps_of, state_at, block_at, line_of_word, boot_wires, boot_lines_of, padding_of, system_lines, step_block}
 use Rattle.tv_layout.specs.Places.{WithinLimits, boot_count, line_count, log_of, tape_at, zero_wires_at, first_at, ProgramRuns}
 use Rattle.tv_layout.specs.StateBefore.{state_before}
@@ -72,18 +72,18 @@ module _ (w : ℕ) (width : IsWidth w) (n time zero_wires first : ℕ) where
       (steps_next (block_of w) (block_made w) (step_sized w width) n time i zero_wires first)
 
 -- three lines each, one after another
-module _ (f : ℕ → List LineLc) (three : (i : ℕ) → length (f i) ≡ 3) where
-  length-thirds : (n : ℕ) → length (joined_below n f) ≡ n * 3
+module _ {A : Type 0} (none : A) (f : ℕ → List A) (three : (i : ℕ) → length (f i) ≡ 3) where
+  pub length-thirds : (n : ℕ) → length (joined_below n f) ≡ n * 3
   length-thirds n = length-joined_below n 3 f (λ i h. three i)
 
-  thirds : (n j : ℕ) → j < n * 3 → line_in (joined_below n f) j ≡ line_in (f (j / 3)) (j % 3)
+  pub thirds : (n j : ℕ) → j < n * 3 → get_or (joined_below n f) j none ≡ get_or (f (j / 3)) (j % 3) none
   thirds zero j h = absurd (omega arith)
-  thirds (suc n) j h = ap (λ l. line_in l j) (joined_below-suc n f) ∙ elim (cases_lt j (n * 3)) [
-    | inl here ↦ get_or_append_left (joined_below n f) (f n) no_line j (omega (arith, length-thirds n)) ∙ thirds n j here
+  thirds (suc n) j h = ap (λ l. get_or l j none) (joined_below-suc n f) ∙ elim (cases_lt j (n * 3)) [
+    | inl here ↦ get_or_append_left (joined_below n f) (f n) none j (omega (arith, length-thirds n)) ∙ thirds n j here
     | inr last ↦
         let p : j / 3 ≡ n = omega arith in
         let q : j % 3 ≡ j - n * 3 = omega arith in
-        get_or-append_right (joined_below n f) (f n) (n * 3) j no_line (length-thirds n) last ∙ sym (ap₂ (λ u v. line_in (f u) v) p q)
+        get_or-append_right (joined_below n f) (f n) (n * 3) j none (length-thirds n) last ∙ sym (ap₂ (λ u v. get_or (f u) v none) p q)
   ]
 
 -- ---- any line
@@ -124,7 +124,7 @@ module _ (runs : ProgramRuns) (fits : WithinLimits runs) where
   length-front : length (boot_lines_of runs.image runs.n ++ stepped) ≡ line_count runs
   length-front =
       let b = length-boot in
-      let s = length-thirds blocks three runs.t in
+      let s = length-thirds no_line blocks three runs.t in
       length-append (boot_lines_of runs.image runs.n) stepped ∙ omega arith
 
   pub line_number : length all_lines ≡ 2 ^ log_of (line_count runs)
@@ -170,7 +170,7 @@ module _ (runs : ProgramRuns) (fits : WithinLimits runs) where
         let j : ℕ = i - boot_count runs.image runs.n in
         get_or_append_left (boot_lines_of runs.image runs.n ++ stepped) _ no_line i (omega (arith, length-front))
         ∙ get_or-append_right (boot_lines_of runs.image runs.n) stepped (boot_count runs.image runs.n) i no_line length-boot above
-        ∙ thirds blocks three runs.t j (omega arith)
+        ∙ thirds no_line blocks three runs.t j (omega arith)
         ∙ ap (λ (b : Block). line_in b.lines (j % 3)) (block_is runs.width fits.width runs.n (boot_count runs.image runs.n) _ _ (j / 3))
 
     pub in_padding : line_count runs ≤ i → i < 2 ^ log_of (line_count runs) → line_in all_lines i ≡ line_of_word NULL_CELL i []

@@ -20,8 +20,8 @@ use Rattle.tv_word.specs.Widths.{IsWidth}
 use Rattle.tv_layout.proofs.FirstState.{first_under}
 use Rattle.tv_layout.proofs.LinePlaces.{state_is, line_number, lines_made}
 use Rattle.tv_layout.proofs.Positions.{steps_next, last_of, layout_list, memory_at, log_some}
-use Rattle.tv_layout.proofs.Rooms.{checks_short}
-use Rattle.tv_layout.proofs.Sized.{step_sized}
+use Rattle.tv_layout.proofs.SystemSizes.{checks_short}
+use Rattle.tv_layout.proofs.Blocks.{step_sized}
 use Rattle.tv_layout.specs.Checks.{checks_of}
 use Rattle.tv_layout.specs.Layout.{word_of, words_of, zero_wire_of, zero_wires_of, tie_of, before_steps, step_of, steps_of, state_at, system_lines}
 use Rattle.tv_layout.specs.Normal.{SystemIsNormal}

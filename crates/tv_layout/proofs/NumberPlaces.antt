@@ -4,10 +4,10 @@ use Rattle.std.proofs.Common.{subst, add-zero, zero-add}
 use Rattle.std.proofs.lemmas.Bool.{cases_lt}
 use Rattle.std.proofs.lemmas.List.{length-append, get_or_append_left, get_or-append_right}
 use Rattle.std.specs.Prelude.{slice_index}
-use Rattle.tv_core.proofs.JoinedLaws.{joined_below-suc, length-joined_below}
 use Rattle.tv_core.specs.Below.{joined_below}
 use Rattle.tv_core.specs.Lines.{Line}
 use Rattle.tv_core.specs.declared.limits.TheConstants.{TAPE_CELLS}
+use Rattle.tv_layout.proofs.LinePlaces.{thirds, length-thirds}
 use Rattle.tv_lines.specs.Placed.{zero_line, number_in}
 use Rattle.tv_step.specs.Cells.{boot_from, boot_lines}
 use Rattle.tv_step.specs.Trace.{null_line}
@@ -32,6 +32,37 @@ padding_at time zero i h = absurd (omega arith)
 padding_at time (suc more) zero h = rw (add-zero time) refl
 padding_at time (suc more) (suc i) h = let a : time + suc i ≡ time + 1 + i = omega arith in rw a (padding_at (time + 1) more i (omega arith))
 
+-- ---- lines of an image's and a tape's words, and others after them
+module _ (image x : List ℕ) (steps rest : List Line) where
+  long-front : length (boot_lines image x ++ steps) ≡ length image + length x + length steps
+  long-front = length-append (boot_lines image x) steps ∙ ap (λ n. n + length steps) (length-boot_lines image x)
+
+  pub word_of_image : (i : ℕ) → i < length image → number_in ((boot_lines image x ++ steps) ++ rest) i ≡ written_at i i (slice_index image i)
+  word_of_image i h =
+      get_or_append_left (boot_lines image x ++ steps) rest zero_line i (omega (arith, long-front))
+      ∙ get_or_append_left (boot_lines image x) steps zero_line i (omega (arith, length-boot_lines image x))
+      ∙ get_or_append_left (boot_from 0 0 image) (boot_from TAPE_CELLS (length image) x) zero_line i (omega (arith, length-boot_from 0 0 image))
+      ∙ boot_from_at 0 0 image i h
+      ∙ ap (λ p. written_at p p (slice_index image i)) (zero-add i)
+
+  pub word_of_tape : (i : ℕ) → i < length x
+      → number_in ((boot_lines image x ++ steps) ++ rest) (length image + i) ≡ written_at (TAPE_CELLS + i) (length image + i) (slice_index x i)
+  word_of_tape i h =
+      let e : length image + i - length image ≡ i = omega arith in
+      get_or_append_left (boot_lines image x ++ steps) rest zero_line (length image + i) (omega (arith, long-front))
+      ∙ get_or_append_left (boot_lines image x) steps zero_line (length image + i) (omega (arith, length-boot_lines image x))
+      ∙ get_or-append_right (boot_from 0 0 image) (boot_from TAPE_CELLS (length image) x) (length image) (length image + i) zero_line
+      (length-boot_from 0 0 image) (omega arith)
+      ∙ ap (number_in (boot_from TAPE_CELLS (length image) x)) e
+      ∙ boot_from_at TAPE_CELLS (length image) x i h
+
+  pub line_of_steps : (j : ℕ) → j < length steps → number_in ((boot_lines image x ++ steps) ++ rest) (length image + length x + j) ≡ number_in steps j
+  line_of_steps j h =
+      let e : length image + length x + j - (length image + length x) ≡ j = omega arith in
+      get_or_append_left (boot_lines image x ++ steps) rest zero_line (length image + length x + j) (omega (arith, long-front))
+      ∙ get_or-append_right (boot_lines image x) steps (length image + length x) (length image + length x + j) zero_line (length-boot_lines image x) (omega arith)
+      ∙ ap (number_in steps) e
+
 module _ (image x : List ℕ) (t : ℕ) (f : ℕ → List Line) (three : (i : ℕ) → length (f i) ≡ 3) (more : ℕ) where
   abbrev boot : ℕ
   boot = length image + length x
@@ -45,57 +76,33 @@ module _ (image x : List ℕ) (t : ℕ) (f : ℕ → List Line) (three : (i : �
   abbrev pub all : List Line
   all = (boot_lines image x ++ joined_below t f) ++ padding (length image + length x + 3 * t) more
 
-  long-steps : (n : ℕ) → length (joined_below n f) ≡ n * 3
-  long-steps n = length-joined_below n 3 f (λ i h. three i)
+  long-steps : length (joined_below t f) ≡ t * 3
+  long-steps = length-thirds zero_line f three t
 
-  long-front : length front ≡ count
-  long-front = length-append (boot_lines image x) (joined_below t f) ∙ omega (arith, length-boot_lines image x, long-steps t)
+  all-front : length front ≡ count
+  all-front = long-front image x (joined_below t f) (padding count more) ∙ omega (arith, long-steps)
 
   pub long : length all ≡ count + more
-  long = length-append front (padding count more) ∙ omega (arith, long-front, length-padding count more)
+  long = length-append front (padding count more) ∙ omega (arith, all-front, length-padding count more)
 
   -- ---- at each place
   pub at_image : (i : ℕ) → i < length image → number_in all i ≡ written_at i i (slice_index image i)
-  at_image i h =
-      get_or_append_left front _ zero_line i (omega (arith, long-front))
-      ∙ get_or_append_left (boot_lines image x) (joined_below t f) zero_line i (omega (arith, length-boot_lines image x))
-      ∙ get_or_append_left (boot_from 0 0 image) (boot_from TAPE_CELLS (length image) x) zero_line i (omega (arith, length-boot_from 0 0 image))
-      ∙ boot_from_at 0 0 image i h
-      ∙ ap (λ p. written_at p p (slice_index image i)) (zero-add i)
+  at_image i h = word_of_image image x (joined_below t f) (padding count more) i h
 
   pub at_tape : (i : ℕ) → i < length x → number_in all (length image + i) ≡ written_at (TAPE_CELLS + i) (length image + i) (slice_index x i)
-  at_tape i h =
-      let e : length image + i - length image ≡ i = omega arith in
-      get_or_append_left front _ zero_line (length image + i) (omega (arith, long-front))
-      ∙ get_or_append_left (boot_lines image x) (joined_below t f) zero_line (length image + i) (omega (arith, length-boot_lines image x))
-      ∙ get_or-append_right (boot_from 0 0 image) (boot_from TAPE_CELLS (length image) x) (length image) (length image + i) zero_line
-      (length-boot_from 0 0 image) (omega arith)
-      ∙ ap (number_in (boot_from TAPE_CELLS (length image) x)) e
-      ∙ boot_from_at TAPE_CELLS (length image) x i h
-
-  step_in : (n j r : ℕ) → j < n → r < 3 → number_in (joined_below n f) (3 * j + r) ≡ number_in (f j) r
-  step_in zero j r h i = absurd (omega arith)
-  step_in (suc n) j r h i = ap (λ l. number_in l (3 * j + r)) (joined_below-suc n f) ∙ elim (cases_lt j n) [
-    | inl here ↦ get_or_append_left (joined_below n f) (f n) zero_line (3 * j + r) (omega (arith, long-steps n)) ∙ step_in n j r here i
-    | inr last ↦
-        let same : j ≡ n = omega (arith, last, h) in
-        let place : 3 * j + r - n * 3 ≡ r = omega (arith, same) in
-        get_or-append_right (joined_below n f) (f n) (n * 3) (3 * j + r) zero_line (long-steps n) (omega (arith, same))
-        ∙ ap₂ (λ (m p : ℕ). number_in (f m) p) (sym same) place
-  ]
+  at_tape i h = word_of_tape image x (joined_below t f) (padding count more) i h
 
   pub at_step : (j r : ℕ) → j < t → r < 3 → number_in all (length image + length x + (3 * j + r)) ≡ number_in (f j) r
   at_step j r h i =
-      let e : length image + length x + (3 * j + r) - (length image + length x) ≡ 3 * j + r = omega arith in
-      get_or_append_left front _ zero_line (boot + (3 * j + r)) (omega (arith, long-front))
-      ∙ get_or-append_right (boot_lines image x) (joined_below t f) boot (boot + (3 * j + r)) zero_line (length-boot_lines image x) (omega arith)
-      ∙ ap (number_in (joined_below t f)) e
-      ∙ step_in t j r h i
+      let step : (3 * j + r) / 3 ≡ j = omega arith in
+      let place : (3 * j + r) % 3 ≡ r = omega arith in
+      line_of_steps image x (joined_below t f) (padding count more) (3 * j + r) (omega (arith, long-steps))
+      ∙ thirds zero_line f three t (3 * j + r) (omega arith) ∙ ap₂ (λ (m p : ℕ). number_in (f m) p) step place
 
   pub at_padding : (i : ℕ) → count ≤ i → i < count + more → number_in all i ≡ null_line i
   at_padding i h k =
       let e : count + (i - count) ≡ i = omega arith in
-      get_or-append_right front (padding count more) count i zero_line long-front h ∙ padding_at count more (i - count) (omega arith) ∙ ap null_line e
+      get_or-append_right front (padding count more) count i zero_line all-front h ∙ padding_at count more (i - count) (omega arith) ∙ ap null_line e
 
   -- so what holds at each place of its line holds at each place
   pub each_checked : (Q : ℕ → Line → Type 0) → ((i : ℕ) → i < length image → Q i (written_at i i (slice_index image i)))

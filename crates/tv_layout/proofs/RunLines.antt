@@ -21,7 +21,7 @@ use Rattle.tv_step.specs.Trace.{looked_at, data_line, step_lines, lines_of, null
 use Rattle.tv_word.specs.Widths.{IsWidth}
 use Rattle.tv_layout.proofs.Boot.{LinesFrom-append, length-boot_lines, boot_lines_placed, padding_placed, length-padding}
 use Rattle.tv_layout.proofs.Whole.{words_32, spare, filled, power_few}
-use Rattle.tv_layout.specs.Places.{WithinLimits, boot_count, line_count, runs_like}
+use Rattle.tv_layout.specs.Places.{WithinLimits, boot_count, line_count, runs_like, log_of}
 use Rattle.tv_layout.specs.Sound.{padding, all_lines}
 use Rattle.tv_word.proofs.WidthLaws.{word_small}
 
@@ -96,11 +96,13 @@ module _ (w : ℕ) (image x aux : List ℕ) (t : ℕ) (fits : WithinLimits (runs
       (trace_placed w fits.width (length x) (omega (arith, fits.tape_fits)) (length image + length x) (start w image x aux)
       (start_in_range w fits.width image x aux x_words aux_words) t)) (padding_placed count more)
 
+  pub all_many : length (all_lines w image x aux t) ≡ 2 ^ log_of (line_count (runs_like w image x t))
+  all_many =
+      length-append (run_lines w image x aux t) (padding count more)
+      ∙ omega (arith, length-padding count more, run_many, filled (runs_like w image x t) fits)
+
   pub run_few : length (all_lines w image x aux t) ≤ 2 ^ 20
-  run_few =
-      let a = length-append (run_lines w image x aux t) (padding count more) in
-      let b = length-padding count more in
-      omega (arith, a, b, run_many, filled (runs_like w image x t) fits, power_few (runs_like w image x t) fits)
+  run_few = omega (arith, all_many, power_few (runs_like w image x t) fits)
 
   -- the null cell holds 0
   null_there : memory_after (run_lines w image x aux t) NULL_CELL ≡ 0

@@ -1,46 +1,134 @@
--- All steps of a run, with its values.
-use Rattle.std.proofs.Common.{◌≡◌, ℕ, zero, suc, ◌+◌, ◌-◌, ◌*◌, ◌<◌, ◌≤◌, ◌^◌, Bool, true, false, List, ◌++◌, length, refl, sym, ap, ap₂, ◌∙◌, arith, subst}
-use Rattle.std.proofs.Common.{add-one, Some}
+-- One step with the values of a run, and all steps of the run.
+use Rattle.std.proofs.Common.{◌≡◌, ℕ, Bool, true, false, List, [], ◌∷◌, length, refl, sym, ap, ◌∙◌, subst, zero, suc, ◌+◌, ◌-◌, ◌*◌, ◌<◌, ◌≤◌, ◌^◌, ◌++◌, ap₂}
+use Rattle.std.proofs.Common.{arith, add-one, Some}
+use Rattle.std.proofs.lemmas.List.Elements.{All-head, All-tail}
+use Rattle.std.specs.Prelude.{◌||◌, is_some, if◌then◌else◌, All, slice_index}
+use Rattle.tv_core.specs.Laws.{Meets, Assigns, HasFrom}
+use Rattle.tv_core.specs.Lines.{Line}
+use Rattle.tv_numbers.specs.Laws.{HoldsOlds, AuxFits}
+use Rattle.tv_numbers.specs.Numbers.{Transition, lines_in}
+use Rattle.tv_numbers.specs.Views.{Matches, View, ViewInRange}
+use Rattle.tv_step.proofs.CellLaws.{olds_are_in_cells}
+use Rattle.tv_step.specs.Cells.{cells_of, IsOn, IsInput}
+use Rattle.tv_step.specs.Machine.{next, state_after, start}
+use Rattle.tv_step.specs.Reads.{word_taken, finds_end, words_in, ended_after, words_taken}
+use Rattle.tv_step.specs.State.{State, Next}
+use Rattle.tv_word.specs.Widths.{IsWidth}
+use Rattle.tv_layout.proofs.Machine.{led}
+use Rattle.tv_layout.proofs.TakenWords.{AuxCase.{Takes, Ends, Other}, aux_case, taken_in}
+use Rattle.tv_block.specs.Block.{IsMachineStep, transition_in, reached}
+use Rattle.tv_layout.proofs.Blocks.{BlockIsSound, BlockIsComplete, Given, ShowsStep, BlockSizes}
+use Rattle.tv_layout.specs.Blocks.{BlockCircuit, BlockValues, view_of}
+use Rattle.tv_block.specs.declared.records.Block.{Block}
+use Rattle.tv_inputs.specs.declared.records.StateWires.{StateWires}
+use Rattle.tv_word.specs.Word.{flag_of}
 use Rattle.std.proofs.lemmas.Bool.{eqb-true}
 use Rattle.std.proofs.lemmas.List.{length-drop}
-use Rattle.std.specs.Prelude.{slice_index}
 use Rattle.tv_core.proofs.JoinedLaws.{joined_below-zero, joined_below-suc}
 use Rattle.tv_core.proofs.LoopLaws.{turns_met}
 use Rattle.tv_core.proofs.MeetsLaws.{whole}
 use Rattle.tv_core.specs.Below.{joined_below}
 use Rattle.tv_core.specs.Circuits.{pure}
-use Rattle.tv_core.specs.Laws.{Assigns, Meets, HasFrom}
-use Rattle.tv_core.specs.Lines.{Line}
-use Rattle.tv_numbers.specs.Numbers.{Transition, lines_in}
-use Rattle.tv_numbers.specs.Views.{View, ViewInRange, Matches}
 use Rattle.tv_step.proofs.EndLaws.{steps_at_the_end}
 use Rattle.tv_step.proofs.RangeLaws.{start_in_range, run_keeps_range}
 use Rattle.tv_step.proofs.ReadLaws.{tapes_are_left, ended_takes_nothing}
-use Rattle.tv_step.specs.Cells.{IsOn, IsInput}
-use Rattle.tv_step.specs.Machine.{next, start, state_after}
 use Rattle.tv_step.specs.Range.{AreWords, StateInRange}
-use Rattle.tv_step.specs.Reads.{word_taken, ended_after, words_taken}
 use Rattle.tv_step.specs.Runs.{Answering}
-use Rattle.tv_step.specs.State.{State, Next}
 use Rattle.tv_step.specs.Trace.{lines_of}
-use Rattle.std.proofs.lemmas.List.Elements.{All-head}
-use Rattle.tv_block.specs.Block.{reached}
 use Rattle.tv_block.specs.Complete.{olds_of}
 use Rattle.tv_layout.proofs.FirstState.{HoldsZeros, view_same, first_view}
 use Rattle.tv_layout.proofs.Positions.{steps_next}
 use Rattle.tv_layout.proofs.Sound.{starts}
-use Rattle.tv_layout.proofs.StepFill.{Stepped, step_met, shows, sound, stepped}
 use Rattle.tv_layout.proofs.Steps.{state, step, transition_at, next_state, last_step, start_held}
-use Rattle.tv_layout.proofs.TakenWords.{AuxCase.{Takes, Ends, Other}, aux_case, taken_in}
 use Rattle.tv_inputs.specs.States.{state_in}
 use Rattle.tv_numbers.specs.Shown.{MayTake}
-use Rattle.tv_layout.proofs.Blocks.{BlockSizes, BlockIsSound, BlockIsComplete, Given}
-use Rattle.tv_layout.specs.Blocks.{BlockCircuit, BlockValues, view_of}
 use Rattle.tv_layout.specs.Layout.{before_steps, step_of, steps_of}
 use Rattle.tv_layout.specs.Places.{boot_count}
 use Rattle.tv_layout.specs.Values.{run_step_values}
-use Rattle.tv_word.specs.Word.{flag_of}
 
+or_false : (e : Bool) → flag_of (e || false) ≡ flag_of e
+or_false true = refl
+or_false false = refl
+
+or_true : (e : Bool) → flag_of (e || true) ≡ 1
+or_true true = refl
+or_true false = refl
+
+not_both : (b : Bool) → b ≡ false → b ≡ true → ⊥
+not_both true e f = cc
+not_both false e f = cc
+
+-- what a step leads to
+pub record Stepped (w : ℕ) (x : List ℕ) (st : State) (b : Transition) : Type 0 where
+  pub matches : Matches x b.after (state_after w 1 st)
+  pub ended : (e : Bool) → b.now.ended ≡ flag_of e → b.after.ended ≡ flag_of (e || finds_end w st)
+  pub taken : (if b.takes then b.word ∷ [] else []) ≡ words_in (word_taken w st)
+  pub answers : (v : ℕ) → next w st ≡ Next.Answered v → (b.answers ≡ true) × (b.value ≡ v)
+
+module _ (w : ℕ) (width : IsWidth w) (block : BlockCircuit) (made : ℕ) (values : BlockValues) (law : BlockIsSound w block)
+    (complete : BlockIsComplete w block made values)
+    (z x : List ℕ) (state : StateWires) (time at : ℕ) (st : State) (given : Given w values z x state time at st (word_taken w st)) (on : IsOn w x st) where
+  abbrev here_made : Block
+  here_made = (block (length x) state time at).answer
+
+  abbrev b : Transition
+  b = transition_in z state here_made
+
+  pub step_met : Meets z (block (length x) state time at).list
+  step_met = complete.met z x state time at st (word_taken w st) given
+
+  pub shows : ShowsStep w (length x) time st (word_taken w st) b
+  shows = complete.shows z x state time at st (word_taken w st) given
+
+  pub sound : IsMachineStep w z x time state here_made
+  sound = (law z x state time at given.short given.early given.assigns given.range step_met).machine
+
+  olds : HoldsOlds w x b st
+  olds =
+      let all : All (λ (line : Line). line.old ≡ cells_of w x st line.cell) (lines_in b) =
+      subst (All (λ (line : Line). line.old ≡ cells_of w x st line.cell)) (sym shows.lines) (olds_are_in_cells w width x st time on) in
+      let later = All-tail (λ (line : Line). line.old ≡ cells_of w x st line.cell) b.first (b.second ∷ b.data_line ∷ []) all in
+      record {
+        first = All-head (λ (line : Line). line.old ≡ cells_of w x st line.cell) b.first (b.second ∷ b.data_line ∷ []) all;
+        second = All-head (λ (line : Line). line.old ≡ cells_of w x st line.cell) b.second (b.data_line ∷ []) later;
+        data_line = All-head (λ (line : Line). line.old ≡ cells_of w x st line.cell) b.data_line []
+            (All-tail (λ (line : Line). line.old ≡ cells_of w x st line.cell) b.second (b.data_line ∷ []) later);
+      }
+
+  came : (rest : List ℕ) → AuxFits w st b.takes b.word rest → ((e : Bool) → b.now.ended ≡ flag_of e → b.after.ended ≡ flag_of (e || finds_end w st))
+      → (if b.takes then b.word ∷ [] else []) ≡ words_in (word_taken w st) → Stepped w x st b
+  came rest fits ended taken =
+      let l = led w x time b st sound.does given.machine.bytes given.matches olds rest fits in
+      record { matches = l.matches; ended = ended; taken = taken; answers = l.answers }
+
+  pub stepped : Stepped w x st b
+  stepped = elim (aux_case w st) [
+    | Takes v rest same reads word end ↦
+        let takes : b.takes ≡ true = shows.takes ∙ ap is_some word in
+        let said : b.word ≡ v = shows.same v word in
+        let on_ : b.after.ended ≡ b.now.ended = sound.does.keeps st given.machine.bytes given.matches olds (λ r. takes) in
+        came rest (record {
+          taken = λ k. same ∙ ap (λ u. u ∷ rest) (sym said);
+          left = λ k. absurd (not_both b.takes k takes);
+          ends = λ k r. absurd (not_both b.takes k takes);
+        })
+        (λ e is. on_ ∙ is ∙ sym (ap (λ f. flag_of (e || f)) end ∙ or_false e))
+        (ap (λ t. if t then b.word ∷ [] else []) takes ∙ ap (λ u. u ∷ []) said ∙ sym (ap words_in word))
+    | Ends none reads word end ↦
+        let takes : b.takes ≡ false = shows.takes ∙ ap is_some word in
+        let set : b.after.ended ≡ 1 = sound.does.sets st given.machine.bytes given.matches olds reads takes in
+        came [] (record { taken = λ k. absurd (not_both b.takes takes k); left = λ k. none; ends = λ k r. none })
+        (λ e is. set ∙ sym (ap (λ f. flag_of (e || f)) end ∙ or_true e))
+        (ap (λ t. if t then b.word ∷ [] else []) takes ∙ sym (ap words_in word))
+    | Other without word end ↦
+        let takes : b.takes ≡ false = shows.takes ∙ ap is_some word in
+        let on_ : b.after.ended ≡ b.now.ended = sound.does.keeps st given.machine.bytes given.matches olds (λ r. absurd (not_both _ without r)) in
+        came st.aux (record { taken = λ k. absurd (not_both b.takes takes k); left = λ k. refl; ends = λ k r. absurd (not_both _ without r) })
+        (λ e is. on_ ∙ is ∙ sym (ap (λ f. flag_of (e || f)) end ∙ or_false e))
+        (ap (λ t. if t then b.word ∷ [] else []) takes ∙ sym (ap words_in word))
+  ]
+
+-- ---- all steps
 module _ (w : ℕ) (block : BlockCircuit) (made : ℕ) (sizes : BlockSizes block made) (values : BlockValues) (law : BlockIsSound w block)
     (complete : BlockIsComplete w block made values)
     (image x aux z : List ℕ) (zero_wires first t v : ℕ) (input : IsInput w image x aux) (assigns : Assigns z)

@@ -1,35 +1,236 @@
--- The counts of a system, by what its parts cost, and at most.
-use Rattle.std.proofs.Common.{◌≡◌, ℕ, ◌+◌, ◌*◌, ◌<◌, ◌≤◌, ◌^◌, List, length, sym, ◌∙◌, subst, arith}
-use Rattle.std.proofs.Math.Nat.{mul-le-mul, pow-le-pow_right}
+-- The counts of a system, by what its parts cost, and at most: its wires and constraints within the limits are numbers of 32
+-- bits.
+use Rattle.std.proofs.Common.{◌≡◌, ℕ, suc, ◌+◌, ◌-◌, ◌*◌, ◌<◌, ◌≤◌, ◌^◌, length, ap, ◌∙◌, arith, List, sym, subst, ◌++◌, refl, ap₂}
+use Rattle.std.proofs.Math.Nat.{mul-le-mul, mul-le-mul_left, pow-le-pow_right}
+use Rattle.tv_benes.proofs.Most.{switches_most, network_few}
+use Rattle.tv_benes.specs.Through.{switches}
 use Rattle.tv_benes.specs.declared.shape.Net.{Net}
+use Rattle.tv_benes.specs.declared.shape.Net.TheVariants.{Benes, Waksman}
 use Rattle.tv_block.proofs.CountLaws.{block_counted}
+use Rattle.tv_block.specs.Complete.{block_made, block_added}
+use Rattle.tv_argument.proofs.CheckCosts.{checks_cheap}
+use Rattle.tv_argument.specs.Checks.{AreShort, Checks}
+use Rattle.tv_argument.specs.Costs.{network_made}
+use Rattle.tv_word.proofs.WidthLaws.{width_short, for_widths}
+use Rattle.tv_layout.proofs.LineKinds.{kinds_short}
+use Rattle.tv_layout.proofs.MemoryCosts.{wires_are, constraints_are}
+use Rattle.tv_layout.proofs.Positions.{log_above, log_within, log_some, layout_next, memory_at, layout_list}
+use Rattle.tv_layout.specs.Checks.{checks_of}
+use Rattle.tv_layout.specs.Places.{WithinLimits, line_count, log_of, ProgramRuns, boot_count, tape_at, zero_wires_at, first_at, runs_of}
+use Rattle.tv_layout.specs.Sizes.{memory_wires, memory_constraints, system_made, system_added, network_most, system_most, system_terms, SystemIsSized}
+use Rattle.tv_layout.specs.declared.places.TheConstants.{STATE_WIRES}
 use Rattle.tv_block.specs.Block.{block_of}
-use Rattle.tv_block.specs.Complete.{block_made}
 use Rattle.tv_block.specs.Costs.{block_terms}
 use Rattle.tv_core.specs.Meanings.{terms_in}
 use Rattle.tv_core.specs.declared.lines.LineLc.{LineLc}
 use Rattle.tv_argument.proofs.Complete.{memory_complete}
 use Rattle.tv_argument.proofs.Costs.{memory_cost}
-use Rattle.tv_argument.specs.Checks.{Checks}
 use Rattle.tv_argument.specs.Memory.{argument_made, argument_terms}
-use Rattle.tv_word.proofs.WidthLaws.{width_short}
 use Rattle.tv_layout.proofs.LinePlaces.{line_number, lines_made}
-use Rattle.tv_layout.proofs.MemoryCosts.{wires_are, constraints_are}
-use Rattle.tv_layout.proofs.PartCosts.{layout_count, layout_terms}
-use Rattle.tv_layout.proofs.Positions.{layout_next, log_some, log_within, memory_at}
-use Rattle.tv_layout.proofs.Rooms.{system_fits, checks_short}
-use Rattle.tv_layout.proofs.Sized.{step_sized}
-use Rattle.tv_layout.specs.Checks.{checks_of}
-use Rattle.tv_layout.specs.Layout.{system_lines}
-use Rattle.tv_layout.specs.Places.{WithinLimits, line_count, log_of, ProgramRuns}
-use Rattle.tv_layout.specs.Sizes.{memory_constraints, system_made, system_added, system_terms, system_most, SystemIsSized}
+use Rattle.tv_layout.proofs.Blocks.{step_sized}
+use Rattle.tv_layout.specs.Layout.{system_lines, word_of, words_of, zero_wire_of, zero_wires_of, step_of, steps_of, tie_of, before_steps, layout_of}
+use Rattle.tv_layout.specs.Layout.{lines_argument}
 use Rattle.tv_layout.specs.Systems.{system_of}
-use Rattle.tv_layout.specs.declared.places.TheConstants.{STATE_WIRES}
+use Rattle.std.proofs.lemmas.List.{append-nil}
+use Rattle.tv_benes.proofs.Measures.{IsMeasure, lengths, terms, same_turns}
+use Rattle.tv_bits.specs.Bit.{bit_of}
+use Rattle.tv_bits.specs.Bits.{new_bit, new_bits_of, bits_of}
+use Rattle.tv_block.specs.declared.records.Reached.{Reached}
+use Rattle.tv_inputs.specs.declared.records.StateWires.{StateWires}
+use Rattle.tv_core.specs.Below.{each_below, weighted}
+use Rattle.tv_core.specs.Circuits.{pure, here, fresh, put, ◌>>=◌, turns}
+use Rattle.tv_core.specs.Constraints.{Constraint}
+use Rattle.tv_word.specs.Widths.{IsWidth}
+
+-- ---- words, the wires that are held to 0, and the end
+word_count : (w : ℕ) → IsWidth w → (first i next : ℕ) → length (word_of w first i next).list ≡ w + 1
+unfolding weighted pure here fresh put ◌>>=◌ turns bit_of new_bit new_bits_of bits_of each_below
+word_count w width first i next = for_widths (λ w. length (word_of w first i next).list ≡ w + 1) refl refl w width
+
+word_terms : (w : ℕ) → IsWidth w → (first i next : ℕ) → terms_in (word_of w first i next).list ≡ 4 * w + 2
+unfolding weighted pure here fresh put ◌>>=◌ turns bit_of new_bit new_bits_of bits_of each_below
+word_terms w width first i next = for_widths (λ w. terms_in (word_of w first i next).list ≡ 4 * w + 2) refl refl w width
+
+zeros_count : (next : ℕ) → length (zero_wires_of next).list ≡ STATE_WIRES
+unfolding zero_wires_of zero_wire_of pure here fresh put ◌>>=◌ turns
+zeros_count next = refl
+
+zeros_terms : (next : ℕ) → terms_in (zero_wires_of next).list ≡ 2 * STATE_WIRES
+unfolding zero_wires_of zero_wire_of pure here fresh put ◌>>=◌ turns
+zeros_terms next = refl
+
+tie_count : (last : Reached) (next : ℕ) → length (tie_of last next).list ≡ 2
+unfolding tie_of pure put ◌>>=◌
+tie_count last next = refl
+
+tie_terms : (last : Reached) (next : ℕ) → terms_in (tie_of last next).list ≡ 6
+unfolding tie_of pure put ◌>>=◌
+tie_terms last next = refl
+
+-- ---- the whole
+record Parts (m : List Constraint → ℕ) (w n word start step tie : ℕ) : Type 0 where
+  words : (first i next : ℕ) → m (word_of w first i next).list ≡ word
+  zero_wires : (next : ℕ) → m (zero_wires_of next).list ≡ start
+  steps : (state : StateWires) (time next : ℕ) → m (block_of w n state time next).list ≡ step
+  ties : (last : Reached) (next : ℕ) → m (tie_of last next).list ≡ tie
+
+module _ (m : List Constraint → ℕ) (law : IsMeasure m) (w : ℕ) (width : IsWidth w) (n word start step tie : ℕ) (parts : Parts m w n word start step tie) where
+  steps_cost : (time t zero_wires next : ℕ) → m (steps_of (block_of w) n time t zero_wires next).list ≡ t * step
+  unfolding steps_of pure ◌>>=◌
+  steps_cost time t zero_wires next =
+      same_turns m law (step_of (block_of w) n time) (before_steps zero_wires) next step t
+      (λ i inside last at. ap m (append-nil (block_of w n last.next (time + 3 * i) at).list) ∙ parts.steps last.next (time + 3 * i) at)
+
+  words_cost : (first next : ℕ) → m (words_of w first n next).list ≡ n * word
+  unfolding words_of
+  words_cost first next = same_turns m law (λ i _. word_of w first i) tt next word n (λ i inside a at. parts.words first i at)
+
+  layout_cost : (net : Net) (image : List ℕ) (t memory : ℕ)
+      → m (lines_argument (block_of w) net (runs_of w image n t) (memory_at w (block_made w) n t)).list ≡ memory
+      → m (layout_of (block_of w) net (runs_of w image n t) (2 + n)).list ≡ n * word + start + t * step + tie + memory
+  layout_cost net image t memory is =
+      let words = (words_of w tape_at n (2 + n)).list in
+      let none = (zero_wires_of (zero_wires_at w n)).list in
+      let steps = (steps_of (block_of w) n (boot_count image n) t (zero_wires_at w n) (first_at w n)).list in
+      let last = (steps_of (block_of w) n (boot_count image n) t (zero_wires_at w n) (first_at w n)).answer in
+      let end = (tie_of last (memory_at w (block_made w) n t)).list in
+      let rest = (lines_argument (block_of w) net (runs_of w image n t) (memory_at w (block_made w) n t)).list in
+      ap m (layout_list (block_of w) (block_made w) (step_sized w width) net (runs_of w image n t))
+      ∙ law.adds words (none ++ (steps ++ (end ++ rest))) ∙ ap₂ (λ a b. a + b) (words_cost tape_at (2 + n))
+      (law.adds none (steps ++ (end ++ rest)) ∙ ap₂ (λ a b. a + b) (parts.zero_wires (zero_wires_at w n))
+      (law.adds steps (end ++ rest) ∙ ap₂ (λ a b. a + b) (steps_cost (boot_count image n) t (zero_wires_at w n) (first_at w n))
+      (law.adds end rest ∙ ap₂ (λ a b. a + b) (parts.ties last (memory_at w (block_made w) n t)) is)))
+      ∙ regroup (n * word) start (t * step) tie memory
+    where
+      regroup : (a b c d e : ℕ) → a + (b + (c + (d + e))) ≡ a + b + c + d + e
+      regroup a b c d e = omega arith
+
+-- ---- in constraints and in terms
+module _ (net : Net) (runs : ProgramRuns) (width : IsWidth runs.width) (memory : ℕ) where
+  pub layout_count : length (lines_argument (block_of runs.width) net runs (memory_at runs.width (block_made runs.width) runs.n runs.t)).list ≡ memory
+      → length (layout_of (block_of runs.width) net runs (2 + runs.n)).list
+      ≡ runs.n * (runs.width + 1) + STATE_WIRES + runs.t * block_added runs.width + 2 + memory
+  layout_count is =
+      layout_cost length lengths runs.width width runs.n (runs.width + 1) STATE_WIRES (block_added runs.width) 2
+      (record { words = word_count _ width; zero_wires = zeros_count; steps = block_counted.constraints _ width runs.n; ties = tie_count })
+      net runs.image runs.t memory is
+
+  pub layout_terms : terms_in (lines_argument (block_of runs.width) net runs (memory_at runs.width (block_made runs.width) runs.n runs.t)).list ≡ memory
+      → terms_in (layout_of (block_of runs.width) net runs (2 + runs.n)).list
+      ≡ runs.n * (4 * runs.width + 2) + 2 * STATE_WIRES + runs.t * block_terms runs.width runs.n + 6 + memory
+  layout_terms is =
+      layout_cost terms_in terms runs.width width runs.n (4 * runs.width + 2) (2 * STATE_WIRES) (block_terms runs.width runs.n) 6
+      (record { words = word_terms _ width; zero_wires = zeros_terms; steps = block_counted.terms _ width runs.n; ties = tie_terms })
+      net runs.image runs.t memory is
+
+-- ---- how large it is at most
+-- ---- the network
+pub made_few : (net : Net) (k : ℕ) → network_made net k ≤ 5 * switches net (k - 1)
+made_few net k = network_few net (k - 1)
+
+pub switches_few : (net : Net) (h : ℕ) → h ≤ 19 → switches net h ≤ 39 * 2 ^ 19
+switches_few net h few =
+    let some = switches_most net h in
+    let level : 2 * h + 1 ≤ 39 = omega (arith, few) in
+    let power : 2 ^ h ≤ 2 ^ 19 = pow-le-pow_right (omega arith) few in
+    let most : (2 * h + 1) * 2 ^ h ≤ 39 * 2 ^ 19 = mul-le-mul level power in
+    omega (arith, some, most)
+
+-- with the checks it is a number of 64 bits
+pub memory_fits : (net : Net) (k checks : ℕ) → k ≤ 20 → checks ≤ 2 ^ 31 → network_made net k + checks < 2 ^ 64
+memory_fits net k checks few most = let switches = switches_few net (k - 1) (omega (arith, few)) in omega (arith, switches, made_few net k, most)
+
+network_is : (net : Net) (h : ℕ) → 10 * switches net h ≡ network_most net (suc h)
+network_is Benes h =
+    let e : 2 ^ suc h ≡ 2 * 2 ^ h = omega arith in
+    let f : 2 * suc h - 1 ≡ 2 * h + 1 = omega arith in
+    rw (e, f) (omega arith)
+network_is Waksman h =
+    let e : 2 ^ suc h ≡ 2 * 2 ^ h = omega arith in
+    let f : suc h - 1 ≡ h = omega arith in
+    rw (e, f) (omega arith)
+
+-- ---- the checks
+pub checks_short : (runs : ProgramRuns) → WithinLimits runs → AreShort (checks_of runs) (2 ^ log_of (line_count runs))
+checks_short runs fits =
+    let count : line_count runs ≤ 2 ^ 20 = omega (arith, fits.image_fits, fits.tape_fits, fits.steps_fit) in
+    record {
+      count = log_above (line_count runs) count;
+      kinds = λ i h. kinds_short (log_of (line_count runs)) (length runs.image) runs.n i (log_within (line_count runs) count);
+    }
+
+-- ---- all of it
+pub record SystemFits (net : Net) (runs : ProgramRuns) : Type 0 where
+  pub wires_most : 2 + runs.n + system_made net runs ≤ system_most net runs
+  pub constraints_most : system_added net runs ≤ system_most net runs
+  pub wires : 2 + runs.n + system_made net runs < 2 ^ 32
+  pub constraints : system_added net runs < 2 ^ 32
 
 module _ (net : Net) (runs : ProgramRuns) (fits : WithinLimits runs) where
   abbrev k : ℕ
   k = log_of (line_count runs)
 
+  some : 1 ≤ k
+  some = log_some (line_count runs)
+
+  few : k ≤ 20
+  few = log_within (line_count runs) (omega (arith, fits.image_fits, fits.tape_fits, fits.steps_fit))
+
+  -- the network's share, as the bound has it
+  network_share : 10 * switches net (k - 1) ≡ network_most net k
+  network_share =
+      let same : suc (k - 1) ≡ k = omega (arith, some) in
+      network_is net (k - 1) ∙ ap (network_most net) same
+
+  memory_few : memory_wires net runs ≤ 5 * switches net (k - 1) + 2 ^ k * 2 ^ 6
+  memory_few = let sum = checks_cheap.few_made (checks_of runs) (2 ^ k) (checks_short runs fits) in
+      omega (arith, sum, wires_are net runs, made_few net k)
+
+  constraints_few : memory_constraints net runs ≤ 5 * switches net (k - 1) + 2 ^ k * 2 ^ 6
+  constraints_few = let sum = checks_cheap.few_added (checks_of runs) (2 ^ k) (checks_short runs fits) in
+      omega (arith, sum, constraints_are net runs, made_few net k)
+
+  wires_small : 2 + runs.n + system_made net runs ≤ system_most net runs
+  wires_small =
+      let words : runs.n * runs.width ≤ runs.n * 32 = mul-le-mul_left runs.n (width_short runs.width fits.width) in
+      let steps : runs.t * block_made runs.width ≤ runs.t * 2 ^ 11 = mul-le-mul_left runs.t (block_counted.cheap runs.width fits.width).wires in
+      most (runs.n * runs.width) (runs.t * block_made runs.width) (memory_wires net runs) (switches net (k - 1)) (network_most net k) (2 ^ k)
+      words steps memory_few network_share
+    where
+      most : (a b c s m p : ℕ) → a ≤ runs.n * 32 → b ≤ runs.t * 2 ^ 11 → c ≤ 5 * s + p * 2 ^ 6 → 10 * s ≡ m
+          → 2 + runs.n + (a + STATE_WIRES + b + c) ≤ 2048 * runs.t + m + 200 * p + 40 * (runs.n + 1) + 64
+      most a b c s m p d e f g = omega arith
+
+  constraints_small : system_added net runs ≤ system_most net runs
+  constraints_small =
+      let short : runs.width + 1 ≤ 33 = omega (arith, width_short runs.width fits.width) in
+      let words : runs.n * (runs.width + 1) ≤ runs.n * 33 = mul-le-mul_left runs.n short in
+      let steps : runs.t * block_added runs.width ≤ runs.t * 2 ^ 11 = mul-le-mul_left runs.t (block_counted.cheap runs.width fits.width).constraints in
+      most (runs.n * (runs.width + 1)) (runs.t * block_added runs.width) (memory_constraints net runs) (switches net (k - 1)) (network_most net k)
+      (2 ^ k) words steps constraints_few network_share
+    where
+      most : (a b c s m p : ℕ) → a ≤ runs.n * 33 → b ≤ runs.t * 2 ^ 11 → c ≤ 5 * s + p * 2 ^ 6 → 10 * s ≡ m
+          → a + STATE_WIRES + b + 2 + c ≤ 2048 * runs.t + m + 200 * p + 40 * (runs.n + 1) + 64
+      most a b c s m p d e f g = omega arith
+
+  all_fit : system_most net runs < 2 ^ 32
+  all_fit =
+      let s = switches_few net (k - 1) (omega (arith, few)) in
+      let power : 2 ^ k ≤ 2 ^ 20 = pow-le-pow_right (omega arith) few in
+      small (network_most net k) (2 ^ k) (switches net (k - 1)) s power network_share
+    where
+      small : (m p s : ℕ) → s ≤ 39 * 2 ^ 19 → p ≤ 2 ^ 20 → 10 * s ≡ m → 2048 * runs.t + m + 200 * p + 40 * (runs.n + 1) + 64 < 2 ^ 32
+      small m p s a b c = omega (arith, a, b, c, fits.tape_fits, fits.steps_fit)
+
+  pub system_fits : SystemFits net runs
+  system_fits = record {
+    wires_most = wires_small;
+    constraints_most = constraints_small;
+    wires = omega (arith, wires_small, all_fit);
+    constraints = omega (arith, constraints_small, all_fit);
+  }
+
+  -- ---- the counts
   abbrev lines : List LineLc
   lines = system_lines (block_of runs.width) runs
 
@@ -39,12 +240,6 @@ module _ (net : Net) (runs : ProgramRuns) (fits : WithinLimits runs) where
   -- where the memory argument begins
   abbrev at : ℕ
   at = memory_at runs.width (block_made runs.width) runs.n runs.t
-
-  some : 1 ≤ k
-  some = log_some (line_count runs)
-
-  few : k ≤ 20
-  few = log_within (line_count runs) (omega (arith, fits.image_fits, fits.tape_fits, fits.steps_fit))
 
   pub system_wires : (system_of net runs).wires ≡ 2 + runs.n + system_made net runs
   system_wires =

@@ -1,17 +1,17 @@
 -- The circuit of tv_block has what a system needs of a step.
-use Rattle.std.proofs.Common.{ℕ, ◌-◌, length, sym, subst, arith}
+use Rattle.std.proofs.Common.{ℕ, ◌-◌, length, sym, subst, arith, List, Option}
 use Rattle.tv_block.proofs.BlockLaws.{step_in, block_sound}
 use Rattle.tv_block.proofs.MachineFills.{machine_step_met, machine_values_fit}
 use Rattle.tv_block.specs.Block.{block_of}
-use Rattle.tv_block.specs.Complete.{block_made, step_values}
+use Rattle.tv_block.specs.Complete.{block_made, step_values, MeetsMachineStep}
 use Rattle.tv_inputs.specs.States.{state_in}
+use Rattle.tv_inputs.specs.declared.records.StateWires.{StateWires}
+use Rattle.tv_step.specs.State.{State}
 use Rattle.tv_word.proofs.FlagLaws.{flag_small}
 use Rattle.tv_word.specs.Widths.{IsWidth}
-use Rattle.tv_layout.proofs.Fill.{fill_complete}
-use Rattle.tv_layout.proofs.Reduction.{layout_reduces}
+use Rattle.tv_layout.proofs.Fill.{fill_complete, layout_reduces}
 use Rattle.tv_layout.proofs.Sound.{layout_sound}
-use Rattle.tv_layout.proofs.Blocks.{HasCells, BlockIsSound, BlockIsComplete}
-use Rattle.tv_layout.proofs.Sized.{step_sized}
+use Rattle.tv_layout.proofs.Blocks.{HasCells, BlockIsSound, BlockIsComplete, Given, step_sized}
 use Rattle.tv_layout.proofs.StepCells.{numbers_have_cells}
 use Rattle.tv_layout.specs.Systems.{SystemIsSound, SystemIsComplete, SystemReduces}
 use Rattle.tv_word.specs.Word.{flag_of}
@@ -25,38 +25,29 @@ module _ (w : ℕ) (width : IsWidth w) where
         cells = subst (HasCells w) (sym is.same) (numbers_have_cells w width (length x) time (state_in z state) is.head is.tail is.word is.takes is.at_numbers);
       }
 
+  met_by : (z x : List ℕ) (state : StateWires) (time next : ℕ) (st : State) (word : Option ℕ) → Given w (step_values w) z x state time next st word
+      → MeetsMachineStep w z x (record { state = state; time = time; next = next }) st word
+  met_by z x state time next st word g = machine_step_met w width z x state time next st word (record {
+    short = g.short;
+    early = g.early;
+    assigns = g.assigns;
+    range = g.range;
+    machine = g.machine;
+    matches = g.matches;
+    defined = g.defined;
+    may = g.may;
+    has = g.has;
+  })
+
   pub step_complete : BlockIsComplete w (block_of w) (block_made w) (step_values w)
   step_complete = record {
     many = λ n time st ended short range. (machine_values_fit w width n time st (n - length st.primary) (flag_of ended) short (omega arith)
         (flag_small ended) range).0;
     below = λ n time st ended short range. (machine_values_fit w width n time st (n - length st.primary) (flag_of ended) short (omega arith)
         (flag_small ended) range).1;
-    met = λ z x state time next st word g.
-        (machine_step_met w width z x state time next st word
-        (record {
-          short = g.short;
-          early = g.early;
-          assigns = g.assigns;
-          range = g.range;
-          machine = g.machine;
-          matches = g.matches;
-          defined = g.defined;
-          may = g.may;
-          has = g.has;
-        })).met;
+    met = λ z x state time next st word g. (met_by z x state time next st word g).met;
     shows = λ z x state time next st word g.
-        let met = machine_step_met w width z x state time next st word
-        (record {
-          short = g.short;
-          early = g.early;
-          assigns = g.assigns;
-          range = g.range;
-          machine = g.machine;
-          matches = g.matches;
-          defined = g.defined;
-          may = g.may;
-          has = g.has;
-        }) in
+        let met = met_by z x state time next st word g in
         record { lines = met.lines; takes = met.takes; same = met.same };
   }
 

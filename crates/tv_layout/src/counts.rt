@@ -1,6 +1,6 @@
 //! The sizes of a system.
-ghost use Rattle.std.specs.Prelude.{◌≡◌, ◌+◌, ◌^◌, ◌≤◌, ◌<◌};
-ghost use Rattle.tv_core.specs.Meanings.{IsCounted, system_counts};
+ghost use Rattle.std.specs.Prelude.{◌≡◌, ◌+◌, ◌^◌, ◌≤◌, ◌<◌, length};
+ghost use Rattle.tv_core.specs.Meanings.{IsCounted, system_counts, terms_in};
 ghost use Rattle.tv_layout.specs.Places.{WithinLimits, line_count, log_of, runs_of};
 ghost use Rattle.tv_layout.specs.Sizes.{memory_constraints, memory_wires};
 ghost use Rattle.tv_layout.specs.Systems.{system_of};
@@ -33,20 +33,34 @@ pub fn sizes<const W: u32>(image: &[u32], n: u32, t: u32, net: Net) -> Counts
     ensures publics { 2 + n ≤ result.wires }
     ensures terms { result.terms < 2 ^ 60 }
 {
-    let step = step_costs::<W>();
-    let constraints = memory_constraints::<W>(image, n, t, net) as u32;
-    let k = log_of_lines::<W>(image, n, t);
-    let terms = argument_terms(net, k, &LayoutLines::<W> { image, n, t, k });
     Counts {
         wires: wires::<W>(image, n, t, net),
         outputs: 1,
         inputs: n,
-        constraints: n * (W + 1) + STATE_WIRES + t * step.constraints + 2 + constraints,
-        terms: u64::from(n * (4 * W + 2) + 2 * STATE_WIRES)
-            + u64::from(t) * u64::from(step_terms::<W>(n))
-            + 6
-            + terms,
+        constraints: constraints::<W>(image, n, t, net),
+        terms: terms::<W>(image, n, t, net),
     }
+}
+
+// How many constraints there are.
+fn constraints<const W: u32>(image: &[u32], n: u32, t: u32, net: Net) -> u32
+    requires { WithinLimits (runs_of W image.now n t) }
+    ensures { result ≡ length (system_of net (runs_of W image.now n t)).constraints }
+{
+    let memory = memory_constraints::<W>(image, n, t, net) as u32;
+    n * (W + 1) + STATE_WIRES + t * step_costs::<W>().constraints + 2 + memory
+}
+
+// How many terms they have.
+fn terms<const W: u32>(image: &[u32], n: u32, t: u32, net: Net) -> u64
+    requires { WithinLimits (runs_of W image.now n t) }
+    ensures is { result ≡ terms_in (system_of net (runs_of W image.now n t)).constraints }
+    ensures few { result < 2 ^ 60 }
+{
+    let k = log_of_lines::<W>(image, n, t);
+    let memory = argument_terms(net, k, &LayoutLines::<W> { image, n, t, k });
+    let steps = u64::from(t) * u64::from(step_terms::<W>(n));
+    u64::from(n * (4 * W + 2) + 2 * STATE_WIRES) + steps + 6 + memory
 }
 
 // The logarithm of how many lines there are.

@@ -1,7 +1,6 @@
 use Rattle.std.proofs.Common.{◌*◌, ap, arith}
 use Rattle.tv_block.specs.declared.costs.StepCosts.{StepCosts}
-use Rattle.tv_layout.proofs.Rooms.{system_fits}
-use Rattle.tv_layout.proofs.SystemSizes.{system_sized}
+use Rattle.tv_layout.proofs.SystemSizes.{system_fits, system_sized}
 use Rattle.tv_layout.proofs.counts.wires.Goals as goal
 
 pub overflow_cast-memory : goal.overflow_cast-memory

@@ -1,18 +1,17 @@
-use Rattle.std.proofs.Common.{◌≡◌, ℕ, ◌+◌, ◌*◌, ◌<◌, ◌^◌, All, Result, Ok, Err, IfOk, sym, ap, ◌∙◌, subst, arith}
+use Rattle.std.proofs.Common.{◌≡◌, ◌+◌, ◌*◌, ◌<◌, ◌^◌, All, sym, ap, ◌∙◌, subst, arith}
 use Rattle.tv_block.specs.Block.{block_of}
-use Rattle.tv_block.specs.Complete.{block_made, block_added}
-use Rattle.tv_core.proofs.Chain.{puts_then_refused, refused_then, refused}
+use Rattle.tv_block.proofs.Growing.{both, grows_as, if_ok}
+use Rattle.tv_block.specs.Complete.{block_made}
+use Rattle.tv_core.proofs.Chain.{some_then, some_first, refused}
 use Rattle.tv_core.proofs.TailCalls.{puts_in_then}
-use Rattle.tv_core.specs.Sinks.{Meaning, Grows}
 use Rattle.tv_layout.proofs.LinePlaces.{line_number, lines_made}
 use Rattle.tv_layout.proofs.MemoryCosts.{wires_are, constraints_are}
-use Rattle.tv_layout.proofs.Rooms.{system_fits, checks_short}
+use Rattle.tv_layout.proofs.SystemSizes.{system_fits, checks_short}
 use Rattle.tv_layout.specs.Checks.{checks_of}
 use Rattle.tv_argument.specs.Checks.{AreShort}
 use Rattle.tv_argument.specs.Memory.{IsMade, argument_made, argument_added}
-use Rattle.tv_layout.specs.Layout.{words_of, zero_wires_of, steps_of, tie_of, system_lines, layout_of}
+use Rattle.tv_layout.specs.Layout.{system_lines, layout_of}
 use Rattle.tv_layout.specs.Places.{boot_count, first_at, runs_of}
-use Rattle.tv_layout.specs.declared.places.TheConstants.{STATE_WIRES}
 use Rattle.tv_layout.proofs.system.emit_system.Goals as goal
 
 pub memory-requires-clause-many : goal.memory-requires-clause-many
@@ -57,75 +56,45 @@ memory-requires-clause-made g c =
 pub returns-in_err-words-clause-puts : goal.returns-in_err-words-clause-puts
 unfolding layout_of
 returns-in_err-words-clause-puts g c =
-    let m = g.S.Sink.meaning in
-    refused m _ _ _ c.from_residual.result c.from_residual.ensures.1
-    (refused_then m (words_of g.row.W 2 c.args.n) _ _ _ _ (rw c.tape_wire.ensures at c.in_err-words.ensures.puts))
+    refused _ _ _ _ _ c.from_residual.ensures.1 (some_first _ (rw c.tape_wire.ensures at c.in_err-words.ensures.puts))
 
 pub returns-in_err-zero_wires-clause-puts : goal.returns-in_err-zero_wires-clause-puts
 unfolding layout_of
 returns-in_err-zero_wires-clause-puts g c =
-    let m = g.S.Sink.meaning in
-    refused m _ _ _ c.from_residual-in_err-zero_wires.result c.from_residual-in_err-zero_wires.ensures.1
-    (puts_then_refused m (words_of g.row.W 2 c.args.n) _ _ _ _ _ _ (rw c.tape_wire.ensures at c.in_ok-words.ensures.puts)
-    (refused_then m zero_wires_of _ _ _ _ c.in_err-zero_wires.ensures.puts))
+    let words = rw c.tape_wire.ensures at c.in_ok-words.ensures.puts in
+    refused _ _ _ _ _ c.from_residual-in_err-zero_wires.ensures.1 (some_then _ words (some_first _ c.in_err-zero_wires.ensures.puts))
 
 pub returns-in_err-last-clause-puts : goal.returns-in_err-last-clause-puts
 unfolding layout_of
 returns-in_err-last-clause-puts g c =
-    let m = g.S.Sink.meaning in
-    refused m _ _ _ c.from_residual-in_err-last.result c.from_residual-in_err-last.ensures.1
-    (puts_then_refused m (words_of g.row.W 2 c.args.n) _ _ _ _ _ _ (rw c.tape_wire.ensures at c.in_ok-words.ensures.puts)
-    (puts_then_refused m zero_wires_of _ _ _ _ _ _ c.in_ok-zero_wires.ensures.puts
-    (refused_then m (steps_of (block_of g.row.W) c.args.n (boot_count c.args.image.now c.args.n) c.args.t _) _ _ _ _
-    (c.in_err-last.ensures.puts (boot_count c.args.image.now c.args.n)))))
+    let words = rw c.tape_wire.ensures at c.in_ok-words.ensures.puts in
+    refused _ _ _ _ _ c.from_residual-in_err-last.ensures.1 (some_then _ words (some_then _ c.in_ok-zero_wires.ensures.puts
+    (some_first _ (c.in_err-last.ensures.puts (boot_count c.args.image.now c.args.n)))))
 
 pub returns-in_err-tie-clause-puts : goal.returns-in_err-tie-clause-puts
 unfolding layout_of
 returns-in_err-tie-clause-puts g c =
-    let m = g.S.Sink.meaning in
-    refused m _ _ _ c.from_residual-in_err-tie.result c.from_residual-in_err-tie.ensures.1
-    (puts_then_refused m (words_of g.row.W 2 c.args.n) _ _ _ _ _ _ (rw c.tape_wire.ensures at c.in_ok-words.ensures.puts)
-    (puts_then_refused m zero_wires_of _ _ _ _ _ _ c.in_ok-zero_wires.ensures.puts
-    (puts_then_refused m (steps_of (block_of g.row.W) c.args.n (boot_count c.args.image.now c.args.n) c.args.t _) _ _ _ _ _ _
-    (c.in_ok-last.ensures.puts (boot_count c.args.image.now c.args.n))
-    (refused_then m (tie_of _) _ _ _ _ c.in_err-tie.ensures.puts))))
+    let words = rw c.tape_wire.ensures at c.in_ok-words.ensures.puts in
+    refused _ _ _ _ _ c.from_residual-in_err-tie.ensures.1 (some_then _ words (some_then _ c.in_ok-zero_wires.ensures.puts
+    (some_then _ (c.in_ok-last.ensures.puts (boot_count c.args.image.now c.args.n)) (some_first _ c.in_err-tie.ensures.puts))))
 
 pub returns-clause-puts : goal.returns-clause-puts
 unfolding layout_of
 returns-clause-puts g c =
     let m = g.S.Sink.meaning in
+    let words = rw c.tape_wire.ensures at c.in_ok-words.ensures.puts in
     let last = rw (c.log_of-k.ensures.is) at c.memory.ensures.puts in
-    puts_in_then m (words_of g.row.W 2 c.args.n) _ _ _ _ _ _ (rw c.tape_wire.ensures at c.in_ok-words.ensures.puts)
-    (puts_in_then m zero_wires_of _ _ _ _ _ _ c.in_ok-zero_wires.ensures.puts
-    (puts_in_then m (steps_of (block_of g.row.W) c.args.n (boot_count c.args.image.now c.args.n) c.args.t _) _ _ _ _ _ _
-    (c.in_ok-last.ensures.puts (boot_count c.args.image.now c.args.n))
-    (puts_in_then m (tie_of _) _ _ _ _ _ _ c.in_ok-tie.ensures.puts last)))
-
-grown : {S T E : Type 0} (m : Meaning S) (old mid new : S) (result : Result T E) (made added rest_made rest_added all_made all_added : ℕ)
-    → Grows m old mid made added → IfOk result (λ _. Grows m mid new rest_made rest_added) → made + rest_made ≡ all_made → added + rest_added ≡ all_added
-    → IfOk result (λ _. Grows m old new all_made all_added)
-grown m old mid new (Ok done) made added rest_made rest_added all_made all_added a b e f =
-    record { wires = omega (arith, a.wires, b.wires, e); constraints = omega (arith, a.constraints, b.constraints, f); whole = b.whole }
-grown m old mid new (Err why) made added rest_made rest_added all_made all_added a b e f = tt
+    puts_in_then m _ _ _ _ _ _ _ words (puts_in_then m _ _ _ _ _ _ _ c.in_ok-zero_wires.ensures.puts
+    (puts_in_then m _ _ _ _ _ _ _ (c.in_ok-last.ensures.puts (boot_count c.args.image.now c.args.n))
+    (puts_in_then m _ _ _ _ _ _ _ c.in_ok-tie.ensures.puts last)))
 
 pub returns-clause-grows : goal.returns-clause-grows
 returns-clause-grows g c =
-    let m = g.S.Sink.meaning in
-    let w = g.row.W in
-    let words = c.in_ok-words.ensures.grows in
-    let zero_wires = c.in_ok-zero_wires.ensures.grows in
-    let steps = c.in_ok-last.ensures.grows in
-    let tie = c.in_ok-tie.ensures.grows in
     let checks = checks_of (runs_of g.row.W c.args.image.now c.args.n c.args.t) in
     let wires = wires_are c.args.net (runs_of g.row.W c.args.image.now c.args.n c.args.t) in
     let constraints = constraints_are c.args.net (runs_of g.row.W c.args.image.now c.args.n c.args.t) in
     let made = ap (argument_made c.args.net checks) c.log_of-k.ensures.is in
     let added = ap (argument_added c.args.net checks) c.log_of-k.ensures.is in
-    grown m c.args.s.now c.tie.new.s c.memory.new.s c.memory.result
-    (c.args.n * w + STATE_WIRES + c.args.t * block_made w + 0) (c.args.n * (w + 1) + STATE_WIRES + c.args.t * block_added w + 2) _ _ _ _
-    (record {
-      wires = omega (arith, words.wires, zero_wires.wires, steps.wires, tie.wires);
-      constraints = omega (arith, words.constraints, zero_wires.constraints, steps.constraints, tie.constraints);
-      whole = tie.whole;
-    })
-    c.memory.ensures.grows (omega (arith, made, wires)) (omega (arith, added, constraints))
+    if_ok c.memory.result (λ last. grows_as (omega (arith, made, wires)) (omega (arith, added, constraints))
+    (both c.in_ok-words.ensures.grows (both c.in_ok-zero_wires.ensures.grows (both c.in_ok-last.ensures.grows (both c.in_ok-tie.ensures.grows last)))))
+    c.memory.ensures.grows
