@@ -1,7 +1,7 @@
 -- That what was prepared assigns the values of a run's system.
 use Rattle.std.proofs.Common.{◌≡◌, ℕ, ◌+◌, ◌-◌, ◌*◌, ◌≤◌, ◌^◌, Bool, List, [], ◌∷◌, ◌++◌, length, map, replicate, All, refl, sym, ap, ap₂, ◌∙◌, subst, arith}
 use Rattle.std.proofs.Common.{append_assoc}
-use Rattle.std.proofs.lemmas.List.{length-append, length-map}
+use Rattle.std.proofs.lemmas.List.{length-map}
 use Rattle.std.proofs.lemmas.List.Elements.{All-cons, All-nil, All-head, All-tail}
 use Rattle.std.specs.Prelude.{slice_index}
 use Rattle.tv_benes.specs.Items.{bit_at}
@@ -11,9 +11,9 @@ use Rattle.tv_block.specs.Complete.{step_values}
 use Rattle.tv_core.specs.Below.{joined_below}
 use Rattle.tv_core.specs.Lines.{Line}
 use Rattle.tv_core.specs.declared.lines.PairNum.{PairNum}
-use Rattle.tv_layout.proofs.Boot.{length-boot_lines, length-padding}
+use Rattle.tv_layout.proofs.Boot.{length-boot_lines}
 use Rattle.tv_layout.proofs.Positions.{log_above, log_within, log_some}
-use Rattle.tv_layout.proofs.RunLines.{run_placed, run_few}
+use Rattle.tv_layout.proofs.RunLines.{run_placed, run_few, all_many}
 use Rattle.tv_layout.proofs.Systems.{system_complete}
 use Rattle.tv_layout.proofs.Whole.{few, short, filled, spare}
 use Rattle.tv_layout.specs.Checks.{checks_of}
@@ -113,11 +113,7 @@ module _ (w : ℕ) (net : Net) (image x aux : List ℕ) (t : ℕ) (fits : Within
   whole = all_lines w image x aux t
 
   whole_many : length whole ≡ 2 ^ k
-  whole_many =
-      let a = length-append (run_lines w image x aux t) (padding (line_count (runs_like w image x t)) (spare (runs_like w image x t))) in
-      let b = length-append (boot_lines image x) step_lines in
-      let c = length-padding (line_count (runs_like w image x t)) (spare (runs_like w image x t)) in
-      omega (arith, a, b, c, length-boot_lines image x, steps_many, filled (runs_like w image x t) fits)
+  whole_many = all_many w image x aux t fits x_words aux_words
 
   whole_few : length whole ≤ 2 ^ 20
   whole_few = run_few w image x aux t fits x_words aux_words

@@ -8,43 +8,35 @@ use Rattle.tv_fill.proofs.filling.prepare.Goals as goal
 
 pub pack_items-requires-clause-few : goal.pack_items-requires-clause-few
 pack_items-requires-clause-few g c =
-    rw c.log_of-k.ensures.is
-    (log_few g.row.W c.args.net c.args.image.now c.args.tape.now c.args.aux.now c.args.t c.requires.limits c.requires.tape_words c.requires.aux_words)
+    rw c.log_of-k.ensures.is (log_few _ c.args.net _ _ _ _ c.requires.limits c.requires.tape_words c.requires.aux_words)
 
 pub pack_items-requires-clause-fits : goal.pack_items-requires-clause-fits
 pack_items-requires-clause-fits g c =
-    rw c.log_of-k.ensures.is
-    (lines_fit g.row.W c.args.net c.args.image.now c.args.tape.now c.args.aux.now c.args.t c.requires.limits c.requires.tape_words c.requires.aux_words
-    c.as_slice.result.now (c.as_slice.ensures ∙ c.in_ok-answer.ensures.trace.lines))
+    rw c.log_of-k.ensures.is (lines_fit _ c.args.net _ _ _ _ c.requires.limits c.requires.tape_words c.requires.aux_words _
+    (c.as_slice.ensures ∙ c.in_ok-answer.ensures.trace.lines))
 
 pub pack_items-requires-clause-steps : goal.pack_items-requires-clause-steps
 pack_items-requires-clause-steps g c =
-    lines_in_range g.row.W c.args.net c.args.image.now c.args.tape.now c.args.aux.now c.args.t c.requires.limits c.requires.tape_words c.requires.aux_words
-    c.as_slice.result.now (c.as_slice.ensures ∙ c.in_ok-answer.ensures.trace.lines)
+    lines_in_range _ c.args.net _ _ _ _ c.requires.limits c.requires.tape_words c.requires.aux_words _
+    (c.as_slice.ensures ∙ c.in_ok-answer.ensures.trace.lines)
 
 pub settings_to_predecessors-requires-clause-few : goal.settings_to_predecessors-requires-clause-few
 settings_to_predecessors-requires-clause-few g c =
     let packed = packed_as c.args.image.now c.args.tape.now _ _ _ _ _ c.in_ok-items.ensures c.as_slice.ensures c.log_of-k.ensures.is in
-    rw c.deref.ensures.value
-    (items_few g.row.W c.args.net c.args.image.now c.args.tape.now c.args.aux.now c.args.t c.requires.limits c.requires.tape_words c.requires.aux_words
-    c.in_ok-answer.field-0.lines c.in_ok-answer.ensures.trace.lines c.in_ok-answer.field-0.states c.in_ok-answer.ensures.trace.states c.in_ok-items.items.items
-    packed)
+    rw c.deref.ensures.value (items_few _ c.args.net _ _ _ _ c.requires.limits c.requires.tape_words c.requires.aux_words _
+    c.in_ok-answer.ensures.trace.lines _ c.in_ok-answer.ensures.trace.states _ packed)
 
 pub settings_to_predecessors-requires-clause-times : goal.settings_to_predecessors-requires-clause-times
 settings_to_predecessors-requires-clause-times g c =
     let packed = packed_as c.args.image.now c.args.tape.now _ _ _ _ _ c.in_ok-items.ensures c.as_slice.ensures c.log_of-k.ensures.is in
-    rw c.deref.ensures.value
-    (items_placed g.row.W c.args.net c.args.image.now c.args.tape.now c.args.aux.now c.args.t c.requires.limits c.requires.tape_words c.requires.aux_words
-    c.in_ok-answer.field-0.lines c.in_ok-answer.ensures.trace.lines c.in_ok-answer.field-0.states c.in_ok-answer.ensures.trace.states c.in_ok-items.items.items
-    packed)
+    rw c.deref.ensures.value (items_placed _ c.args.net _ _ _ _ c.requires.limits c.requires.tape_words c.requires.aux_words _
+    c.in_ok-answer.ensures.trace.lines _ c.in_ok-answer.ensures.trace.states _ packed)
 
 pub settings_to_predecessors-requires-clause-routable : goal.settings_to_predecessors-requires-clause-routable
 settings_to_predecessors-requires-clause-routable g c =
     let packed = packed_as c.args.image.now c.args.tape.now _ _ _ _ _ c.in_ok-items.ensures c.as_slice.ensures c.log_of-k.ensures.is in
-    rw c.deref.ensures.value
-    (routable g.row.W c.args.net c.args.image.now c.args.tape.now c.args.aux.now c.args.t c.requires.limits c.requires.tape_words c.requires.aux_words
-    c.in_ok-answer.field-0.lines c.in_ok-answer.ensures.trace.lines c.in_ok-answer.field-0.states c.in_ok-answer.ensures.trace.states c.in_ok-items.items.items
-    packed)
+    rw c.deref.ensures.value (routable _ c.args.net _ _ _ _ c.requires.limits c.requires.tape_words c.requires.aux_words _
+    c.in_ok-answer.ensures.trace.lines _ c.in_ok-answer.ensures.trace.states _ packed)
 
 pub invariant_of-result : goal.invariant_of-result
 invariant_of-result g c =
@@ -52,12 +44,9 @@ invariant_of-result g c =
     let set = rw c.deref.ensures.value at c.in_ok-settings.ensures in
     let many : length c.in_ok-spare.spare.items
     ≡ length c.in_ok-items.items.items = omega (arith, c.in_ok-spare.spare.ok.0, c.in_ok-items.items.ok.0, c.in_ok-spare.ensures.len, c.len.ensures) in
-    let fit =
-    parts_fit g.row.W c.args.net c.args.image.now c.args.tape.now c.args.aux.now c.args.t c.requires.limits c.requires.tape_words c.requires.aux_words
-    c.in_ok-answer.field-0.lines c.in_ok-answer.ensures.trace.lines c.in_ok-answer.field-0.states c.in_ok-answer.ensures.trace.states c.in_ok-items.items.items
-    packed
-    c.in_ok-settings.settings set c.in_ok-answer.field-0.answer c.in_ok-answer.ensures.trace.answer c.wires.result c.wires.ensures.is
-    c.in_ok-spare.spare.items many in
+    let fit = parts_fit _ c.args.net _ _ _ _ c.requires.limits c.requires.tape_words c.requires.aux_words _
+    c.in_ok-answer.ensures.trace.lines _ c.in_ok-answer.ensures.trace.states _ packed
+    _ set _ c.in_ok-answer.ensures.trace.answer _ c.wires.ensures.is _ many in
     rw c.log_of-k.ensures.is fit
 
 pub returns-clause-filling : goal.returns-clause-filling
@@ -70,10 +59,8 @@ returns-clause-filling g c =
     let bits = c.in_ok-settings.settings in
     let packed = packed_as c.args.image.now c.args.tape.now _ _ _ _ _ c.in_ok-items.ensures c.as_slice.ensures c.log_of-k.ensures.is in
     let set = rw c.deref.ensures.value at c.in_ok-settings.ensures in
-    let whole =
-    values_are g.row.W c.args.net c.args.image.now c.args.tape.now c.args.aux.now c.args.t c.requires.limits c.requires.tape_words c.requires.aux_words
-    c.in_ok-answer.field-0.lines c.in_ok-answer.ensures.trace.lines c.in_ok-answer.field-0.states c.in_ok-answer.ensures.trace.states c.in_ok-items.items.items
-    packed bits set v in
+    let whole = values_are _ c.args.net _ _ _ _ c.requires.limits c.requires.tape_words c.requires.aux_words _
+    c.in_ok-answer.ensures.trace.lines _ c.in_ok-answer.ensures.trace.states _ packed bits set v in
     let values :
     filled_values w (parts_of v c.args.t c.log_of-k.result c.args.net c.args.image.now c.args.tape.now c.args.aux.now states lines items bits)
     ≡ run_values c.args.net (run_on w c.args.image.now c.args.tape.now c.args.aux.now c.args.t) v =

@@ -1,61 +1,27 @@
-use Rattle.std.proofs.Common.{◌≡◌, ◌+◌, ◌-◌, length, sym, ap, ◌∙◌, arith}
+use Rattle.std.proofs.Common.{◌≡◌, sym, ap, ◌∙◌, arith}
 use Rattle.tv_core.specs.Lines.{Line}
-use Rattle.tv_fill.proofs.RunPlaces.{word_of_image, word_of_tape, line_of_steps}
+use Rattle.tv_layout.proofs.NumberPlaces.{word_of_image}
+use Rattle.tv_fill.proofs.RunPlaces.{tape_line, step_line}
 use Rattle.tv_fill.proofs.run_lines.RunLinesLineNumbers.line.Goals as goal
 
-pub returns-then-i-words-clause-cell : goal.returns-then-i-words-clause-cell
-returns-then-i-words-clause-cell c =
-    let l = c.args.self.now in
-    ap (λ (l : Line). l.cell) (c.word_line.ensures ∙ sym (word_of_image l.image.now l.tape.now l.steps.now l.k c.args.i (omega (arith, c.if-i-words.true))))
+alike : {a b : Line} → a ≡ b → (a.cell ≡ b.cell) × (a.time ≡ b.time) × (a.old ≡ b.old)
+alike e = (ap (λ (l : Line). l.cell) e, ap (λ (l : Line). l.time) e, ap (λ (l : Line). l.old) e)
 
-pub returns-then-i-boot-clause-cell : goal.returns-then-i-boot-clause-cell
-returns-then-i-boot-clause-cell c =
+pub returns-then-i-words : goal.returns-then-i-words
+returns-then-i-words c =
     let l = c.args.self.now in
-    let place : length l.image.now + (c.args.i - length l.image.now) ≡ c.args.i = omega (arith, c.if-i-words.false) in
-    ap (λ (l : Line). l.cell) (c.word_line-then-i-boot.ensures)
-    ∙ ap (λ (l : Line). l.cell) (sym (word_of_tape l.image.now l.tape.now l.steps.now l.k c.args.i (omega (arith, c.if-i-words.false))
-    (omega (arith, c.if-i-boot.true))))
+    let same = alike (c.word_line.ensures ∙ sym (word_of_image l.image.now l.tape.now l.steps.now _ c.args.i (omega (arith, c.if-i-words.true)))) in
+    record { cell = same.0; time = same.1; old = same.2 }
 
-pub returns-else-i-boot-clause-cell : goal.returns-else-i-boot-clause-cell
-returns-else-i-boot-clause-cell c =
+pub returns-then-i-boot : goal.returns-then-i-boot
+returns-then-i-boot c =
     let l = c.args.self.now in
-    ap (λ (l : Line). l.cell) (sym (line_of_steps l.image.now l.tape.now l.steps.now l.k c.args.i (omega (arith, c.if-i-boot.false))
-    (omega (arith, c.requires))))
+    let same = alike (c.word_line-then-i-boot.ensures ∙ sym (tape_line l.image.now l.tape.now l.steps.now _ c.args.i (omega (arith, c.if-i-words.false))
+    (omega (arith, c.if-i-boot.true)))) in
+    record { cell = same.0; time = same.1; old = same.2 }
 
-pub returns-then-i-words-clause-time : goal.returns-then-i-words-clause-time
-returns-then-i-words-clause-time c =
+pub returns-else-i-boot : goal.returns-else-i-boot
+returns-else-i-boot c =
     let l = c.args.self.now in
-    ap (λ (l : Line). l.time) (c.word_line.ensures ∙ sym (word_of_image l.image.now l.tape.now l.steps.now l.k c.args.i (omega (arith, c.if-i-words.true))))
-
-pub returns-then-i-boot-clause-time : goal.returns-then-i-boot-clause-time
-returns-then-i-boot-clause-time c =
-    let l = c.args.self.now in
-    let place : length l.image.now + (c.args.i - length l.image.now) ≡ c.args.i = omega (arith, c.if-i-words.false) in
-    ap (λ (l : Line). l.time) (c.word_line-then-i-boot.ensures)
-    ∙ sym place ∙ ap (λ (l : Line). l.time) (sym
-    (word_of_tape l.image.now l.tape.now l.steps.now l.k c.args.i (omega (arith, c.if-i-words.false)) (omega (arith, c.if-i-boot.true))))
-
-pub returns-else-i-boot-clause-time : goal.returns-else-i-boot-clause-time
-returns-else-i-boot-clause-time c =
-    let l = c.args.self.now in
-    ap (λ (l : Line). l.time) (sym (line_of_steps l.image.now l.tape.now l.steps.now l.k c.args.i (omega (arith, c.if-i-boot.false))
-    (omega (arith, c.requires))))
-
-pub returns-then-i-words-clause-old : goal.returns-then-i-words-clause-old
-returns-then-i-words-clause-old c =
-    let l = c.args.self.now in
-    ap (λ (l : Line). l.old) (c.word_line.ensures ∙ sym (word_of_image l.image.now l.tape.now l.steps.now l.k c.args.i (omega (arith, c.if-i-words.true))))
-
-pub returns-then-i-boot-clause-old : goal.returns-then-i-boot-clause-old
-returns-then-i-boot-clause-old c =
-    let l = c.args.self.now in
-    let place : length l.image.now + (c.args.i - length l.image.now) ≡ c.args.i = omega (arith, c.if-i-words.false) in
-    ap (λ (l : Line). l.old) (c.word_line-then-i-boot.ensures)
-    ∙ ap (λ (l : Line). l.old) (sym (word_of_tape l.image.now l.tape.now l.steps.now l.k c.args.i (omega (arith, c.if-i-words.false))
-    (omega (arith, c.if-i-boot.true))))
-
-pub returns-else-i-boot-clause-old : goal.returns-else-i-boot-clause-old
-returns-else-i-boot-clause-old c =
-    let l = c.args.self.now in
-    ap (λ (l : Line). l.old) (sym (line_of_steps l.image.now l.tape.now l.steps.now l.k c.args.i (omega (arith, c.if-i-boot.false))
-    (omega (arith, c.requires))))
+    let same = alike (sym (step_line l.image.now l.tape.now l.steps.now _ c.args.i (omega (arith, c.if-i-boot.false)) (omega (arith, c.requires)))) in
+    record { cell = same.0; time = same.1; old = same.2 }
