@@ -51,7 +51,8 @@ module _ (w : ℕ) (width : IsWidth w) (z : List ℕ) (imm tail register : ℕ) 
       sum_then assigns _ (wire register) (wire imm) ((1, tail) ∷ (P - 1, register) ∷ []) sum_is (λ word is_word.
       let is = value-wire assigns word ∙ is_word in
       settles_to (bits_of (wire word) w) _ {S = λ b. HasBits z b.first w (if immediate then second else named)} (record {
-        sound = λ next meets. subst (λ v. HasBits z (bits_of (wire word) w next).answer.first w v) is (bits_sound z next (wire word) w (omega arith) assigns meets);
+        sound = λ next meets.
+            subst (λ v. HasBits z (bits_of (wire word) w next).answer.first w v) is (bits_sound z next (wire word) w (omega arith) assigns meets);
         complete = λ next values. bits_complete z next (wire word) w (subst (λ v. v < 2 ^ w) (sym is) small) assigns
             (subst (λ v. HasFrom z next (bits_values v w)) (sym is) values);
       }) (λ bits are. record { word = is_word; bits = are }))

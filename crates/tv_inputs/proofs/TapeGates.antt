@@ -260,7 +260,8 @@ delta_number b e h k = omega arith
 module _ (z : List ℕ) (assigns : Assigns z) (ended takes after : ℕ) where
   sum : value ((P - 1, ended) ∷ (1, takes) ∷ (1, after) ∷ []) z ≡ (slice_index z takes + (slice_index z after + (P - slice_index z ended)) % P) % P
   sum = value-three z (P - 1) 1 1 ended takes after
-      ∙ sum_number (slice_index z ended) (slice_index z takes) (slice_index z after) (wire-below assigns ended) (wire-below assigns takes) (wire-below assigns after)
+      ∙ sum_number (slice_index z ended) (slice_index z takes) (slice_index z after) (wire-below assigns ended) (wire-below assigns takes)
+      (wire-below assigns after)
 
   delta : value ((P - 1, ended) ∷ (1, after) ∷ []) z ≡ (slice_index z after + (P - slice_index z ended)) % P
   delta = value-two z (P - 1) 1 ended after ∙ delta_number (slice_index z ended) (slice_index z after) (wire-below assigns ended) (wire-below assigns after)

@@ -198,7 +198,8 @@ module _ (w : ℕ) (width : IsWidth w) (z : List ℕ) (n : ℕ) (state : StateWi
       if_zero_then assigns _ (opcode_sum op (30 ∷ [])) (upper_of 1 a 1)
       (opcode_sum_sound z op i.op (30 ∷ []) has.opcode refl ∙ ap flag_of (among_one 30 i.op)) (upper_once w width z a at 1 assigns has.operand (omega arith))
       (λ reads is_reads.
-      let reading = reading_by k at (slice_index z a.bits.first) (slice_index z reads) (slice_index z reads * slice_index z a.bits.first % P) low is_reads refl in
+      let reading = reading_by k at (slice_index z a.bits.first) (slice_index z reads) (slice_index z reads * slice_index z a.bits.first % P) low is_reads
+      refl in
       times_then assigns _ (wire reads) (wire a.bits.first)
       (ap₂ (λ m n. m * n % P) (value-wire assigns reads) (value-wire assigns a.bits.first) ∙ reading.one) (λ aux is_aux.
       let none = ap (λ m. (slice_index z reads + (P - m)) % P) (is_aux ∙ sym reading.one) ∙ reading.none in

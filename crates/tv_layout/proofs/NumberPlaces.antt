@@ -60,7 +60,8 @@ module _ (image x : List ℕ) (steps rest : List Line) where
   line_of_steps j h =
       let e : length image + length x + j - (length image + length x) ≡ j = omega arith in
       get_or_append_left (boot_lines image x ++ steps) rest zero_line (length image + length x + j) (omega (arith, long-front))
-      ∙ get_or-append_right (boot_lines image x) steps (length image + length x) (length image + length x + j) zero_line (length-boot_lines image x) (omega arith)
+      ∙ get_or-append_right (boot_lines image x) steps (length image + length x) (length image + length x + j) zero_line
+      (length-boot_lines image x) (omega arith)
       ∙ ap (number_in steps) e
 
 module _ (image x : List ℕ) (t : ℕ) (f : ℕ → List Line) (three : (i : ℕ) → length (f i) ≡ 3) (more : ℕ) where
