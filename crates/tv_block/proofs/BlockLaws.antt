@@ -1,25 +1,25 @@
--- The law of a whole step.
-use Rattle.std.proofs.Common.{◌≡◌, ◌≢◌, ℕ, ◌+◌, ◌-◌, ◌*◌, ◌/◌, ◌%◌, ◌^◌, ◌<◌, ◌==◌, nat_lt, Bool, true, false, if◌then◌else◌, List, [], ◌∷◌, ◌++◌}
-use Rattle.std.proofs.Common.{length, inl, inr, refl, sym, ◌∙◌, ap, ap₂, subst, arith}
+-- The laws of a whole step: what an assignment that meets its constraints has, and that one with its values meets them.
+use Rattle.std.proofs.Common.{◌≡◌, ◌≢◌, ℕ, ◌+◌, ◌-◌, ◌*◌, ◌/◌, ◌%◌, ◌^◌, ◌<◌, ◌==◌, nat_lt, Bool, true, false, if◌then◌else◌, List, [], ◌∷◌, ◌++◌, length, inl}
+use Rattle.std.proofs.Common.{inr, refl, sym, ◌∙◌, ap, ap₂, subst, arith}
 use Rattle.std.specs.Prelude.{slice_index}
 use Rattle.std.proofs.lemmas.Bool.{cases_eq, eq-eqb, ne_eqb}
 use Rattle.std.proofs.lemmas.List.{length-map}
 use Rattle.std.proofs.lemmas.List.Elements.{All-get_or}
-use Rattle.tv_bits.proofs.BitNumbers.{HasBits-below, HasBits-bit_at}
-use Rattle.tv_bits.proofs.ZeroSignLaws.{zero_sign_sound}
+use Rattle.tv_bits.proofs.BitNumbers.{HasBits-below, HasBits-bit_at, HasBits-from_values}
+use Rattle.tv_bits.proofs.ZeroSignLaws.{zero_sign_sound, zero_sign_complete, zero_sign_sizes}
 use Rattle.tv_bits.specs.Bit.{IsBit}
-use Rattle.tv_bits.specs.Bits.{HasBits}
-use Rattle.tv_bits.specs.ZeroSign.{zero_sign_of}
+use Rattle.tv_bits.specs.Bits.{HasBits, bits_values}
+use Rattle.tv_bits.specs.ZeroSign.{zero_sign_of, sign_at_zero, zero_sign_values}
 use Rattle.tv_core.proofs.CombinationLaws.{value-append, value-wire, value-constant, value-cons}
-use Rattle.tv_core.proofs.MeetsLaws.{Meets-split}
+use Rattle.tv_core.proofs.MeetsLaws.{Meets-split, Meets-join, HasFrom-split}
 use Rattle.tv_core.specs.Circuits.{fresh, pure, ◌>>=◌}
 use Rattle.tv_core.specs.Combinations.{constant}
 use Rattle.tv_core.specs.Constraints.{value}
-use Rattle.tv_core.specs.Laws.{Assigns, Meets}
+use Rattle.tv_core.specs.Laws.{Assigns, Meets, HasFrom}
 use Rattle.tv_core.specs.Lines.{Line}
 use Rattle.tv_core.specs.declared.field.TheConstants.{P}
-use Rattle.tv_decode.proofs.InstructionLaws.{instruction_sound}
-use Rattle.tv_decode.specs.Instructions.{imm_wire, instruction_of, IsDecoded}
+use Rattle.tv_decode.proofs.InstructionLaws.{instruction_sound, instruction_complete, instruction_sizes}
+use Rattle.tv_decode.specs.Instructions.{imm_wire, instruction_of, IsDecoded, instruction_values, dest_bits, source_bits, register_bits}
 use Rattle.tv_decode.specs.declared.records.InstructionWires.{InstructionWires}
 use Rattle.tv_isa.specs.Instruction.{decode}
 use Rattle.tv_isa.specs.Opcodes.{among, store_ops, writer_ops}
@@ -29,45 +29,57 @@ use Rattle.tv_mem.specs.Bytes.{byte_of}
 use Rattle.tv_numbers.proofs.LineRows.{same_line}
 use Rattle.tv_numbers.proofs.RangeLaws.{numbers_stay_in_range}
 use Rattle.tv_numbers.proofs.StepLaws.{numbers_do, same_view}
-use Rattle.tv_numbers.specs.Laws.{DoesStep}
-use Rattle.tv_numbers.specs.Numbers.{Transition, operand_word, other_word, result_in}
+use Rattle.tv_numbers.specs.Laws.{DoesStep, AtNumbers}
+use Rattle.tv_numbers.specs.Numbers.{Transition, operand_word, other_word, result_in, transition_of, found, step_words}
 use Rattle.tv_numbers.specs.Views.{View, ViewInRange}
 use Rattle.tv_step.specs.Rows.{word_size}
 use Rattle.tv_word.proofs.WidthLaws.{for_widths}
 use Rattle.tv_word.specs.Widths.{IsWidth}
 use Rattle.tv_arithmetic.proofs.ArithmeticLaws.{arithmetic_sound}
-use Rattle.tv_parts.proofs.FlagFills.{flag_sound}
-use Rattle.tv_parts.proofs.MemoryFills.{memory_sound}
-use Rattle.tv_inputs.proofs.OpcodeLaws.{opcode_wire_is}
-use Rattle.tv_inputs.proofs.OperandLaws.{operand_sound}
-use Rattle.tv_results.proofs.PcFills.{pc_sound}
-use Rattle.tv_results.proofs.ResultFills.{results_sound}
-use Rattle.tv_arithmetic.proofs.ShiftTests.{shift_test_sound}
-use Rattle.tv_inputs.proofs.TapeFills.{flag_test}
+use Rattle.tv_parts.proofs.FlagFills.{flag_sound, flag_complete, flag_sizes}
+use Rattle.tv_parts.proofs.MemoryFills.{memory_sound, memory_complete, memory_sizes}
+use Rattle.tv_inputs.proofs.OpcodeLaws.{opcode_wire_is, opcode_sum_sound}
+use Rattle.tv_inputs.proofs.OperandLaws.{operand_sound, operand_complete, operand_sizes}
+use Rattle.tv_results.proofs.PcFills.{pc_sound, pc_complete}
+use Rattle.tv_results.proofs.ResultFills.{results_sound, results_complete, results_sizes}
+use Rattle.tv_arithmetic.proofs.ShiftTests.{shift_test_sound, below_width}
+use Rattle.tv_inputs.proofs.TapeFills.{flag_test, tapes_filled, tapes_sizes}
 use Rattle.tv_inputs.proofs.TapeLaws.{tapes_sound}
-use Rattle.tv_arithmetic.specs.Arithmetic.{shift_ops, division_ops, arithmetic_of, IsArithmetic}
-use Rattle.tv_parts.specs.Flag.{sign_at, next_flag_of, HasFlag}
+use Rattle.tv_arithmetic.specs.Arithmetic.{shift_ops, division_ops, arithmetic_of, IsArithmetic, decomposed_word, arithmetic_values, sums_values}
+use Rattle.tv_arithmetic.specs.Arithmetic.{products_values, shifts_values, HasArithmetic}
+use Rattle.tv_parts.specs.Flag.{sign_at, next_flag_of, HasFlag, flag_values}
 use Rattle.tv_inputs.specs.Inputs.{StepInput, input_of, operation_of}
-use Rattle.tv_parts.specs.Memory.{memory_of, AreStored, HasMemory}
-use Rattle.tv_inputs.specs.OpcodeSums.{IsOpcode}
-use Rattle.tv_inputs.specs.Operand.{operand_of, IsOperand, HasOperand}
-use Rattle.tv_results.specs.Pc.{pc_of, HasPc}
-use Rattle.tv_inputs.specs.Results.{sign_of, results_of, HasSources, AreResults}
-use Rattle.tv_inputs.specs.TestNumbers.{zero_ops}
+use Rattle.tv_parts.specs.Memory.{memory_of, AreStored, HasMemory, memory_values}
+use Rattle.tv_inputs.specs.OpcodeSums.{IsOpcode, opcode_sum}
+use Rattle.tv_inputs.specs.Operand.{operand_of, IsOperand, HasOperand, operand_values}
+use Rattle.tv_results.specs.Pc.{pc_of, HasPc, pc_values}
+use Rattle.tv_inputs.specs.Results.{sign_of, results_of, HasSources, AreResults, result_number, tested_number, results_values}
+use Rattle.tv_inputs.specs.TestNumbers.{zero_ops, place_bits}
 use Rattle.tv_inputs.specs.States.{state_in}
-use Rattle.tv_inputs.specs.Tapes.{tapes_of, took, HasTapes, AreTapes}
-use Rattle.tv_parts.proofs.WrittenFills.{written_settled}
-use Rattle.tv_parts.specs.Written.{written_of, HasWritten}
+use Rattle.tv_inputs.specs.Tapes.{tapes_of, took, HasTapes, AreTapes, tapes_values}
+use Rattle.tv_parts.proofs.WrittenFills.{written_settled, written_complete, written_sizes}
+use Rattle.tv_parts.specs.Written.{written_of, HasWritten, written_values}
 use Rattle.tv_inputs.specs.declared.records.ArithmeticWires.{ArithmeticWires}
 use Rattle.tv_inputs.specs.declared.records.OperandWires.{OperandWires}
 use Rattle.tv_inputs.specs.declared.records.ResultWires.{ResultWires}
 use Rattle.tv_inputs.specs.declared.records.StateWires.{StateWires}
 use Rattle.tv_inputs.specs.declared.records.TapeWires.{TapeWires}
 use Rattle.tv_regs.specs.declared.triple.Triple.{Triple}
-use Rattle.tv_block.proofs.PartLaws.{opcode_of_row, op_below, dest_below, source_below, among_each, AreRegisters, registers_sound, sign_value}
-use Rattle.tv_block.proofs.PartLaws.{sign_shift, sign_division}
+use Rattle.tv_block.proofs.PartLaws.{opcode_of_row, op_below, dest_below, source_below, among_each, AreRegisters, registers_sound, sign_value, sign_shift}
+use Rattle.tv_block.proofs.PartLaws.{sign_division, used_again, are_numbers}
 use Rattle.tv_block.specs.Block.{registers_of, data_of, sources_of, computed_of, effects_of, block_of, word_inverse, cell_of, BlockIsStep, BlockIsSound}
+use Rattle.tv_block.specs.Block.{transition_in, IsStep}
 use Rattle.tv_word.specs.Word.{flag_of}
+use Rattle.tv_bits.specs.DoubleRow.{double_row_values}
+use Rattle.tv_bits.specs.Number.{number_of}
+use Rattle.tv_regs.proofs.TripleLaws.{triple_complete, triple_sizes}
+use Rattle.tv_regs.specs.Triple.{other_number, triple_values}
+use Rattle.tv_word.proofs.FlagLaws.{flag_small}
+use Rattle.tv_arithmetic.proofs.ArithmeticCounts.{arithmetic_sizes}
+use Rattle.tv_arithmetic.proofs.ArithmeticFills.{arithmetic_complete, decomposed_below}
+use Rattle.tv_block.proofs.BlockChain.{instruction, op, triple, operand, test, made, tapes, memory, results, zero, written, flag, pc}
+use Rattle.tv_block.specs.Complete.{BlockIsComplete}
+use Rattle.tv_block.specs.Values.{row_low, row_high, tested_in, test_in, effects_values, other_register, block_values}
 
 -- ---- the state
 pub state_sixteen : (w : ℕ) (z : List ℕ) (n : ℕ) (state : StateWires) → ViewInRange w n (state_in z state) → length state.regs ≡ 16
@@ -134,8 +146,8 @@ module _ {w : ℕ} {z : List ℕ} {n : ℕ} {state : StateWires} (known : Before
   operand_in next made named is held meets =
       operand_sound w known.width z next (imm_wire w made) made.tail named i.imm tail (slice_index v.regs (tail % 16)) (has_operand made named is held) meets
 
-  test_in : (next op y f : ℕ) → IsOpcode z op i.op → Meets z (zero_sign_of y f (sign_of op) next).list → Tests z i.op y f
-  test_in next op y f row meets =
+  test_shown : (next op y f : ℕ) → IsOpcode z op i.op → Meets z (zero_sign_of y f (sign_of op) next).list → Tests z i.op y f
+  test_shown next op y f row meets =
       zero_sign_sound z next y f (sign_of op) known.assigns meets ∙ ap (λ s. if slice_index z y == 0 then s else 0) (sign_value z op i.op row)
 
   module _ {op : ℕ} {taken : OperandWires} (row : IsOpcode z op i.op) (is : IsOperand w z taken a) where
@@ -404,7 +416,7 @@ step_in w width z n state time at short early assigns range meets =
     let row = opcode_of_row z op i.op (op_below w head tail) is_decoded.opcode in
     let are = registers_sound w width z decoded.next state decoded.answer head tail size assigns is_decoded m2.0 in
     let is = operand_in known head tail regs.next decoded.answer regs.answer.named_word is_decoded are.named m3.0 in
-    let is_test = test_in known head tail results.next op results.answer.tested test row m8.0 in
+    let is_test = test_shown known head tail results.next op results.answer.tested test row m8.0 in
     let shifted : among shift_ops i.op ≡ true → (if slice_index z results.answer.tested == 0 then 1 else 0) ≡ flag_of (nat_lt (operand_word v i) w) =
     (λ e. shift_test_sound w width z memory.next state op operand.answer from tapes.answer i.op (operand_word v i) assigns row e is m7.0) in
     let does = arithmetic_in known head tail row is (operand.next + 1) regs.answer.other_word results.answer.tested test are.other is_test shifted m4.0 in
@@ -456,4 +468,319 @@ block_sound w width z x state time next short early assigns range meets =
       does = subst (DoesStep w x time) (sym step.same) does;
       takes = step.taken ∙ sym (ap (λ (b : Transition). flag_of b.takes) step.same);
       answers = step.answers ∙ sym (ap (λ (b : Transition). flag_of b.answers) step.same);
+    }
+
+-- ---- an assignment that has a step's values
+-- an assignment that has two lists has the first, and from the next wire on the second
+some_had : (z : List ℕ) (at next : ℕ) (xs ys : List ℕ) → next ≡ at + length xs → HasFrom z at (xs ++ ys) → HasFrom z at xs × HasFrom z next ys
+some_had z at next xs ys e h = let both = HasFrom-split z at xs ys h in (both.0, subst (λ k. HasFrom z k ys) (sym e) both.1)
+
+-- the register that is read beside the two others
+register_by : (b : Bool) (g d s : ℕ) → g ≡ flag_of b → (if g == 1 then d else s) ≡ (if b then d else s)
+register_by true g d s e = rw e refl
+register_by false g d s e = rw e refl
+
+-- ---- the test at a shift and at a division
+-- the test at an opcode, as `test_in` has it at an instruction's
+abbrev test_by : ℕ → ℕ → View → Instr → ℕ → ℕ → Bool → ℕ → ℕ
+test_by w n v i low high takes k =
+    let result = result_number w k (operand_word v i) low high (found w n v i low takes) in
+    sign_at_zero (tested_number w k (operand_word v i) low high result) (sign_at k)
+
+test_shift : (w n : ℕ) (v : View) (i : Instr) (low high : ℕ) (takes : Bool) → IsWidth w → among shift_ops i.op ≡ true
+    → test_in w (input_of n v i low) high takes ≡ flag_of (nat_lt (operand_word v i) w)
+test_shift w n v i low high takes width e =
+    among_each (λ k. test_by w n v i low high takes k ≡ (if operand_word v i / 2 ^ place_bits w == 0 then 1 else 0)) shift_ops (refl, (refl, tt)) i.op e
+    ∙ below_width w width (operand_word v i)
+
+test_division : (w n : ℕ) (v : View) (i : Instr) (low high : ℕ) (takes : Bool) → among division_ops i.op ≡ true
+    → test_in w (input_of n v i low) high takes ≡ flag_of (operand_word v i == 0)
+test_division w n v i low high takes =
+    among_each (λ k. test_by w n v i low high takes k ≡ (if operand_word v i == 0 then 1 else 0)) division_ops (refl, (refl, tt)) i.op
+
+-- ---- the parts up to the arithmetic
+-- the values of the parts after it, from the halves of the row and the test
+abbrev later_values : ℕ → ℕ → View → Instr → Bool → ℕ → ℕ → ℕ → List ℕ
+later_values w n v i takes low high f = tapes_values w n v i low takes ++ effects_values w (input_of n v i low) high takes f
+
+had_later : (w n : ℕ) (v : View) (i : Instr) (takes : Bool) (z : List ℕ) (at l h f low high test : ℕ) → low ≡ l → high ≡ h → test ≡ f
+    → HasFrom z at (later_values w n v i takes l h f) → HasFrom z at (later_values w n v i takes low high test)
+had_later w n v i takes z at l h f low high test p q r has =
+    subst (λ k. HasFrom z at (later_values w n v i takes k high test)) (sym p)
+    (subst (λ k. HasFrom z at (later_values w n v i takes l k test)) (sym q)
+    (subst (λ k. HasFrom z at (later_values w n v i takes l h k)) (sym r) has))
+
+module _ (w : ℕ) (z : List ℕ) (n : ℕ) (state : StateWires) (at head tail : ℕ) where
+  abbrev now : View
+  now = state_in z state
+
+  abbrev instr : Instr
+  instr = decode w head tail
+
+  abbrev x_of : ℕ
+  x_of = other_word now instr
+
+  abbrev a_of : ℕ
+  a_of = operand_word now instr
+
+  abbrev low_at : ℕ
+  low_at = slice_index z (made w n state at).answer.row.low
+
+  abbrev high_at : ℕ
+  high_at = slice_index z (made w n state at).answer.row.high
+
+  -- z meets them, and their wires hold what the parts after them take, with o as the data word
+  pub record Front (o : ℕ) (takes : Bool) : Type 0 where
+    pub met1 : Meets z (instruction w n state at).list
+    pub met2 : Meets z (triple w n state at).list
+    pub met3 : Meets z (operand w n state at).list
+    pub met4 : Meets z (made w n state at).list
+    pub decoded : IsDecoded z w (instruction w n state at).answer head tail
+    pub row : IsOpcode z (op w n state at) instr.op
+    pub are : AreRegisters z (triple w n state at).answer now instr
+    pub is : IsOperand w z (operand w n state at).answer a_of
+    pub tests : slice_index z (test w n state at) ≡ test_in w (input_of n now instr low_at) high_at takes
+    pub does : IsArithmetic w z (made w n state at).answer (test w n state at) (operand w n state at).answer (operation_of instr.op x_of a_of)
+    pub decomposed : HasBits z (made w n state at).answer.x.first w (decomposed_word w instr.op x_of a_of)
+    pub low : low_at ≡ row_low w now instr o
+    pub rest : HasFrom z (made w n state at).next (later_values w n now instr takes low_at high_at (slice_index z (test w n state at)))
+
+pub front : (w : ℕ) → IsWidth w → (z : List ℕ) (n : ℕ) (state : StateWires) (at head tail o : ℕ) (takes : Bool) → Assigns z
+    → AtNumbers w n (state_in z state) (step_words head tail o takes) → HasFrom z at (block_values w n (state_in z state) (step_words head tail o takes))
+    → Front w z n state at head tail o takes
+front w width z n state at head tail o takes assigns in_range has =
+    let v = state_in z state in
+    let range = in_range.range in
+    let i : Instr = decode w head tail in
+    let x = other_word v i in
+    let a = operand_word v i in
+    let low = row_low w v i o in
+    let high = row_high w v i in
+    let f = test_in w (input_of n v i low) high takes in
+    let known : Before w z n state = record { width = width; assigns = assigns; short = in_range.short; range = range } in
+    let size = state_sixteen w z n state range in
+    let r4 : List ℕ = later_values w n v i takes low high f in
+    let r3 : List ℕ = f ∷ (arithmetic_values w (operation_of i.op x a) f low high ++ r4) in
+    let r2 : List ℕ = operand_values w a ++ r3 in
+    let r1 : List ℕ = triple_values (other_register i) (tail % 16) i.dest v.regs ++ r2 in
+    let ins = instruction w n state at in
+    let regs = triple w n state at in
+    let taken = operand w n state at in
+    let does_made = made w n state at in
+    let h1 = some_had z at ins.next (instruction_values w head tail) r1 (instruction_sizes.fills w width head tail at) has in
+    let used = used_again i.op (op_below w head tail) in_range.used in
+    let first = instruction_complete w width z at head tail assigns in_range.head_word in_range.tail_word used h1.0 in
+    let decoded = first.1 in
+    let row = opcode_of_row z ins.answer.op i.op (op_below w head tail) decoded.opcode in
+    let stores = opcode_sum ins.answer.op store_ops in
+    let target = number_of (dest_bits w ins.answer) in
+    let source = number_of (source_bits w ins.answer) in
+    let named = number_of (register_bits ins.answer) in
+    let store_is : value stores z ≡ flag_of (among store_ops i.op) = opcode_sum_sound z ins.answer.op i.op store_ops row refl in
+    let numbers = are_numbers decoded row in
+    let other_is : other_number z stores target source ≡ other_register i =
+    register_by (among store_ops i.op) (value stores z) (value target z) (value source z) store_is
+    ∙ ap₂ (λ d s. if among store_ops i.op then d else s) decoded.dest decoded.source in
+    let h2 = some_had z ins.next regs.next (triple_values (other_register i) (tail % 16) i.dest v.regs) r2
+    (triple_sizes.fills stores target source named state.regs (other_register i) (tail % 16) i.dest v.regs ins.next) h1.1 in
+    let had2 : HasFrom z ins.next (triple_values (other_number z stores target source) (value named z) (value target z) v.regs) =
+    subst (λ k. HasFrom z ins.next (triple_values k (value named z) (value target z) v.regs)) (sym other_is)
+    (subst (λ k. HasFrom z ins.next (triple_values (other_register i) k (value target z) v.regs)) (sym decoded.register)
+    (subst (λ k. HasFrom z ins.next (triple_values (other_register i) (tail % 16) k v.regs)) (sym decoded.dest) h2.0)) in
+    let m2 = triple_complete z ins.next stores target source named state.regs size assigns numbers had2 in
+    let are = registers_sound w width z ins.next state ins.answer head tail size assigns decoded m2 in
+    let imm = imm_wire w ins.answer in
+    let h3 = some_had z regs.next taken.next (operand_values w a) r3 (operand_sizes.fills w imm ins.answer.tail regs.answer.named_word a regs.next) h2.1 in
+    let m3 = operand_complete w width z regs.next imm ins.answer.tail regs.answer.named_word i.imm tail (slice_index v.regs (tail % 16))
+    (has_operand known head tail ins.answer regs.answer.named_word decoded are.named) h3.0 in
+    let is = operand_in known head tail regs.next ins.answer regs.answer.named_word decoded are.named m3 in
+    let f_is : slice_index z taken.next ≡ f = h3.1.0 in
+    let h4 = some_had z (taken.next + 1) does_made.next (arithmetic_values w (operation_of i.op x a) f low high) r4
+    (arithmetic_sizes.fills w width ins.answer.op regs.answer.other_word taken.next taken.answer i.op x a f low high (taken.next + 1)) h3.1.1 in
+    let divided : among division_ops i.op ≡ true → slice_index z taken.next ≡ flag_of (a == 0) = (λ e. f_is ∙ test_division w n v i low high takes e) in
+    let x_word = other_below w n v head tail range in
+    let operation : HasArithmetic w z (record { op = ins.answer.op; other = regs.answer.other_word; f = taken.next; operand = taken.answer })
+    (operation_of i.op x a) = record {
+      assigns = assigns;
+      opcode = row;
+      word = x_word;
+      held = are.other;
+      taken = is;
+      shifts = λ e. f_is ∙ test_shift w n v i low high takes width e;
+      divides = λ e. subst IsBit (sym (divided e)) (flag_small (a == 0));
+    } in
+    let m4 = arithmetic_complete w width z (taken.next + 1) ins.answer.op regs.answer.other_word taken.next taken.answer i.op x a o
+    operation divided in_range.data_word (subst (λ g. HasFrom z (taken.next + 1) (arithmetic_values w (operation_of i.op x a) g low high)) (sym f_is) h4.0) in
+    let does = arithmetic_sound w width z (taken.next + 1) ins.answer.op regs.answer.other_word taken.next taken.answer i.op x a operation m4.0 in
+    let row_bits : List ℕ = double_row_values w low high (flag_of (among (8 ∷ []) i.op)) in
+    let after_row : List ℕ = sums_values w i.op x a ++ (products_values w i.op x a ++ shifts_values w x a f low high) in
+    let bits_had = HasFrom-split z (taken.next + 1) (bits_values (decomposed_word w i.op x a) w ++ row_bits) after_row h4.0 in
+    let bits_at = HasFrom-split z (taken.next + 1) (bits_values (decomposed_word w i.op x a) w) row_bits bits_had.0 in
+    let first_is = arithmetic_sizes.answer w width ins.answer.op regs.answer.other_word taken.next taken.answer (taken.next + 1) in
+    let bits_from : HasBits z (taken.next + 1) w (decomposed_word w i.op x a) =
+    HasBits-from_values z (taken.next + 1) w (decomposed_word w i.op x a) (decomposed_below w width i.op x a x_word (HasBits-below is.bits)) bits_at.0 in
+    record {
+      met1 = first.0;
+      met2 = m2;
+      met3 = m3;
+      met4 = m4.0;
+      decoded = decoded;
+      row = row;
+      are = are;
+      is = is;
+      tests = f_is ∙ ap₂ (λ l h. test_in w (input_of n v i l) h takes) (sym m4.1) (sym m4.2);
+      does = does;
+      decomposed = subst (λ k. HasBits z k w (decomposed_word w i.op x a)) (sym (ap (λ m. m.x.first) first_is)) bits_from;
+      low = m4.1;
+      rest = had_later w n v i takes z does_made.next low high f _ _ _ m4.1 m4.2 f_is h4.1;
+    }
+
+-- ---- the whole step
+-- the numbers in the wires are those that were assigned
+shown : (w : ℕ) (z : List ℕ) (n : ℕ) (state : StateWires) (time at head tail low : ℕ) (takes : Bool)
+    (is : IsStep w z n time state (block_of w n state time at).answer) → Assigns z
+    → slice_index z (instruction w n state at).answer.head ≡ head → slice_index z (instruction w n state at).answer.tail ≡ tail
+    → slice_index z (made w n state at).answer.row.low ≡ low → took z (tapes w n state at).answer ≡ takes
+    → transition_in z state (block_of w n state time at).answer ≡ transition_of w n time (state_in z state) (step_words head tail low takes)
+unfolding block_of computed_of effects_of fresh pure ◌>>=◌
+shown w z n state time at head tail low takes is assigns head_at tail_at low_at takes_at =
+    let v = state_in z state in
+    let head_is : is.head ≡ head = sym (ap (λ (b : Transition). b.first.old) is.same) ∙ value-wire assigns (instruction w n state at).answer.head ∙ head_at in
+    let tail_is : is.tail ≡ tail = sym (ap (λ (b : Transition). b.second.old) is.same) ∙ value-wire assigns (instruction w n state at).answer.tail ∙ tail_at in
+    let word_is : is.word ≡ low = sym (ap (λ (b : Transition). b.word) is.same) ∙ low_at in
+    let takes_is : is.takes ≡ takes = sym (ap (λ (b : Transition). b.takes) is.same) ∙ takes_at in
+    is.same
+    ∙ ap (λ k. transition_of w n time v (step_words k is.tail is.word is.takes)) head_is
+    ∙ ap (λ k. transition_of w n time v (step_words head k is.word is.takes)) tail_is
+    ∙ ap₂ (λ k b. transition_of w n time v (step_words head tail k b)) word_is takes_is
+
+-- an assignment that has the values of the parts after the arithmetic meets these
+record Back (w : ℕ) (z : List ℕ) (n : ℕ) (state : StateWires) (at : ℕ) (takes : Bool) : Type 0 where
+  pub met5 : Meets z (tapes w n state at).list
+  pub met6 : Meets z (memory w n state at).list
+  pub met7 : Meets z (results w n state at).list
+  pub met8 : Meets z (zero w n state at).list
+  pub met9 : Meets z (written w n state at).list
+  pub met10 : Meets z (flag w n state at).list
+  pub met11 : Meets z (pc w n state at).list
+  pub takes_is : took z (tapes w n state at).answer ≡ takes
+
+back : (w : ℕ) → IsWidth w → (z : List ℕ) (n : ℕ) (state : StateWires) (at head tail o : ℕ) (takes : Bool) → Assigns z
+    → AtNumbers w n (state_in z state) (step_words head tail o takes) → Front w z n state at head tail o takes → Back w z n state at takes
+back w width z n state at head tail o takes assigns in_range fore =
+    let v = state_in z state in
+    let range = in_range.range in
+    let i : Instr = decode w head tail in
+    let x = other_word v i in
+    let a = operand_word v i in
+    let known : Before w z n state = record { width = width; assigns = assigns; short = in_range.short; range = range } in
+    let size = state_sixteen w z n state range in
+    let ins = instruction w n state at in
+    let row_op = ins.answer.op in
+    let regs = triple w n state at in
+    let taken = operand w n state at in
+    let f = slice_index z taken.next in
+    let arith_made = made w n state at in
+    let low = slice_index z arith_made.answer.row.low in
+    let high = slice_index z arith_made.answer.row.high in
+    let decomposed = decomposed_word w i.op x a in
+    let t = tapes w n state at in
+    let h5 = some_had z arith_made.next t.next (tapes_values w n v i low takes) (effects_values w (input_of n v i low) high takes f)
+    (tapes_sizes.fills w n state row_op taken.answer v i low takes arith_made.next) fore.rest in
+    let m5 = tapes_filled w width z arith_made.next n state row_op taken.answer v i low takes
+    (has_tapes known head tail fore.row fore.is) in_range.asked h5.0 in
+    let b = took z t.answer in
+    let are_tapes = tapes_in known head tail fore.row fore.is arith_made.next m5.0 in
+    let rest : HasFrom z t.next (effects_values w (input_of n v i low) high b f) =
+    subst (λ k. HasFrom z t.next (effects_values w (input_of n v i low) high k f)) (sym m5.1) h5.1 in
+    let tests : f ≡ test_in w (input_of n v i low) high b = fore.tests ∙ ap (λ k. test_in w (input_of n v i low) high k) (sym m5.1) in
+    let finds = found w n v i low b in
+    let result = result_number w i.op a low high finds in
+    let y = tested_in w (input_of n v i low) high b in
+    let r6 : List ℕ = pc_values w v i in
+    let r5 : List ℕ = flag_values w (input_of n v i low) b f ++ r6 in
+    let r4 : List ℕ = written_values w n v i low b ++ r5 in
+    let r3 : List ℕ = zero_sign_values y (sign_at i.op) ++ r4 in
+    let r2 : List ℕ = results_values w i.op a low high finds ++ r3 in
+    let d = data_of arith_made.answer regs.answer.other_word in
+    let mem = memory w n state at in
+    let h6 = some_had z t.next mem.next (memory_values w (input_of n v i low) decomposed) r2
+    (memory_sizes.fills w width n state row_op taken.answer d t.answer v i decomposed low t.next) rest in
+    let m6 = memory_complete w width z t.next n state row_op taken.answer d t.answer v i decomposed low
+    (has_memory known head tail fore.row fore.is fore.does are_tapes decomposed regs.answer.other_word fore.decomposed
+    (λ e. ap (λ k. decomposed_word w k x a) e) fore.are.other) h6.0 in
+    let stored = memory_in known head tail fore.row fore.is fore.does are_tapes t.next regs.answer.other_word fore.are.other m6 in
+    let from = sources_of w arith_made.answer mem.answer.byte in
+    let res = results w n state at in
+    let h7 = some_had z mem.next res.next (results_values w i.op a low high finds) r3
+    (results_sizes.fills w state row_op taken.answer from t.answer i.op a low high finds mem.next) h6.1 in
+    let m7 = results_complete w width z mem.next n state row_op taken.answer from t.answer v i low high
+    (has_sources known head tail fore.row fore.is fore.does are_tapes mem.answer.byte stored.byte) h7.0 in
+    let are_results = results_in known head tail fore.row fore.is fore.does are_tapes mem.next mem.answer.byte stored.byte m7 in
+    let places = results_sizes.answer w state row_op taken.answer from t.answer mem.next in
+    let tested_at : slice_index z res.answer.tested ≡ y =
+    ap (λ (r : ResultWires). slice_index z r.tested) places ∙ ap (slice_index z) (fourth mem.next) ∙ h7.0.1.1.1.1.0 in
+    let sign_is = sign_value z row_op i.op fore.row in
+    let test_at : f ≡ sign_at_zero (slice_index z res.answer.tested) (value (sign_of row_op) z) = tests ∙ ap₂ sign_at_zero (sym tested_at) (sym sign_is) in
+    let zeros = zero w n state at in
+    let h8 = some_had z res.next zeros.next (zero_sign_values y (sign_at i.op)) r4
+    (zero_sign_sizes.fills res.answer.tested taken.next (sign_of row_op) y (sign_at i.op) res.next) h7.1 in
+    let had8 : HasFrom z res.next (zero_sign_values (slice_index z res.answer.tested) (value (sign_of row_op) z)) =
+    subst (λ k. HasFrom z res.next (zero_sign_values k (value (sign_of row_op) z))) (sym tested_at)
+    (subst (λ k. HasFrom z res.next (zero_sign_values y k)) (sym sign_is) h8.0) in
+    let m8 = zero_sign_complete z res.next res.answer.tested taken.next (sign_of row_op) assigns test_at had8 in
+    let wrote = written w n state at in
+    let h9 = some_had z zeros.next wrote.next (written_values w n v i low b) r5
+    (written_sizes.fills row_op state regs.answer res.answer.word w n v i low b range.registers zeros.next) h8.1 in
+    let m9 = written_complete w z zeros.next n state row_op regs.answer res.answer.word v i low b
+    (has_written known head tail fore.row fore.is fore.does are_tapes fore.are are_results) h9.0 in
+    let flags = flag w n state at in
+    let h10 = some_had z wrote.next flags.next (flag_values w (input_of n v i low) b f) r6
+    (flag_sizes.fills w state row_op arith_made.answer.x taken.next t.answer n v i low b f wrote.next) h9.1 in
+    let word_at = slice_index z res.answer.word in
+    let zero_at = slice_index z res.answer.tested in
+    let tested_is = tests ∙ ap (λ k. sign_at_zero k (sign_at i.op)) (sym tested_at) in
+    let m10 = flag_complete w width z wrote.next n state row_op arith_made.answer.x taken.next t.answer v i low high word_at zero_at low
+    (has_flag known head tail fore.row fore.is fore.does are_tapes res.answer are_results tested_is) h10.0 in
+    let m11 = pc_complete w width z flags.next state row_op taken.answer v i (has_pc known head tail fore.row fore.is) h10.1 in
+    record { met5 = m5.0; met6 = m6; met7 = m7; met8 = m8; met9 = m9; met10 = m10; met11 = m11; takes_is = m5.1 }
+  where
+    fourth : (k : ℕ) → k + 4 ≡ k + 1 + 1 + 1 + 1
+    fourth k = omega arith
+
+-- what it works out, and what it does
+computed_met : (w n : ℕ) (z : List ℕ) (state : StateWires) (at head tail o : ℕ) (takes : Bool) → Front w z n state at head tail o takes
+    → Meets z (computed_of w state at).list
+unfolding computed_of fresh pure ◌>>=◌
+computed_met w n z state at head tail o takes fore =
+    Meets-join z (instruction w n state at).list _ fore.met1 (Meets-join z (triple w n state at).list _ fore.met2
+    (Meets-join z (operand w n state at).list _ fore.met3 (Meets-join z (made w n state at).list [] fore.met4 tt)))
+
+effects_met : (w n : ℕ) (z : List ℕ) (state : StateWires) (at : ℕ) (takes : Bool) → Back w z n state at takes
+    → Meets z (effects_of w n state (computed_of w state at).answer (computed_of w state at).next).list
+unfolding computed_of effects_of fresh pure ◌>>=◌
+effects_met w n z state at takes aft =
+    Meets-join z (tapes w n state at).list _ aft.met5 (Meets-join z (memory w n state at).list _ aft.met6
+    (Meets-join z (results w n state at).list _ aft.met7 (Meets-join z (zero w n state at).list _ aft.met8
+    (Meets-join z (written w n state at).list _ aft.met9 (Meets-join z (flag w n state at).list _ aft.met10
+    (Meets-join z (pc w n state at).list [] aft.met11 tt))))))
+
+step_met : (w n time : ℕ) (z : List ℕ) (state : StateWires) (at : ℕ) → Meets z (computed_of w state at).list
+    → Meets z (effects_of w n state (computed_of w state at).answer (computed_of w state at).next).list → Meets z (block_of w n state time at).list
+unfolding block_of pure ◌>>=◌
+step_met w n time z state at fore aft =
+    Meets-join z (computed_of w state at).list _ fore
+    (Meets-join z (effects_of w n state (computed_of w state at).answer (computed_of w state at).next).list [] aft tt)
+
+pub block_complete : BlockIsComplete
+block_complete w width z n state time next head tail o takes early assigns is has =
+    let fore = front w width z n state next head tail o takes assigns is has in
+    let aft = back w width z n state next head tail o takes assigns is fore in
+    let met =
+    step_met w n time z state next (computed_met w n z state next head tail o takes fore) (effects_met w n z state next takes aft) in
+    let step = step_in w width z n state time next is.short early assigns is.range met in
+    let low = row_low w (state_in z state) (decode w head tail) o in
+    record {
+      met = met;
+      shows = shown w z n state time next head tail low takes step assigns fore.decoded.head fore.decoded.tail fore.low aft.takes_is;
     }

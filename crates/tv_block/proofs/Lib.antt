@@ -1,7 +1,5 @@
 pub mod BlockChain
-pub mod BlockFills
 pub mod BlockLaws
-pub mod CountLaws
 mod FilledValues
 pub mod Growing
 pub mod MachineFills

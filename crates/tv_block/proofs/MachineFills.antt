@@ -25,7 +25,7 @@ use Rattle.tv_step.specs.Trace.{data_line as traced_line}
 use Rattle.tv_arithmetic.specs.Arithmetic.{low_number}
 use Rattle.tv_inputs.specs.States.{state_in}
 use Rattle.tv_inputs.specs.declared.records.StateWires.{StateWires}
-use Rattle.tv_block.proofs.BlockFills.{block_complete}
+use Rattle.tv_block.proofs.BlockLaws.{block_complete}
 use Rattle.tv_block.proofs.PartLaws.{among_each}
 use Rattle.tv_block.proofs.SizeFills.{block_sizes}
 use Rattle.tv_block.specs.Complete.{MachineStepIsMet, MachineValuesFit}

@@ -6,7 +6,7 @@ use Rattle.tv_benes.proofs.Most.{switches_most, network_few}
 use Rattle.tv_benes.specs.Through.{switches}
 use Rattle.tv_benes.specs.declared.shape.Net.{Net}
 use Rattle.tv_benes.specs.declared.shape.Net.TheVariants.{Benes, Waksman}
-use Rattle.tv_block.proofs.CountLaws.{block_counted}
+use Rattle.tv_block.proofs.BlockChain.{block_counted}
 use Rattle.tv_block.specs.Complete.{block_made, block_added}
 use Rattle.tv_argument.proofs.CheckCosts.{checks_cheap}
 use Rattle.tv_argument.specs.Checks.{AreShort, Checks}

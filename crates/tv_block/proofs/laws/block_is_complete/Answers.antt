@@ -1,4 +1,4 @@
-use Rattle.tv_block.proofs.BlockFills.{block_complete}
+use Rattle.tv_block.proofs.BlockLaws.{block_complete}
 use Rattle.tv_block.proofs.MachineFills.{machine_step_met}
 use Rattle.tv_block.proofs.laws.block_is_complete.Goals as goal
 

@@ -1,4 +1,4 @@
-use Rattle.tv_block.proofs.CountLaws.{block_counted}
+use Rattle.tv_block.proofs.BlockChain.{block_counted}
 use Rattle.tv_block.proofs.laws.block_is_counted.Goals as goal
 
 pub returns : goal.returns
