@@ -75,13 +75,10 @@ pub(crate) fn run_of(
     ensures run { IfOk result (λ run. kept_run net n.now t.now (kept_in assigned.now) ≡ Ok run) }
     ensures fault { IfErr result (IsFaultOf (kept_run net n.now t.now (kept_in assigned.now))) }
 {
-    let has = assigned.first.count;
-    let wants = wires_of(&assigned.program, n, t, net);
+    let has = u64::from(assigned.first.count);
+    let wants = u64::from(wires_of(&assigned.program, n, t, net));
     if has != wants {
-        return Err(ExtractFault::NoRun(NotRun::WireCount {
-            has: u64::from(has),
-            wants: u64::from(wants),
-        }));
+        return Err(ExtractFault::NoRun(NotRun::WireCount { has, wants }));
     }
     let image = assigned.program.words.as_slice();
     let values = assigned.first.values.as_slice();

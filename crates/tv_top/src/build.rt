@@ -9,18 +9,16 @@ ghost use Rattle.tv_plan.specs.Plan.{named, one_write};
 ghost use Rattle.tv_plan.specs.Programs.{HasImage};
 ghost use Rattle.tv_top.specs.Build.{program_system, build_asks, build_form};
 
-use crate::network::net_word;
+use crate::words::{granted, net_word, number};
 use std::alloc::Global;
 use tv_benes::Net;
 use tv_core::Put;
 use tv_files::Files;
 use tv_layout::{emit_system, sizes};
 use tv_plan::{
-    Finish, Job, Place, Program, Refusal, Steps, Stop, TapeWords, What, Width, keep_apart,
-    read_program, streamed,
+    Finish, Job, Place, Program, Refusal, Steps, Stop, TapeWords, Width, read_program, streamed,
 };
 use tv_r1cs_write::StreamSink;
-use tv_word::decimal_of;
 
 /// The words of `build`.
 #[derive(Drop)]
@@ -43,15 +41,15 @@ impl<'a> Job<'a> for BuildArgs<'a> {
         let [text, n, t, system, last @ ..] = words else {
             return Err(Refusal::Usage);
         };
-        let net = net_word(last).ok_or(Refusal::Usage)?;
-        let n = decimal_of(n.as_bytes()).ok_or(Refusal::Usage)?;
-        let t = decimal_of(t.as_bytes()).ok_or(Refusal::Usage)?;
+        let (Some(net), Some(n), Some(t)) = (net_word(last), number(n), number(t)) else {
+            return Err(Refusal::Usage);
+        };
         let (text, system) = (Place::at(1, text.as_str()), Place::at(4, system.as_str()));
-        keep_apart(&[text], &[system])?;
+        let (n, t) = granted(&[text], &[system], n, t)?;
         Ok(BuildArgs {
             text,
-            n: TapeWords::of(What::TapeWords, n)?,
-            t: Steps::of(What::Steps, t)?,
+            n,
+            t,
             system,
             net,
         })

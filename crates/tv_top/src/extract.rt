@@ -6,15 +6,14 @@ ghost use Rattle.tv_plan.specs.Plan.{named};
 ghost use Rattle.tv_top.specs.Extract.{run_written, extract_asks, extract_form};
 
 use crate::assignment::{not_run, read_assigned, run_of};
-use crate::network::net_word;
+use crate::words::{granted, net_word, number};
 use std::alloc::Global;
 use tv_benes::Net;
 use tv_extract::Run;
 use tv_files::Files;
-use tv_plan::{Finish, Job, Place, Refusal, Steps, Stop, TapeWords, What, keep_apart, write_bytes};
+use tv_plan::{Finish, Job, Place, Refusal, Steps, Stop, TapeWords, write_bytes};
 use tv_step::End;
 use tv_tape::tape_text;
-use tv_word::decimal_of;
 
 /// The words of `extract`.
 #[derive(Drop)]
@@ -39,16 +38,16 @@ impl<'a> Job<'a> for ExtractArgs<'a> {
         let [text, n, t, witness, tape, aux, last @ ..] = words else {
             return Err(Refusal::Usage);
         };
-        let net = net_word(last).ok_or(Refusal::Usage)?;
-        let n = decimal_of(n.as_bytes()).ok_or(Refusal::Usage)?;
-        let t = decimal_of(t.as_bytes()).ok_or(Refusal::Usage)?;
+        let (Some(net), Some(n), Some(t)) = (net_word(last), number(n), number(t)) else {
+            return Err(Refusal::Usage);
+        };
         let (text, witness) = (Place::at(1, text.as_str()), Place::at(4, witness.as_str()));
         let (tape, aux) = (Place::at(5, tape.as_str()), Place::at(6, aux.as_str()));
-        keep_apart(&[text, witness], &[tape, aux])?;
+        let (n, t) = granted(&[text, witness], &[tape, aux], n, t)?;
         Ok(ExtractArgs {
             text,
-            n: TapeWords::of(What::TapeWords, n)?,
-            t: Steps::of(What::Steps, t)?,
+            n,
+            t,
             witness,
             tape,
             aux,
@@ -82,8 +81,6 @@ fn write_run<D: Files>(
     let aux = tape_text(alloc, run.aux.as_slice())?;
     write_bytes(files, args.tape, &tape)?;
     write_bytes(files, args.aux, &aux)?;
-    Ok(Finish::Run(End::Answer {
-        value: run.answer,
-        step: run.step,
-    }))
+    let (value, step) = (run.answer, run.step);
+    Ok(Finish::Run(End::Answer { value, step }))
 }

@@ -8,10 +8,10 @@ mod commands;
 mod extract;
 mod laws;
 mod listing;
-mod network;
 mod shrink;
 mod trial;
 mod witness;
+mod words;
 
 pub use commands::command;
 pub use laws::{limits_are_these, tapes_come_back};

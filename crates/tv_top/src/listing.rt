@@ -9,15 +9,13 @@ ghost use Rattle.tv_top.specs.Listing.{assigned_text, by_word, lines_written};
 ghost use Rattle.tv_top.specs.Listing.{listing_asks, listing_form};
 
 use crate::assignment::{Assignment, not_run, read_assigned, run_of};
+use crate::words::{granted, number};
 use std::alloc::{AllocError, Global};
 use tv_benes::Net;
 use tv_extract::Run;
 use tv_files::Files;
 use tv_listing::{By, listing};
-use tv_plan::{
-    Finish, Job, Place, Refusal, Steps, Stop, TapeWords, What, Width, keep_apart, write_bytes,
-};
-use tv_word::decimal_of;
+use tv_plan::{Finish, Job, Place, Refusal, Steps, Stop, TapeWords, Width, write_bytes};
 
 /// The words of `listing`.
 #[derive(Drop)]
@@ -41,16 +39,16 @@ impl<'a> Job<'a> for ListingArgs<'a> {
         let [text, n, t, witness, by, out] = words else {
             return Err(Refusal::Usage);
         };
-        let by = by_word(by.as_str()).ok_or(Refusal::Usage)?;
-        let n = decimal_of(n.as_bytes()).ok_or(Refusal::Usage)?;
-        let t = decimal_of(t.as_bytes()).ok_or(Refusal::Usage)?;
+        let (Some(by), Some(n), Some(t)) = (by_word(by.as_str()), number(n), number(t)) else {
+            return Err(Refusal::Usage);
+        };
         let (text, witness) = (Place::at(1, text.as_str()), Place::at(4, witness.as_str()));
         let out = Place::at(6, out.as_str());
-        keep_apart(&[text, witness], &[out])?;
+        let (n, t) = granted(&[text, witness], &[out], n, t)?;
         Ok(ListingArgs {
             text,
-            n: TapeWords::of(What::TapeWords, n)?,
-            t: Steps::of(What::Steps, t)?,
+            n,
+            t,
             witness,
             by,
             out,

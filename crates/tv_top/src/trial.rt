@@ -9,6 +9,7 @@ ghost use Rattle.tv_step.specs.Machine.{Accepts};
 ghost use Rattle.tv_step.specs.Range.{AreWords};
 ghost use Rattle.tv_top.specs.Trial.{tested, trial_of, trial_asks, trial_form};
 
+use crate::words::number;
 use std::alloc::{AllocError, Global};
 use tv_benes::Net;
 use tv_core::{F, ListValues, TestSink};
@@ -17,7 +18,6 @@ use tv_files::Files;
 use tv_fill::{FillFault, fill_system};
 use tv_layout::{emit_system, public_wires, sizes};
 use tv_plan::{Draws, Finish, Job, Refusal, Stop, Trial, What};
-use tv_word::decimal_of;
 
 /// The words of `trial`.
 #[derive(Drop)]
@@ -36,8 +36,9 @@ impl<'a> Job<'a> for TrialArgs {
         let [seed, k] = words else {
             return Err(Refusal::Usage);
         };
-        let seed = decimal_of(seed.as_bytes()).ok_or(Refusal::Usage)?;
-        let k = decimal_of(k.as_bytes()).ok_or(Refusal::Usage)?;
+        let (Some(seed), Some(k)) = (number(seed), number(k)) else {
+            return Err(Refusal::Usage);
+        };
         Ok(TrialArgs {
             seed,
             k: Draws::of(What::Draws, k)?,

@@ -8,7 +8,7 @@ ghost use Rattle.tv_plan.specs.Plan.{named, one_write};
 ghost use Rattle.tv_plan.specs.Programs.{bits};
 ghost use Rattle.tv_top.specs.Witness.{witness_ends, witness_asks, witness_form};
 
-use crate::network::net_word;
+use crate::words::{net_word, number};
 use std::alloc::Global;
 use tv_benes::Net;
 use tv_core::Put;
@@ -19,7 +19,6 @@ use tv_plan::{
     streamed,
 };
 use tv_step::TraceFault;
-use tv_word::decimal_of;
 use tv_wtns::FileValues;
 
 /// The words of `witness`.
@@ -43,8 +42,9 @@ impl<'a> Job<'a> for WitnessArgs<'a> {
         let [text, tape, aux, t, witness, last @ ..] = words else {
             return Err(Refusal::Usage);
         };
-        let net = net_word(last).ok_or(Refusal::Usage)?;
-        let t = decimal_of(t.as_bytes()).ok_or(Refusal::Usage)?;
+        let (Some(net), Some(t)) = (net_word(last), number(t)) else {
+            return Err(Refusal::Usage);
+        };
         let (text, tape) = (Place::at(1, text.as_str()), Place::at(2, tape.as_str()));
         let (aux, witness) = (Place::at(3, aux.as_str()), Place::at(5, witness.as_str()));
         keep_apart(&[text, tape, aux], &[witness])?;
