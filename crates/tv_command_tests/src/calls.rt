@@ -12,11 +12,8 @@ pub(crate) const BEFORE: &[u8] = b"before";
 pub(crate) const WRITTEN: [&str; 6] = ["out", "system", "witness", "tape.out", "aux.out", "lines"];
 
 /// Makes each name stand for its contents.
-pub(crate) fn set_all(
-    files: &mut MemFiles,
-    contents: &[(&str, &[u8]); 3],
-) -> Result<(), AllocError> {
-    for (name, bytes) in contents {
+pub(crate) fn set_all(files: &mut MemFiles, all: &[(&str, &[u8]); 3]) -> Result<(), AllocError> {
+    for (name, bytes) in all {
         files.set(name, bytes)?;
     }
     Ok(())
@@ -26,14 +23,8 @@ pub(crate) fn set_all(
 /// written.
 pub(crate) fn files_of<'x>(alloc: Global, text: &'x str, aux: &'x str) -> Result<MemFiles, Fail> {
     let mut files = MemFiles::new(alloc);
-    set_all(
-        &mut files,
-        &[
-            ("text", text.as_bytes()),
-            ("tape", b""),
-            ("aux", aux.as_bytes()),
-        ],
-    )?;
+    let (text, aux) = (text.as_bytes(), aux.as_bytes());
+    set_all(&mut files, &[("text", text), ("tape", b""), ("aux", aux)])?;
     for name in WRITTEN {
         files.set(name, BEFORE)?;
     }

@@ -2,7 +2,6 @@
 
 use crate::calls::{BEFORE, WRITTEN, call, files_of, set_all};
 use std::alloc::Global;
-use std::process::Abort;
 use std::test::*;
 use tv_files::MemFiles;
 use tv_top::Status;
@@ -55,16 +54,10 @@ fn are_kept(files: &MemFiles, whole: &MemFiles) -> bool {
     true
 }
 
-// Sees that the call with this number fails and is the last, and that then each name that is
-// written holds what it held before or a prefix of what these words leave where no call fails; and
-// returns the word of the fault.
-fn fails(
-    rt: &impl Abort,
-    alloc: Global,
-    whole: &MemFiles,
-    words: &str,
-    number: u64,
-) -> Result<u64, Fail> {
+// The word of the fault where the call with this number fails; `None` unless that call is the last,
+// and each name that is written then holds what it held before or a prefix of what these words
+// leave where no call fails.
+fn fails(alloc: Global, whole: &MemFiles, words: &str, number: u64) -> Result<Option<u64>, Fail> {
     let mut files = files(alloc, whole)?;
     files.fail_at(number)?;
     let Status::FileFault { word } = call(alloc, &mut files, words)? else {
@@ -77,29 +70,23 @@ fn fails(
         let begins = whole.bytes_of(name).unwrap_or(&[]).starts_with(held);
         left = left && (held == BEFORE || begins);
     }
-    assert!(rt; left && files.calls() == number, "{words}: {number}");
-    Ok(word)
+    Ok((left && files.calls() == number).then_some(word))
 }
 
-// Sees that each call in turn fails for these words, and that these words are reported.
-fn all_fail(
-    rt: &impl Abort,
-    alloc: Global,
-    made: &MemFiles,
-    words: &str,
-    faults: &[u64],
-) -> Result<(), Fail> {
+// Whether each call in turn fails for these words, and these words are reported.
+fn all_fail(alloc: Global, made: &MemFiles, words: &str, faults: &[u64]) -> Result<bool, Fail> {
     let mut whole = files(alloc, made)?;
-    assert!(rt; call(alloc, &mut whole, words)?.code() == 0, "{words}");
+    let succeeds = call(alloc, &mut whole, words)?.code() == 0;
     let mut reported: Vec<u64> = Vec::new(alloc);
     for done in 0..whole.calls() {
-        let word = fails(rt, alloc, &whole, words, done + 1)?;
+        let Some(word) = fails(alloc, &whole, words, done + 1)? else {
+            return Ok(false);
+        };
         if reported.last() != Some(&word) {
             reported.push(word)?;
         }
     }
-    assert!(rt; reported.as_slice() == faults, "{words}");
-    Ok(())
+    Ok(succeeds && reported.as_slice() == faults)
 }
 
 // The values of a run, and the system and values of `answer 0`.
@@ -117,7 +104,7 @@ fn each_call_fails(rt: HostRuntime) -> Result<(), Fail> {
         assert!(rt; call(alloc, &mut made, words)?.code() == 0, "{words}");
     }
     for (words, faults) in CALLS {
-        all_fail(&rt, alloc, &made, words, faults)?;
+        assert!(rt; all_fail(alloc, &made, words, faults)?, "{words}");
     }
     Ok(())
 }
