@@ -1,4 +1,5 @@
-//! Values of which one is altered, and a system of which a line is: a constraint fails.
+//! Values of which one is altered, and a system of which a line is: a constraint fails; and the run
+//! that values have.
 ghost use Rattle.std.specs.Prelude.{◌≤◌, length};
 ghost use Rattle.tv_step.specs.Range.{AreWords};
 
@@ -6,8 +7,9 @@ use std::alloc::Global;
 use std::test::Fail;
 use tv_benes::Net;
 use tv_core::{F, ListValues, Put, TestSink};
+use tv_extract::extract;
 use tv_fill::fill_system;
-use tv_layout::emit_system;
+use tv_layout::{emit_system, wires};
 
 // `answer 0`, and `answer 1`.
 const IMAGE: [u32; 2] = [0xfc00_0000, 0];
@@ -65,10 +67,8 @@ fn failed_with(alloc: Global, z: &[F], wire: usize) -> Result<Option<u32>, Fail>
 fn an_altered_wire_fails_its_constraint(rt: HostRuntime) -> Result<(), Fail> {
     let z = values_of_run(rt.alloc())?;
     for (name, wire, failed) in &ALTERED {
-        assert!(rt;
-            failed_with(rt.alloc(), &z, *wire)? == Some(*failed),
-            "{name}"
-        );
+        let found = failed_with(rt.alloc(), &z, *wire)?;
+        assert!(rt; found == Some(*failed), "{name}");
     }
     Ok(())
 }
@@ -81,5 +81,22 @@ fn a_dishonest_line_fails(rt: HostRuntime) -> Result<(), Fail> {
     let own = first_failed(&IMAGE, &z)?;
     let failed = first_failed(&OTHER, &z)?.unwrap_or(0);
     assert!(rt; own.is_none() && 379 <= failed && failed < 384, "{failed}");
+    Ok(())
+}
+
+// Zeros, as many as the system of one step on a tape of one word has wires, and 5 as that word.
+fn zeros(alloc: Global) -> Result<Vec<F>, Fail> {
+    let wires = wires::<32>(&IMAGE, 1, 1, Net::Benes) as usize;
+    let mut values = vec![in alloc; F::ZERO; wires]?;
+    values[2] = F::of(5);
+    Ok(values)
+}
+
+#[test]
+fn a_run_is_extracted(rt: HostRuntime) -> Result<(), Fail> {
+    let alloc = rt.alloc();
+    let run = extract::<32>(alloc, &IMAGE, 1, 1, Net::Benes, &zeros(alloc)?)?;
+    let tapes = run.tape.as_slice() == [5].as_slice() && run.aux.as_slice().is_empty();
+    assert!(rt; tapes && (run.answer, run.step) == (0, 1));
     Ok(())
 }

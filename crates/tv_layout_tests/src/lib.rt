@@ -8,8 +8,6 @@
 mod alterations;
 pub mod examples;
 #[cfg(test)]
-mod extraction;
-#[cfg(test)]
 mod lines;
 #[cfg(test)]
 mod values;

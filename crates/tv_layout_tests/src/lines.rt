@@ -7,18 +7,6 @@ use tv_layout::line;
 
 const IMAGE: [u32; 2] = [0xfc00_0000, 0];
 
-// Whether a line is one of padding: of the null cell, at its own time, and writing nothing.
-fn is_padding(made: &LineLc, i: u32) -> bool {
-    is_constant(&made.cell, NULL_CELL)
-        && is_constant(&made.time, i)
-        && made.old.terms().is_empty()
-        && made.new.terms().is_empty()
-}
-
-fn is_constant(lc: &Lc, number: u32) -> bool {
-    lc.terms() == [(F::from(number), Wire(0))].as_slice()
-}
-
 // Line i of the 16 of two steps on a tape of one word. The tape's word is wire 2, its bits are 3 to
 // 34, and the first state's wires 35 to 54. A step has 311 wires: the first from 55 on, the second
 // from 366 on. The words of an instruction are the last of its 90 wires, and the program counter of
@@ -37,8 +25,9 @@ const QUARTER: u64 = 13_835_058_052_060_938_241;
 type Terms = &'static [(u64, u32)];
 
 // A line's place, which is its time, and the terms of its cell, its old and its new word. Those of
-// the image and of the tape stand first. A step has three.
-static LINES: [(u32, Terms, Terms, Terms); 8] = [
+// the image and of the tape stand first. A step has three. The lines from 9 on are padding: of the
+// null cell, and writing nothing.
+static LINES: [(u32, Terms, Terms, Terms); 10] = [
     (0, &[(0, 0)], &[], &[(0xfc00_0000, 0)]),
     (1, &[(1, 0)], &[], &[(0, 0)]),
     (2, &[(TAPE_CELLS as u64, 0)], &[], &[(1, 2)]),
@@ -47,6 +36,8 @@ static LINES: [(u32, Terms, Terms, Terms); 8] = [
     (5, &[(1, 328)], &[(1, 329)], &[(1, 335)]),
     (6, &[(QUARTER, 365)], &[(1, 454)], &[(1, 454)]),
     (8, &[(1, 639)], &[(1, 640)], &[(1, 646)]),
+    (9, &[(NULL_CELL as u64, 0)], &[], &[]),
+    (15, &[(NULL_CELL as u64, 0)], &[], &[]),
 ];
 
 fn has_terms(lc: &Lc, terms: &[(u64, u32)]) -> bool {
@@ -63,15 +54,7 @@ fn lines_stand_at_their_places(rt: HostRuntime) {
     for (i, cell, old, new) in &LINES {
         let made = line_at(*i % 16);
         let words = has_terms(&made.old, old) && has_terms(&made.new, new);
-        assert!(rt;
-            words && has_terms(&made.cell, cell) && is_constant(&made.time, *i),
-            "{i}"
-        );
+        let place = has_terms(&made.cell, cell) && has_terms(&made.time, &[(u64::from(*i), 0)]);
+        assert!(rt; words && place, "{i}");
     }
-}
-
-#[test]
-fn padding_stands_last(rt: HostRuntime) {
-    let first = is_padding(&line_at(9), 9) && !is_padding(&line_at(8), 8);
-    assert!(rt; first && is_padding(&line_at(15), 15));
 }
