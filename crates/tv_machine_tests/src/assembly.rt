@@ -136,11 +136,6 @@ fn texts_have_their_images(rt: HostRuntime) -> Result<(), Fail> {
         let is_so = has_image::<32>(rt.alloc(), text.as_bytes(), MOST, words)?;
         assert!(rt; is_so, "{text}");
     }
-    Ok(())
-}
-
-#[test]
-fn texts_of_16_bits_have_their_images(rt: HostRuntime) -> Result<(), Fail> {
     for (text, words) in &IMAGES_16 {
         let is_so = has_image::<16>(rt.alloc(), text.as_bytes(), MOST, words)?;
         assert!(rt; is_so, "{text}");
@@ -148,23 +143,13 @@ fn texts_of_16_bits_have_their_images(rt: HostRuntime) -> Result<(), Fail> {
     Ok(())
 }
 
-// A text that jumps to its end as often as this, and the image that it has.
-fn jumps(alloc: Global, many: u32) -> Result<(Vec<u8>, Vec<u32>), Fail> {
-    let mut text = Vec::from_slice(alloc, b"; TinyRAM W=16\n")?;
-    let mut words = Vec::new(alloc);
-    for _ in 0..many {
-        text.extend_from_slice(b"jmp _end\n")?;
-        words.extend_from_slice(&[0xa400, 0])?;
-    }
-    text.extend_from_slice(b"_end:")?;
-    Ok((text, words))
-}
-
 // The instructions fill the memory, so the address after them is 0 again.
 #[test]
 fn a_label_behind_all_instructions_is_0(rt: HostRuntime) -> Result<(), Fail> {
-    let (text, words) = jumps(rt.alloc(), 16_384)?;
-    assert!(rt; has_image::<16>(rt.alloc(), &text, 32_768, &words)?);
+    let jumps = "jmp _end\n".repeat(rt.alloc(), 16_384)?;
+    let text = format!(in rt.alloc(); "; TinyRAM W=16\n{jumps}_end:")?;
+    let words = [0xa400, 0].repeat(rt.alloc(), 16_384)?;
+    assert!(rt; has_image::<16>(rt.alloc(), text.as_bytes(), 32_768, &words)?);
     Ok(())
 }
 

@@ -1,10 +1,11 @@
-//! Images and their texts, which assemble to them.
+//! Images and their texts, which assemble to them; and the image of a program that is drawn.
 ghost use Rattle.tv_word.specs.Widths.{IsWidth};
 
 use std::alloc::Global;
 use std::test::Fail;
 use tv_asm::{assemble, width};
 use tv_disasm::{DisFault, disassemble};
+use tv_draw::draw;
 
 /// Lines, and the two words that each is the text of.
 static LINES: [(&str, [u32; 2]); 43] = [
@@ -95,11 +96,6 @@ fn two_words_have_their_line_and_it_assembles_to_them(rt: HostRuntime) -> Result
     for (line, words) in &LINES {
         assert!(rt; has_text::<32>(rt.alloc(), "", line, words)?, "{line}");
     }
-    Ok(())
-}
-
-#[test]
-fn two_words_of_16_bits_do_so_behind_a_header(rt: HostRuntime) -> Result<(), Fail> {
     let header = "; TinyRAM W=16 K=16\n";
     for (line, words) in &LINES_16 {
         assert!(rt; has_text::<16>(rt.alloc(), header, line, words)?, "{line}");
@@ -109,9 +105,21 @@ fn two_words_of_16_bits_do_so_behind_a_header(rt: HostRuntime) -> Result<(), Fai
 
 #[test]
 fn bytes_that_are_no_instructions_are_refused(rt: HostRuntime) {
-    let wide = disassemble::<32>(rt.alloc(), &[0; 12]).err();
-    let narrow = disassemble::<16>(rt.alloc(), &[0; 6]).err();
+    let wide = disassemble::<32>(rt.alloc(), &[0; 12]);
+    let narrow = disassemble::<16>(rt.alloc(), &[0; 6]);
+    assert!(rt; matches!(wide, Err(DisFault::Ragged { len: 12 })));
+    assert!(rt; matches!(narrow, Err(DisFault::Ragged { len: 6 })));
+}
+
+// SplitMix64 returns e220a8397b1dcdaf first for the seed 0: `umod r6, r14, 3793791033`.
+#[test]
+fn the_first_instruction_of_seed_0_is_a_remainder(rt: HostRuntime) -> Result<(), Fail> {
+    let drawn = draw(rt.alloc(), 0, 1)?;
+    let image = [0x55b8_0000, 0xe220_a839, 0xfc00_0000, 0];
     assert!(rt;
-        wide == Some(DisFault::Ragged { len: 12 }) && narrow == Some(DisFault::Ragged { len: 6 })
+        drawn.image.as_slice() == image.as_slice()
+            && drawn.tape.as_slice() == [0xa1b9_65f4, 0x8009_454f].as_slice()
+            && drawn.aux.as_slice().len() == 8
     );
+    Ok(())
 }

@@ -8,13 +8,7 @@
 mod assembly;
 #[cfg(test)]
 mod disassembly;
-#[cfg(test)]
-mod draws;
 pub mod examples;
-#[cfg(test)]
-mod field;
-#[cfg(test)]
-mod memory;
 #[cfg(test)]
 mod runs;
 #[cfg(test)]
@@ -23,5 +17,3 @@ mod sinks;
 mod steps;
 #[cfg(test)]
 mod tapes;
-#[cfg(test)]
-mod words;

@@ -1,7 +1,8 @@
-//! One product, wire 1 times wire 2 is wire 3, over numbers and into a list.
+//! Inverses in the field, with values computed elsewhere; and one product, wire 1 times wire 2 is
+//! wire 3, over numbers and into a list.
 
 use std::test::Fail;
-use tv_core::{F, Lc, ListSink, ListValues, Put, Sink, TestSink, Values, Wire};
+use tv_core::{F, Lc, ListSink, ListValues, P, Put, Sink, TestSink, Values, Wire};
 
 // How many products a sink has tested, how many of them hold, the first that fails, and the sum of
 // the products, where wire 3 has this number.
@@ -42,4 +43,20 @@ fn a_list_of_values_keeps_them(rt: HostRuntime) -> Result<(), Fail> {
     values.give(F::of(5))?;
     assert!(rt; values.as_slice() == [F::of(3), F::of(5)].as_slice());
     Ok(())
+}
+
+// Numbers and their inverses.
+static INVERSES: [(u64, u64); 3] = [
+    (2, 9_223_372_034_707_292_161),
+    (7, 2_635_249_152_773_512_046),
+    (P - 1, P - 1),
+];
+
+#[test]
+fn inverts_all_but_zero(rt: HostRuntime) {
+    assert!(rt; F::ZERO.inv().is_none());
+    for (number, inverse) in &INVERSES {
+        let (number, inverse) = (F::of(*number), F::of(*inverse));
+        assert!(rt; number.inv() == Some(inverse) && number * inverse == F::ONE);
+    }
 }
