@@ -2,7 +2,7 @@
 ghost use Rattle.std.specs.Prelude.{◌≤◌};
 ghost use Rattle.tv_core.specs.Sinks.{Room};
 
-use crate::rows::{PREDECESSORS, honest, items, line};
+use crate::rows::{Numbers, PREDECESSORS, honest, items, line_of};
 use crate::wired::{FIRST, Numbered, Wired, wires_of};
 use std::alloc::Global;
 use std::test::Fail;
@@ -88,13 +88,12 @@ fn an_altered_value_fails(rt: HostRuntime) -> Result<(), Fail> {
     Ok(())
 }
 
-// How many constraints are met where the line of a time is that of these numbers, its cell, its
-// time, its old and its new word, by the values for the new order.
-fn held_with(alloc: Global, numbers: &(u32, u32, u32, u32)) -> Result<u32, Fail> {
-    let (cell, time, old, new) = *numbers;
+// How many constraints are met where the line of a time is this one, by the values for the new
+// order.
+fn held_with(alloc: Global, other: Line) -> Result<u32, Fail> {
     let mut lines = honest();
-    if let Some(place) = lines.get_mut(time as usize) {
-        *place = line(cell, time, old, new);
+    if let Some(place) = lines.get_mut(other.time as usize) {
+        *place = other;
     }
     let before = predecessors(alloc, &items(alloc, &lines)?)?;
     let values = assignment(alloc, Net::Benes, &lines, &before)?;
@@ -102,7 +101,7 @@ fn held_with(alloc: Global, numbers: &(u32, u32, u32, u32)) -> Result<u32, Fail>
 }
 
 // The numbers of false lines.
-static DISHONEST: [(u32, u32, u32, u32); 9] = [
+static DISHONEST: [Numbers; 9] = [
     (0, 0, 1, 5),
     (1, 1, 0, 8),
     (0, 2, 0, 5),
@@ -118,7 +117,8 @@ static DISHONEST: [(u32, u32, u32, u32); 9] = [
 #[test]
 fn dishonest_lines_fail(rt: HostRuntime) -> Result<(), Fail> {
     for numbers in &DISHONEST {
-        assert!(rt; held_with(rt.alloc(), numbers)? < 228, "{numbers:?}");
+        let held = held_with(rt.alloc(), line_of(numbers))?;
+        assert!(rt; held < 228, "{numbers:?}");
     }
     Ok(())
 }

@@ -12,31 +12,22 @@ use tv_lines::{
 };
 
 #[test]
-fn a_line_is_packed_by_powers_of_two(rt: HostRuntime) {
+fn a_line_and_its_item_are_packed_by_powers_of_two(rt: HostRuntime) {
     let wires = LineLc {
         cell: Lc::wire(Wire(1)),
         time: Lc::wire(Wire(2)),
         old: Lc::wire(Wire(3)),
         new: Lc::wire(Wire(4)),
     };
-    let packed = PairNum {
-        first: F::of(12_884_901_895),
-        second: F::of(21_474_836_489),
-    };
-    let line = line(3, 5, 7, 9);
-    let is_packed = pack_line(&line) == packed && unpack_line(&packed) == numbers(&line);
+    let (whole, second) = (line(3, 5, 7, 9), F::of(21_474_836_489));
+    let first = F::of(12_884_901_895);
+    let packed = PairNum { first, second };
+    let is_packed = pack_line(&whole) == packed && unpack_line(&packed) == numbers(&whole);
     let z = [1, 3, 5, 7, 9].map(F::of);
     assert!(rt; is_packed && values_in(&pack(&wires), &z) == packed);
-}
-
-#[test]
-fn an_item_is_packed_by_powers_of_two(rt: HostRuntime) {
-    let item = PairNum {
-        first: F::of(12_884_901_888),
-        second: F::of(21_474_836_489),
-    };
-    let is_packed = pack_item(&line(3, 5, 7, 9)) == item;
-    assert!(rt; is_packed && unpack_item(&item) == line(3, 5, 0, 9));
+    let first = F::of(12_884_901_888);
+    let item = PairNum { first, second };
+    assert!(rt; pack_item(&whole) == item && unpack_item(&item) == line(3, 5, 0, 9));
 }
 
 /// The numbers of a pair over values of its wires.
@@ -67,13 +58,10 @@ fn an_item_is_written_in_place(rt: HostRuntime) {
     let packed = values_in(&pair, &z);
     second.item(&mut pair);
     let item = values_in(&pair, &z);
-    let wanted = [
-        25_769_803_785,
-        17_179_869_189,
-        30_064_771_072,
-        21_474_836_487,
-    ];
-    assert!(rt; [packed.first, packed.second, item.first, item.second] == wanted.map(F::of));
+    let (first, second) = (F::of(25_769_803_785), F::of(17_179_869_189));
+    assert!(rt; packed == PairNum { first, second });
+    let (first, second) = (F::of(30_064_771_072), F::of(21_474_836_487));
+    assert!(rt; item == PairNum { first, second });
 }
 
 // A pair at a wire and the one after it.
@@ -95,18 +83,11 @@ fn sorted_values(alloc: Global, before: &Line, after: &Line) -> Put<ListValues>
     requires after_cell { after.now.cell < 2 ^ 31 }
     requires after_time { after.now.time < 2 ^ 20 }
 {
-    let (first, second) = (pack_line(before), pack_line(after));
-    let inputs = [
-        F::ONE,
-        first.first,
-        first.second,
-        second.first,
-        second.second,
-    ];
+    let (a, b) = (pack_line(before), pack_line(after));
     let mut values = ListValues::new(alloc);
-    give_values(&mut values, &inputs)?;
-    fill_unpack(&mut values, &first)?;
-    fill_unpack(&mut values, &second)?;
+    give_values(&mut values, &[F::ONE, a.first, a.second, b.first, b.second])?;
+    fill_unpack(&mut values, &a)?;
+    fill_unpack(&mut values, &b)?;
     fill_first_line(&mut values, &numbers(before))?;
     fill_sorted_pair(&mut values, &numbers(before), &numbers(after))?;
     Ok(values)

@@ -14,8 +14,6 @@ mod networks;
 #[cfg(test)]
 mod outputs;
 #[cfg(test)]
-mod permutations;
-#[cfg(test)]
 mod predecessors;
 #[cfg(test)]
 mod rows;

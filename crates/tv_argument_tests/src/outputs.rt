@@ -1,6 +1,7 @@
 //! Which of four items come out of a network, by its constraints over the values of its generator,
 //! and where they are moved along. Item i is the pair of the numbers i and i + 1,000,000.
-ghost use Rattle.std.specs.Prelude.{◌≡◌, ◌+◌, ◌*◌, ◌^◌, false, IfOk};
+ghost use Rattle.std.specs.Prelude.{◌≡◌, ◌≤◌, ◌+◌, ◌*◌, ◌^◌, false, IfOk};
+ghost use Rattle.tv_benes.specs.Levels.{network_wires};
 ghost use Rattle.tv_benes.specs.Places.{AreBelow, wires_at};
 
 use crate::gadgets::values_in;
@@ -41,10 +42,14 @@ fn items() -> [PairNum; 4] {
     })
 }
 
-// 1 and these numbers.
-fn beginning(alloc: Global) -> Put<ListValues>
-    ensures { IfOk result (λ values. values.broken ≡ false) }
+// 1 and these numbers, for a network that doesn't make too many wires.
+fn beginning(alloc: Global, net: Net) -> Result<ListValues, Fail>
+    ensures whole { IfOk result (λ values. values.broken ≡ false) }
+    ensures few { IfOk result (λ _. network_wires net 1 ≤ 26) }
 {
+    if network_wires(net, 2) > 26 {
+        return Err(Fail::from("too many wires"));
+    }
     let [a, b, c, d] = items();
     let mut values = ListValues::new(alloc);
     give_values(&mut values, &[F::ONE, a.first, a.second, b.first, b.second])?;
@@ -78,36 +83,18 @@ fn come_out(z: &[F], tests: &TestSink<'_>, outputs: &Outputs) -> Result<[u64; 4]
     ])
 }
 
-/// Which item comes out at each place of a network.
-pub fn sent(alloc: Global, net: Net, bits: &[bool]) -> Result<[u64; 4], Fail> {
-    if network_wires(net, 2) > 26 {
-        return Err(Fail::from("too many wires"));
-    }
-    let mut values = beginning(alloc)?;
-    fill_routing_network(&mut values, net, 2, &items(), bits)?;
-    let mut tests = TestSink::over(values.as_slice(), 9);
-    let outputs = routing_network(&mut tests, net, 2, &Four)?;
-    come_out(values.as_slice(), &tests, &outputs)
-}
-
-/// The same by the calls of Benes' network.
+/// Which item comes out at each place of Benes' network.
 pub fn sent_by_benes(alloc: Global, bits: &[bool]) -> Result<[u64; 4], Fail> {
-    if network_wires(Net::Benes, 2) > 26 {
-        return Err(Fail::from("too many wires"));
-    }
-    let mut values = beginning(alloc)?;
+    let mut values = beginning(alloc, Net::Benes)?;
     fill_network(&mut values, 2, &items(), bits)?;
     let mut tests = TestSink::over(values.as_slice(), 9);
     let outputs = network(&mut tests, 2, &Four)?;
     come_out(values.as_slice(), &tests, &outputs)
 }
 
-/// The same by the calls of Waksman's.
+/// The same of Waksman's.
 pub fn sent_by_waksman(alloc: Global, bits: &[bool]) -> Result<[u64; 4], Fail> {
-    if network_wires(Net::Waksman, 2) > 25 {
-        return Err(Fail::from("too many wires"));
-    }
-    let mut values = beginning(alloc)?;
+    let mut values = beginning(alloc, Net::Waksman)?;
     fill_network_w(&mut values, 2, &items(), bits)?;
     let mut tests = TestSink::over(values.as_slice(), 9);
     let outputs = network_w(&mut tests, 2, &Four)?;
@@ -125,14 +112,11 @@ pub fn moved(alloc: Global, net: Net, bits: &[bool]) -> Result<[u64; 4], Fail> {
 /// The first constraint of a network that fails where no bit is set and 1 is added to the value of
 /// one of its wires.
 pub fn first_failed(alloc: Global, net: Net, wire: usize) -> Result<Option<u32>, Fail> {
-    let mut values = beginning(alloc)?;
+    let mut values = beginning(alloc, net)?;
     fill_routing_network(&mut values, net, 2, &items(), &[])?;
     let mut z = values.as_slice().to_vec(alloc)?;
     if let Some(value) = z.get_mut(wire) {
         *value = *value + F::ONE;
-    }
-    if network_wires(net, 2) > 26 {
-        return Err(Fail::from("too many wires"));
     }
     let mut tests = TestSink::over(&z, 9);
     routing_network(&mut tests, net, 2, &Four)?;

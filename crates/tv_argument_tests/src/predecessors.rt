@@ -1,7 +1,7 @@
 //! A line against the item of its predecessor.
 ghost use Rattle.std.specs.Prelude.{◌≤◌};
 
-use crate::rows::line;
+use crate::rows::{Numbers, line_of};
 use std::alloc::Global;
 use std::test::Fail;
 use tv_core::{F, Lc, Line, ListValues, Pair, PairNum, Scratch, TestSink, Wire, give_values};
@@ -35,9 +35,6 @@ fn failing(alloc: Global, bits: u32, before: &Line, after: &Line) -> Result<u32,
     Ok(tests.tested().saturating_sub(tests.held()))
 }
 
-// A line's cell, time, old word and new word.
-type Numbers = (u32, u32, u32, u32);
-
 const LOW: Numbers = (0, 1, 0, 0xffff_ffff);
 
 const HIGH: Numbers = (0x7fff_ffff, 0, 0, 5);
@@ -59,20 +56,11 @@ static PAIRS: [(u32, Numbers, Numbers, bool); 9] = [
     (30, LOW, HIGH, false),
 ];
 
-fn line_of(numbers: &Numbers) -> Line {
-    let (cell, time, old, new) = *numbers;
-    line(cell, time, old, new)
-}
-
 #[test]
 fn lines_at_the_ends_of_the_ranges(rt: HostRuntime) -> Result<(), Fail> {
     for (bits, before, after, holds) in &PAIRS {
-        let failing = failing(
-            rt.alloc(),
-            (*bits).min(31),
-            &line_of(before),
-            &line_of(after),
-        )?;
+        let (first, second) = (line_of(before), line_of(after));
+        let failing = failing(rt.alloc(), (*bits).min(31), &first, &second)?;
         assert!(rt; (failing == 0) == *holds, "{before:?} {after:?}");
     }
     Ok(())

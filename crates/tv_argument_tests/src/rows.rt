@@ -21,6 +21,15 @@ pub fn line(cell: u32, time: u32, old: u32, new: u32) -> Line
     }
 }
 
+/// A line's cell, time, old word and new word.
+pub type Numbers = (u32, u32, u32, u32);
+
+/// The line of these numbers.
+pub fn line_of(numbers: &Numbers) -> Line {
+    let (cell, time, old, new) = *numbers;
+    line(cell, time, old, new)
+}
+
 /// Honest lines in time order: two words of an image, two steps' lines, and padding.
 pub fn honest() -> [Line; 8] {
     [

@@ -25,11 +25,8 @@ fn put<S: Sink>(s: &mut S, lines: &[Line; 4]) -> Put<()>
     requires { Room S.meaning s.old 9 10 }
 {
     let [a, b, c, last] = lines;
-    scan(
-        s,
-        &[constants(a), constants(b), constants(c)],
-        &constants(last),
-    )
+    let earlier = [constants(a), constants(b), constants(c)];
+    scan(s, &earlier, &constants(last))
 }
 
 // Whether the old word of the last line is what the three before it left.
@@ -37,11 +34,8 @@ fn holds(alloc: Global, lines: &[Line; 4]) -> Put<bool> {
     let [a, b, c, last] = lines;
     let mut values = ListValues::new(alloc);
     values.give(F::ONE)?;
-    fill_scan(
-        &mut values,
-        &[numbers(a), numbers(b), numbers(c)],
-        &numbers(last),
-    )?;
+    let earlier = [numbers(a), numbers(b), numbers(c)];
+    fill_scan(&mut values, &earlier, &numbers(last))?;
     let mut tests = TestSink::over(values.as_slice(), 1);
     put(&mut tests, lines)?;
     Ok(tests.held() == 10 && tests.tested() == 10)

@@ -1,6 +1,6 @@
 use Rattle.std.proofs.Common.{rules, ◌≡◌, length, true}
 use Rattle.tv_argument_tests.proofs.Made.{routable}
-use Rattle.tv_argument_tests.proofs.permutations.is_reached.Goals as goal
+use Rattle.tv_argument_tests.proofs.networks.is_reached.Goals as goal
 
 pub routing_settings-requires : goal.routing_settings-requires
 routing_settings-requires c =
