@@ -4,8 +4,6 @@
 #![tactic(auto)]
 
 #[cfg(test)]
-mod assignments;
-#[cfg(test)]
 mod calls;
 #[cfg(test)]
 mod disk;
