@@ -11,7 +11,6 @@ pub mod NetworkLaws
 pub mod NormalLaws
 pub mod Permutations
 pub mod Placed
-pub mod Rooms
 pub mod Sizes
 pub mod Sources
 pub mod SwitchCosts

@@ -3,7 +3,7 @@ use Rattle.std.proofs.Common.{◌≡◌, ℕ, zero, suc, ◌+◌, ◌-◌, ◌*�
 use Rattle.std.specs.Prelude.{IfOk}
 use Rattle.std.proofs.lemmas.Nat.{pow_pos}
 use Rattle.tv_benes.proofs.NetworkLaws.{bound-suc, less_missing, one_wires}
-use Rattle.tv_benes.proofs.Rooms.{both}
+use Rattle.tv_core.proofs.Rooms.{both}
 use Rattle.tv_benes.proofs.Sizes.{HasItems, HasEnds, level_below}
 use Rattle.tv_benes.proofs.ThroughLaws.{missing_small}
 use Rattle.tv_benes.specs.Levels.{width, other, innermost, level_wires}

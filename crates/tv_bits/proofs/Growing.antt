@@ -5,13 +5,15 @@ use Rattle.std.proofs.lemmas.Bool.{leb-true}
 use Rattle.tv_bits.specs.Bits.{AreBitsBelow}
 use Rattle.tv_bits.specs.declared.bit_wires.Bits.{Bits}
 use Rattle.tv_core.proofs.Chain.{puts_turn, turn_refused}
+pub use Rattle.tv_core.proofs.Rooms.{both}
+use Rattle.tv_core.proofs.Rooms.{room_here, room_left}
 use Rattle.tv_core.specs.Circuits.{Circuit, turns}
 use Rattle.tv_core.specs.Sinks.{Meaning, PutsAll, PutsSome, Grows, Room}
 use Rattle.tv_core.specs.declared.sink.SinkFault.{SinkFault}
 
 module _ {S : Type 0} {m : Meaning S} {a : S} {x y : ℕ} (r : Room m a x y) where
   pub less_room : {p q : ℕ} → p ≤ x → q ≤ y → Room m a p q
-  less_room e f = record { whole = r.whole; constant = r.constant; wires = omega (arith, r.wires); constraints = omega (arith, r.constraints) }
+  less_room e f = room_here r (e, f)
 
   pub fewer : {p q : ℕ} → leb p x ≡ true → leb q y ≡ true → Room m a p q
   fewer e f = less_room (leb-true _ _ e) (leb-true _ _ f)
@@ -32,12 +34,9 @@ module _ {S : Type 0} {m : Meaning S} {a b : S} {k l : ℕ} (g : Grows m a b k l
   pub bits_within : {n : ℕ} {x : Bits} → AreBitsBelow (m.wires a) n x → AreBitsBelow (m.wires b) n x
   bits_within h = record { size = h.size; below = within h.below }
 
-  pub both : {c : S} {p q : ℕ} → Grows m b c p q → Grows m a c (k + p) (l + q)
-  both h = record { wires = omega (arith, g.wires, h.wires); constraints = omega (arith, g.constraints, h.constraints); whole = h.whole }
-
-  -- the same for a last call, whose result is the whole's
+  -- `both` for a last call, whose result is the whole's
   pub both_in : {T E : Type 0} (c : S) (p q : ℕ) (result : Result T E) → IfOk result (λ _. Grows m b c p q) → IfOk result (λ _. Grows m a c (k + p) (l + q))
-  both_in c p q (Ok done) h = both h
+  both_in c p q (Ok done) h = both g h
   both_in c p q (Err why) h = tt
 
   pub grows_as : {p q : ℕ} → k ≡ p → l ≡ q → Grows m a b p q
@@ -45,12 +44,7 @@ module _ {S : Type 0} {m : Meaning S} {a b : S} {k l : ℕ} (g : Grows m a b k l
 
   module _ {x y : ℕ} (r : Room m a x y) where
     pub room_after : {p q : ℕ} → k + p ≤ x → l + q ≤ y → Room m b p q
-    room_after e f = record {
-      whole = g.whole;
-      constant = omega (arith, r.constant, g.wires);
-      wires = omega (arith, r.wires, g.wires, e);
-      constraints = omega (arith, r.constraints, g.constraints, f);
-    }
+    room_after e f = room_left r g (e, f)
 
     pub left : {p q : ℕ} → leb (k + p) x ≡ true → leb (l + q) y ≡ true → Room m b p q
     left e f = room_after (leb-true _ _ e) (leb-true _ _ f)

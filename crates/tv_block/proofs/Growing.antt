@@ -1,5 +1,7 @@
 -- What stands below the next wire, and the room that is left, call by call of a step.
 use Rattle.std.proofs.Common.{◌≡◌, ℕ, ◌+◌, ◌-◌, ◌*◌, ◌/◌, ◌^◌, ◌≤◌, ◌<◌, Result, Ok, Err, IfOk, ap, subst, sym, arith}
+pub use Rattle.tv_core.proofs.Rooms.{both}
+use Rattle.tv_core.proofs.Rooms.{room_here, room_left}
 use Rattle.tv_core.specs.Sinks.{Meaning, Grows, Room}
 use Rattle.tv_decode.specs.Instructions.{imm_wire, instruction_wires}
 use Rattle.tv_decode.specs.declared.records.InstructionWires.{InstructionWires}
@@ -21,20 +23,12 @@ module _ {S : Type 0} {m : Meaning S} where
   pub rises : {a b : S} {k l : ℕ} → Grows m a b k l → m.wires a ≤ m.wires b
   rises g = omega (arith, g.wires)
 
-  pub both : {a b c : S} {k l p q : ℕ} → Grows m a b k l → Grows m b c p q → Grows m a c (k + p) (l + q)
-  both g h = record { wires = omega (arith, g.wires, h.wires); constraints = omega (arith, g.constraints, h.constraints); whole = h.whole }
-
   -- what the calls need one after another, for the first of them, and for the others after it
   pub now : {a : S} {k l : ℕ} (x y : ℕ) → Room m a (k + x) (l + y) → Room m a k l
-  now x y r = record { whole = r.whole; constant = r.constant; wires = omega (arith, r.wires); constraints = omega (arith, r.constraints) }
+  now x y r = room_here r (omega arith)
 
   pub after : {a b : S} {k l x y : ℕ} → Grows m a b k l → Room m a (k + x) (l + y) → Room m b x y
-  after g r = record {
-    whole = g.whole;
-    constant = omega (arith, r.constant, g.wires);
-    wires = omega (arith, r.wires, g.wires);
-    constraints = omega (arith, r.constraints, g.constraints);
-  }
+  after g r = room_left r g (omega arith)
 
   pub room_as : {a : S} {k l x y : ℕ} → k ≡ x → l ≡ y → Room m a k l → Room m a x y
   room_as {a} {k} {l} {x} {y} e f r = subst (λ n. Room m a n y) e (subst (λ n. Room m a k n) f r)

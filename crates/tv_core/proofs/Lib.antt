@@ -21,6 +21,7 @@ pub mod Pigeonhole
 pub mod PrimeLaws
 pub mod PrimeProof
 pub mod Residues
+pub mod Rooms
 pub mod RowLaws
 pub mod TailCalls
 pub mod TestLaws

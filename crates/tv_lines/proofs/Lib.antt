@@ -15,7 +15,6 @@ pub mod PredecessorReach
 pub mod PredecessorSizes
 pub mod PredecessorValues
 pub mod PrefixOrder
-pub mod Rooms
 pub mod SortedComplete
 pub mod SortedLaws
 pub mod SortedSizes

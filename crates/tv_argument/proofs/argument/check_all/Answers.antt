@@ -2,7 +2,7 @@ use Rattle.std.proofs.Common.{◌≡◌, ◌<◌, ap, arith}
 use Rattle.tv_core.proofs.BelowLaws.{sum_below-zero}
 use Rattle.tv_core.proofs.Chain.{puts_no_turn, puts_turn, turn_refused, refused}
 use Rattle.tv_argument.proofs.Parts.{sum_next, sum_most}
-use Rattle.tv_benes.proofs.Rooms.{room_after}
+use Rattle.tv_core.proofs.Rooms.{room_left}
 use Rattle.tv_argument.specs.Checks.{check_made, check_added}
 use Rattle.tv_argument.proofs.argument.check_all.Goals as goal
 
@@ -25,7 +25,7 @@ check-requires-clause-room g c =
     let below : i < checks.count = omega (arith, c.loop-i-test.true, c.checked-i-end.ensures) in
     let made : check_made c.kind.result ≡ check_made (checks.kind i) = ap check_made c.kind.ensures in
     let added : check_added c.kind.result ≡ check_added (checks.kind i) = ap check_added c.kind.ensures in
-    room_after c.requires.room c.loop-i.invariant.grows (omega (
+    room_left c.requires.room c.loop-i.invariant.grows (omega (
       arith,
       made,
       added,

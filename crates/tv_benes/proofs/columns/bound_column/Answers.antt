@@ -1,6 +1,6 @@
 use Rattle.std.proofs.Common.{◌≡◌, ◌+◌, ◌*◌, arith}
 use Rattle.tv_core.proofs.Chain.{puts_no_turn, puts_turn, turn_refused, refused}
-use Rattle.tv_benes.proofs.Rooms.{room_after}
+use Rattle.tv_core.proofs.Rooms.{room_left}
 use Rattle.tv_benes.proofs.Sizes.{made_at, made_later}
 use Rattle.tv_benes.specs.Network.{column_of}
 use Rattle.tv_benes.proofs.columns.bound_column.Goals as goal
@@ -17,7 +17,7 @@ bound_switch-requires g c =
     let pair = g.T.Pairs.pair c.args.items.now in
     let made = made_later pair (2 * c.args.n) _ (g.S.Sink.meaning.wires c.loop-j.s) (omega (arith, grown.wires)) c.requires.made in
     record {
-      room = room_after c.requires.room grown (omega arith);
+      room = room_left c.requires.room grown (omega arith);
       x_made = rw c.set_item.ensures (made_at pair _ _ made (2 * c.loop-j.j) (omega arith));
       y_made = rw c.set_item-in-loop-j.ensures (made_at pair _ _ made (2 * c.loop-j.j + 1) (omega arith));
     }

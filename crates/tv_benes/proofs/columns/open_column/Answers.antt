@@ -1,6 +1,6 @@
 use Rattle.std.proofs.Common.{◌≡◌, ◌+◌, ◌*◌, arith}
 use Rattle.tv_core.proofs.Chain.{puts_no_turn, puts_turn, turn_refused, refused}
-use Rattle.tv_benes.proofs.Rooms.{room_after}
+use Rattle.tv_core.proofs.Rooms.{room_left}
 use Rattle.tv_benes.specs.Network.{column_of}
 use Rattle.tv_benes.proofs.columns.open_column.Goals as goal
 
@@ -37,7 +37,7 @@ open_switch-requires g c =
     let x = c.requires.made (2 * c.loop-j.j) (omega arith) in
     let y = c.requires.made (2 * c.loop-j.j + 1) (omega arith) in
     record {
-      room = room_after c.requires.room grown (omega arith);
+      room = room_left c.requires.room grown (omega arith);
       x_made = rw c.at-x.ensures (omega (arith, x, grown.wires));
       y_made = rw c.at-y.ensures (omega (arith, y, grown.wires));
     }

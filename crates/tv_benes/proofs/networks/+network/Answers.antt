@@ -1,7 +1,7 @@
 use Rattle.std.proofs.Common.{true, false, ◌+◌, ◌-◌, ◌*◌, ◌^◌, sym, ap, subst, arith}
 use Rattle.tv_benes.proofs.NetworkChain.{above_wires, bound_fits, bound_innermost, bound_lowest, grows_then, lowest_put, first_column_refused}
 use Rattle.tv_benes.proofs.NetworkChain.{parts_are, some_as, in_as, in_then, put_ends}
-use Rattle.tv_benes.proofs.Rooms.{room_here, room_after, both}
+use Rattle.tv_core.proofs.Rooms.{room_here, room_left, both}
 use Rattle.tv_benes.proofs.Sizes.{passed_made, below_later, made_later}
 use Rattle.tv_benes.proofs.ThroughLaws.{above}
 use Rattle.tv_benes.specs.Places.{passed_to, bound_pair, sum_at, ArePairsMade, AreBelow}
@@ -48,7 +48,7 @@ bound_network-open_network-requires g t c κs within =
           (
             omega (arith, below.level, c.requires.level),
             (
-              room_after c.requires.room grown
+              room_left c.requires.room grown
                   (omega (arith, parts, c.power.ensures)),
               omega (arith, c.offset.ensures, c.wires.ensures, grown.wires, c.power.ensures, below.size),
             ),
@@ -78,7 +78,7 @@ bound_network-open_network-requires-2 g t c κs within =
           (
             omega (arith, below.level, c.requires.level),
             (
-              room_after c.requires.room grown
+              room_left c.requires.room grown
                   (omega (arith, parts, c.power.ensures)),
               omega (arith, c.offset-2.ensures, c.wires.ensures, grown.wires, c.power.ensures, below.size),
             ),
@@ -97,7 +97,7 @@ bound_network-returns-in_err-lower-clause-puts g t c =
 
 pub bound_network-bound_last-requires-clause-room : goal.bound_network-bound_last-requires-clause-room
 bound_network-bound_last-requires-clause-room g t c =
-    room_after c.requires.room (both (both c.in_ok-bound_column.ensures.grows c.in_ok-upper.ensures.grows) c.in_ok-lower.ensures.grows)
+    room_left c.requires.room (both (both c.in_ok-bound_column.ensures.grows c.in_ok-upper.ensures.grows) c.in_ok-lower.ensures.grows)
     (omega (arith, above_wires c.args.net Bound c.args.h c.if-h-eq0.false, c.power.ensures))
 
 pub bound_network-bound_last-requires-clause-upper : goal.bound_network-bound_last-requires-clause-upper
@@ -153,7 +153,7 @@ open_network-bound_network-requires g t c κs within =
           (
             omega (arith, below.level, c.requires.level),
             (
-              room_after c.requires.room grown
+              room_left c.requires.room grown
                   (omega (arith, parts, c.power.ensures)),
               (omega (arith, c.requires.made, c.requires.room.wires, below.size), made),
             ),
@@ -184,7 +184,7 @@ open_network-bound_network-requires-2 g t c κs within =
           (
             omega (arith, below.level, c.requires.level),
             (
-              room_after c.requires.room grown
+              room_left c.requires.room grown
                   (omega (arith, parts, c.power.ensures)),
               (omega (arith, c.requires.made, c.requires.room.wires, below.size), made),
             ),
@@ -202,7 +202,7 @@ open_network-returns-in_err-lower-clause-puts g t c =
 
 pub open_network-open_last-requires-clause-room : goal.open_network-open_last-requires-clause-room
 open_network-open_last-requires-clause-room g t c =
-    room_after c.requires.room (both (both c.in_ok-open_column.ensures.grows c.in_ok-upper.ensures.grows) c.in_ok-lower.ensures.grows)
+    room_left c.requires.room (both (both c.in_ok-open_column.ensures.grows c.in_ok-upper.ensures.grows) c.in_ok-lower.ensures.grows)
     (omega (arith, above_wires c.args.net Open c.args.h c.if-h-eq0.false, c.power.ensures))
 
 pub open_network-open_last-requires-clause-upper : goal.open_network-open_last-requires-clause-upper

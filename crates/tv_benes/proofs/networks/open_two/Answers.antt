@@ -1,7 +1,7 @@
 use Rattle.std.proofs.Common.{arith}
 use Rattle.tv_benes.proofs.NetworkChain.{two_refused, two_put}
 use Rattle.tv_benes.proofs.NetworkLaws.{one_wires}
-use Rattle.tv_benes.proofs.Rooms.{room_here}
+use Rattle.tv_core.proofs.Rooms.{room_here}
 use Rattle.tv_benes.specs.declared.shape.Form.TheVariants.{Open}
 use Rattle.tv_benes.specs.declared.shape.Net.TheVariants.{Benes, Waksman}
 use Rattle.tv_core.proofs.Chain.{refused}

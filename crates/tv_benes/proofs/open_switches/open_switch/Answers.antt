@@ -1,6 +1,6 @@
 use Rattle.std.proofs.Common.{arith}
 use Rattle.tv_core.proofs.Chain.{refused, all_then, all_pure, some_then, some_first}
-use Rattle.tv_benes.proofs.Rooms.{room_after, both}
+use Rattle.tv_core.proofs.Rooms.{room_left, both}
 use Rattle.tv_benes.specs.Network.{switch_of}
 use Rattle.tv_benes.proofs.open_switches.open_switch.Goals as goal
 
@@ -31,7 +31,7 @@ pub bit_by-requires : goal.bit_by-requires
 bit_by-requires g c =
     let made = c.fresh-b.ensures.grows in
     record {
-      room = room_after c.requires.room made (omega arith);
+      room = room_left c.requires.room made (omega arith);
       made = omega (arith, c.fresh-b.ensures.next, made.wires);
     }
 
@@ -40,7 +40,7 @@ product-requires g c =
     let made = c.fresh-b.ensures.grows in
     let bit = c.in_ok-bit_by.ensures.grows in
     record {
-      room = room_after c.requires.room (both made bit) (omega arith);
+      room = room_left c.requires.room (both made bit) (omega arith);
       b_made = omega (arith, c.fresh-b.ensures.next, made.wires, bit.wires);
       x_made = omega (arith, c.requires.x_made, made.wires, bit.wires);
       y_made = omega (arith, c.requires.y_made, made.wires, bit.wires);

@@ -3,7 +3,7 @@ use Rattle.tv_bits.proofs.ProductChain.{no_product, one_product, product_refused
 use Rattle.tv_core.proofs.Chain.{refused}
 use Rattle.tv_core.specs.Combinations.{less, top, wire}
 use Rattle.tv_core.specs.Constraints.{Combination}
-use Rattle.tv_lines.proofs.Rooms.{room_after}
+use Rattle.tv_core.proofs.Rooms.{room_left}
 use Rattle.tv_lines.specs.SortedPair.{prefix_less, rises_of}
 use Rattle.tv_lines.proofs.keys.rises.Goals as goal
 
@@ -43,7 +43,7 @@ pub times_by-requires : goal.times_by-requires
 times_by-requires g c =
     let grown = c.loop-i.invariant.grows in
     record {
-      room = room_after c.requires.room grown (omega arith);
+      room = room_left c.requires.room grown (omega arith);
       x_made = c.loop-i.invariant.made;
       y_made = omega (arith, c.set_key_factor-in-loop-i.ensures.top, c.requires, grown.wires);
     }

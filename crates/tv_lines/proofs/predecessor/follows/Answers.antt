@@ -1,7 +1,7 @@
 use Rattle.std.proofs.Common.{arith}
 use Rattle.tv_core.proofs.Chain.{refused, some_then, some_first}
 use Rattle.tv_core.proofs.TailCalls.{puts_in_then}
-use Rattle.tv_lines.proofs.Rooms.{room_here, room_after, both}
+use Rattle.tv_core.proofs.Rooms.{room_here, room_left, both}
 use Rattle.tv_lines.specs.Predecessor.{follows_of}
 use Rattle.tv_lines.proofs.predecessor.follows.Goals as goal
 
@@ -35,7 +35,7 @@ pub kept_by-requires : goal.kept_by-requires
 kept_by-requires g c =
     let reach = c.in_ok-reach.ensures in
     record {
-      room = room_after c.requires.room reach.grows (omega arith);
+      room = room_left c.requires.room reach.grows (omega arith);
       x_made = omega (arith, c.set_excess.ensures.top, c.requires.room.constant, c.requires.line, c.requires.item.first, reach.below, reach.grows.wires);
     }
 
@@ -44,7 +44,7 @@ either-requires g c =
     let reach = c.in_ok-reach.ensures.grows in
     let e = c.in_ok-e.ensures.grows in
     record {
-      room = room_after c.requires.room (both reach e) (omega arith);
+      room = room_left c.requires.room (both reach e) (omega arith);
       e_made = c.in_ok-e.ensures.below;
       line = omega (arith, c.requires.line, reach.wires, e.wires);
       item = omega (arith, c.requires.item, reach.wires, e.wires);

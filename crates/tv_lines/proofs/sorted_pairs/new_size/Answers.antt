@@ -1,7 +1,7 @@
 use Rattle.std.proofs.Common.{arith}
 use Rattle.tv_core.proofs.Chain.{refused, some_first}
 use Rattle.tv_core.proofs.TailCalls.{puts_in_then}
-use Rattle.tv_lines.proofs.Rooms.{room_here, room_after}
+use Rattle.tv_core.proofs.Rooms.{room_here, room_left}
 use Rattle.tv_lines.specs.SortedPair.{size_of}
 use Rattle.tv_lines.proofs.sorted_pairs.new_size.Goals as goal
 
@@ -23,6 +23,6 @@ pub kept_by-requires : goal.kept_by-requires
 kept_by-requires g c =
     let bits = c.in_ok-bits.ensures in
     record {
-      room = room_after c.requires.room bits.grows (omega arith);
+      room = room_left c.requires.room bits.grows (omega arith);
       x_made = omega (arith, c.plus.ensures.top, c.set_number.ensures.top, c.requires.room.constant, bits.below, bits.grows.wires);
     }

@@ -1,6 +1,6 @@
 use Rattle.std.proofs.Common.{arith}
 use Rattle.tv_core.proofs.Chain.{refused, all_then, all_pure, some_then, some_first}
-use Rattle.tv_lines.proofs.Rooms.{room_here, room_after}
+use Rattle.tv_core.proofs.Rooms.{room_here, room_left}
 use Rattle.tv_lines.specs.UnpackedLines.{unpack_of}
 use Rattle.tv_lines.proofs.unpacked_lines.unpack.Goals as goal
 
@@ -29,7 +29,7 @@ pub bits_by-requires-2 : goal.bits_by-requires-2
 bits_by-requires-2 g c =
     let first = c.in_ok-first.ensures.grows in
     record {
-      room = room_after c.requires.room first (omega arith);
+      room = room_left c.requires.room first (omega arith);
       x_made = omega (arith, c.requires.second_made, first.wires);
       short = omega arith;
     }

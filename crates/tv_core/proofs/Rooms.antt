@@ -6,8 +6,8 @@ module _ {S : Type 0} {m : Meaning S} {a : S} where
   pub room_here : {x y p q : ℕ} → Room m a x y → (p ≤ x) × (q ≤ y) → Room m a p q
   room_here r e = record { whole = r.whole; constant = r.constant; wires = omega (arith, r.wires); constraints = omega (arith, r.constraints) }
 
-  pub room_after : {b : S} {x y k l p q : ℕ} → Room m a x y → Grows m a b k l → (k + p ≤ x) × (l + q ≤ y) → Room m b p q
-  room_after r g e = record {
+  pub room_left : {b : S} {x y k l p q : ℕ} → Room m a x y → Grows m a b k l → (k + p ≤ x) × (l + q ≤ y) → Room m b p q
+  room_left r g e = record {
     whole = g.whole;
     constant = omega (arith, r.constant, g.wires);
     wires = omega (arith, r.wires, g.wires);
