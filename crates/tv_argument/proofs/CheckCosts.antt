@@ -1,5 +1,5 @@
 -- What checks cost, and at most.
-use Rattle.std.proofs.Common.{ℕ, zero, suc, ◌*◌, ◌^◌, ◌<◌, ◌≤◌, arith}
+use Rattle.tv_core.proofs.Common.{ℕ, zero, suc, ◌*◌, ◌^◌, ◌<◌, ◌≤◌, arith}
 use Rattle.std.proofs.Math.Nat.{mul-le-mul_right}
 use Rattle.tv_core.proofs.BelowLaws.{sum_below-zero, sum_below-suc}
 use Rattle.tv_core.specs.Below.{sum_below}

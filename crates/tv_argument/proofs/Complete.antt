@@ -1,7 +1,7 @@
 -- The memory argument is complete.
-use Rattle.std.proofs.Common.{◌≡◌, ◌≢◌, ℕ, zero, suc, ◌+◌, ◌-◌, ◌<◌, ◌≤◌, ◌^◌, Bool, List, ◌++◌, length, map, inl, inr, sym, ap, ◌∙◌, arith, subst}
-use Rattle.std.proofs.Math.Nat.{pow-le-pow_right}
-use Rattle.std.proofs.lemmas.List.{length-append, length-map}
+use Rattle.tv_core.proofs.Common.{◌≡◌, ◌≢◌, ℕ, zero, suc, ◌+◌, ◌-◌, ◌<◌, ◌≤◌, ◌^◌, Bool, List, ◌++◌, length, map, inl, inr, sym, ap, ◌∙◌, arith, subst}
+use Rattle.tv_core.proofs.Common.{pow-le-pow_right, length-append, length-map, HasFrom-split, joined_below, Circuit, pure, turns, ◌>>=◌, Assigns, Meets}
+use Rattle.tv_core.proofs.Common.{HasFrom, Line, sequence}
 use Rattle.tv_benes.proofs.NetworkComplete.{network_complete, network_values-length}
 use Rattle.tv_benes.proofs.NetworkLaws.{network_next}
 use Rattle.tv_benes.specs.Items.{bit_at}
@@ -10,12 +10,8 @@ use Rattle.tv_benes.specs.Places.{output}
 use Rattle.tv_benes.specs.Through.{through}
 use Rattle.tv_benes.specs.declared.shape.Net.{Net}
 use Rattle.tv_core.proofs.JoinedLaws.{joined_below-zero, joined_below-suc}
-use Rattle.tv_core.proofs.MeetsLaws.{whole, HasFrom-split}
-use Rattle.tv_core.specs.Below.{joined_below}
-use Rattle.tv_core.specs.Circuits.{Circuit, pure, turns, ◌>>=◌}
-use Rattle.tv_core.specs.Laws.{Assigns, Meets, HasFrom}
-use Rattle.tv_core.specs.Lines.{Line, Honest, pair_value}
-use Rattle.tv_core.specs.Loops.{sequence}
+use Rattle.tv_core.proofs.MeetsLaws.{whole}
+use Rattle.tv_core.specs.Lines.{Honest, pair_value}
 use Rattle.tv_core.specs.declared.lines.LineLc.{LineLc}
 use Rattle.tv_core.specs.declared.lines.Pair.{Pair}
 use Rattle.tv_core.specs.declared.lines.PairNum.{PairNum}

@@ -1,14 +1,11 @@
 -- What the memory argument costs: how many constraints it puts, and how many terms they have.
-use Rattle.std.proofs.Common.{◌≡◌, ℕ, suc, ◌+◌, ◌-◌, ◌^◌, ◌≤◌, length, refl, ap, ap₂, ◌∙◌, arith}
+use Rattle.tv_core.proofs.Common.{◌≡◌, ℕ, suc, ◌+◌, ◌-◌, ◌^◌, ◌≤◌, length, refl, ap, ap₂, ◌∙◌, arith, pure, ◌>>=◌, top, wire, terms_in}
 use Rattle.tv_benes.proofs.CostLaws.{network_counted}
 use Rattle.tv_benes.proofs.Measures.{lengths, terms, turns_cost}
 use Rattle.tv_benes.proofs.Placed.{network_from}
 use Rattle.tv_benes.specs.Network.{network_of}
 use Rattle.tv_benes.specs.Places.{output, output_wire}
 use Rattle.tv_benes.specs.declared.places.Outputs.{Outputs}
-use Rattle.tv_core.specs.Circuits.{pure, ◌>>=◌}
-use Rattle.tv_core.specs.Combinations.{top, wire}
-use Rattle.tv_core.specs.Meanings.{terms_in}
 use Rattle.tv_core.specs.declared.lines.LineLc.{LineLc}
 use Rattle.tv_lines.proofs.PredecessorCosts.{follows_cost}
 use Rattle.tv_lines.proofs.StartsLaws.{boot_line_sizes, least_line_sizes}

@@ -1,12 +1,13 @@
 -- Counting over the places below a number, and over a permutation of them.
-use Rattle.std.proofs.Common.{◌≡◌, ◌≢◌, ◌⊎◌, ℕ, zero, suc, ◌+◌, ◌<◌, ◌≤◌, ◌==◌, nat_le, Bool, true, false, if◌then◌else◌, sum_by, refl, sym, ◌∙◌, ap, subst}
-use Rattle.std.proofs.Common.{arith, inl, inr, IsPermutation}
-use Rattle.std.proofs.lemmas.Bool.{cases_lt, cases_eq, leb-true, leb-false, eq-eqb, ne_eqb}
+use Rattle.tv_core.proofs.Common.{◌≡◌, ◌≢◌, ◌⊎◌, ℕ, zero, suc, ◌+◌, ◌<◌, ◌≤◌, ◌==◌, Bool, true, false, if◌then◌else◌, refl, sym, ◌∙◌, ap, subst, arith, inl}
+use Rattle.tv_core.proofs.Common.{inr, cases_lt, cases_eq, eq-eqb, ne_eqb, flag_of}
+use Rattle.std.proofs.Common.{nat_le, sum_by}
+use Rattle.std.proofs.Common.{IsPermutation}
+use Rattle.std.proofs.lemmas.Bool.{leb-true, leb-false}
 use Rattle.std.proofs.lemmas.List.Sorted.{All-permutation, sum_by-IsPermutation}
 use Rattle.std.proofs.lemmas.List.Sums.{sum_by_push}
 use Rattle.tv_benes.proofs.Permutations.{places-zero, places-suc, places-length, places-at}
 use Rattle.tv_benes.specs.Through.{places}
-use Rattle.tv_word.specs.Word.{flag_of}
 
 -- p is a permutation of the places below n
 abbrev pub PermutesPlaces : ℕ → (ℕ → ℕ) → Type 0

@@ -1,16 +1,14 @@
 -- The memory argument has at most 2 ^ 10 terms a line.
-use Rattle.std.proofs.Common.{◌≡◌, ℕ, suc, ◌+◌, ◌-◌, ◌*◌, ◌/◌, ◌%◌, ◌^◌, ◌≤◌, List, [], ◌++◌, length, All, sym, ap, ◌∙◌, arith, eqb}
+use Rattle.tv_core.proofs.Common.{◌≡◌, ℕ, suc, ◌+◌, ◌-◌, ◌*◌, ◌/◌, ◌%◌, ◌^◌, ◌≤◌, List, [], ◌++◌, length, All, sym, ap, ◌∙◌, arith, cond_both, length-append}
+use Rattle.tv_core.proofs.Common.{constant, less, scaled, Combination}
+use Rattle.std.proofs.Common.{eqb}
 use Rattle.std.proofs.Math.Nat.{mul-le-mul_right}
-use Rattle.std.proofs.lemmas.Bool.{cond_both}
-use Rattle.std.proofs.lemmas.List.{length-append}
 use Rattle.tv_benes.proofs.Most.{switches_most}
 use Rattle.tv_benes.specs.Costs.{number_terms, switch_terms, column_terms, surplus, inner_terms}
 use Rattle.tv_benes.specs.declared.shape.Net.{Net}
 use Rattle.tv_benes.specs.declared.shape.Net.TheVariants.{Benes, Waksman}
 use Rattle.tv_bits.proofs.GateLaws.{length-scaled}
 use Rattle.tv_core.proofs.NormalLaws.{length-normal}
-use Rattle.tv_core.specs.Combinations.{constant, less, scaled}
-use Rattle.tv_core.specs.Constraints.{Combination}
 use Rattle.tv_core.specs.declared.field.TheConstants.{P}
 use Rattle.tv_core.specs.declared.lines.LineLc.{LineLc}
 use Rattle.tv_core.specs.declared.lines.Pair.{Pair}

@@ -1,12 +1,10 @@
 -- The values of a network over items, and of the checks.
-use Rattle.std.proofs.Common.{◌≡◌, ℕ, zero, suc, ◌<◌, ◌≤◌, List, ◌++◌, Result, refl, sym, ◌∙◌, ap, ap₂, arith}
+use Rattle.tv_core.proofs.Common.{◌≡◌, ℕ, zero, suc, ◌<◌, ◌≤◌, List, ◌++◌, Result, refl, sym, ◌∙◌, ap, ap₂, arith, joined_below, GivesAll, Line}
 use Rattle.tv_benes.proofs.Permutations.{places-at}
 use Rattle.tv_benes.specs.Items.{pair_at}
 use Rattle.tv_benes.specs.Through.{places}
 use Rattle.tv_core.proofs.JoinedLaws.{joined_below-zero, joined_below-suc}
-use Rattle.tv_core.specs.Below.{joined_below}
-use Rattle.tv_core.specs.Values.{ValuesMeaning, GivesAll, GivesSome, GivesIn}
-use Rattle.tv_core.specs.Lines.{Line}
+use Rattle.tv_core.specs.Values.{ValuesMeaning, GivesSome, GivesIn}
 use Rattle.tv_core.specs.declared.lines.PairNum.{PairNum}
 use Rattle.tv_core.specs.declared.sink.SinkFault.{SinkFault}
 use Rattle.tv_lines.specs.PackedLines.{unpacked}

@@ -1,9 +1,9 @@
 -- CompactLines are honest where each follows the line at its place in a permutation.
-use Rattle.std.proofs.Common.{◌≡◌, ◌≢◌, ◌⊎◌, ℕ, ◌^◌, ◌<◌, ◌≤◌, List, length, Contains, inl, inr, sym, ◌∙◌, ap, subst, arith}
-use Rattle.std.proofs.lemmas.Bool.{cases_order, cases_lt, cases_eq}
-use Rattle.tv_core.proofs.BelowLaws.{length-each_below}
-use Rattle.tv_core.specs.Below.{each_below}
-use Rattle.tv_core.specs.Lines.{Line, Honest}
+use Rattle.tv_core.proofs.Common.{◌≡◌, ◌≢◌, ◌⊎◌, ℕ, ◌^◌, ◌<◌, ◌≤◌, List, length, inl, inr, sym, ◌∙◌, ap, subst, arith, cases_lt, cases_eq, length-each_below}
+use Rattle.tv_core.proofs.Common.{each_below, Line}
+use Rattle.std.proofs.Common.{Contains}
+use Rattle.std.proofs.lemmas.Bool.{cases_order}
+use Rattle.tv_core.specs.Lines.{Honest}
 use Rattle.tv_argument.proofs.Counts.{PermutesPlaces, Falls, none_between, none_below, permuted_below}
 use Rattle.tv_lines.proofs.Neighbours.{each_below-at}
 use Rattle.tv_lines.proofs.OrderedLaws.{HonestByTimes}

@@ -1,12 +1,9 @@
 -- Items are made of wires and short, as the lines are.
-use Rattle.std.proofs.Common.{◌≡◌, ℕ, ◌*◌, ◌%◌, ◌^◌, ◌<◌, ◌≤◌, List, [], length, All, arith, ◌++◌}
-use Rattle.std.proofs.lemmas.List.{length-append, length-map}
+use Rattle.tv_core.proofs.Common.{◌≡◌, ℕ, ◌*◌, ◌%◌, ◌^◌, ◌<◌, ◌≤◌, List, [], length, All, arith, ◌++◌, length-append, length-map, scaled, Combination}
 use Rattle.std.proofs.lemmas.List.Elements.{All-get_or}
 use Rattle.tv_benes.specs.Places.{ArePairsMade}
 use Rattle.tv_core.proofs.CombinationLaws.{top-append, top-scaled}
 use Rattle.tv_core.proofs.NormalLaws.{length-normal, top-normal}
-use Rattle.tv_core.specs.Combinations.{scaled}
-use Rattle.tv_core.specs.Constraints.{Combination}
 use Rattle.tv_core.specs.declared.field.TheConstants.{P}
 use Rattle.tv_core.specs.declared.lines.LineLc.{LineLc}
 use Rattle.tv_lines.specs.PackedLines.{packed_terms}

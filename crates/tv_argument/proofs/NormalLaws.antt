@@ -1,5 +1,5 @@
 -- What the memory argument puts is normal.
-use Rattle.std.proofs.Common.{◌≡◌, ℕ, suc, ◌+◌, ◌-◌, ◌%◌, ◌^◌, ◌<◌, ◌≤◌, List, length, All, refl, ap, arith}
+use Rattle.tv_core.proofs.Common.{◌≡◌, ℕ, suc, ◌+◌, ◌-◌, ◌%◌, ◌^◌, ◌<◌, ◌≤◌, List, length, All, refl, ap, arith, Circuit, pure, turns, scaled, top, AreNormal}
 use Rattle.tv_benes.proofs.NetworkLaws.{network_next}
 use Rattle.tv_benes.proofs.NormalLaws.{network_normal}
 use Rattle.tv_benes.proofs.Sizes.{network_sizes}
@@ -7,9 +7,6 @@ use Rattle.tv_benes.specs.Network.{network_of}
 use Rattle.tv_benes.specs.Places.{output, output_wire, IsNormalPair}
 use Rattle.tv_core.proofs.NormalCircuits.{normal_then, normal_turns}
 use Rattle.tv_core.proofs.NormalLaws.{IsNormalFrom-normal}
-use Rattle.tv_core.specs.Circuits.{Circuit, pure, turns}
-use Rattle.tv_core.specs.Combinations.{scaled, top}
-use Rattle.tv_core.specs.Normal.{AreNormal}
 use Rattle.tv_core.specs.declared.field.TheConstants.{P}
 use Rattle.tv_core.specs.declared.lines.LineLc.{LineLc}
 use Rattle.tv_core.specs.declared.lines.Pair.{Pair}

@@ -1,13 +1,14 @@
 -- The address order of lines whose times are their places.
-use Rattle.std.proofs.Common.{◌≡◌, ℕ, ◌%◌, ◌<◌, ◌≤◌, ◌^◌, List, [], ◌∷◌, length, map, get_or, All, IsPermutation, refl, sym, ap}
-use Rattle.std.proofs.Common.{◌∙◌, subst, arith, zero-add}
-use Rattle.std.proofs.lemmas.List.{length-map, get_or-map, map-id}
+use Rattle.tv_core.proofs.Common.{◌≡◌, ℕ, ◌%◌, ◌<◌, ◌≤◌, ◌^◌, List, [], ◌∷◌, length, map, get_or, All, refl, sym, ap, ◌∙◌, subst, arith, length-map, each_below}
+use Rattle.tv_core.proofs.Common.{Line}
+use Rattle.std.proofs.Common.{IsPermutation}
+use Rattle.std.proofs.Common.{zero-add}
+use Rattle.std.proofs.lemmas.List.{get_or-map, map-id}
 use Rattle.std.proofs.lemmas.List.Elements.{All-from_get_or, All-get_or}
 use Rattle.std.proofs.lemmas.List.Sorted.{All-permutation, IsPermutation-map, length_permutation}
 use Rattle.tv_benes.proofs.Permutations.{places-same}
 use Rattle.tv_benes.specs.Through.{places}
-use Rattle.tv_core.specs.Below.{each_below}
-use Rattle.tv_core.specs.Lines.{Line, Honest}
+use Rattle.tv_core.specs.Lines.{Honest}
 use Rattle.tv_lines.proofs.AddressOrder.{sorted_ordered}
 use Rattle.tv_lines.specs.Ordered.{InTimeOrder, Ordered, key}
 use Rattle.tv_lines.specs.Placed.{zero_line, number_in, LinesFrom}

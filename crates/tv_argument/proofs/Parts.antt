@@ -1,14 +1,11 @@
 -- CompactLines by their places, and loops over them.
-use Rattle.std.proofs.Common.{◌≡◌, ℕ, zero, suc, ◌+◌, ◌<◌, ◌≤◌, ◌^◌, List, [], ◌∷◌, length, map, refl, sym, ap, ◌∙◌, arith, subst}
-use Rattle.std.proofs.Common.{get_or, inl, inr}
-use Rattle.std.proofs.Math.Nat.{pow-le-pow_right}
-use Rattle.std.proofs.lemmas.Bool.{cases_eq, cases_lt}
-use Rattle.std.proofs.lemmas.List.{get_or_past, get_or-map, length-map}
+use Rattle.tv_core.proofs.Common.{◌≡◌, ℕ, zero, suc, ◌+◌, ◌<◌, ◌≤◌, ◌^◌, List, [], ◌∷◌, length, map, refl, sym, ap, ◌∙◌, arith, subst, get_or, inl, inr}
+use Rattle.tv_core.proofs.Common.{pow-le-pow_right, cases_eq, cases_lt, length-map, each_below, Circuit, pure, turns, ◌>>=◌, Line}
+use Rattle.std.proofs.lemmas.List.{get_or_past, get_or-map}
 use Rattle.std.proofs.lemmas.List.FromFn.{fill_by_all}
 use Rattle.tv_core.proofs.BelowLaws.{sum_below-zero, sum_below-suc}
-use Rattle.tv_core.specs.Below.{each_below, sum_below}
-use Rattle.tv_core.specs.Circuits.{Circuit, pure, turns, ◌>>=◌}
-use Rattle.tv_core.specs.Lines.{Line, pair_value}
+use Rattle.tv_core.specs.Below.{sum_below}
+use Rattle.tv_core.specs.Lines.{pair_value}
 use Rattle.tv_core.specs.declared.lines.LineLc.{LineLc}
 use Rattle.tv_core.specs.declared.lines.PairNum.{PairNum}
 use Rattle.tv_lines.proofs.PackingLaws.{item_right}

@@ -1,12 +1,9 @@
 -- The predecessor of each line in address order.
-use Rattle.std.proofs.Common.{◌≡◌, ◌≢◌, ◌⊎◌, ℕ, zero, suc, ◌+◌, ◌-◌, ◌^◌, ◌<◌, ◌≤◌, ◌==◌, if◌then◌else◌, List, [], ◌∷◌, length, get_or, inl, inr, refl, sym}
-use Rattle.std.proofs.Common.{◌∙◌, ap, subst, arith, eq-eqb, map, ◌%◌}
-use Rattle.std.proofs.lemmas.Bool.{cases_lt, cases_eq, ne_eqb}
-use Rattle.std.proofs.lemmas.Bool.Decides.{nat_tests}
+use Rattle.tv_core.proofs.Common.{◌≡◌, ◌≢◌, ◌⊎◌, ℕ, zero, suc, ◌+◌, ◌-◌, ◌^◌, ◌<◌, ◌≤◌, ◌==◌, if◌then◌else◌, List, [], ◌∷◌, length, get_or, inl, inr, refl, sym}
+use Rattle.tv_core.proofs.Common.{◌∙◌, ap, subst, arith, map, ◌%◌, cases_lt, cases_eq, ne_eqb, nat_tests, length-each_below, each_below, Line}
+use Rattle.std.proofs.Common.{eq-eqb}
 use Rattle.tv_benes.proofs.Permutations.{places-length, places-at}
-use Rattle.tv_core.proofs.BelowLaws.{length-each_below}
-use Rattle.tv_core.specs.Below.{each_below}
-use Rattle.tv_core.specs.Lines.{Line, Honest}
+use Rattle.tv_core.specs.Lines.{Honest}
 use Rattle.tv_lines.proofs.Neighbours.{each_below-at}
 use Rattle.tv_lines.proofs.PredecessorReach.{follows_rises}
 use Rattle.tv_lines.specs.Ordered.{Follows, Ordered, key}

@@ -1,12 +1,9 @@
 -- What is known of the predecessors, and that the settings for them give the argument's values.
-use Rattle.std.proofs.Common.{◌≡◌, ℕ, ◌-◌, ◌≤◌, ◌^◌, Bool, List, ◌++◌, length, map, ap, ◌∙◌, arith}
-use Rattle.std.proofs.Math.Nat.{pow-le-pow_right}
+use Rattle.tv_core.proofs.Common.{◌≡◌, ℕ, ◌-◌, ◌≤◌, ◌^◌, Bool, List, ◌++◌, length, map, ap, ◌∙◌, arith, pow-le-pow_right, joined_below, Line}
 use Rattle.tv_benes.specs.Items.{bit_at, pair_at}
 use Rattle.tv_benes.specs.Network.{network_values}
 use Rattle.tv_benes.specs.Through.{through}
 use Rattle.tv_benes.specs.declared.shape.Net.{Net}
-use Rattle.tv_core.specs.Below.{joined_below}
-use Rattle.tv_core.specs.Lines.{Line}
 use Rattle.tv_core.specs.declared.lines.PairNum.{PairNum}
 use Rattle.tv_lines.proofs.PackingLaws.{unpack_packed}
 use Rattle.tv_lines.specs.PackedLines.{LineInRange, packed_item, unpacked, without_old}

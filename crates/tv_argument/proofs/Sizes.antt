@@ -1,6 +1,6 @@
 -- The values of the memory argument are as many as its wires, and below P.
-use Rattle.std.proofs.Common.{◌≡◌, ℕ, zero, suc, ◌+◌, ◌-◌, ◌<◌, ◌≤◌, ◌^◌, Bool, List, length, refl, sym, ap, ◌∙◌, arith, subst}
-use Rattle.std.proofs.lemmas.List.{length-append}
+use Rattle.tv_core.proofs.Common.{◌≡◌, ℕ, zero, suc, ◌+◌, ◌-◌, ◌<◌, ◌≤◌, ◌^◌, Bool, List, length, refl, sym, ap, ◌∙◌, arith, subst, length-append, joined_below}
+use Rattle.tv_core.proofs.Common.{pure, ◌>>=◌, InField, Line}
 use Rattle.std.proofs.lemmas.List.Elements.{All-nil, All-append}
 use Rattle.tv_benes.proofs.NetworkComplete.{network_values-length}
 use Rattle.tv_benes.proofs.NetworkLaws.{network_next}
@@ -11,10 +11,7 @@ use Rattle.tv_benes.specs.Places.{output}
 use Rattle.tv_benes.specs.declared.shape.Net.{Net}
 use Rattle.tv_core.proofs.BelowLaws.{sum_below-zero, sum_below-suc}
 use Rattle.tv_core.proofs.JoinedLaws.{joined_below-zero, joined_below-suc}
-use Rattle.tv_core.specs.Below.{joined_below, sum_below}
-use Rattle.tv_core.specs.Circuits.{pure, ◌>>=◌}
-use Rattle.tv_core.specs.Laws.{InField}
-use Rattle.tv_core.specs.Lines.{Line}
+use Rattle.tv_core.specs.Below.{sum_below}
 use Rattle.tv_core.specs.declared.field.TheConstants.{P}
 use Rattle.tv_core.specs.declared.lines.LineLc.{LineLc}
 use Rattle.tv_core.specs.declared.lines.Pair.{Pair}

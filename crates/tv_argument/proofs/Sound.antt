@@ -1,7 +1,6 @@
 -- The memory argument is sound.
-use Rattle.std.proofs.Common.{◌≡◌, ◌≢◌, ℕ, suc, ◌-◌, ◌<◌, ◌≤◌, ◌^◌, List, length, map, refl, sym, ap, ◌∙◌, arith, subst}
-use Rattle.std.proofs.Math.Nat.{pow-le-pow_right}
-use Rattle.std.proofs.lemmas.List.{length-map}
+use Rattle.tv_core.proofs.Common.{◌≡◌, ◌≢◌, ℕ, suc, ◌-◌, ◌<◌, ◌≤◌, ◌^◌, List, length, map, refl, sym, ap, ◌∙◌, arith, subst, pow-le-pow_right, length-map}
+use Rattle.tv_core.proofs.Common.{Circuit, turns, Assigns, Meets, Line}
 use Rattle.tv_benes.proofs.NetworkLaws.{network_sound}
 use Rattle.tv_benes.proofs.Permutations.{through_permutes}
 use Rattle.tv_benes.proofs.ThroughLaws.{through_places}
@@ -11,9 +10,7 @@ use Rattle.tv_benes.specs.Through.{through}
 use Rattle.tv_benes.specs.declared.shape.Net.{Net}
 use Rattle.tv_core.proofs.LoopLaws.{turn_met}
 use Rattle.tv_core.proofs.MeetsLaws.{parts}
-use Rattle.tv_core.specs.Circuits.{Circuit, turns}
-use Rattle.tv_core.specs.Laws.{Assigns, Meets}
-use Rattle.tv_core.specs.Lines.{Line, Honest, pair_value}
+use Rattle.tv_core.specs.Lines.{Honest, pair_value}
 use Rattle.tv_core.specs.declared.lines.LineLc.{LineLc}
 use Rattle.tv_core.specs.declared.lines.Pair.{Pair}
 use Rattle.tv_lines.proofs.PackingLaws.{item_right}

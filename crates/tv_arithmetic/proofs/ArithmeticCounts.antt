@@ -1,6 +1,7 @@
 -- How many wires, constraints and terms the arithmetic makes.
-use Rattle.std.proofs.Common.{◌≡◌, ℕ, ◌+◌, ◌-◌, ◌*◌, ◌/◌, ◌%◌, ◌^◌, ◌<◌, [], ◌∷◌, ◌++◌, length, length-append, refl, sym, ◌∙◌, ap, ap₂, arith}
-use Rattle.std.specs.Int.{bit_at}
+use Rattle.tv_core.proofs.Common.{◌≡◌, ℕ, ◌+◌, ◌-◌, ◌*◌, ◌/◌, ◌%◌, ◌^◌, ◌<◌, [], ◌∷◌, ◌++◌, length, refl, sym, ◌∙◌, ap, ap₂, arith, bit_at, pure, ◌>>=◌}
+use Rattle.tv_core.proofs.Common.{InField, IsWidth, flag_of}
+use Rattle.std.proofs.Common.{length-append}
 use Rattle.tv_bits.proofs.DoubleRowLaws.{double_row_answer, double_row_sizes, double_row_cost_laws, new_bits_constraints, new_bits_terms}
 use Rattle.tv_bits.proofs.SizeLaws.{length-bits, bits_in_field}
 use Rattle.tv_bits.proofs.BitsLaws.{new_bits_answer, new_bits_next}
@@ -9,8 +10,6 @@ use Rattle.tv_bits.specs.DoubleRow.{double_row_values}
 use Rattle.tv_bits.specs.declared.bit_wires.Bits.{Bits}
 use Rattle.tv_bits.specs.declared.double_rows.DoubleRow.{DoubleRow}
 use Rattle.tv_core.proofs.FieldLaws.{InField-append}
-use Rattle.tv_core.specs.Circuits.{pure, ◌>>=◌}
-use Rattle.tv_core.specs.Laws.{InField}
 use Rattle.tv_core.specs.declared.field.TheConstants.{P}
 use Rattle.tv_isa.specs.Opcodes.{among}
 use Rattle.tv_rows.proofs.RowDifferenceLaws.{row_difference_sizes, row_difference_cost_laws}
@@ -27,7 +26,6 @@ use Rattle.tv_rows.proofs.RowShiftLaws.{right_shift_sizes, right_shift_cost_laws
 use Rattle.tv_rows.specs.Power.{shift_power_values}
 use Rattle.tv_rows.specs.RowShift.{right_shift_of, right_shift_values}
 use Rattle.tv_rows.specs.declared.powers.ShiftPower.{ShiftPower}
-use Rattle.tv_word.specs.Widths.{IsWidth}
 use Rattle.tv_inputs.proofs.Sized.{Sized, sized_then, none_more, sized_pure, sized_as}
 use Rattle.tv_arithmetic.specs.Arithmetic.{bitwise_ops, difference_ops, strict_ops, signed_ops, product_ops, division_ops, with_sign, rows_of, sums_of}
 use Rattle.tv_arithmetic.specs.Arithmetic.{products_of, shifts_of, arithmetic_of, decomposed_word}
@@ -37,7 +35,6 @@ use Rattle.tv_inputs.specs.OpcodeSums.{opcode_sum}
 use Rattle.tv_inputs.specs.declared.records.ArithmeticWires.{ArithmeticWires}
 use Rattle.tv_inputs.specs.declared.records.OperandWires.{OperandWires}
 use Rattle.tv_inputs.specs.declared.records.RowWires.{RowWires}
-use Rattle.tv_word.specs.Word.{flag_of}
 
 module _ (w : ℕ) (width : IsWidth w) (op other f : ℕ) (operand : OperandWires) where
   pub rows_sized : Sized (rows_of w op) (3 * w + 3) (3 * w + 3) (11 * w + 9)

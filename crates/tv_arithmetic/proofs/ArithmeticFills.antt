@@ -1,8 +1,7 @@
 -- Where an assignment has the values of the arithmetic.
-use Rattle.std.proofs.Common.{◌≡◌, ℕ, ◌+◌, ◌-◌, ◌*◌, ◌%◌, ◌^◌, ◌<◌, Bool, true, false, if◌then◌else◌, List, [], ◌∷◌, ◌++◌, length, refl, sym}
-use Rattle.std.proofs.Common.{◌∙◌, ap, ap₂, subst, arith}
-use Rattle.std.specs.Int.{bit_at}
-use Rattle.std.specs.Prelude.{slice_index}
+use Rattle.tv_core.proofs.Common.{◌≡◌, ℕ, ◌+◌, ◌-◌, ◌*◌, ◌%◌, ◌^◌, ◌<◌, Bool, true, false, if◌then◌else◌, List, [], ◌∷◌, ◌++◌, length, refl, sym, ◌∙◌, ap, ap₂}
+use Rattle.tv_core.proofs.Common.{subst, arith, bit_at, slice_index, Meets-split, Meets-join, HasFrom-split, pure, ◌>>=◌, value, Meets, HasFrom, width_short}
+use Rattle.tv_core.proofs.Common.{IsWidth, flag_of}
 use Rattle.tv_bits.proofs.DoubleRowLaws.{double_row_sound, double_row_complete, double_row_answer}
 use Rattle.tv_bits.proofs.SizeLaws.{length-bits}
 use Rattle.tv_bits.proofs.BitNumbers.{HasBits-from_values, HasBits-bit_at}
@@ -12,10 +11,6 @@ use Rattle.tv_bits.specs.DoubleRow.{HasRowBits, above_edge_in, double_row_of, do
 use Rattle.tv_bits.specs.Ratio.{ratio_values}
 use Rattle.tv_bits.specs.declared.bit_wires.Bits.{Bits}
 use Rattle.tv_bits.specs.declared.double_rows.DoubleRow.{DoubleRow}
-use Rattle.tv_core.proofs.MeetsLaws.{Meets-split, Meets-join, HasFrom-split}
-use Rattle.tv_core.specs.Circuits.{pure, ◌>>=◌}
-use Rattle.tv_core.specs.Constraints.{value}
-use Rattle.tv_core.specs.Laws.{Meets, HasFrom}
 use Rattle.tv_core.specs.declared.field.TheConstants.{P}
 use Rattle.tv_isa.specs.Opcodes.{among}
 use Rattle.tv_rows.proofs.RowDifferenceLaws.{row_difference_complete}
@@ -34,8 +29,6 @@ use Rattle.tv_rows.proofs.PowerLaws.{shift_power_sound, shift_power_complete, sh
 use Rattle.tv_rows.proofs.RowShiftLaws.{right_shift_complete}
 use Rattle.tv_rows.specs.Power.{shift_power_of, shift_power_values}
 use Rattle.tv_rows.specs.RowShift.{IsRightShift, right_shift_of, right_shift_values, shifted_word}
-use Rattle.tv_word.proofs.WidthLaws.{width_short}
-use Rattle.tv_word.specs.Widths.{IsWidth}
 use Rattle.tv_arithmetic.proofs.ArithmeticCounts.{rows_sized, sums_sized, products_sized, rows_length, power_length}
 use Rattle.tv_arithmetic.proofs.ArithmeticLaws.{gate, on, off, gate_bit, a_word, x_here, a_here, left_word, right_word}
 use Rattle.tv_arithmetic.proofs.ArithmeticLaws.{left_is_shift, right_is_shift, kept_word}
@@ -48,7 +41,6 @@ use Rattle.tv_inputs.specs.Inputs.{operation_of}
 use Rattle.tv_inputs.specs.OpcodeSums.{opcode_sum}
 use Rattle.tv_inputs.specs.declared.records.OperandWires.{OperandWires}
 use Rattle.tv_inputs.specs.declared.records.RowWires.{RowWires}
-use Rattle.tv_word.specs.Word.{flag_of}
 
 by_gate : {M : Type 0} (b : Bool) → (b ≡ true → M) → (b ≡ false → M) → M
 by_gate true met shut = met refl

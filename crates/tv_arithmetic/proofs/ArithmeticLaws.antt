@@ -1,8 +1,9 @@
 -- What an assignment that satisfies the constraints of the arithmetic has.
-use Rattle.std.proofs.Common.{◌≡◌, ℕ, ◌+◌, ◌-◌, ◌*◌, ◌%◌, ◌^◌, ◌<◌, ◌==◌, nat_lt, Bool, true, false, if◌then◌else◌, List, [], ◌∷◌, refl, sym, ◌∙◌, ap, ap₂}
-use Rattle.std.proofs.Common.{subst, arith, mod-eq_of_lt, zero-mul, one-mul}
-use Rattle.std.specs.Int.{bit_at}
-use Rattle.std.specs.Prelude.{slice_index, bit_and, bit_xor}
+use Rattle.tv_core.proofs.Common.{◌≡◌, ℕ, ◌+◌, ◌-◌, ◌*◌, ◌%◌, ◌^◌, ◌<◌, ◌==◌, nat_lt, Bool, true, false, if◌then◌else◌, List, [], ◌∷◌, refl, sym, ◌∙◌, ap, ap₂}
+use Rattle.tv_core.proofs.Common.{subst, arith, mod-eq_of_lt, zero-mul, bit_at, slice_index, Meets-split, pure, ◌>>=◌, value, Meets, width_short, IsWidth}
+use Rattle.tv_core.proofs.Common.{flag_of}
+use Rattle.std.proofs.Common.{one-mul}
+use Rattle.std.specs.Prelude.{bit_and, bit_xor}
 use Rattle.std.proofs.lemmas.Nat.Bits.{bit_at-lt}
 use Rattle.tv_bits.proofs.DoubleRowLaws.{double_row_sound}
 use Rattle.tv_bits.proofs.BitNumbers.{HasBits-below, HasBits-bit_at}
@@ -11,10 +12,6 @@ use Rattle.tv_bits.specs.Bit.{IsBit}
 use Rattle.tv_bits.specs.Bits.{HasBits, binary_value, new_bits_of}
 use Rattle.tv_bits.specs.DoubleRow.{IsRow, HasRowBits, double_row_of}
 use Rattle.tv_bits.specs.SignedWords.{HoldsSigned}
-use Rattle.tv_core.proofs.MeetsLaws.{Meets-split}
-use Rattle.tv_core.specs.Circuits.{pure, ◌>>=◌}
-use Rattle.tv_core.specs.Constraints.{value}
-use Rattle.tv_core.specs.Laws.{Meets}
 use Rattle.tv_core.specs.declared.field.TheConstants.{P}
 use Rattle.tv_isa.specs.Opcodes.{among}
 use Rattle.tv_rows.proofs.RowDifferenceLaws.{row_difference_sound}
@@ -33,8 +30,6 @@ use Rattle.tv_rows.proofs.RowShiftLaws.{right_shift_sound}
 use Rattle.tv_rows.specs.Power.{shift_power_of}
 use Rattle.tv_rows.specs.RowShift.{IsRightShift, right_shift_of, shifted_word}
 use Rattle.tv_word.proofs.FlagLaws.{flag_small}
-use Rattle.tv_word.proofs.WidthLaws.{width_short}
-use Rattle.tv_word.specs.Widths.{IsWidth}
 use Rattle.tv_arithmetic.proofs.ArithmeticNumbers.{apart_is, halves_by, shifted_below, place_below, power_below}
 use Rattle.tv_inputs.proofs.FieldNumbers.{small_word}
 use Rattle.tv_inputs.proofs.OpcodeLaws.{opcode_sum_sound}
@@ -44,7 +39,6 @@ use Rattle.tv_inputs.specs.Inputs.{operation_of}
 use Rattle.tv_inputs.specs.OpcodeSums.{opcode_sum, distinct}
 use Rattle.tv_inputs.specs.declared.records.OperandWires.{OperandWires}
 use Rattle.tv_inputs.specs.declared.records.RowWires.{RowWires}
-use Rattle.tv_word.specs.Word.{flag_of}
 
 bits_product : (m n : ℕ) → m < 2 → n < 2 → m * n % P ≡ m * n
 bits_product m n h k = mod-eq_of_lt (grind arith)

@@ -1,10 +1,10 @@
 -- What the double row holds by the operation of an opcode, and the halves that this makes.
-use Rattle.std.proofs.Common.{◌≡◌, ℕ, ◌+◌, ◌-◌, ◌/◌, ◌%◌, ◌^◌, ◌<◌, ◌==◌, nat_lt, not, Bool, true, false, if◌then◌else◌, List, [], ◌∷◌, drop, refl, sym}
-use Rattle.std.proofs.Common.{◌∙◌, ap, arith, mod-lt, true≢false}
+use Rattle.tv_core.proofs.Common.{◌≡◌, ℕ, ◌+◌, ◌-◌, ◌/◌, ◌%◌, ◌^◌, ◌<◌, ◌==◌, nat_lt, not, Bool, true, false, if◌then◌else◌, List, [], ◌∷◌, drop, refl, sym}
+use Rattle.tv_core.proofs.Common.{◌∙◌, ap, arith, mod-lt, slice_index, eqb-true, nat_tests, width_short, IsWidth, flag_of}
+use Rattle.std.proofs.Common.{true≢false}
 use Rattle.std.proofs.Math.Pow.{pow-lt}
-use Rattle.std.specs.Prelude.{◌&&◌, slice_index, bit_and, bit_xor}
-use Rattle.std.proofs.lemmas.Bool.{and_parts, eqb-true, not-true}
-use Rattle.std.proofs.lemmas.Bool.Decides.{nat_tests}
+use Rattle.std.specs.Prelude.{◌&&◌, bit_and, bit_xor}
+use Rattle.std.proofs.lemmas.Bool.{and_parts, not-true}
 use Rattle.tv_bits.specs.DoubleRow.{IsRow}
 use Rattle.tv_bits.specs.declared.double_rows.DoubleRow.{DoubleRow}
 use Rattle.tv_isa.specs.Opcodes.{among, chosen, unused_ops}
@@ -23,13 +23,10 @@ use Rattle.tv_row_products.specs.RowSignedProduct.{IsRowSignedProduct}
 use Rattle.tv_rows.proofs.AnyDistance.{any_distance}
 use Rattle.tv_rows.proofs.RowShiftLaws.{right_shift_complete}
 use Rattle.tv_rows.specs.RowShift.{IsRightShift, shifted_word}
-use Rattle.tv_word.proofs.WidthLaws.{width_short}
-use Rattle.tv_word.specs.Widths.{IsWidth}
 use Rattle.tv_numbers.proofs.Cases.{out, EachOf, each_of, word_ops, compare_ops, for_opcode}
 use Rattle.tv_arithmetic.proofs.OpcodeCases.{EachEntry, by_entry}
 use Rattle.tv_arithmetic.specs.Arithmetic.{bitwise_ops, difference_ops, strict_ops, signed_ops, product_ops, division_ops, low_number, high_number}
 use Rattle.tv_inputs.specs.Rows.{covers, low_halves, high_halves, AreHalves}
-use Rattle.tv_word.specs.Word.{flag_of}
 
 -- ---- groups of opcodes
 -- an opcode of one group is in no other that has none of its opcodes

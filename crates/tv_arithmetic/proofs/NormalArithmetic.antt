@@ -1,14 +1,12 @@
 -- The arithmetic of a step is put by normal combinations.
-use Rattle.std.proofs.Common.{◌≡◌, ℕ, ◌+◌, ◌*◌, ◌<◌, ◌≤◌, true, List, [], ◌∷◌, refl, ap, arith}
+use Rattle.tv_core.proofs.Common.{◌≡◌, ℕ, ◌+◌, ◌*◌, ◌<◌, ◌≤◌, true, List, [], ◌∷◌, refl, ap, arith, pure, ◌>>=◌, top, IsNormal, IsNormalFrom, AreNormal}
+use Rattle.tv_core.proofs.Common.{IsWidth}
 use Rattle.tv_bits.proofs.NormalLaws.{new_bits_normal, double_row_normal}
 use Rattle.tv_bits.proofs.BitsLaws.{new_bits_next}
 use Rattle.tv_bits.specs.Bits.{new_bits_of}
 use Rattle.tv_bits.specs.DoubleRow.{double_row_of}
 use Rattle.tv_core.proofs.NormalCircuits.{normal_both}
 use Rattle.tv_core.proofs.NormalLaws.{IsNormalFrom-lower}
-use Rattle.tv_core.specs.Circuits.{pure, ◌>>=◌}
-use Rattle.tv_core.specs.Combinations.{top}
-use Rattle.tv_core.specs.Normal.{IsNormal, IsNormalFrom, AreNormal}
 use Rattle.tv_isa.specs.declared.opcode.TheConstants.{ADD, SMULH, SHL, SHR}
 use Rattle.tv_rows.proofs.NormalSums.{row_sum_normal, row_difference_normal}
 use Rattle.tv_rows.proofs.RowSumLaws.{row_sum_sizes}
@@ -24,7 +22,6 @@ use Rattle.tv_rows.proofs.NormalShifts.{shift_power_normal, right_shift_normal}
 use Rattle.tv_rows.proofs.PowerLaws.{shift_power_sizes}
 use Rattle.tv_rows.specs.Power.{shift_power_of}
 use Rattle.tv_rows.specs.RowShift.{right_shift_of}
-use Rattle.tv_word.specs.Widths.{IsWidth}
 use Rattle.tv_arithmetic.proofs.ArithmeticCounts.{rows_sized, sums_sized, products_sized, rows_answer}
 use Rattle.tv_inputs.proofs.NormalOpcodes.{rises_from, opcodes_normal, opcodes_top}
 use Rattle.tv_arithmetic.specs.Arithmetic.{bitwise_ops, difference_ops, strict_ops, signed_ops, product_ops, division_ops, with_sign}

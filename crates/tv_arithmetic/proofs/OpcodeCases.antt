@@ -1,5 +1,5 @@
 -- Cases over the entries of a table that covers an opcode.
-use Rattle.std.proofs.Common.{◌≡◌, ℕ, Bool, true, false, if◌then◌else◌, List, [], ◌∷◌, refl}
+use Rattle.tv_core.proofs.Common.{◌≡◌, ℕ, Bool, true, false, if◌then◌else◌, List, [], ◌∷◌, refl}
 use Rattle.tv_isa.specs.Opcodes.{among, Entry, chosen}
 use Rattle.tv_numbers.proofs.Cases.{out, EachOf, each_of}
 use Rattle.tv_inputs.specs.Rows.{covers}

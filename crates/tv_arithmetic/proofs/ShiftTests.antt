@@ -1,18 +1,10 @@
 -- The test of a shift's operand, which doesn't depend on what the row holds.
-use Rattle.std.proofs.Common.{◌≡◌, ℕ, ◌+◌, ◌-◌, ◌*◌, ◌/◌, ◌%◌, ◌^◌, ◌<◌, ◌≤◌, ◌==◌, nat_lt, if◌then◌else◌, ◌++◌, inl, inr}
-use Rattle.std.proofs.Common.{refl, sym, ◌∙◌, ap, ap₂, arith, mod-lt}
+use Rattle.tv_core.proofs.Common.{◌≡◌, ℕ, ◌+◌, ◌-◌, ◌*◌, ◌/◌, ◌%◌, ◌^◌, ◌<◌, ◌≤◌, ◌==◌, nat_lt, if◌then◌else◌, ◌++◌, inl, inr, refl, sym, ◌∙◌, ap, ap₂, arith}
+use Rattle.tv_core.proofs.Common.{mod-lt, cases_lt, eq-eqb, ne_eqb, lt-ltb, le-ltb, slice_index, value-append, value-wire, wire-below, Meets-split, fresh, put}
+use Rattle.tv_core.proofs.Common.{pure, ◌>>=◌, wire, value, width_short, for_widths, IsWidth, flag_of}
 use Rattle.std.proofs.Math.Nat.{div-eq_of_lt, div-add-mod, div-le_self}
-use Rattle.std.proofs.lemmas.Bool.{cases_lt, eq-eqb, ne_eqb, lt-ltb, le-ltb}
-use Rattle.std.specs.Prelude.{slice_index}
 use Rattle.tv_bits.proofs.BitNumbers.{HasBits-small}
-use Rattle.tv_core.proofs.CombinationLaws.{value-append, value-wire, wire-below}
-use Rattle.tv_core.proofs.MeetsLaws.{Meets-split}
-use Rattle.tv_core.specs.Circuits.{fresh, put, pure, ◌>>=◌}
-use Rattle.tv_core.specs.Combinations.{wire}
-use Rattle.tv_core.specs.Constraints.{value}
 use Rattle.tv_core.specs.declared.field.TheConstants.{P}
-use Rattle.tv_word.proofs.WidthLaws.{width_short, for_widths}
-use Rattle.tv_word.specs.Widths.{IsWidth}
 use Rattle.tv_inputs.proofs.OpcodeLaws.{opcode_sum_sound}
 use Rattle.tv_inputs.proofs.UpperLaws.{upper_is}
 use Rattle.tv_arithmetic.specs.Arithmetic.{shift_ops, ShiftTestIsSound}
@@ -20,7 +12,6 @@ use Rattle.tv_inputs.specs.OpcodeSums.{opcode_sum}
 use Rattle.tv_inputs.specs.Operand.{upper_of}
 use Rattle.tv_inputs.specs.TestNumbers.{place_bits}
 use Rattle.tv_inputs.specs.Results.{result_of, tested_of, results_of}
-use Rattle.tv_word.specs.Word.{flag_of}
 
 no_quotient : (n a : ℕ) → 0 < n → n ≤ a → a / n ≡ 0 → ⊥
 no_quotient n a positive large e =

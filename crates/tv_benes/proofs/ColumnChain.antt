@@ -1,7 +1,7 @@
 -- Columns of values, given one after another.
-use Rattle.std.proofs.Common.{◌≡◌, ℕ, zero, suc, ◌+◌, ◌-◌, ◌*◌, ◌^◌, ◌<◌, Bool, List, ◌++◌, sym, ◌∙◌, ap, ap₂, subst, arith, add-one, Result}
+use Rattle.tv_core.proofs.Common.{◌≡◌, ℕ, zero, suc, ◌+◌, ◌-◌, ◌*◌, ◌^◌, ◌<◌, Bool, List, ◌++◌, sym, ◌∙◌, ap, ap₂, subst, arith, add-one, Result, GivesAll}
 use Rattle.tv_core.proofs.ValuesChain.{gives_then, gives_then_refused, gives_refused_then, gives_nothing}
-use Rattle.tv_core.specs.Values.{ValuesMeaning, GivesAll, GivesSome, GivesIn}
+use Rattle.tv_core.specs.Values.{ValuesMeaning, GivesSome, GivesIn}
 use Rattle.tv_core.specs.declared.lines.PairNum.{PairNum}
 use Rattle.tv_core.specs.declared.sink.SinkFault.{SinkFault}
 use Rattle.tv_benes.specs.Levels.{other, innermost}

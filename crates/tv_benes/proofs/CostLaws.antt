@@ -1,12 +1,10 @@
 -- What a network costs.
-use Rattle.std.proofs.Common.{◌≡◌, ◌≢◌, ℕ, zero, suc, ◌+◌, ◌-◌, ◌*◌, ◌/◌, ◌%◌, ◌<◌, ◌≤◌, ◌^◌, ◌==◌, if◌then◌else◌, Bool, true, false, length, refl}
-use Rattle.std.proofs.Common.{sym, ap, ap₂, subst, ◌∙◌, arith}
-use Rattle.std.proofs.lemmas.List.{append-nil, length-append}
+use Rattle.tv_core.proofs.Common.{◌≡◌, ◌≢◌, ℕ, zero, suc, ◌+◌, ◌-◌, ◌*◌, ◌/◌, ◌%◌, ◌<◌, ◌≤◌, ◌^◌, ◌==◌, if◌then◌else◌, Bool, true, false, length, refl, sym, ap}
+use Rattle.tv_core.proofs.Common.{ap₂, subst, ◌∙◌, arith, length-append, here, pure, ◌>>=◌, terms_in}
+use Rattle.std.proofs.lemmas.List.{append-nil}
 use Rattle.std.proofs.lemmas.Nat.{pow_pos}
 use Rattle.tv_core.proofs.BelowLaws.{sum_below-zero, sum_below-suc, sum_below-same}
 use Rattle.tv_core.specs.Below.{sum_below}
-use Rattle.tv_core.specs.Circuits.{here, pure, ◌>>=◌}
-use Rattle.tv_core.specs.Meanings.{terms_in}
 use Rattle.tv_core.specs.declared.lines.Pair.{Pair}
 use Rattle.tv_benes.proofs.Measures.{lengths, terms, sum_same, same_turns, turns_cost}
 use Rattle.tv_benes.proofs.NetworkLaws.{bound-suc, one_wires, less_missing, column_next, level_next}

@@ -1,8 +1,6 @@
 -- What the definitions of places evaluate to: the items of the networks within, the bits, and the outputs.
-use Rattle.std.proofs.Common.{◌≡◌, ◌≢◌, ℕ, ◌+◌, ◌-◌, ◌*◌, ◌/◌, ◌%◌, ◌<◌, ◌≤◌, ◌==◌, Bool, false, if◌then◌else◌, refl, sym, ◌∙◌, ap, ap₂}
-use Rattle.std.proofs.Common.{arith, inl, inr}
-use Rattle.std.proofs.lemmas.Bool.{cases_eq, lt-ltb, le-ltb}
-use Rattle.std.proofs.lemmas.Bool.Decides.{nat_tests}
+use Rattle.tv_core.proofs.Common.{◌≡◌, ◌≢◌, ℕ, ◌+◌, ◌-◌, ◌*◌, ◌/◌, ◌%◌, ◌<◌, ◌≤◌, ◌==◌, Bool, false, if◌then◌else◌, refl, sym, ◌∙◌, ap, ap₂, arith, inl, inr}
+use Rattle.tv_core.proofs.Common.{cases_eq, lt-ltb, le-ltb, nat_tests}
 use Rattle.tv_benes.proofs.ThroughLaws.{alternating-same, alternating_map}
 use Rattle.tv_benes.specs.Levels.{other, innermost}
 use Rattle.tv_benes.specs.Places.{wires_at, fifth, row, switch_wire, first_of, second_of, ItemsOf, item_in, to_upper_of, to_lower_of, output}

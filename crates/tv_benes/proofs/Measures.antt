@@ -1,12 +1,10 @@
 -- What adds up over the constraints of a list, as how many there are, and how many terms they have.
-use Rattle.std.proofs.Common.{◌≡◌, ℕ, zero, suc, ◌+◌, ◌*◌, ◌<◌, List, [], ◌++◌, length, refl, sym, ap₂, ◌∙◌, arith}
-use Rattle.std.proofs.lemmas.List.{length-append}
+use Rattle.tv_core.proofs.Common.{◌≡◌, ℕ, zero, suc, ◌+◌, ◌*◌, ◌<◌, List, [], ◌++◌, length, refl, sym, ap₂, ◌∙◌, arith, length-append, Circuit, pure, turns}
+use Rattle.tv_core.proofs.Common.{◌>>=◌, Constraint, terms_in}
 use Rattle.std.proofs.lemmas.List.Sums.{sum_by-append}
 use Rattle.tv_core.proofs.BelowLaws.{sum_below-zero, sum_below-suc}
 use Rattle.tv_core.specs.Below.{sum_below}
-use Rattle.tv_core.specs.Circuits.{Circuit, pure, turns, ◌>>=◌}
-use Rattle.tv_core.specs.Constraints.{Constraint}
-use Rattle.tv_core.specs.Meanings.{terms_of, terms_in}
+use Rattle.tv_core.specs.Meanings.{terms_of}
 
 -- a measure of lists
 pub record IsMeasure (m : List Constraint → ℕ) : Type 0 where

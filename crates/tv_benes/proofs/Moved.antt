@@ -1,9 +1,8 @@
 -- Items that are moved along: lists of what stands at each place, and that a network does the same
 -- with items that are the same at the places that it has.
-use Rattle.std.proofs.Common.{◌≡◌, ℕ, zero, suc, ◌+◌, ◌-◌, ◌*◌, ◌/◌, ◌^◌, ◌<◌, ◌≤◌, inl, inr}
-use Rattle.std.proofs.Common.{Bool, if◌then◌else◌, List, [], ◌∷◌, ◌++◌, length, get_or, set}
-use Rattle.std.proofs.Common.{refl, sym, ◌∙◌, ap, ap₂, subst, arith, length-append}
-use Rattle.std.proofs.lemmas.Bool.{cases_lt, lt-ltb, le-ltb}
+use Rattle.tv_core.proofs.Common.{◌≡◌, ℕ, zero, suc, ◌+◌, ◌-◌, ◌*◌, ◌/◌, ◌^◌, ◌<◌, ◌≤◌, inl, inr, Bool, if◌then◌else◌, List, [], ◌∷◌, ◌++◌, length, get_or, set}
+use Rattle.tv_core.proofs.Common.{refl, sym, ◌∙◌, ap, ap₂, subst, arith, cases_lt, lt-ltb, le-ltb, GivesAll}
+use Rattle.std.proofs.Common.{length-append}
 use Rattle.std.proofs.lemmas.List.{append-nil, get_or_default, length-set}
 use Rattle.std.proofs.lemmas.List.Edits.{fill_by_more}
 use Rattle.std.proofs.lemmas.List.FromFn.{fill_by_all}
@@ -23,7 +22,7 @@ use Rattle.tv_benes.specs.Through.{joined, last_bit, through, places}
 use Rattle.tv_benes.specs.declared.shape.Form.{Form}
 use Rattle.tv_benes.specs.declared.shape.Net.{Net}
 use Rattle.tv_core.proofs.ValuesChain.{gives_then}
-use Rattle.tv_core.specs.Values.{ValuesMeaning, GivesAll, GivesSome}
+use Rattle.tv_core.specs.Values.{ValuesMeaning, GivesSome}
 use Rattle.tv_core.specs.declared.lines.PairNum.{PairNum}
 use Rattle.tv_core.specs.declared.sink.SinkFault.{SinkFault}
 

@@ -1,5 +1,6 @@
 -- The parts of a network, put one after another.
-use Rattle.std.proofs.Common.{◌≡◌, ℕ, zero, suc, ◌+◌, ◌-◌, ◌*◌, ◌^◌, ◌≤◌, Result, Ok, Err, refl, sym, ap, ◌∙◌, subst, arith}
+use Rattle.tv_core.proofs.Common.{◌≡◌, ℕ, zero, suc, ◌+◌, ◌-◌, ◌*◌, ◌^◌, ◌≤◌, Result, Ok, Err, refl, sym, ap, ◌∙◌, subst, arith, all_then, all_pure, some_then}
+use Rattle.tv_core.proofs.Common.{some_first, puts_in_then, Circuit, here, ◌>>=◌, PutsAll, Grows}
 use Rattle.std.specs.Prelude.{IfOk}
 use Rattle.std.proofs.lemmas.Nat.{pow_pos}
 use Rattle.tv_benes.proofs.NetworkLaws.{bound-suc, less_missing, one_wires}
@@ -15,11 +16,9 @@ use Rattle.tv_benes.specs.declared.shape.Form.{Form}
 use Rattle.tv_benes.specs.declared.shape.Form.TheVariants.{Bound, Open}
 use Rattle.tv_benes.specs.declared.shape.Net.{Net}
 use Rattle.tv_benes.specs.declared.shape.Net.TheVariants.{Benes, Waksman}
-use Rattle.tv_core.proofs.Chain.{puts_here, all_then, all_pure, some_then, some_first}
+use Rattle.tv_core.proofs.Chain.{puts_here}
 use Rattle.tv_core.proofs.LoopLaws.{puts_here_as}
-use Rattle.tv_core.proofs.TailCalls.{puts_in_then}
-use Rattle.tv_core.specs.Circuits.{Circuit, here, ◌>>=◌}
-use Rattle.tv_core.specs.Sinks.{Meaning, PutsAll, PutsSome, PutsIn, Grows}
+use Rattle.tv_core.specs.Sinks.{Meaning, PutsSome, PutsIn}
 use Rattle.tv_core.specs.declared.lines.Pair.{Pair}
 use Rattle.tv_core.specs.declared.sink.SinkFault.{SinkFault}
 

@@ -1,15 +1,10 @@
 -- The values of a network satisfy its constraints.
-use Rattle.std.proofs.Common.{◌≡◌, ℕ, zero, suc, ◌+◌, ◌-◌, ◌*◌, ◌/◌, ◌%◌, ◌^◌, ◌<◌, ◌==◌, Bool, true, false, List, [], ◌++◌, length, refl, sym, ◌∙◌, ap, ap₂}
-use Rattle.std.proofs.Common.{subst, arith, inl, inr, length-append}
-use Rattle.std.specs.Prelude.{slice_index}
-use Rattle.std.proofs.lemmas.Bool.{cases_eq}
+use Rattle.tv_core.proofs.Common.{◌≡◌, ℕ, zero, suc, ◌+◌, ◌-◌, ◌*◌, ◌/◌, ◌%◌, ◌^◌, ◌<◌, ◌==◌, Bool, true, false, List, [], ◌++◌, length, refl, sym, ◌∙◌, ap}
+use Rattle.tv_core.proofs.Common.{ap₂, subst, arith, inl, inr, slice_index, cases_eq, value-less, Meets-join, HasFrom-split, Circuit, here, fresh, put, pure}
+use Rattle.tv_core.proofs.Common.{turns, ◌>>=◌, less, Combination, value, Assigns, Meets, HasFrom, flag_of}
+use Rattle.std.proofs.Common.{length-append}
 use Rattle.std.proofs.lemmas.Nat.{pow_pos}
-use Rattle.tv_core.proofs.CombinationLaws.{value-less}
-use Rattle.tv_core.proofs.MeetsLaws.{Meets-join, HasFrom-split, whole}
-use Rattle.tv_core.specs.Circuits.{Circuit, here, fresh, put, pure, turns, ◌>>=◌}
-use Rattle.tv_core.specs.Combinations.{less}
-use Rattle.tv_core.specs.Constraints.{Combination, value}
-use Rattle.tv_core.specs.Laws.{Assigns, Meets, HasFrom}
+use Rattle.tv_core.proofs.MeetsLaws.{whole}
 use Rattle.tv_core.specs.Lines.{pair_value}
 use Rattle.tv_core.specs.declared.field.TheConstants.{P}
 use Rattle.tv_core.specs.declared.lines.Pair.{Pair}
@@ -30,7 +25,6 @@ use Rattle.tv_benes.specs.declared.shape.Form.{Form}
 use Rattle.tv_benes.specs.declared.shape.Form.TheVariants.{Bound, Open}
 use Rattle.tv_benes.specs.declared.shape.Net.{Net}
 use Rattle.tv_word.proofs.FlagLaws.{flag_small}
-use Rattle.tv_word.specs.Word.{flag_of}
 
 -- ---- a switch
 flag_of-is : (b : Bool) → (flag_of b == 1) ≡ b

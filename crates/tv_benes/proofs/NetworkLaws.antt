@@ -1,19 +1,13 @@
 -- The laws of the network.
-use Rattle.std.proofs.Common.{◌≡◌, ℕ, zero, suc, ◌+◌, ◌-◌, ◌*◌, ◌/◌, ◌%◌, ◌^◌, ◌<◌, ◌≤◌, ◌==◌, Bool, true, false, if◌then◌else◌, List, [], ◌++◌, refl, sym}
-use Rattle.std.proofs.Common.{◌∙◌, ap, ap₂, subst, arith, inl, inr}
-use Rattle.std.specs.Prelude.{slice_index}
-use Rattle.std.proofs.lemmas.Bool.{cases_lt, lt-ltb, le-ltb}
+use Rattle.tv_core.proofs.Common.{◌≡◌, ℕ, zero, suc, ◌+◌, ◌-◌, ◌*◌, ◌/◌, ◌%◌, ◌^◌, ◌<◌, ◌≤◌, ◌==◌, Bool, true, false, if◌then◌else◌, List, [], ◌++◌, refl, sym}
+use Rattle.tv_core.proofs.Common.{◌∙◌, ap, ap₂, subst, arith, inl, inr, slice_index, cases_lt, lt-ltb, le-ltb, value-append, value-below, value-less}
+use Rattle.tv_core.proofs.Common.{value-wire, wire-below, Meets-split, Circuit, here, fresh, put, pure, ◌>>=◌, wire, constant, less, Combination, value}
+use Rattle.tv_core.proofs.Common.{Assigns, Meets, normal}
 use Rattle.std.proofs.lemmas.Nat.{pow_pos}
-use Rattle.tv_core.proofs.CombinationLaws.{value-append, value-below, value-less, value-once, value-wire, wire-below}
+use Rattle.tv_core.proofs.CombinationLaws.{value-once}
 use Rattle.tv_core.proofs.LineLaws.{pair_same}
 use Rattle.tv_core.proofs.LoopLaws.{turn_met, turns-next}
-use Rattle.tv_core.proofs.MeetsLaws.{Meets-split}
 use Rattle.tv_core.proofs.NormalLaws.{value-normal}
-use Rattle.tv_core.specs.Circuits.{Circuit, here, fresh, put, pure, ◌>>=◌}
-use Rattle.tv_core.specs.Combinations.{wire, constant, less}
-use Rattle.tv_core.specs.Constraints.{Combination, value}
-use Rattle.tv_core.specs.Laws.{Assigns, Meets}
-use Rattle.tv_core.specs.Normal.{normal}
 use Rattle.tv_core.specs.Lines.{pair_value}
 use Rattle.tv_core.specs.declared.field.TheConstants.{P}
 use Rattle.tv_core.specs.declared.lines.Pair.{Pair}

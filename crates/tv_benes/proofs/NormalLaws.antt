@@ -1,6 +1,6 @@
 -- Over normal items a network puts normal combinations.
-use Rattle.std.proofs.Common.{ℕ, zero, suc, ◌+◌, ◌-◌, ◌*◌, ◌/◌, ◌^◌, ◌<◌, ◌≤◌, [], ◌++◌, sym, subst, arith, inl, inr}
-use Rattle.std.proofs.lemmas.Bool.{cases_lt}
+use Rattle.tv_core.proofs.Common.{ℕ, zero, suc, ◌+◌, ◌-◌, ◌*◌, ◌/◌, ◌^◌, ◌<◌, ◌≤◌, [], ◌++◌, sym, subst, arith, inl, inr, cases_lt, Circuit, here, fresh, put}
+use Rattle.tv_core.proofs.Common.{pure, turns, ◌>>=◌, wire, less, Combination, IsNormal, AreNormal}
 use Rattle.std.proofs.lemmas.Nat.{pow_pos}
 use Rattle.tv_bits.proofs.NormalLaws.{select_normal}
 use Rattle.tv_bits.specs.Bit.{bit_of}
@@ -22,10 +22,6 @@ use Rattle.tv_benes.specs.declared.shape.Net.{Net}
 use Rattle.tv_benes.specs.declared.shape.Net.TheVariants.{Benes, Waksman}
 use Rattle.tv_core.proofs.NormalCircuits.{normal_both, normal_turns}
 use Rattle.tv_core.proofs.NormalLaws.{IsNormalFrom-normal}
-use Rattle.tv_core.specs.Circuits.{Circuit, here, fresh, put, pure, turns, ◌>>=◌}
-use Rattle.tv_core.specs.Combinations.{wire, less}
-use Rattle.tv_core.specs.Constraints.{Combination}
-use Rattle.tv_core.specs.Normal.{IsNormal, AreNormal}
 use Rattle.tv_core.specs.declared.lines.Pair.{Pair}
 
 -- ---- pairs

@@ -1,6 +1,5 @@
 -- Which wires the outputs of a network are: its own, and in Benes' network those of two items that pass a switch.
-use Rattle.std.proofs.Common.{◌≡◌, ℕ, zero, suc, ◌+◌, ◌-◌, ◌*◌, ◌/◌, ◌%◌, ◌^◌, ◌<◌, ◌≤◌, sym, ap, subst, arith, inl, inr, ◌⊎◌}
-use Rattle.std.proofs.lemmas.Bool.{cases_eq}
+use Rattle.tv_core.proofs.Common.{◌≡◌, ℕ, zero, suc, ◌+◌, ◌-◌, ◌*◌, ◌/◌, ◌%◌, ◌^◌, ◌<◌, ◌≤◌, sym, ap, subst, arith, inl, inr, ◌⊎◌, cases_eq, here, pure, ◌>>=◌}
 use Rattle.std.proofs.lemmas.Nat.{pow_pos}
 use Rattle.tv_benes.proofs.Ends.{output_zero, output_one, output_other}
 use Rattle.tv_benes.proofs.NetworkLaws.{column_next, level_next}
@@ -15,7 +14,6 @@ use Rattle.tv_benes.specs.declared.shape.Form.{Form}
 use Rattle.tv_benes.specs.declared.shape.Form.TheVariants.{Bound, Open}
 use Rattle.tv_benes.specs.declared.shape.Net.{Net}
 use Rattle.tv_benes.specs.declared.shape.Net.TheVariants.{Benes, Waksman}
-use Rattle.tv_core.specs.Circuits.{here, pure, ◌>>=◌}
 use Rattle.tv_core.specs.declared.lines.Pair.{Pair}
 
 -- a wire from `next` on and below g, or one of two in a row from w on

@@ -1,8 +1,9 @@
 -- Which item comes out at a place, found from the last column back to the first.
-use Rattle.std.proofs.Common.{◌≡◌, ℕ, zero, suc, ◌<◌, ◌+◌, ◌*◌, ◌/◌, ◌%◌, ◌^◌, ◌==◌, min, inl, inr, Bool, true, false, not, if◌then◌else◌, refl, sym, ◌∙◌, ap}
-use Rattle.std.proofs.Common.{arith, List, length, take, drop, get_or, get_or-drop, length-drop, ◌-◌}
+use Rattle.tv_core.proofs.Common.{◌≡◌, ℕ, zero, suc, ◌<◌, ◌+◌, ◌*◌, ◌/◌, ◌%◌, ◌^◌, ◌==◌, inl, inr, Bool, true, false, not, if◌then◌else◌, refl, sym, ◌∙◌, ap}
+use Rattle.tv_core.proofs.Common.{arith, List, length, take, drop, get_or, ◌-◌, cases_lt}
+use Rattle.std.proofs.Common.{min}
+use Rattle.std.proofs.Common.{get_or-drop, length-drop}
 use Rattle.std.proofs.Math.Bool.{beq}
-use Rattle.std.proofs.lemmas.Bool.{cases_lt}
 use Rattle.std.proofs.lemmas.List.{get_or_past, take_all}
 use Rattle.tv_benes.proofs.Permutations.{alternating-even, alternating-odd}
 use Rattle.tv_benes.proofs.ThroughLaws.{through_places}

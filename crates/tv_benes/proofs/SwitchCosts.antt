@@ -1,6 +1,6 @@
 -- The terms of a switch, by its two items.
-use Rattle.std.proofs.Common.{◌≡◌, ◌≢◌, ℕ, ◌+◌, ◌-◌, ◌*◌, ◌/◌, ◌%◌, ◌<◌, ◌≤◌, ◌==◌, Bool, true, false, if◌then◌else◌, [], ◌∷◌, length, refl, sym, ◌∙◌}
-use Rattle.std.proofs.Common.{ap₂, arith, inl, inr}
+use Rattle.tv_core.proofs.Common.{◌≡◌, ◌≢◌, ℕ, ◌+◌, ◌-◌, ◌*◌, ◌/◌, ◌%◌, ◌<◌, ◌≤◌, ◌==◌, Bool, true, false, if◌then◌else◌, [], ◌∷◌, length, refl, sym, ◌∙◌, ap₂}
+use Rattle.tv_core.proofs.Common.{arith, inl, inr, fresh, put, pure, ◌>>=◌, wire, less, Combination, terms_in, IsNormal, normal}
 use Rattle.tv_bits.specs.Bit.{bit_of}
 use Rattle.tv_bits.specs.Select.{pick_of}
 use Rattle.tv_benes.proofs.Ends.{sum_passes, sum_made}
@@ -17,11 +17,7 @@ use Rattle.tv_benes.specs.declared.shape.Form.TheVariants.{Bound, Open}
 use Rattle.tv_benes.specs.declared.shape.Net.{Net}
 use Rattle.tv_bits.proofs.GateLaws.{length-negated}
 use Rattle.tv_core.proofs.ApartLaws.{length-normal_apart, length-normal_less}
-use Rattle.tv_core.specs.Circuits.{fresh, put, pure, ◌>>=◌}
-use Rattle.tv_core.specs.Combinations.{wire, less}
-use Rattle.tv_core.specs.Constraints.{Combination}
-use Rattle.tv_core.specs.Meanings.{terms_in}
-use Rattle.tv_core.specs.Normal.{Apart, IsNormal, normal}
+use Rattle.tv_core.specs.Normal.{Apart}
 use Rattle.tv_core.specs.declared.field.TheConstants.{P}
 use Rattle.tv_core.specs.declared.lines.Pair.{Pair}
 

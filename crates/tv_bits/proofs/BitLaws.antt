@@ -1,8 +1,7 @@
 -- The laws of a bit.
-use Rattle.std.proofs.Common.{◌⊎◌, ◌≡◌, ℕ, ◌*◌, ◌%◌, inl, inr, arith, eq-zero-or-pos}
-use Rattle.tv_core.proofs.CombinationLaws.{value-wire, wire-below}
+use Rattle.tv_core.proofs.Common.{◌⊎◌, ◌≡◌, ℕ, ◌*◌, ◌%◌, inl, inr, arith, value-wire, wire-below, put}
+use Rattle.std.proofs.Common.{eq-zero-or-pos}
 use Rattle.tv_core.proofs.PrimeLaws.{p_bit}
-use Rattle.tv_core.specs.Circuits.{put}
 use Rattle.tv_core.specs.declared.field.TheConstants.{P}
 use Rattle.tv_bits.specs.Bit.{IsBit, bit_of, BitIsSound, BitIsComplete}
 

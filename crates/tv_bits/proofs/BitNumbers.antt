@@ -1,20 +1,16 @@
 -- What wires represent: the number's bits, its parts, and the value of the combination of their powers.
-use Rattle.std.proofs.Common.{◌≡◌, ◌≢◌, ℕ, zero, suc, ◌+◌, ◌-◌, ◌*◌, ◌/◌, ◌%◌, ◌^◌, ◌<◌, ◌≤◌, List, [], ◌∷◌, ◌++◌, inl, inr, refl, sym, subst, ◌∙◌, ap, ap₂}
-use Rattle.std.proofs.Common.{arith, mod-eq_of_lt, mul_comm, mul_assoc, add_comm, zero-add}
-use Rattle.std.specs.Int.{bit_at}
-use Rattle.std.specs.Prelude.{slice_index}
-use Rattle.std.proofs.Math.Nat.{pow-suc, pow-le-pow_right, mul-le-mul_left}
-use Rattle.std.proofs.lemmas.Bool.{cases_eq, cases_lt}
+use Rattle.tv_core.proofs.Common.{◌≡◌, ◌≢◌, ℕ, zero, suc, ◌+◌, ◌-◌, ◌*◌, ◌/◌, ◌%◌, ◌^◌, ◌<◌, ◌≤◌, List, [], ◌∷◌, ◌++◌, inl, inr, refl, sym, subst, ◌∙◌, ap, ap₂}
+use Rattle.tv_core.proofs.Common.{arith, mod-eq_of_lt, bit_at, slice_index, pow-le-pow_right, cases_eq, cases_lt, value-append, constant, scaled, value}
+use Rattle.tv_core.proofs.Common.{Assigns, HasFrom}
+use Rattle.std.proofs.Common.{mul_comm, mul_assoc, add_comm, zero-add}
+use Rattle.std.proofs.Math.Nat.{pow-suc, mul-le-mul_left}
 use Rattle.std.proofs.lemmas.List.{map-append}
 use Rattle.std.proofs.lemmas.Nat.{pow-add, mod-pow-add, mul-mod_first, mul-mod_second, shr_high, mod_low}
 use Rattle.std.proofs.lemmas.Nat.Bits.{bit_at-lt, bit_at_cat_low}
 use Rattle.tv_core.proofs.BelowLaws.{sum_below-zero, sum_below-suc, sum_below-same, sum_below-mod_same, sum_below-add, sum_below-mul, weighted-zero}
 use Rattle.tv_core.proofs.BelowLaws.{weighted-suc, value-weighted, has_each}
-use Rattle.tv_core.proofs.CombinationLaws.{value-append, value-constant}
+use Rattle.tv_core.proofs.CombinationLaws.{value-constant}
 use Rattle.tv_core.specs.Below.{sum_below}
-use Rattle.tv_core.specs.Combinations.{constant, scaled}
-use Rattle.tv_core.specs.Constraints.{value}
-use Rattle.tv_core.specs.Laws.{Assigns, HasFrom}
 use Rattle.tv_core.specs.declared.field.TheConstants.{P}
 use Rattle.tv_bits.specs.Bit.{IsBit}
 use Rattle.tv_bits.specs.Bits.{HasBits, binary_value, bits_combination, bits_values}

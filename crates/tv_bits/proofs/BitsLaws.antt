@@ -1,16 +1,11 @@
 -- The laws of new bits, and of a number's bits.
-use Rattle.std.proofs.Common.{◌≡◌, ℕ, ◌+◌, ◌*◌, ◌%◌, ◌<◌, List, [], refl, sym, ◌∙◌, ap, ap₂, arith, subst, mul-one, mod-eq_of_lt}
-use Rattle.std.specs.Prelude.{slice_index}
+use Rattle.tv_core.proofs.Common.{◌≡◌, ℕ, ◌+◌, ◌*◌, ◌%◌, ◌<◌, List, [], refl, sym, ◌∙◌, ap, ap₂, arith, subst, mod-eq_of_lt, slice_index, value-below}
+use Rattle.tv_core.proofs.Common.{Meets-split, Meets-join, here, fresh, put, pure, ◌>>=◌, constant, Combination, value, Assigns, Meets, sequence}
+use Rattle.std.proofs.Common.{mul-one}
 use Rattle.std.proofs.lemmas.Nat.Bits.{bit_at-lt}
 use Rattle.tv_core.proofs.BelowLaws.{has_each}
-use Rattle.tv_core.proofs.CombinationLaws.{value-below, value-constant}
+use Rattle.tv_core.proofs.CombinationLaws.{value-constant}
 use Rattle.tv_core.proofs.LoopLaws.{turn_met, turns_met, turns-next}
-use Rattle.tv_core.proofs.MeetsLaws.{Meets-split, Meets-join}
-use Rattle.tv_core.specs.Circuits.{here, fresh, put, pure, ◌>>=◌}
-use Rattle.tv_core.specs.Combinations.{constant}
-use Rattle.tv_core.specs.Constraints.{Combination, value}
-use Rattle.tv_core.specs.Laws.{Assigns, Meets}
-use Rattle.tv_core.specs.Loops.{sequence}
 use Rattle.tv_core.specs.declared.field.TheConstants.{P}
 use Rattle.tv_bits.proofs.BitLaws.{bit_sound, bit_complete}
 use Rattle.tv_bits.proofs.BitNumbers.{HasBits-small, HasBits-from_values, value-bits}

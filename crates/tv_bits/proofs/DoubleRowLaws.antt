@@ -1,18 +1,12 @@
 -- The laws of a row of twice a word's width.
-use Rattle.std.proofs.Common.{◌≡◌, ℕ, zero, suc, ◌+◌, ◌-◌, ◌*◌, ◌%◌, ◌^◌, ◌<◌, List, [], ◌∷◌, ◌++◌, length, refl, sym, subst, ◌∙◌, ap, ap₂, arith}
-use Rattle.std.specs.Prelude.{slice_index}
-use Rattle.std.proofs.lemmas.List.{length-append}
+use Rattle.tv_core.proofs.Common.{◌≡◌, ℕ, zero, suc, ◌+◌, ◌-◌, ◌*◌, ◌%◌, ◌^◌, ◌<◌, List, [], ◌∷◌, ◌++◌, length, refl, sym, subst, ◌∙◌, ap, ap₂, arith}
+use Rattle.tv_core.proofs.Common.{slice_index, length-append, value-append, value-cons, value-wire, InField-cons, Meets-split, Meets-join, HasFrom-split, fresh}
+use Rattle.tv_core.proofs.Common.{put, pure, here, turns, ◌>>=◌, wire, scaled, Combination, Constraint, value, Assigns, Meets, HasFrom, sequence, terms_in}
+use Rattle.tv_core.proofs.Common.{width_short, IsWidth}
 use Rattle.std.proofs.lemmas.Nat.{mul-mod_first}
 use Rattle.tv_core.proofs.BelowLaws.{length-weighted}
-use Rattle.tv_core.proofs.CombinationLaws.{value-append, value-cons, value-scaled, value-wire, value-empty}
-use Rattle.tv_core.proofs.FieldLaws.{InField-cons, InField-append}
-use Rattle.tv_core.proofs.MeetsLaws.{Meets-split, Meets-join, HasFrom-split}
-use Rattle.tv_core.specs.Circuits.{fresh, put, pure, here, turns, ◌>>=◌}
-use Rattle.tv_core.specs.Combinations.{wire, scaled}
-use Rattle.tv_core.specs.Constraints.{Combination, Constraint, value}
-use Rattle.tv_core.specs.Laws.{Assigns, Meets, HasFrom}
-use Rattle.tv_core.specs.Loops.{sequence}
-use Rattle.tv_core.specs.Meanings.{terms_in}
+use Rattle.tv_core.proofs.CombinationLaws.{value-scaled, value-empty}
+use Rattle.tv_core.proofs.FieldLaws.{InField-append}
 use Rattle.tv_core.specs.declared.field.TheConstants.{P}
 use Rattle.tv_bits.proofs.GateLaws.{length-scaled, terms-append}
 use Rattle.tv_bits.proofs.NewBitsLaws.{bits_are, bits_met}
@@ -28,8 +22,6 @@ use Rattle.tv_bits.specs.DoubleRow.{DoubleRowIsSound, DoubleRowIsComplete, Doubl
 use Rattle.tv_bits.specs.Ratio.{ratio, ratio_of, ratio_values}
 use Rattle.tv_bits.specs.Times.{kept_of, times_of}
 use Rattle.tv_bits.specs.declared.double_rows.DoubleRow.{DoubleRow}
-use Rattle.tv_word.proofs.WidthLaws.{width_short}
-use Rattle.tv_word.specs.Widths.{IsWidth}
 
 -- what the circuits answer, and where they end
 pub row_wires_answer : (w next : ℕ) → (row_wires_of w next).answer ≡ record { first = next; low = next + 2 * w; high = next + (2 * w + 1) }

@@ -1,14 +1,10 @@
 -- The laws of an equation that a gate turns on.
-use Rattle.std.proofs.Common.{◌≡◌, ℕ, ◌+◌, ◌-◌, ◌*◌, ◌%◌, List, ◌++◌, length, refl, sym, ◌∙◌, ap, arith, mod-eq_of_lt, zero-mul, one-mul, mul-zero, add-zero}
-use Rattle.std.proofs.lemmas.List.{length-append, length-map}
+use Rattle.tv_core.proofs.Common.{◌≡◌, ℕ, ◌+◌, ◌-◌, ◌*◌, ◌%◌, List, ◌++◌, length, refl, sym, ◌∙◌, ap, arith, mod-eq_of_lt, zero-mul, length-append, length-map}
+use Rattle.tv_core.proofs.Common.{value-below, value-less, InField-none, put, less, scaled, wire, Combination, Constraint, value, terms_in}
+use Rattle.std.proofs.Common.{one-mul, mul-zero, add-zero}
 use Rattle.std.proofs.lemmas.List.Sums.{sum_by-append}
-use Rattle.tv_core.proofs.CombinationLaws.{value-below, value-less, value-empty}
+use Rattle.tv_core.proofs.CombinationLaws.{value-empty}
 use Rattle.tv_core.proofs.DifferenceLaws.{same_of_minus}
-use Rattle.tv_core.proofs.FieldLaws.{InField-none}
-use Rattle.tv_core.specs.Circuits.{put}
-use Rattle.tv_core.specs.Combinations.{less, scaled, wire}
-use Rattle.tv_core.specs.Constraints.{Combination, Constraint, value}
-use Rattle.tv_core.specs.Meanings.{terms_in}
 use Rattle.tv_core.specs.declared.field.TheConstants.{P}
 use Rattle.tv_bits.specs.Gate.{gated_of, GatedIsSound, GatedIsComplete, GatedSizes, GatedCosts}
 

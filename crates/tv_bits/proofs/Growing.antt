@@ -1,14 +1,14 @@
 -- What stands below the next wire, and the room that is left, after calls one after another. Where the numbers are
 -- numerals, `refl` proves that there is room.
-use Rattle.std.proofs.Common.{◌≡◌, ℕ, ◌+◌, ◌-◌, ◌^◌, ◌≤◌, ◌<◌, leb, true, Result, Ok, Err, IfOk, arith}
+use Rattle.tv_core.proofs.Common.{◌≡◌, ℕ, ◌+◌, ◌-◌, ◌^◌, ◌≤◌, ◌<◌, true, Result, Ok, Err, arith, Circuit, turns, PutsAll, Grows}
+use Rattle.std.proofs.Common.{leb, IfOk}
 use Rattle.std.proofs.lemmas.Bool.{leb-true}
 use Rattle.tv_bits.specs.Bits.{AreBitsBelow}
 use Rattle.tv_bits.specs.declared.bit_wires.Bits.{Bits}
 use Rattle.tv_core.proofs.Chain.{puts_turn, turn_refused}
 pub use Rattle.tv_core.proofs.Rooms.{both}
 use Rattle.tv_core.proofs.Rooms.{room_here, room_left}
-use Rattle.tv_core.specs.Circuits.{Circuit, turns}
-use Rattle.tv_core.specs.Sinks.{Meaning, PutsAll, PutsSome, Grows, Room}
+use Rattle.tv_core.specs.Sinks.{Meaning, PutsSome, Room}
 use Rattle.tv_core.specs.declared.sink.SinkFault.{SinkFault}
 
 module _ {S : Type 0} {m : Meaning S} {a : S} {x y : ℕ} (r : Room m a x y) where

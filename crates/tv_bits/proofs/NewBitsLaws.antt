@@ -1,9 +1,6 @@
 -- New bits, by what they hold.
-use Rattle.std.proofs.Common.{ℕ, ◌+◌, ◌<◌, List, refl}
-use Rattle.std.specs.Prelude.{slice_index}
-use Rattle.std.specs.Int.{bit_at}
+use Rattle.tv_core.proofs.Common.{ℕ, ◌+◌, ◌<◌, List, refl, slice_index, bit_at, Assigns, Meets}
 use Rattle.tv_core.proofs.HasLaws.{has_of_each}
-use Rattle.tv_core.specs.Laws.{Assigns, Meets}
 use Rattle.tv_bits.proofs.BitNumbers.{HasBits-bit_at}
 use Rattle.tv_bits.proofs.BitsLaws.{new_bits_sound, new_bits_complete, new_bits_answer}
 use Rattle.tv_bits.specs.Bit.{IsBit}

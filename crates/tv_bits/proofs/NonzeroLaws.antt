@@ -1,12 +1,10 @@
 -- The laws of the test for another number than 0.
-use Rattle.std.proofs.Common.{◌≡◌, ◌≢◌, ℕ, ◌+◌, ◌-◌, ◌*◌, ◌%◌, ◌<◌, ◌∷◌, [], refl, arith, zero-mul, mul-zero}
-use Rattle.std.proofs.lemmas.Bool.{cases_eq}
-use Rattle.std.proofs.lemmas.Bool.Decides.{nat_tests}
-use Rattle.tv_core.proofs.CombinationLaws.{value-below, value-wire, value-one_less, wire-below}
-use Rattle.tv_core.proofs.FieldLaws.{InField-none, InField-cons}
+use Rattle.tv_core.proofs.Common.{◌≡◌, ◌≢◌, ℕ, ◌+◌, ◌-◌, ◌*◌, ◌%◌, ◌<◌, ◌∷◌, [], refl, arith, zero-mul, cases_eq, nat_tests, value-below, value-wire}
+use Rattle.tv_core.proofs.Common.{wire-below, InField-none, InField-cons, fresh, put, pure, ◌>>=◌}
+use Rattle.std.proofs.Common.{mul-zero}
+use Rattle.tv_core.proofs.CombinationLaws.{value-one_less}
 use Rattle.tv_core.proofs.InverseLaws.{mul-inverse_of, inverse_of-below}
 use Rattle.tv_core.proofs.PrimeLaws.{p_zero_product_below}
-use Rattle.tv_core.specs.Circuits.{fresh, put, pure, ◌>>=◌}
 use Rattle.tv_core.specs.Inverse.{inverse_of}
 use Rattle.tv_core.specs.declared.field.TheConstants.{P}
 use Rattle.tv_bits.specs.Nonzero.{nonzero_flag, nonzero_of, NonzeroIsSound, NonzeroIsComplete, NonzeroSizes}

@@ -1,21 +1,14 @@
 -- What the gadgets put is normal.
-use Rattle.std.proofs.Common.{◌≢◌, ℕ, zero, suc, ◌+◌, ◌-◌, ◌*◌, ◌%◌, ◌^◌, ◌<◌, ◌≤◌, [], ◌∷◌, sym, subst, arith}
-use Rattle.std.proofs.Math.Nat.{pow-le-pow_right}
-use Rattle.std.proofs.lemmas.Bool.{cases_eq}
+use Rattle.tv_core.proofs.Common.{◌≢◌, ℕ, zero, suc, ◌+◌, ◌-◌, ◌*◌, ◌%◌, ◌^◌, ◌<◌, ◌≤◌, [], ◌∷◌, sym, subst, arith, pow-le-pow_right, cases_eq, here, fresh}
+use Rattle.tv_core.proofs.Common.{put, pure, ◌>>=◌, wire, constant, scaled, less, top, Combination, sequence, IsNormal, IsNormalFrom, AreNormal, width_short}
+use Rattle.tv_core.proofs.Common.{IsWidth}
 use Rattle.tv_core.proofs.BelowLaws.{below-power, weighted-zero, weighted-suc, top-weighted}
 use Rattle.tv_core.proofs.CombinationLaws.{top-scaled}
 use Rattle.tv_core.proofs.NormalCircuits.{normal_append, normal_negated, normal_both, normal_put, normal_turns}
 use Rattle.tv_core.proofs.NormalLaws.{IsNormalFrom-lower, IsNormalFrom-normal}
 use Rattle.tv_core.proofs.PrimeLaws.{p_zero_product}
 use Rattle.tv_core.specs.Below.{weighted}
-use Rattle.tv_core.specs.Circuits.{here, fresh, put, pure, ◌>>=◌}
-use Rattle.tv_core.specs.Combinations.{wire, constant, scaled, less, top}
-use Rattle.tv_core.specs.Constraints.{Combination}
-use Rattle.tv_core.specs.Loops.{sequence}
-use Rattle.tv_core.specs.Normal.{IsNormal, IsNormalFrom, AreNormal}
 use Rattle.tv_core.specs.declared.field.TheConstants.{P}
-use Rattle.tv_word.proofs.WidthLaws.{width_short}
-use Rattle.tv_word.specs.Widths.{IsWidth}
 use Rattle.tv_bits.proofs.SelectLaws.{select_sound, select_complete}
 use Rattle.tv_bits.proofs.SizeLaws.{select_sizes}
 use Rattle.tv_bits.proofs.DoubleRowLaws.{row_wires_answer}

@@ -1,22 +1,15 @@
 -- The laws of a one-hot row, and what a sum over one is.
-use Rattle.std.proofs.Common.{◌⊎◌, ◌≡◌, ◌≢◌, ℕ, ◌+◌, ◌-◌, ◌*◌, ◌%◌, ◌^◌, ◌<◌, ◌≤◌, if◌then◌else◌, List, inl, inr, refl, sym, ◌∙◌, ap, ap₂, arith, mod-lt}
-use Rattle.std.proofs.Common.{mod-eq_of_lt, eq-eqb, mul-one, mul-zero, zero-mul}
-use Rattle.std.specs.Prelude.{slice_index}
-use Rattle.std.proofs.Math.Nat.{pow-le-pow_right}
-use Rattle.std.proofs.lemmas.Bool.{cases_eq}
-use Rattle.std.proofs.lemmas.Bool.Decides.{nat_tests}
+use Rattle.tv_core.proofs.Common.{◌⊎◌, ◌≡◌, ◌≢◌, ℕ, ◌+◌, ◌-◌, ◌*◌, ◌%◌, ◌^◌, ◌<◌, ◌≤◌, if◌then◌else◌, List, inl, inr, refl, sym, ◌∙◌, ap, ap₂, arith, mod-lt}
+use Rattle.tv_core.proofs.Common.{mod-eq_of_lt, zero-mul, slice_index, pow-le-pow_right, cases_eq, nat_tests, value-less, value-below, value-wire, wire-below}
+use Rattle.tv_core.proofs.Common.{Meets-split, Meets-join, here, fresh, put, pure, ◌>>=◌, wire, constant, less, Combination, value, Assigns, Meets, HasFrom}
+use Rattle.tv_core.proofs.Common.{sequence}
+use Rattle.std.proofs.Common.{eq-eqb, mul-one, mul-zero}
 use Rattle.tv_core.proofs.BelowLaws.{sum_below-single, value-weighted, has_each}
-use Rattle.tv_core.proofs.CombinationLaws.{value-less, value-below, value-constant, value-wire, wire-below}
+use Rattle.tv_core.proofs.CombinationLaws.{value-constant}
 use Rattle.tv_core.proofs.DifferenceLaws.{same_of_minus}
 use Rattle.tv_core.proofs.LoopLaws.{turn_met, turns_met, turns-next}
-use Rattle.tv_core.proofs.MeetsLaws.{Meets-split, Meets-join}
 use Rattle.tv_core.proofs.PrimeLaws.{p_zero_product_below}
 use Rattle.tv_core.specs.Below.{weighted}
-use Rattle.tv_core.specs.Circuits.{here, fresh, put, pure, ◌>>=◌}
-use Rattle.tv_core.specs.Combinations.{wire, constant, less}
-use Rattle.tv_core.specs.Constraints.{Combination, value}
-use Rattle.tv_core.specs.Laws.{Assigns, Meets, HasFrom}
-use Rattle.tv_core.specs.Loops.{sequence}
 use Rattle.tv_core.specs.declared.field.TheConstants.{P}
 use Rattle.tv_bits.proofs.BitNumbers.{HasBits-below, HasBits-small, value-bits}
 use Rattle.tv_bits.specs.Bits.{bits_combination}

@@ -1,8 +1,8 @@
 -- A number is above another exactly where a prefix of it is, by no more than a chunk.
-use Rattle.std.proofs.Common.{◌≡◌, ◌≢◌, ℕ, zero, suc, ◌+◌, ◌-◌, ◌*◌, ◌/◌, ◌%◌, ◌^◌, ◌<◌, ◌≤◌, if◌then◌else◌, inl, inr, refl, sym, ◌∙◌, ap, arith, mod-lt}
+use Rattle.tv_core.proofs.Common.{◌≡◌, ◌≢◌, ℕ, zero, suc, ◌+◌, ◌-◌, ◌*◌, ◌/◌, ◌%◌, ◌^◌, ◌<◌, ◌≤◌, if◌then◌else◌, inl, inr, refl, sym, ◌∙◌, ap, arith, mod-lt}
+use Rattle.tv_core.proofs.Common.{pow-le-pow_right, cases_eq, cases_lt}
 use Rattle.std.proofs.Common.{div-one, mul-zero, eq-eqb, ne_eqb}
-use Rattle.std.proofs.Math.Nat.{pow-le-pow_right, pow-zero, div-eq_of_lt, div-le_self, div-mul-le_self, div-add-mod}
-use Rattle.std.proofs.lemmas.Bool.{cases_eq, cases_lt}
+use Rattle.std.proofs.Math.Nat.{pow-zero, div-eq_of_lt, div-le_self, div-mul-le_self, div-add-mod}
 use Rattle.std.proofs.lemmas.Nat.{pow_pos, shr-shr, le-div}
 use Rattle.tv_core.specs.declared.field.TheConstants.{P}
 use Rattle.tv_bits.specs.Order.{IsPrefixDifference, first_difference}

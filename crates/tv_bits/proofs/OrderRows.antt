@@ -1,5 +1,5 @@
 -- Worked rows of the definitions on order: 54 is 110110 and 45 is 101101, in chunks of 2 bits.
-use Rattle.std.proofs.Common.{◌≡◌, ◌-◌, refl}
+use Rattle.tv_core.proofs.Common.{◌≡◌, ◌-◌, refl}
 use Rattle.tv_bits.specs.Order.{prefix_difference, first_difference}
 use Rattle.tv_core.specs.declared.field.TheConstants.{P}
 

@@ -1,20 +1,16 @@
 -- The laws of a product that is 0, and of a number that is a difference of prefixes.
-use Rattle.std.proofs.Common.{◌≡◌, ℕ, zero, suc, ◌+◌, ◌-◌, ◌*◌, ◌/◌, ◌%◌, ◌^◌, ◌<◌, ◌≤◌, List, [], length, inl, inr, refl, sym, subst, ◌∙◌, ap, ap₂, arith}
-use Rattle.std.proofs.Common.{mod-lt, mul-zero, zero-mul, mul-one, one-mul, mod-eq_of_lt}
-use Rattle.std.specs.Prelude.{slice_index}
+use Rattle.tv_core.proofs.Common.{◌≡◌, ℕ, zero, suc, ◌+◌, ◌-◌, ◌*◌, ◌/◌, ◌%◌, ◌^◌, ◌<◌, ◌≤◌, List, [], length, inl, inr, refl, sym, subst, ◌∙◌, ap, ap₂, arith}
+use Rattle.tv_core.proofs.Common.{mod-lt, zero-mul, mod-eq_of_lt, slice_index, cases_eq, length-each_below, value-less, value-below, value-wire, fresh, put}
+use Rattle.tv_core.proofs.Common.{pure, turns, ◌>>=◌, Combination, value, Assigns, Meets, HasFrom, InField}
+use Rattle.std.proofs.Common.{mul-zero, mul-one, one-mul}
 use Rattle.std.proofs.Math.Nat.{mul-le-mul_left}
-use Rattle.std.proofs.lemmas.Bool.{cases_eq}
 use Rattle.std.proofs.lemmas.Nat.{mul-mod_first}
-use Rattle.tv_core.proofs.BelowLaws.{has_each, length-each_below}
-use Rattle.tv_core.proofs.CombinationLaws.{value-less, value-below, value-wire}
+use Rattle.tv_core.proofs.BelowLaws.{has_each}
 use Rattle.tv_core.proofs.DifferenceLaws.{same_of_minus}
 use Rattle.tv_core.proofs.FieldLaws.{InField-each_below}
 use Rattle.tv_core.proofs.LoopLaws.{turns-next}
 use Rattle.tv_core.proofs.MeetsLaws.{parts, whole}
 use Rattle.tv_core.proofs.PrimeLaws.{p_zero_product_below}
-use Rattle.tv_core.specs.Circuits.{fresh, put, pure, turns, ◌>>=◌}
-use Rattle.tv_core.specs.Constraints.{Combination, value}
-use Rattle.tv_core.specs.Laws.{Assigns, Meets, HasFrom, InField}
 use Rattle.tv_core.specs.declared.field.TheConstants.{P}
 use Rattle.tv_bits.proofs.BitNumbers.{HasBits-high, value-bits_below}
 use Rattle.tv_bits.specs.Bits.{HasBits}

@@ -1,11 +1,7 @@
 -- What the turns put that make a product of factors.
-use Rattle.std.proofs.Common.{◌≡◌, ℕ, ◌+◌, ◌-◌, ◌<◌, [], Result, sym, subst}
-use Rattle.tv_core.proofs.Chain.{puts_then, refused_then, puts_nothing, puts_no_turn, puts_turn, turn_refused}
-use Rattle.tv_core.proofs.TailCalls.{puts_in_then}
-use Rattle.tv_core.specs.Circuits.{put, pure, turns}
-use Rattle.tv_core.specs.Combinations.{wire}
-use Rattle.tv_core.specs.Constraints.{Combination}
-use Rattle.tv_core.specs.Sinks.{Meaning, PutsAll, PutsSome, PutsIn}
+use Rattle.tv_core.proofs.Common.{◌≡◌, ℕ, ◌+◌, ◌-◌, ◌<◌, [], Result, sym, subst, puts_no_turn, puts_in_then, put, pure, turns, wire, Combination, PutsAll}
+use Rattle.tv_core.proofs.Chain.{puts_then, refused_then, puts_nothing, puts_turn, turn_refused}
+use Rattle.tv_core.specs.Sinks.{Meaning, PutsSome, PutsIn}
 use Rattle.tv_core.specs.declared.sink.SinkFault.{SinkFault}
 use Rattle.tv_bits.specs.Prefixes.{next_product, zero_product_of}
 use Rattle.tv_bits.specs.Times.{times_of}

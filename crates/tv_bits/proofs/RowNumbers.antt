@@ -1,8 +1,8 @@
 -- The numbers of rows: a row's number is below P, and each number up to 2 ^ w * (2 ^ w - 1) is a row's.
-use Rattle.std.proofs.Common.{◌≡◌, ℕ, ◌+◌, ◌-◌, ◌*◌, ◌/◌, ◌%◌, ◌^◌, ◌<◌, ◌≤◌, ◌∙◌, arith, zero-mul, add_comm}
+use Rattle.tv_core.proofs.Common.{◌≡◌, ℕ, ◌+◌, ◌-◌, ◌*◌, ◌/◌, ◌%◌, ◌^◌, ◌<◌, ◌≤◌, ◌∙◌, arith, zero-mul, IsWidth}
+use Rattle.std.proofs.Common.{add_comm}
 use Rattle.std.proofs.Math.Nat.{div-add-mod}
 use Rattle.tv_core.specs.declared.field.TheConstants.{P}
-use Rattle.tv_word.specs.Widths.{IsWidth}
 use Rattle.tv_bits.specs.DoubleRow.{IsRow, whole, above_edge_in}
 
 row_most : (w : ℕ) → IsWidth w → (low high : ℕ) → low < 2 ^ w → high < 2 ^ w → (high ≡ 2 ^ w - 1 → low ≡ 0) → low + 2 ^ w * high < P

@@ -1,14 +1,9 @@
 -- The laws of a choice.
-use Rattle.std.proofs.Common.{◌≡◌, mod-lt, ℕ, ◌+◌, ◌-◌, ◌*◌, ◌%◌, ◌<◌, List, refl, ◌∙◌, ap, arith}
-use Rattle.std.specs.Prelude.{slice_index}
-use Rattle.tv_core.proofs.CombinationLaws.{value-append, value-scaled, value-less, value-below, value-wire, wire-below}
+use Rattle.tv_core.proofs.Common.{◌≡◌, mod-lt, ℕ, ◌+◌, ◌-◌, ◌*◌, ◌%◌, ◌<◌, List, refl, ◌∙◌, ap, arith, slice_index, value-append, value-less, value-below}
+use Rattle.tv_core.proofs.Common.{value-wire, wire-below, fresh, put, pure, ◌>>=◌, less, Combination, value, Assigns, normal}
+use Rattle.tv_core.proofs.CombinationLaws.{value-scaled}
 use Rattle.tv_core.proofs.DifferenceLaws.{same_of_minus, cancel_minus}
 use Rattle.tv_core.proofs.NormalLaws.{value-normal}
-use Rattle.tv_core.specs.Circuits.{fresh, put, pure, ◌>>=◌}
-use Rattle.tv_core.specs.Combinations.{less}
-use Rattle.tv_core.specs.Constraints.{Combination, value}
-use Rattle.tv_core.specs.Laws.{Assigns}
-use Rattle.tv_core.specs.Normal.{normal}
 use Rattle.tv_core.specs.declared.field.TheConstants.{P}
 use Rattle.tv_bits.proofs.BitLaws.{bit_cases}
 use Rattle.tv_bits.specs.Bit.{IsBit}

@@ -1,14 +1,11 @@
 -- How many wires the gadgets of bits make, which they answer, and that their values are as many, and of the field.
-use Rattle.std.proofs.Common.{◌≡◌, ℕ, ◌+◌, ◌<◌, ◌^◌, [], ◌∷◌, length, refl, sym, ◌∙◌, ap, arith, add-zero}
-use Rattle.std.specs.Int.{bit_at}
-use Rattle.std.proofs.lemmas.Bool.Decides.{nat_tests}
+use Rattle.tv_core.proofs.Common.{◌≡◌, ℕ, ◌+◌, ◌<◌, ◌^◌, [], ◌∷◌, length, refl, sym, ◌∙◌, ap, arith, bit_at, nat_tests, length-each_below, InField-none}
+use Rattle.tv_core.proofs.Common.{InField-cons, here, fresh, put, pure, ◌>>=◌, InField}
+use Rattle.std.proofs.Common.{add-zero}
 use Rattle.std.proofs.lemmas.Nat.Bits.{bit_at-lt}
-use Rattle.tv_core.proofs.BelowLaws.{length-each_below}
-use Rattle.tv_core.proofs.FieldLaws.{InField-none, InField-cons, InField-each_below}
+use Rattle.tv_core.proofs.FieldLaws.{InField-each_below}
 use Rattle.tv_core.proofs.InverseLaws.{inverse_of-below}
-use Rattle.tv_core.specs.Circuits.{here, fresh, put, pure, ◌>>=◌}
 use Rattle.tv_core.specs.Inverse.{inverse_of}
-use Rattle.tv_core.specs.Laws.{InField}
 use Rattle.tv_core.specs.declared.field.TheConstants.{P}
 use Rattle.tv_bits.proofs.BitLaws.{bit_sound, bit_complete}
 use Rattle.tv_bits.proofs.OneHotLaws.{onehot_next}

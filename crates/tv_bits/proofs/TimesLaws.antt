@@ -1,14 +1,11 @@
 -- The laws of a product, of a value kept, and of a ratio, as a new wire.
-use Rattle.std.proofs.Common.{◌≡◌, ℕ, ◌+◌, ◌*◌, ◌%◌, ◌<◌, [], refl, sym, ◌∙◌, ap, arith, mod-lt, zero-mul, mul_comm}
+use Rattle.tv_core.proofs.Common.{◌≡◌, ℕ, ◌+◌, ◌*◌, ◌%◌, ◌<◌, [], refl, sym, ◌∙◌, ap, arith, mod-lt, zero-mul, cases_eq, value-wire, InField-none, InField-cons}
+use Rattle.tv_core.proofs.Common.{fresh, put, pure, ◌>>=◌, constant, Combination, value}
+use Rattle.std.proofs.Common.{mul_comm}
 use Rattle.std.proofs.Math.Nat.{mul_assoc}
-use Rattle.std.proofs.lemmas.Bool.{cases_eq}
 use Rattle.std.proofs.lemmas.Nat.{mul-mod_first, mul-mod_second}
-use Rattle.tv_core.proofs.CombinationLaws.{value-wire, value-once}
-use Rattle.tv_core.proofs.FieldLaws.{InField-none, InField-cons}
+use Rattle.tv_core.proofs.CombinationLaws.{value-once}
 use Rattle.tv_core.proofs.InverseLaws.{mul-inverse_of}
-use Rattle.tv_core.specs.Circuits.{fresh, put, pure, ◌>>=◌}
-use Rattle.tv_core.specs.Combinations.{constant}
-use Rattle.tv_core.specs.Constraints.{Combination, value}
 use Rattle.tv_core.specs.Inverse.{inverse_of}
 use Rattle.tv_core.specs.declared.field.TheConstants.{P}
 use Rattle.tv_bits.specs.Times.{times_of, kept_of, TimesIsSound, TimesIsComplete, TimesSizes, KeptIsSound, KeptIsComplete, KeptSizes}

@@ -1,11 +1,7 @@
 -- The product of two wires, as a new wire.
-use Rattle.std.proofs.Common.{◌≡◌, ℕ, ◌*◌, ◌%◌, List, sym, ◌∙◌, ap₂}
-use Rattle.std.specs.Prelude.{slice_index}
+use Rattle.tv_core.proofs.Common.{◌≡◌, ℕ, ◌*◌, ◌%◌, List, sym, ◌∙◌, ap₂, slice_index, value-wire, wire, Assigns, Meets}
 use Rattle.tv_bits.proofs.TimesLaws.{times_sound, times_complete}
 use Rattle.tv_bits.specs.Times.{times_of}
-use Rattle.tv_core.proofs.CombinationLaws.{value-wire}
-use Rattle.tv_core.specs.Combinations.{wire}
-use Rattle.tv_core.specs.Laws.{Assigns, Meets}
 use Rattle.tv_core.specs.declared.field.TheConstants.{P}
 
 pub wires_sound : (z : List ℕ) (next a b : ℕ) → Assigns z → Meets z (times_of (wire a) (wire b) next).list

@@ -1,16 +1,16 @@
 -- A step's parts one after another: where each begins, and what they cost in constraints and terms.
-use Rattle.std.proofs.Common.{◌≡◌, ℕ, ◌+◌, List, ◌∙◌, ap, arith, ◌-◌, ◌*◌, ◌/◌, ◌^◌, ◌≤◌, ◌==◌, if◌then◌else◌, Bool, true, false, length, All, refl}
+use Rattle.tv_core.proofs.Common.{◌≡◌, ℕ, ◌+◌, List, ◌∙◌, ap, arith, ◌-◌, ◌*◌, ◌/◌, ◌^◌, ◌≤◌, ◌==◌, if◌then◌else◌, Bool, true, false, length, All, refl, fresh}
+use Rattle.tv_core.proofs.Common.{pure, ◌>>=◌, IsWidth, top, for_widths}
 use Rattle.tv_bits.proofs.ZeroSignLaws.{zero_sign_sizes, zero_sign_costs}
 use Rattle.tv_bits.specs.Number.{number_of}
 use Rattle.tv_bits.specs.ZeroSign.{zero_sign_of}
-use Rattle.tv_core.specs.Circuits.{Made, fresh, pure, ◌>>=◌}
+use Rattle.tv_core.specs.Circuits.{Made}
 use Rattle.tv_decode.proofs.InstructionLaws.{instruction_sizes, instruction_costs}
 use Rattle.tv_decode.specs.Instructions.{instruction_of, dest_bits, source_bits, register_bits, imm_wire}
 use Rattle.tv_decode.specs.declared.records.InstructionWires.{InstructionWires}
 use Rattle.tv_isa.specs.Opcodes.{store_ops}
 use Rattle.tv_regs.proofs.TripleLaws.{triple_sizes, triple_costs}
 use Rattle.tv_regs.specs.declared.triple.Triple.{Triple}
-use Rattle.tv_word.specs.Widths.{IsWidth}
 use Rattle.tv_arithmetic.proofs.ArithmeticCounts.{arithmetic_sizes, arithmetic_cost_laws}
 use Rattle.tv_parts.proofs.FlagFills.{flag_sizes, flag_costs}
 use Rattle.tv_parts.proofs.MemoryFills.{memory_sizes, memory_costs}
@@ -40,9 +40,7 @@ use Rattle.tv_inputs.specs.declared.records.StoreWires.{StoreWires}
 use Rattle.tv_inputs.specs.declared.records.TapeWires.{TapeWires}
 use Rattle.tv_bits.proofs.NormalLaws.{bits_normal_plain, bits_top}
 use Rattle.tv_core.specs.Below.{weighted}
-use Rattle.tv_core.specs.Combinations.{top}
 use Rattle.tv_core.specs.declared.lines.LineLc.{LineLc}
-use Rattle.tv_word.proofs.WidthLaws.{for_widths}
 use Rattle.tv_inputs.proofs.Sized.{Sized, SizedAt, sized_then, sized_to, sized_from, sized_pure, sized_as}
 use Rattle.tv_block.proofs.PlaceLaws.{all_three}
 use Rattle.tv_block.specs.Costs.{terms_are, block_terms, step_costs, HasFewTerms, IsCheap, BlockIsCounted}

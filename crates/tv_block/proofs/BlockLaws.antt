@@ -1,22 +1,15 @@
 -- The laws of a whole step: what an assignment that meets its constraints has, and that one with its values meets them.
-use Rattle.std.proofs.Common.{◌≡◌, ◌≢◌, ℕ, ◌+◌, ◌-◌, ◌*◌, ◌/◌, ◌%◌, ◌^◌, ◌<◌, ◌==◌, nat_lt, Bool, true, false, if◌then◌else◌, List, [], ◌∷◌, ◌++◌, length, inl}
-use Rattle.std.proofs.Common.{inr, refl, sym, ◌∙◌, ap, ap₂, subst, arith}
-use Rattle.std.specs.Prelude.{slice_index}
-use Rattle.std.proofs.lemmas.Bool.{cases_eq, eq-eqb, ne_eqb}
-use Rattle.std.proofs.lemmas.List.{length-map}
+use Rattle.tv_core.proofs.Common.{◌≡◌, ◌≢◌, ℕ, ◌+◌, ◌-◌, ◌*◌, ◌/◌, ◌%◌, ◌^◌, ◌<◌, ◌==◌, nat_lt, Bool, true, false, if◌then◌else◌, List, [], ◌∷◌, ◌++◌, length}
+use Rattle.tv_core.proofs.Common.{inl, inr, refl, sym, ◌∙◌, ap, ap₂, subst, arith, slice_index, cases_eq, eq-eqb, ne_eqb, length-map, value-append, value-wire}
+use Rattle.tv_core.proofs.Common.{value-cons, Meets-split, Meets-join, HasFrom-split, fresh, pure, ◌>>=◌, constant, value, Assigns, Meets, HasFrom, Line}
+use Rattle.tv_core.proofs.Common.{for_widths, IsWidth, flag_of}
 use Rattle.std.proofs.lemmas.List.Elements.{All-get_or}
 use Rattle.tv_bits.proofs.BitNumbers.{HasBits-below, HasBits-bit_at, HasBits-from_values}
 use Rattle.tv_bits.proofs.ZeroSignLaws.{zero_sign_sound, zero_sign_complete, zero_sign_sizes}
 use Rattle.tv_bits.specs.Bit.{IsBit}
 use Rattle.tv_bits.specs.Bits.{HasBits, bits_values}
 use Rattle.tv_bits.specs.ZeroSign.{zero_sign_of, sign_at_zero, zero_sign_values}
-use Rattle.tv_core.proofs.CombinationLaws.{value-append, value-wire, value-constant, value-cons}
-use Rattle.tv_core.proofs.MeetsLaws.{Meets-split, Meets-join, HasFrom-split}
-use Rattle.tv_core.specs.Circuits.{fresh, pure, ◌>>=◌}
-use Rattle.tv_core.specs.Combinations.{constant}
-use Rattle.tv_core.specs.Constraints.{value}
-use Rattle.tv_core.specs.Laws.{Assigns, Meets, HasFrom}
-use Rattle.tv_core.specs.Lines.{Line}
+use Rattle.tv_core.proofs.CombinationLaws.{value-constant}
 use Rattle.tv_core.specs.declared.field.TheConstants.{P}
 use Rattle.tv_decode.proofs.InstructionLaws.{instruction_sound, instruction_complete, instruction_sizes}
 use Rattle.tv_decode.specs.Instructions.{imm_wire, instruction_of, IsDecoded, instruction_values, dest_bits, source_bits, register_bits}
@@ -33,8 +26,6 @@ use Rattle.tv_numbers.specs.Laws.{DoesStep, AtNumbers}
 use Rattle.tv_numbers.specs.Numbers.{Transition, operand_word, other_word, result_in, transition_of, found, step_words}
 use Rattle.tv_numbers.specs.Views.{View, ViewInRange}
 use Rattle.tv_step.specs.Rows.{word_size}
-use Rattle.tv_word.proofs.WidthLaws.{for_widths}
-use Rattle.tv_word.specs.Widths.{IsWidth}
 use Rattle.tv_arithmetic.proofs.ArithmeticLaws.{arithmetic_sound}
 use Rattle.tv_parts.proofs.FlagFills.{flag_sound, flag_complete, flag_sizes}
 use Rattle.tv_parts.proofs.MemoryFills.{memory_sound, memory_complete, memory_sizes}
@@ -69,7 +60,6 @@ use Rattle.tv_block.proofs.PartLaws.{opcode_of_row, op_below, dest_below, source
 use Rattle.tv_block.proofs.PartLaws.{sign_division, used_again, are_numbers}
 use Rattle.tv_block.specs.Block.{registers_of, data_of, sources_of, computed_of, effects_of, block_of, word_inverse, cell_of, BlockIsStep, BlockIsSound}
 use Rattle.tv_block.specs.Block.{transition_in, IsStep}
-use Rattle.tv_word.specs.Word.{flag_of}
 use Rattle.tv_bits.specs.DoubleRow.{double_row_values}
 use Rattle.tv_bits.specs.Number.{number_of}
 use Rattle.tv_regs.proofs.TripleLaws.{triple_complete, triple_sizes}

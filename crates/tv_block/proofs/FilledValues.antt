@@ -1,7 +1,7 @@
 -- That the values made from a step's numbers are those of the step.
-use Rattle.std.proofs.Common.{◌≡◌, ℕ, ◌%◌, Bool, List, ◌∷◌, ◌++◌, get_or, ◌∙◌, ap, ap₂, subst, append_assoc}
+use Rattle.tv_core.proofs.Common.{◌≡◌, ℕ, ◌%◌, Bool, List, ◌∷◌, ◌++◌, get_or, ◌∙◌, ap, ap₂, subst, append_assoc, GivesAll}
 use Rattle.tv_bits.specs.ZeroSign.{sign_at_zero, zero_sign_values}
-use Rattle.tv_core.specs.Values.{ValuesMeaning, GivesAll, GivesSome}
+use Rattle.tv_core.specs.Values.{ValuesMeaning, GivesSome}
 use Rattle.tv_core.specs.declared.sink.SinkFault.{SinkFault}
 use Rattle.tv_decode.specs.Instructions.{instruction_values}
 use Rattle.tv_isa.specs.Instruction.{decode}

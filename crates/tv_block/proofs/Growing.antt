@@ -1,8 +1,9 @@
 -- What stands below the next wire, and the room that is left, call by call of a step.
-use Rattle.std.proofs.Common.{◌≡◌, ℕ, ◌+◌, ◌-◌, ◌*◌, ◌/◌, ◌^◌, ◌≤◌, ◌<◌, Result, Ok, Err, IfOk, ap, subst, sym, arith}
+use Rattle.tv_core.proofs.Common.{◌≡◌, ℕ, ◌+◌, ◌-◌, ◌*◌, ◌/◌, ◌^◌, ◌≤◌, ◌<◌, Result, Ok, Err, ap, subst, sym, arith, Grows, IsWidth}
+use Rattle.std.proofs.Common.{IfOk}
 pub use Rattle.tv_core.proofs.Rooms.{both}
 use Rattle.tv_core.proofs.Rooms.{room_here, room_left}
-use Rattle.tv_core.specs.Sinks.{Meaning, Grows, Room}
+use Rattle.tv_core.specs.Sinks.{Meaning, Room}
 use Rattle.tv_decode.specs.Instructions.{imm_wire, instruction_wires}
 use Rattle.tv_decode.specs.declared.records.InstructionWires.{InstructionWires}
 use Rattle.tv_inputs.specs.States.{StateUnder, OperandUnder, TapesUnder, StoreUnder, ArithmeticUnder}
@@ -13,7 +14,6 @@ use Rattle.tv_inputs.specs.declared.records.StoreWires.{StoreWires}
 use Rattle.tv_inputs.specs.declared.records.TapeWires.{TapeWires}
 use Rattle.tv_parts.specs.Written.{TripleUnder}
 use Rattle.tv_regs.specs.declared.triple.Triple.{Triple}
-use Rattle.tv_word.specs.Widths.{IsWidth}
 use Rattle.tv_block.specs.Complete.{computed_made, computed_added, effects_made, effects_added}
 use Rattle.tv_block.specs.Under.{InstructionUnder, ComputedUnder, BeforeUnder}
 use Rattle.tv_block.specs.declared.records.Computed.{Computed}

@@ -1,12 +1,9 @@
 -- A step's constraints are of normal combinations.
-use Rattle.std.proofs.Common.{◌≡◌, ℕ, ◌+◌, ◌-◌, ◌*◌, ◌^◌, ◌<◌, ◌≤◌, [], refl, ◌∙◌, ap, arith}
+use Rattle.tv_core.proofs.Common.{◌≡◌, ℕ, ◌+◌, ◌-◌, ◌*◌, ◌^◌, ◌<◌, ◌≤◌, [], refl, ◌∙◌, ap, arith, fresh, pure, ◌>>=◌, top, IsNormal, AreNormal, IsWidth}
 use Rattle.tv_bits.proofs.NormalLaws.{bits_normal_plain, bits_top, zero_sign_normal}
 use Rattle.tv_bits.specs.Number.{number_of}
 use Rattle.tv_core.proofs.NormalCircuits.{normal_both}
 use Rattle.tv_core.proofs.NormalLaws.{IsNormalFrom-lower}
-use Rattle.tv_core.specs.Circuits.{fresh, pure, ◌>>=◌}
-use Rattle.tv_core.specs.Combinations.{top}
-use Rattle.tv_core.specs.Normal.{IsNormal, AreNormal}
 use Rattle.tv_decode.proofs.InstructionLaws.{instruction_sizes}
 use Rattle.tv_decode.proofs.NormalLaws.{instruction_normal}
 use Rattle.tv_decode.specs.Instructions.{dest_bits, source_bits, register_bits, imm_wire}
@@ -16,7 +13,6 @@ use Rattle.tv_regs.proofs.NormalLaws.{reg_below, triple_normal}
 use Rattle.tv_regs.proofs.TripleLaws.{triple_sizes}
 use Rattle.tv_regs.specs.Triple.{triple_wires}
 use Rattle.tv_regs.specs.declared.triple.Triple.{Triple}
-use Rattle.tv_word.specs.Widths.{IsWidth}
 use Rattle.tv_arithmetic.proofs.ArithmeticCounts.{arithmetic_sizes}
 use Rattle.tv_arithmetic.proofs.NormalArithmetic.{arithmetic_normal}
 use Rattle.tv_parts.proofs.NormalFlag.{flag_normal}

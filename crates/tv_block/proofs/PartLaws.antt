@@ -1,16 +1,12 @@
 -- What the parts of a step that are made of gadgets alone say: opcode, registers, test and registers written.
-use Rattle.std.proofs.Common.{◌≡◌, ℕ, ◌+◌, ◌-◌, ◌%◌, ◌<◌, ◌==◌, Bool, true, false, if◌then◌else◌, List, [], ◌∷◌}
-use Rattle.std.proofs.Common.{◌++◌, length, inl, inr, refl, sym, ◌∙◌, ap, ap₂, subst, arith, true≢false}
+use Rattle.tv_core.proofs.Common.{◌≡◌, ℕ, ◌+◌, ◌-◌, ◌%◌, ◌<◌, ◌==◌, Bool, true, false, if◌then◌else◌, List, [], ◌∷◌, ◌++◌, length, inl, inr, refl, sym, ◌∙◌, ap}
+use Rattle.tv_core.proofs.Common.{ap₂, subst, arith, slice_index, cases_eq, ne_eqb, eqb-true, nat_tests, value-append, wire, Combination, value, Assigns, Meets}
+use Rattle.tv_core.proofs.Common.{IsWidth, flag_of}
+use Rattle.std.proofs.Common.{true≢false}
 use Rattle.std.specs.List.{AllByRecursion, list_all}
-use Rattle.std.specs.Prelude.{slice_index}
-use Rattle.std.proofs.lemmas.Bool.{cases_eq, ne_eqb, eqb-true, and_parts}
-use Rattle.std.proofs.lemmas.Bool.Decides.{nat_tests}
+use Rattle.std.proofs.lemmas.Bool.{and_parts}
 use Rattle.tv_bits.specs.Bit.{IsBit}
 use Rattle.tv_bits.specs.Number.{number_of}
-use Rattle.tv_core.proofs.CombinationLaws.{value-append}
-use Rattle.tv_core.specs.Combinations.{wire}
-use Rattle.tv_core.specs.Constraints.{Combination, value}
-use Rattle.tv_core.specs.Laws.{Assigns, Meets}
 use Rattle.tv_core.specs.declared.field.TheConstants.{P}
 use Rattle.tv_decode.proofs.InstructionLaws.{opcode_wire}
 use Rattle.tv_decode.specs.Instructions.{dest_bits, source_bits, register_bits, IsOpcodeRow, IsDecoded}
@@ -26,7 +22,6 @@ use Rattle.tv_bits.specs.Wires.{words_at}
 use Rattle.tv_regs.specs.Triple.{AreNumbers}
 use Rattle.tv_regs.specs.declared.triple.Triple.{Triple}
 use Rattle.tv_word.proofs.FlagLaws.{flag_small}
-use Rattle.tv_word.specs.Widths.{IsWidth}
 use Rattle.tv_inputs.proofs.OpcodeLaws.{opcode_terms_sound, opcode_sum_sound}
 use Rattle.tv_arithmetic.specs.Arithmetic.{shift_ops, division_ops}
 use Rattle.tv_parts.specs.Flag.{sign_at}
@@ -35,7 +30,6 @@ use Rattle.tv_inputs.specs.Results.{sign_of}
 use Rattle.tv_inputs.specs.States.{state_in}
 use Rattle.tv_inputs.specs.declared.records.StateWires.{StateWires}
 use Rattle.tv_block.specs.Block.{registers_of}
-use Rattle.tv_word.specs.Word.{flag_of}
 
 -- ---- the opcode
 pub used_again : (k : ℕ) → k < 32 → among unused_ops k ≡ false → is_used k ≡ true

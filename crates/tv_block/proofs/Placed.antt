@@ -1,14 +1,10 @@
 -- A step's wires stand where they are said to.
-use Rattle.std.proofs.Common.{◌≡◌, ℕ, ◌+◌, ◌-◌, ◌*◌, ◌/◌, ◌<◌, ◌++◌, ◌∙◌, ap, ap₂, arith}
-use Rattle.std.specs.List.{range_with_len}
-use Rattle.tv_core.specs.Circuits.{fresh, pure, ◌>>=◌}
-use Rattle.tv_core.specs.Combinations.{wire, constant}
-use Rattle.tv_core.specs.Constraints.{Combination}
+use Rattle.tv_core.proofs.Common.{◌≡◌, ℕ, ◌+◌, ◌-◌, ◌*◌, ◌/◌, ◌<◌, ◌++◌, ◌∙◌, ap, ap₂, arith, range_with_len, fresh, pure, ◌>>=◌, wire, constant, Combination}
+use Rattle.tv_core.proofs.Common.{IsWidth}
 use Rattle.tv_core.specs.declared.lines.LineLc.{LineLc}
 use Rattle.tv_decode.proofs.InstructionLaws.{instruction_sizes}
 use Rattle.tv_decode.specs.Instructions.{imm_wire}
 use Rattle.tv_decode.specs.declared.records.InstructionWires.{InstructionWires}
-use Rattle.tv_word.specs.Widths.{IsWidth}
 use Rattle.tv_arithmetic.proofs.ArithmeticCounts.{arithmetic_sizes}
 use Rattle.tv_parts.proofs.FlagFills.{flag_sizes}
 use Rattle.tv_parts.proofs.MemoryFills.{memory_sizes}

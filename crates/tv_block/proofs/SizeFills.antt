@@ -1,14 +1,13 @@
 -- That the values of a step are one number of the field for each of its wires.
-use Rattle.std.proofs.Common.{◌≡◌, ℕ, ◌+◌, ◌-◌, ◌*◌, ◌/◌, ◌%◌, ◌^◌, ◌<◌, ◌==◌, Bool, if◌then◌else◌}
-use Rattle.std.proofs.Common.{List, [], ◌∷◌, ◌++◌, length, length-append, refl, sym, ◌∙◌, ap, ap₂, arith}
-use Rattle.std.specs.Prelude.{slice_index, slice_set}
-use Rattle.std.proofs.lemmas.Bool.{cond_both}
+use Rattle.tv_core.proofs.Common.{◌≡◌, ℕ, ◌+◌, ◌-◌, ◌*◌, ◌/◌, ◌%◌, ◌^◌, ◌<◌, ◌==◌, Bool, if◌then◌else◌, List, [], ◌∷◌, ◌++◌, length, refl, sym, ◌∙◌, ap, ap₂}
+use Rattle.tv_core.proofs.Common.{arith, slice_index, cond_both, InField-cons, Circuit, pure, ◌>>=◌, InField, IsWidth, flag_of}
+use Rattle.std.proofs.Common.{length-append}
+use Rattle.std.specs.Prelude.{slice_set}
 use Rattle.std.proofs.lemmas.List.Elements.{All-from_get_or, All-set}
 use Rattle.tv_bits.proofs.ZeroSignLaws.{zero_sign_sizes}
 use Rattle.tv_bits.specs.ZeroSign.{sign_at_zero, zero_sign_of, zero_sign_values}
-use Rattle.tv_core.proofs.FieldLaws.{InField-append, InField-cons}
-use Rattle.tv_core.specs.Circuits.{Circuit, pure, ◌>>=◌}
-use Rattle.tv_core.specs.Laws.{Fills, InField}
+use Rattle.tv_core.proofs.FieldLaws.{InField-append}
+use Rattle.tv_core.specs.Laws.{Fills}
 use Rattle.tv_core.specs.declared.field.TheConstants.{P}
 use Rattle.tv_decode.proofs.InstructionLaws.{instruction_sizes}
 use Rattle.tv_decode.specs.Instructions.{instruction_of, instruction_values}
@@ -24,7 +23,6 @@ use Rattle.tv_regs.proofs.TripleLaws.{triple_sizes}
 use Rattle.tv_regs.specs.Triple.{triple_of, triple_values}
 use Rattle.tv_regs.specs.declared.triple.Triple.{Triple}
 use Rattle.tv_step.proofs.RangeLaws.{word_at}
-use Rattle.tv_word.specs.Widths.{IsWidth}
 use Rattle.tv_arithmetic.proofs.ArithmeticCounts.{arithmetic_sizes}
 use Rattle.tv_arithmetic.proofs.ArithmeticNumbers.{numbers_are_words}
 use Rattle.tv_inputs.proofs.FieldNumbers.{small_word}
@@ -53,7 +51,6 @@ use Rattle.tv_block.proofs.BlockChain.{block_end}
 use Rattle.tv_block.specs.Block.{data_of, sources_of, block_of}
 use Rattle.tv_block.specs.Complete.{block_made, BlockSizes}
 use Rattle.tv_block.specs.Values.{row_low, row_high, tested_in, test_in, other_register, block_values}
-use Rattle.tv_word.specs.Word.{flag_of}
 
 -- ---- as many as the wires
 -- a list has n numbers

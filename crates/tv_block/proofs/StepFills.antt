@@ -1,6 +1,5 @@
 -- That a step's values are computed from what a trace has of it.
-use Rattle.std.proofs.Common.{◌≡◌, ℕ, ◌+◌, ◌-◌, ◌/◌, Bool, List, length, refl, ◌∙◌, ap, ap₂, arith}
-use Rattle.tv_core.specs.Lines.{Line}
+use Rattle.tv_core.proofs.Common.{◌≡◌, ℕ, ◌+◌, ◌-◌, ◌/◌, Bool, List, length, refl, ◌∙◌, ap, ap₂, arith, Line, flag_of}
 use Rattle.tv_mem.proofs.WordLaws.{words_are_small}
 use Rattle.tv_numbers.proofs.ShownLaws.{seen_in_range}
 use Rattle.tv_numbers.specs.Views.{View}
@@ -11,7 +10,6 @@ use Rattle.tv_step.specs.Trace.{data_line}
 use Rattle.tv_block.proofs.MachineFills.{taken_small}
 use Rattle.tv_block.specs.StepWords.{StepsAreGiven}
 use Rattle.tv_word.proofs.FlagLaws.{flag_small}
-use Rattle.tv_word.specs.Word.{flag_of}
 
 -- values of the same are the same
 pub same_values : (f : View → ℕ → ℕ → ℕ → Bool → List ℕ) {v v2 : View} {h h2 u u2 o o2 : ℕ} {b b2 : Bool}

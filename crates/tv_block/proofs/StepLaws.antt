@@ -1,13 +1,11 @@
 -- A step of which a part is returned, and where the state after it stands.
-use Rattle.std.proofs.Common.{ℕ, ◌+◌, ◌++◌, refl, sym, ◌∙◌, subst, arith}
+use Rattle.tv_core.proofs.Common.{ℕ, ◌+◌, ◌++◌, refl, sym, ◌∙◌, subst, arith, Circuit, pure, ◌>>=◌, PutsAll, IsWidth}
 use Rattle.std.proofs.lemmas.List.{append-nil}
 use Rattle.tv_block.specs.Complete.{block_made}
 use Rattle.tv_block.specs.Places.{next_state}
-use Rattle.tv_core.specs.Circuits.{Circuit, pure, ◌>>=◌}
-use Rattle.tv_core.specs.Sinks.{Meaning, PutsAll, PutsSome}
+use Rattle.tv_core.specs.Sinks.{Meaning, PutsSome}
 use Rattle.tv_core.specs.declared.sink.SinkFault.{SinkFault}
 use Rattle.tv_inputs.specs.States.{StateUnder}
-use Rattle.tv_word.specs.Widths.{IsWidth}
 
 -- what puts a circuit and answers a part of its answer puts the circuit
 module _ {S : Type 0} (m : Meaning S) {A B : Type 0} where

@@ -1,8 +1,8 @@
 -- The first difference of two lists, place by place, as a loop looks for it.
-use Rattle.std.proofs.Common.{◌≡◌, ℕ, suc, ◌+◌, true, ltb, List, [], ◌∷◌, length, drop, Option, Some, refl, sym, ap, ◌∙◌, length-drop, arith}
+use Rattle.tv_core.proofs.Common.{◌≡◌, ℕ, suc, ◌+◌, true, List, [], ◌∷◌, length, drop, Option, Some, refl, sym, ap, ◌∙◌, arith, nat_tests}
+use Rattle.std.proofs.Common.{ltb, length-drop}
 use Rattle.std.specs.Bool.{then_some}
 use Rattle.std.specs.Option.{option_map}
-use Rattle.std.proofs.lemmas.Bool.Decides.{nat_tests}
 use Rattle.std.proofs.Math.ListN.{drop_of_length-le}
 use Rattle.tv_check.specs.Verdict.{first_difference}
 

@@ -1,11 +1,11 @@
 -- The first of a list that is wrong: a constraint that doesn't hold, or a place where two lists differ.
-use Rattle.std.proofs.Common.{◌≡◌, ℕ, zero, suc, ◌+◌, ◌==◌, ◌⊎◌, Bool, true, false, cond, List, [], ◌∷◌, take, Option, Some, None, inl, inr, refl, sym, ap}
-use Rattle.std.proofs.Common.{◌∙◌, arith}
+use Rattle.tv_core.proofs.Common.{◌≡◌, ℕ, zero, suc, ◌+◌, ◌==◌, ◌⊎◌, Bool, true, false, cond, List, [], ◌∷◌, take, Option, Some, None, inl, inr, refl, sym, ap}
+use Rattle.tv_core.proofs.Common.{◌∙◌, arith, eqb-true, eq-eqb, ne_eqb, Constraint}
 use Rattle.std.specs.Prelude.{slice_get}
 use Rattle.std.specs.Option.{option_map}
 use Rattle.std.specs.List.{AllByRecursion}
-use Rattle.std.proofs.lemmas.Bool.{eqb-true, eqb-false, eq-eqb, ne_eqb}
-use Rattle.tv_core.specs.Constraints.{Constraint, Holds}
+use Rattle.std.proofs.lemmas.Bool.{eqb-false}
+use Rattle.tv_core.specs.Constraints.{Holds}
 use Rattle.tv_core.specs.Meanings.{holds, first_failure}
 use Rattle.tv_check.specs.Verdict.{first_difference}
 use Rattle.tv_check.specs.Meaning.{DifferFirst}

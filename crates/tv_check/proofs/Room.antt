@@ -1,5 +1,6 @@
 -- A system that a file holds has wires for the constant 1 and its public numbers.
-use Rattle.std.proofs.Common.{ℕ, ◌+◌, ◌*◌, ◌==◌, not, List, Option, Some, None, Ok, ltb}
+use Rattle.tv_core.proofs.Common.{ℕ, ◌+◌, ◌*◌, ◌==◌, not, List, Option, Some, None, Ok}
+use Rattle.std.proofs.Common.{ltb}
 use Rattle.std.specs.Prelude.{IfOk}
 use Rattle.std.proofs.lemmas.Bool.{ltb-false}
 use Rattle.tv_r1cs_read.specs.declared.header.Header.{Header}

@@ -1,7 +1,8 @@
 -- The verdict by the constraints that were tried.
-use Rattle.std.proofs.Common.{◌≡◌, ◌≢◌, ℕ, ◌+◌, ◌==◌, Bool, true, false, cond, List, [], ◌∷◌, ◌++◌, length, take, Option, Some, None, MatchOption, Result, Ok}
-use Rattle.std.proofs.Common.{Err, refl, sym, ap, ◌∙◌}
-use Rattle.tv_core.specs.Constraints.{System, Constraint}
+use Rattle.tv_core.proofs.Common.{◌≡◌, ◌≢◌, ℕ, ◌+◌, ◌==◌, Bool, true, false, cond, List, [], ◌∷◌, ◌++◌, length, take, Option, Some, None, Result, Ok, Err, refl}
+use Rattle.tv_core.proofs.Common.{sym, ap, ◌∙◌, Constraint}
+use Rattle.std.proofs.Common.{MatchOption}
+use Rattle.tv_core.specs.Constraints.{System}
 use Rattle.tv_core.specs.Meanings.{holds, first_failure}
 use Rattle.tv_r1cs_read.specs.declared.header.Header.{Header}
 use Rattle.tv_container.specs.declared.why.ReadRefusal.{ReadRefusal}

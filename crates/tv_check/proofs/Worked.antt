@@ -1,5 +1,5 @@
 -- Worked rows: the verdicts on the system of four wires, wire 1 public, in which wire 1 times wire 2 is wire 3.
-use Rattle.std.proofs.Common.{◌≡◌, [], ◌∷◌, refl}
+use Rattle.tv_core.proofs.Common.{◌≡◌, [], ◌∷◌, refl}
 use Rattle.tv_core.specs.Constraints.{System}
 use Rattle.tv_check.specs.declared.verdict.Verdict.TheVariants.{Yes, WireCount, NoPublic, NoConstraint}
 use Rattle.tv_check.specs.Verdict.{judge}

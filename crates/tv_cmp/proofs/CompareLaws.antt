@@ -1,8 +1,10 @@
 -- The laws of the comparison.
-use Rattle.std.proofs.Common.{◌≡◌, ℕ, ◌+◌, ◌-◌, ◌*◌, ◌/◌, ◌%◌, ◌^◌, ◌<◌, ◌≤◌, List, [], ◌∷◌, ◌++◌, ◌==◌, Bool, true, false, if◌then◌else◌, nat_lt, int_lt}
-use Rattle.std.proofs.Common.{length, length-append, refl, sym, subst, ◌∙◌, ap, ap₂, arith}
-use Rattle.std.specs.Int.{bit_at}
-use Rattle.std.specs.Prelude.{slice_index}
+use Rattle.tv_core.proofs.Common.{◌≡◌, ℕ, ◌+◌, ◌-◌, ◌*◌, ◌/◌, ◌%◌, ◌^◌, ◌<◌, ◌≤◌, List, [], ◌∷◌, ◌++◌, ◌==◌, Bool, true, false, if◌then◌else◌, nat_lt, length}
+use Rattle.tv_core.proofs.Common.{refl, sym, subst, ◌∙◌, ap, ap₂, arith, bit_at, slice_index, width_short, IsWidth, length-each_below, value-less, value-wire}
+use Rattle.tv_core.proofs.Common.{wire-below, InField-none, InField-cons, Meets-split, Meets-join, HasFrom-split, here, fresh, put, pure, ◌>>=◌, wire, less}
+use Rattle.tv_core.proofs.Common.{value, Assigns, Meets, HasFrom, InField}
+use Rattle.std.proofs.Common.{int_lt}
+use Rattle.std.proofs.Common.{length-append}
 use Rattle.tv_bits.proofs.BitLaws.{bit_sound, bit_complete}
 use Rattle.tv_bits.proofs.PrefixLaws.{prefix_difference_sound, prefix_difference_complete, prefix_difference_next, length-products, products_in_field}
 use Rattle.tv_bits.proofs.SizeLaws.{length-bits, bits_in_field}
@@ -19,17 +21,8 @@ use Rattle.tv_cmp.proofs.Decisions.{sign_in, decided, settled}
 use Rattle.tv_cmp.proofs.Flags.{greater_is, greater_flag-bit}
 use Rattle.tv_cmp.specs.Compare.{above_flag, greater_flag, equal_flag, word_bits, sign, but_for_signs, order_flags_of, signed_size_of, compare_of}
 use Rattle.tv_cmp.specs.Compare.{size, signed_size, compare_values, CompareIsSound, CompareIsComplete, CompareSizes}
-use Rattle.tv_word.proofs.WidthLaws.{width_short}
-use Rattle.tv_word.specs.Widths.{IsWidth}
 use Rattle.tv_word.specs.Word.{signed}
-use Rattle.tv_core.proofs.BelowLaws.{length-each_below}
-use Rattle.tv_core.proofs.CombinationLaws.{value-less, value-wire, wire-below}
-use Rattle.tv_core.proofs.FieldLaws.{InField-none, InField-cons, InField-append}
-use Rattle.tv_core.proofs.MeetsLaws.{Meets-split, Meets-join, HasFrom-split}
-use Rattle.tv_core.specs.Circuits.{here, fresh, put, pure, ◌>>=◌}
-use Rattle.tv_core.specs.Combinations.{wire, less}
-use Rattle.tv_core.specs.Constraints.{value}
-use Rattle.tv_core.specs.Laws.{Assigns, Meets, HasFrom, InField}
+use Rattle.tv_core.proofs.FieldLaws.{InField-append}
 use Rattle.tv_core.specs.declared.field.TheConstants.{P}
 
 module _ (z : List ℕ) (assigns : Assigns z) where

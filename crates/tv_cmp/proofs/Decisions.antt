@@ -1,13 +1,12 @@
 -- What the constraints of the comparison say, as numbers, and that the values have it.
-use Rattle.std.proofs.Common.{◌≡◌, ◌≢◌, ℕ, ◌+◌, ◌-◌, ◌*◌, ◌/◌, ◌%◌, ◌^◌, ◌<◌, ◌≤◌, inl, inr, sym, subst, ◌∙◌, ap, ap₂, arith, mod-lt, zero-mul}
-use Rattle.std.proofs.lemmas.Bool.{cases_eq, cases_lt}
+use Rattle.tv_core.proofs.Common.{◌≡◌, ◌≢◌, ℕ, ◌+◌, ◌-◌, ◌*◌, ◌/◌, ◌%◌, ◌^◌, ◌<◌, ◌≤◌, inl, inr, sym, subst, ◌∙◌, ap, ap₂, arith, mod-lt, zero-mul, cases_eq}
+use Rattle.tv_core.proofs.Common.{cases_lt, IsWidth}
 use Rattle.tv_bits.proofs.BitLaws.{bit_cases}
 use Rattle.tv_bits.proofs.OrderLaws.{IsPrefixDifference-above, IsPrefixDifference-first, IsPrefixDifference-turned, IsPrefixDifference-back}
 use Rattle.tv_bits.proofs.OrderLaws.{IsPrefixDifference-same, IsPrefixDifference-none, first_difference-some, first_difference-below, first_difference-none}
 use Rattle.tv_bits.specs.Order.{IsPrefixDifference, first_difference}
 use Rattle.tv_cmp.proofs.Flags.{equal_flag-same, equal_flag-apart, above_flag-above, above_flag-not}
 use Rattle.tv_cmp.specs.Compare.{equal_flag, above_flag, size, signed_size}
-use Rattle.tv_word.specs.Widths.{IsWidth}
 use Rattle.tv_core.proofs.DifferenceLaws.{same_of_minus}
 use Rattle.tv_core.proofs.PrimeLaws.{p_zero_product_below}
 use Rattle.tv_core.specs.declared.field.TheConstants.{P}

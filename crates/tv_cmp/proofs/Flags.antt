@@ -1,12 +1,10 @@
 -- The flags of two words, and what the constraints on them say, as numbers.
-use Rattle.std.proofs.Common.{◌≡◌, ◌≢◌, ℕ, ◌+◌, ◌-◌, ◌/◌, ◌^◌, ◌<◌, ◌≤◌, if◌then◌else◌, Bool, true, false, int_lt, ap}
-use Rattle.std.proofs.Common.{arith, eq-eqb, ne_eqb}
-use Rattle.std.proofs.lemmas.Bool.{lt-ltb, le-ltb}
+use Rattle.tv_core.proofs.Common.{◌≡◌, ◌≢◌, ℕ, ◌+◌, ◌-◌, ◌/◌, ◌^◌, ◌<◌, ◌≤◌, if◌then◌else◌, Bool, true, false, ap, arith, lt-ltb, le-ltb, nat_tests, IsWidth}
+use Rattle.std.proofs.Common.{int_lt}
+use Rattle.std.proofs.Common.{eq-eqb, ne_eqb}
 use Rattle.std.proofs.lemmas.Int.{ints}
-use Rattle.std.proofs.lemmas.Bool.Decides.{nat_tests}
 use Rattle.tv_cmp.specs.Compare.{equal_flag, above_flag, greater_flag}
 use Rattle.tv_word.proofs.SignedLaws.{int_lt_cases}
-use Rattle.tv_word.specs.Widths.{IsWidth}
 use Rattle.tv_word.specs.Word.{signed}
 
 -- ---- the flags

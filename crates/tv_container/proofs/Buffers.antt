@@ -1,7 +1,8 @@
 -- What appending bytes held and given does, piece by piece.
-use Rattle.std.proofs.Common.{◌≡◌, ℕ, ◌<◌, ◌∷◌, add-one, get_or, ◌+◌, ◌-◌, ◌≤◌, min, ⊎_elim, List, [], ◌++◌, length, take, drop, option_map, Option, Some}
-use Rattle.std.proofs.Common.{None, Result, Ok, Err, IsErrAnd, append_assoc, append-nil, ap, refl, sym, ◌∙◌, subst, arith, rules, inl, inr, ◌⊎◌}
-use Rattle.std.proofs.lemmas.Bool.{cases_lt}
+use Rattle.tv_core.proofs.Common.{◌≡◌, ℕ, ◌<◌, ◌∷◌, add-one, get_or, ◌+◌, ◌-◌, ◌≤◌, List, [], ◌++◌, length, take, drop, Option, Some, None, Result, Ok, Err}
+use Rattle.tv_core.proofs.Common.{append_assoc, append-nil, ap, refl, sym, ◌∙◌, subst, arith, rules, inl, inr, ◌⊎◌, cases_lt}
+use Rattle.std.proofs.Common.{min, ⊎_elim, option_map}
+use Rattle.std.proofs.Common.{IsErrAnd}
 use Rattle.std.proofs.lemmas.List.{take-append-le, take_min, take-take, take-append-drop, drop-take, drop_all, length-take-le, length-drop}
 use Rattle.std.proofs.lemmas.List.Edits.{take-paste}
 use Rattle.std.proofs.lemmas.Grind.{flat_map-append}

@@ -1,8 +1,6 @@
 -- Bytes that stand at a place of a file, and what a reader makes of them.
-use Rattle.std.proofs.Common.{◌≡◌, ℕ, suc, ◌+◌, ◌^◌, ◌<◌, ◌≤◌, List, [], ◌∷◌, ◌++◌, length, take, drop, ◌-◌, true, false, Ok, append_assoc, append-nil, ap}
-use Rattle.std.proofs.Common.{refl, sym, ◌∙◌, arith}
-use Rattle.std.proofs.lemmas.Bool.Decides.{nat_tests}
-use Rattle.std.proofs.lemmas.List.{length-append}
+use Rattle.tv_core.proofs.Common.{◌≡◌, ℕ, suc, ◌+◌, ◌^◌, ◌<◌, ◌≤◌, List, [], ◌∷◌, ◌++◌, length, take, drop, ◌-◌, true, false, Ok, append_assoc, append-nil, ap}
+use Rattle.tv_core.proofs.Common.{refl, sym, ◌∙◌, arith, nat_tests, length-append}
 use Rattle.std.proofs.Math.Seq.{drop-append_seam, take-append_seam}
 use Rattle.tv_core.specs.declared.field.TheConstants.{P}
 use Rattle.tv_word.specs.Word.{low_bytes, little_endian}

@@ -1,5 +1,5 @@
 -- Steps that may refuse, one after another.
-use Rattle.std.proofs.Common.{◌≡◌, ℕ, Bool, true, false, List, Option, None, Some, Result, Ok, Err, inl, refl, rules, ap, subst, ◌∙◌}
+use Rattle.tv_core.proofs.Common.{◌≡◌, ℕ, Bool, true, false, List, Option, None, Some, Result, Ok, Err, inl, refl, rules, ap, subst, ◌∙◌}
 use Rattle.std.specs.Prelude.{IfErr, IfOk, IsErrAnd, MatchOption}
 use Rattle.tv_files.specs.Outside.{Outside}
 use Rattle.tv_container.specs.declared.why.ReadRefusal.{ReadRefusal}

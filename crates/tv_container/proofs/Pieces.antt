@@ -1,9 +1,8 @@
 -- Pieces of a file, and a read that returns one.
-use Rattle.std.proofs.Common.{◌≡◌, ℕ, ◌+◌, ◌-◌, ◌^◌, ◌<◌, ◌≤◌, nat_le, nat_eq, ⊎_elim, List, ◌++◌, length, take, drop, Option, Some, None, Ok, arith, ap}
-use Rattle.std.proofs.Common.{refl, sym, ◌∙◌}
+use Rattle.tv_core.proofs.Common.{◌≡◌, ℕ, ◌+◌, ◌-◌, ◌^◌, ◌<◌, ◌≤◌, List, ◌++◌, length, take, drop, Option, Some, None, Ok, arith, ap, refl, sym, ◌∙◌, nat_tests}
+use Rattle.tv_core.proofs.Common.{cases_lt}
+use Rattle.std.proofs.Common.{nat_le, nat_eq, ⊎_elim}
 use Rattle.std.proofs.lemmas.List.{take-append-le, take-take, drop-take, drop-drop, length-take, length-take-le, length-drop}
-use Rattle.std.proofs.lemmas.Bool.Decides.{nat_tests}
-use Rattle.std.proofs.lemmas.Bool.{cases_lt}
 use Rattle.std.proofs.Math.Seq.{take-add, take-append-add}
 use Rattle.std.proofs.lemmas.List.Edits.{take-paste}
 use Rattle.std.specs.List.{copy_within}

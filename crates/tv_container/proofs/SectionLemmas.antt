@@ -1,7 +1,8 @@
 -- Sections, one after the others.
-use Rattle.std.proofs.Common.{◌≡◌, ◌≢◌, ℕ, zero, suc, ◌+◌, ◌≤◌, ◌<◌, List, [], ◌∷◌, ◌++◌, length, Bool, true, false, cond, eqb, Option, Some, None, Result, Ok}
-use Rattle.std.proofs.Common.{Err, refl, ◌∙◌, add-one, nat_lt, nat_le, not, ◌==◌, arith}
-use Rattle.std.proofs.lemmas.Bool.Decides.{nat_tests}
+use Rattle.tv_core.proofs.Common.{◌≡◌, ◌≢◌, ℕ, zero, suc, ◌+◌, ◌≤◌, ◌<◌, List, [], ◌∷◌, ◌++◌, length, Bool, true, false, cond, Option, Some, None, Result, Ok}
+use Rattle.tv_core.proofs.Common.{Err, refl, ◌∙◌, add-one, nat_lt, not, ◌==◌, arith, nat_tests}
+use Rattle.std.proofs.Common.{eqb}
+use Rattle.std.proofs.Common.{nat_le}
 use Rattle.std.specs.Option.{option_or}
 use Rattle.tv_core.specs.declared.field.TheConstants.{P}
 use Rattle.tv_container.specs.declared.sections.Section.{Section}

@@ -1,5 +1,6 @@
 -- What was created and then appended to is one file that was streamed.
-use Rattle.std.proofs.Common.{◌≡◌, ◌⊎◌, ℕ, List, [], Option, Some, None, option_map, take, Result, Ok, Err, inl, inr, ap, refl, sym, ◌∙◌, arith}
+use Rattle.tv_core.proofs.Common.{◌≡◌, ◌⊎◌, ℕ, List, [], Option, Some, None, take, Result, Ok, Err, inl, inr, ap, refl, sym, ◌∙◌, arith}
+use Rattle.std.proofs.Common.{option_map}
 use Rattle.std.specs.Prelude.{OnOk, OnErr}
 use Rattle.tv_container.proofs.Buffers.{appends_then, cause_then, counts_then, is_cause}
 use Rattle.tv_container.specs.Writing.{OnlyAppends}

@@ -1,6 +1,6 @@
 -- Bytes that are written to a file a piece at a time, and what of them it has.
-use Rattle.std.proofs.Common.{◌≡◌, ℕ, ◌+◌, ◌≤◌, min, List, ◌++◌, length, take, Option, Some, None, option_map, cond, append_assoc, ap, refl, sym}
-use Rattle.std.proofs.Common.{◌∙◌, arith}
+use Rattle.tv_core.proofs.Common.{◌≡◌, ℕ, ◌+◌, ◌≤◌, List, ◌++◌, length, take, Option, Some, None, cond, append_assoc, ap, refl, sym, ◌∙◌, arith}
+use Rattle.std.proofs.Common.{min, option_map}
 use Rattle.std.proofs.lemmas.List.{take-append-le, take_min}
 use Rattle.std.proofs.Math.Seq.{take-append-add, take-append_seam}
 use Rattle.std.proofs.lemmas.Slice.Eq.{bytes_eq-Decides}

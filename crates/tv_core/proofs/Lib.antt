@@ -4,11 +4,11 @@ pub mod BelowLaws
 mod Cells
 pub mod Chain
 pub mod CombinationLaws
+pub mod Common
 pub mod DifferenceLaws
 pub mod Euclid
 pub mod FieldLaws
 pub mod Fits
-pub mod ValuesChain
 pub mod HasLaws
 pub mod InverseLaws
 pub mod JoinedLaws
@@ -26,3 +26,4 @@ pub mod RowLaws
 pub mod TailCalls
 pub mod TestLaws
 pub mod Unique
+pub mod ValuesChain

@@ -1,6 +1,6 @@
 -- The laws of the fields.
-use Rattle.std.proofs.Common.{◌≡◌, ℕ, ◌+◌, ◌-◌, ◌/◌, ◌%◌, ◌^◌, ◌<◌, ◌==◌, if◌then◌else◌, List, ◌++◌, length, inl, inr, refl, sym, ◌∙◌, ap, subst, arith}
-use Rattle.std.specs.Prelude.{slice_index}
+use Rattle.tv_core.proofs.Common.{◌≡◌, ℕ, ◌+◌, ◌-◌, ◌/◌, ◌%◌, ◌^◌, ◌<◌, ◌==◌, if◌then◌else◌, List, ◌++◌, length, inl, inr, refl, sym, ◌∙◌, ap, subst, arith}
+use Rattle.tv_core.proofs.Common.{slice_index, length-each_below, Meets-split, Meets-join, HasFrom-split, each_below, pure, ◌>>=◌, HasFrom, IsWidth}
 use Rattle.tv_bits.proofs.BitLaws.{bit_cases}
 use Rattle.tv_bits.proofs.OneHotLaws.{onehot_sound, onehot_complete, onehot_next}
 use Rattle.tv_bits.proofs.SizeLaws.{onehot_in_field, onehot_sizes}
@@ -8,16 +8,10 @@ use Rattle.tv_bits.proofs.BitNumbers.{HasBits-low, HasBits-high, HasBits-bit_at}
 use Rattle.tv_bits.specs.Bits.{HasBits, part}
 use Rattle.tv_bits.specs.OneHot.{onehot_of, onehot_values, one_at}
 use Rattle.tv_bits.specs.declared.bit_wires.Bits.{Bits}
-use Rattle.tv_core.proofs.BelowLaws.{length-each_below}
 use Rattle.tv_core.proofs.FieldLaws.{InField-append}
-use Rattle.tv_core.proofs.MeetsLaws.{Meets-split, Meets-join, HasFrom-split}
-use Rattle.tv_core.specs.Below.{each_below}
-use Rattle.tv_core.specs.Circuits.{pure, ◌>>=◌}
-use Rattle.tv_core.specs.Laws.{HasFrom}
 use Rattle.tv_decode.specs.Fields.{fields_of, fields_wires, fields_values, FieldsAreSound, FieldsAreComplete, FieldsSizes}
 use Rattle.tv_isa.specs.Instruction.{field}
 use Rattle.tv_isa.specs.declared.instr.Instr.{Instr}
-use Rattle.tv_word.specs.Widths.{IsWidth}
 
 -- some of a word's bits represent a field of it
 pub field_bits_are : (z : List ℕ) (w first low count more v : ℕ) → low + (count + more) ≡ w → HasBits z first w v

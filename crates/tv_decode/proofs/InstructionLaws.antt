@@ -1,10 +1,9 @@
 -- The laws of an instruction with a row of the used opcodes.
-use Rattle.std.proofs.Common.{◌⊎◌, ◌≡◌, ◌≢◌, ℕ, zero, suc, ◌+◌, ◌-◌, ◌*◌, ◌%◌, ◌^◌, ◌<◌, ◌≤◌, ◌==◌, true, List, [], ◌∷◌, ◌++◌, length}
-use Rattle.std.proofs.Common.{inl, inr, refl, sym, ◌∙◌, ap, ap₂, subst, arith, mod-lt, eq-eqb, mul-zero, mul-one, zero-mul}
-use Rattle.std.specs.Prelude.{slice_index}
-use Rattle.std.proofs.lemmas.Bool.{cases_eq, cases_lt}
-use Rattle.std.proofs.lemmas.Bool.Decides.{nat_tests}
-use Rattle.std.proofs.lemmas.List.{length-append}
+use Rattle.tv_core.proofs.Common.{◌⊎◌, ◌≡◌, ◌≢◌, ℕ, zero, suc, ◌+◌, ◌-◌, ◌*◌, ◌%◌, ◌^◌, ◌<◌, ◌≤◌, ◌==◌, true, List, [], ◌∷◌, ◌++◌, length, inl, inr, refl, sym}
+use Rattle.tv_core.proofs.Common.{◌∙◌, ap, ap₂, subst, arith, mod-lt, zero-mul, slice_index, cases_eq, cases_lt, nat_tests, length-append, length-each_below}
+use Rattle.tv_core.proofs.Common.{value-below, value-append, InField-none, InField-cons, Meets-split, Meets-join, here, fresh, put, pure, turns, ◌>>=◌}
+use Rattle.tv_core.proofs.Common.{Combination, value, Assigns, Meets, HasFrom, InField, terms_in, for_widths, IsWidth, flag_of}
+use Rattle.std.proofs.Common.{eq-eqb, mul-zero, mul-one}
 use Rattle.std.proofs.lemmas.Nat.{pow_pos}
 use Rattle.tv_bits.proofs.BitLaws.{bit_cases}
 use Rattle.tv_bits.proofs.NewBitsLaws.{bits_are, bits_met}
@@ -18,16 +17,11 @@ use Rattle.tv_bits.specs.Bits.{HasBits, binary_value, bits_combination, bits_val
 use Rattle.tv_bits.specs.OneHot.{IsOneHot, row_sum, one_at}
 use Rattle.tv_bits.specs.Times.{kept_of, times_of}
 use Rattle.tv_core.proofs.BelowLaws.{sum_below-zero, sum_below-suc, sum_below-add, sum_below-same, sum_below-single, sum_below-zeros, value-weighted}
-use Rattle.tv_core.proofs.BelowLaws.{has_each, length-each_below}
-use Rattle.tv_core.proofs.CombinationLaws.{value-below, value-append, value-constant}
-use Rattle.tv_core.proofs.FieldLaws.{InField-none, InField-cons, InField-append, InField-each_below}
+use Rattle.tv_core.proofs.BelowLaws.{has_each}
+use Rattle.tv_core.proofs.CombinationLaws.{value-constant}
+use Rattle.tv_core.proofs.FieldLaws.{InField-append, InField-each_below}
 use Rattle.tv_core.proofs.HasLaws.{HasFrom-after}
-use Rattle.tv_core.proofs.MeetsLaws.{Meets-split, Meets-join}
 use Rattle.tv_core.specs.Below.{sum_below, weighted}
-use Rattle.tv_core.specs.Circuits.{here, fresh, put, pure, turns, ◌>>=◌}
-use Rattle.tv_core.specs.Constraints.{Combination, value}
-use Rattle.tv_core.specs.Laws.{Assigns, Meets, HasFrom, InField}
-use Rattle.tv_core.specs.Meanings.{terms_in}
 use Rattle.tv_core.specs.declared.field.TheConstants.{P}
 use Rattle.tv_decode.specs.Instructions.{IsOpcodeRow, opcode_values, opcode_weight, head_of, instruction_of, instruction_wires}
 use Rattle.tv_decode.specs.Instructions.{instruction_values, IsDecoded, InstructionIsSound, InstructionIsComplete, InstructionSizes, InstructionCosts}
@@ -36,9 +30,6 @@ use Rattle.tv_decode.specs.declared.records.InstructionWires.{InstructionWires}
 use Rattle.tv_decode.proofs.FieldsLaws.{field_bits_are, word_reg_bits, by_parity}
 use Rattle.tv_isa.specs.Instruction.{field, decode}
 use Rattle.tv_isa.specs.Opcodes.{is_used, place_of, opcode_at}
-use Rattle.tv_word.proofs.WidthLaws.{for_widths}
-use Rattle.tv_word.specs.Widths.{IsWidth}
-use Rattle.tv_word.specs.Word.{flag_of}
 
 -- ---- places in the row
 -- a used opcode is below 32, and not one of the three unused

@@ -1,6 +1,6 @@
 -- An instruction's circuit puts normal combinations.
-use Rattle.std.proofs.Common.{ℕ, ◌+◌, ◌-◌, ◌*◌, ◌^◌, ◌<◌, ◌≤◌, arith}
-use Rattle.std.proofs.lemmas.Bool.Decides.{nat_tests}
+use Rattle.tv_core.proofs.Common.{ℕ, ◌+◌, ◌-◌, ◌*◌, ◌^◌, ◌<◌, ◌≤◌, arith, nat_tests, here, pure, put, ◌>>=◌, constant, IsNormal, IsNormalFrom, AreNormal}
+use Rattle.tv_core.proofs.Common.{IsWidth}
 use Rattle.tv_bits.proofs.NormalLaws.{constant_normal, bits_normal, bits_top, row_normal, weighted_normal, new_bits_normal, kept_normal}
 use Rattle.tv_bits.proofs.BitsLaws.{new_bits_next}
 use Rattle.tv_bits.specs.Bits.{bits_combination, new_bits_of}
@@ -9,14 +9,10 @@ use Rattle.tv_bits.specs.Times.{kept_of}
 use Rattle.tv_core.proofs.NormalCircuits.{normal_append, normal_both}
 use Rattle.tv_core.proofs.NormalLaws.{IsNormalFrom-lower}
 use Rattle.tv_core.specs.Below.{weighted}
-use Rattle.tv_core.specs.Circuits.{here, pure, put, ◌>>=◌}
-use Rattle.tv_core.specs.Combinations.{constant}
-use Rattle.tv_core.specs.Normal.{IsNormal, IsNormalFrom, AreNormal}
 use Rattle.tv_core.specs.declared.field.TheConstants.{P}
 use Rattle.tv_decode.specs.Instructions.{opcode_weight, head_of, instruction_of}
 use Rattle.tv_decode.proofs.InstructionLaws.{at_below}
 use Rattle.tv_isa.specs.Opcodes.{opcode_at}
-use Rattle.tv_word.specs.Widths.{IsWidth}
 
 -- ---- the weights of the opcodes but 0
 weight_of : (w : ℕ) → IsWidth w → (k : ℕ) → 1 ≤ k → k < 32 → (0 < k * 2 ^ (w - 5)) × (k * 2 ^ (w - 5) < P)

@@ -1,8 +1,8 @@
 -- What stands below the next wire, and the room that is left, after the calls of the gadgets.
-use Rattle.std.proofs.Common.{◌≡◌, ℕ, ◌+◌, ◌-◌, ◌*◌, ◌^◌, ◌≤◌, ◌<◌, max, arith}
+use Rattle.tv_core.proofs.Common.{◌≡◌, ℕ, ◌+◌, ◌-◌, ◌*◌, ◌^◌, ◌≤◌, ◌<◌, arith, Grows, IsWidth}
+use Rattle.std.proofs.Common.{max}
 use Rattle.tv_bits.proofs.Growing.{room_after, both, grows_as}
-use Rattle.tv_core.specs.Sinks.{Meaning, Grows, Room}
-use Rattle.tv_word.specs.Widths.{IsWidth}
+use Rattle.tv_core.specs.Sinks.{Meaning, Room}
 
 pub greatest : (a b c : ℕ) {n : ℕ} → a + 16 ≤ n → b + 16 ≤ n → c + 16 ≤ n → max a (max b c) + 16 ≤ n
 greatest a b c h k l = omega arith

@@ -1,10 +1,9 @@
 -- The generator's states follow each other.
-use Rattle.std.proofs.Common.{◌≡◌, ℕ, zero, suc, ◌+◌, ◌*◌, ◌%◌, ◌<◌, ◌^◌, List, [], ◌∷◌, ◌++◌, sym, ap, ap₂, ◌∙◌, arith, add-one}
+use Rattle.tv_core.proofs.Common.{◌≡◌, ℕ, zero, suc, ◌+◌, ◌*◌, ◌%◌, ◌<◌, ◌^◌, List, [], ◌∷◌, ◌++◌, sym, ap, ap₂, ◌∙◌, arith, add-one, each_below, joined_below}
 use Rattle.std.proofs.Math.Nat.{mod-add-mod}
 use Rattle.rand_xoshiro.specs.SplitMix64.{next_state, mix_u64}
 use Rattle.tv_core.proofs.BelowLaws.{each_below-suc, each_below-zero}
 use Rattle.tv_core.proofs.JoinedLaws.{joined_below-zero, joined_below-suc}
-use Rattle.tv_core.specs.Below.{each_below, joined_below}
 use Rattle.tv_draw.specs.Program.{generator_state, word_at, words_drawn}
 
 pub state_first : (x : ℕ) → x < 2 ^ 64 → x ≡ generator_state x 0

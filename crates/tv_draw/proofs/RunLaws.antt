@@ -1,16 +1,15 @@
 -- A drawn program is of words, and answers 0 at its last instruction.
-use Rattle.std.proofs.Common.{◌≡◌, ℕ, zero, suc, ◌+◌, ◌-◌, ◌*◌, ◌/◌, ◌%◌, ◌^◌, ◌<◌, ◌≤◌, ◌==◌, inl, inr, Bool, true, false, cond, nat_lt, List, [], ◌∷◌}
-use Rattle.std.proofs.Common.{length, refl, sym, ap, ap₂, ◌∙◌, subst, arith, length-append}
-use Rattle.std.specs.Prelude.{slice_index, ◌||◌}
+use Rattle.tv_core.proofs.Common.{◌≡◌, ℕ, zero, suc, ◌+◌, ◌-◌, ◌*◌, ◌/◌, ◌%◌, ◌^◌, ◌<◌, ◌≤◌, ◌==◌, inl, inr, Bool, true, false, cond, nat_lt, List, [], ◌∷◌}
+use Rattle.tv_core.proofs.Common.{length, refl, sym, ap, ap₂, ◌∙◌, subst, arith, slice_index, cases_eq, cond_both, eq-eqb, range_with_len, length-each_below}
+use Rattle.tv_core.proofs.Common.{each_below, joined_below, IsWidth}
+use Rattle.std.proofs.Common.{length-append}
+use Rattle.std.specs.Prelude.{◌||◌}
 use Rattle.std.proofs.Math.Nat.{mod-lt}
-use Rattle.std.proofs.lemmas.Bool.{agree_below_at, cases_eq, cond_both, eq-eqb, ltb-true}
+use Rattle.std.proofs.lemmas.Bool.{agree_below_at, ltb-true}
 use Rattle.std.proofs.lemmas.List.{get_or_append_left, get_or-append_right}
 use Rattle.std.proofs.lemmas.List.Elements.{All-nil, All-cons, All-append, All-map}
 use Rattle.std.proofs.lemmas.Nat.{xor_lt}
-use Rattle.std.specs.List.{range_with_len}
-use Rattle.tv_core.proofs.BelowLaws.{length-each_below}
 use Rattle.tv_core.proofs.JoinedLaws.{joined_below-zero, joined_below-suc, length-joined_below}
-use Rattle.tv_core.specs.Below.{each_below, joined_below}
 use Rattle.tv_draw.proofs.DrawLaws.{state_then, words_then}
 use Rattle.tv_draw.specs.Program.{op_in, imm_in, whole_a, dest_if, source_if, instr_in}
 use Rattle.tv_draw.specs.Program.{last_instr, generator_state, word_at, words_drawn, image_drawn, tape_drawn}
@@ -32,7 +31,6 @@ use Rattle.tv_step.specs.Rows.{row, following, takes, moves, goes_on}
 use Rattle.tv_step.specs.State.{State, Next}
 use Rattle.tv_step.specs.declared.op.Op.{Op}
 use Rattle.tv_step.specs.declared.op.Op.TheVariants as ops
-use Rattle.tv_word.specs.Widths.{IsWidth}
 
 width : IsWidth 32
 width = inr refl

@@ -1,15 +1,12 @@
 -- What is extracted is a run of the assignment, and each satisfying assignment has one.
-use Rattle.std.proofs.Common.{◌≡◌, ◌≢◌, ℕ, zero, suc, ◌+◌, ◌<◌, ◌^◌, Bool, true, false, List, [], ◌∷◌, length, map, refl, sym, ap, ap₂, ◌∙◌, subst, Result}
-use Rattle.std.proofs.Common.{Ok, Err, All}
-use Rattle.std.proofs.lemmas.Bool.{ltb-true, lt-ltb, eq-eqb, eqb-true}
+use Rattle.tv_core.proofs.Common.{◌≡◌, ◌≢◌, ℕ, zero, suc, ◌+◌, ◌<◌, ◌^◌, Bool, true, false, List, [], ◌∷◌, length, map, refl, sym, ap, ap₂, ◌∙◌, subst, Result}
+use Rattle.tv_core.proofs.Common.{Ok, Err, All, lt-ltb, eq-eqb, eqb-true, length-map, range_with_len, slice_index, HasFrom}
+use Rattle.std.proofs.lemmas.Bool.{ltb-true}
 use Rattle.std.proofs.lemmas.List.Elements.{All-nil, All-cons, All-head, All-tail}
 use Rattle.std.proofs.lemmas.List.FromFn.{length-range_with_len}
-use Rattle.std.proofs.lemmas.List.{length-map}
-use Rattle.std.specs.List.{range_with_len}
-use Rattle.std.specs.Prelude.{◌==◌, nat_lt, slice_index}
+use Rattle.std.specs.Prelude.{◌==◌, nat_lt}
 use Rattle.tv_benes.specs.declared.shape.Net.{Net}
 use Rattle.tv_block.specs.Block.{block_of}
-use Rattle.tv_core.specs.Laws.{HasFrom}
 use Rattle.tv_step.proofs.EndLaws.{answer_is_within}
 use Rattle.tv_step.specs.Machine.{start, end_of}
 use Rattle.tv_step.specs.Range.{AreWords}

@@ -1,12 +1,10 @@
 -- The words that the steps take, step by step.
-use Rattle.std.proofs.Common.{◌≡◌, ◌≢◌, ℕ, zero, suc, ◌+◌, ◌-◌, ◌<◌, Bool, true, false, List, [], ◌∷◌, ◌++◌, refl, sym, ap, ◌∙◌, arith, add-one, append-nil}
-use Rattle.std.proofs.Common.{append_assoc, Ok, Err}
-use Rattle.std.proofs.lemmas.Bool.{eq-eqb, eqb-true}
-use Rattle.std.specs.Prelude.{◌==◌, slice_index}
+use Rattle.tv_core.proofs.Common.{◌≡◌, ◌≢◌, ℕ, zero, suc, ◌+◌, ◌-◌, ◌<◌, Bool, true, false, List, [], ◌∷◌, ◌++◌, refl, sym, ap, ◌∙◌, arith, add-one, append-nil}
+use Rattle.tv_core.proofs.Common.{append_assoc, Ok, Err, eq-eqb, eqb-true, slice_index, joined_below}
+use Rattle.std.specs.Prelude.{◌==◌}
 use Rattle.tv_block.specs.Block.{block_of}
 use Rattle.tv_inputs.specs.declared.records.Spot.{Spot}
 use Rattle.tv_core.proofs.JoinedLaws.{joined_below-zero, joined_below-suc}
-use Rattle.tv_core.specs.Below.{joined_below}
 use Rattle.tv_layout.specs.Layout.{block_at, taken_wire, taken_wires}
 use Rattle.tv_layout.specs.Places.{boot_count, zero_wires_at, first_at, runs_of}
 use Rattle.tv_extract.proofs.WordLaws.{words_then, words_refused}

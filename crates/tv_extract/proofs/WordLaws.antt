@@ -1,6 +1,5 @@
 -- Words at wires, one list after another.
-use Rattle.std.proofs.Common.{◌≡◌, ℕ, suc, ◌+◌, ◌-◌, ◌<◌, List, [], ◌∷◌, ◌++◌, refl, ap, ◌∙◌, arith, add-one, Result, Ok, Err}
-use Rattle.std.specs.List.{range_with_len}
+use Rattle.tv_core.proofs.Common.{◌≡◌, ℕ, suc, ◌+◌, ◌-◌, ◌<◌, List, [], ◌∷◌, ◌++◌, refl, ap, ◌∙◌, arith, add-one, Result, Ok, Err, range_with_len}
 use Rattle.tv_core.proofs.BelowLaws.{range-more, range-append}
 use Rattle.tv_extract.specs.Extraction.{word_at, words_at}
 use Rattle.tv_step.specs.declared.not_run.NotRun.{NotRun}

@@ -1,11 +1,9 @@
 -- The values of a filling, given part by part.
-use Rattle.std.proofs.Common.{◌≡◌, ℕ, Bool, List, length, Result, ap₂, ◌∙◌}
+use Rattle.tv_core.proofs.Common.{◌≡◌, ℕ, Bool, List, length, Result, ap₂, ◌∙◌, joined_below, GivesAll, Line}
 use Rattle.tv_benes.specs.Items.{bit_at}
 use Rattle.tv_benes.specs.declared.shape.Net.{Net}
 use Rattle.tv_core.proofs.ValuesChain.{gives_then_refused, gives_refused_then, gives_in_then}
-use Rattle.tv_core.specs.Below.{joined_below}
-use Rattle.tv_core.specs.Values.{ValuesMeaning, GivesAll, GivesSome, GivesIn}
-use Rattle.tv_core.specs.Lines.{Line}
+use Rattle.tv_core.specs.Values.{ValuesMeaning, GivesSome, GivesIn}
 use Rattle.tv_core.specs.declared.lines.PairNum.{PairNum}
 use Rattle.tv_core.specs.declared.sink.SinkFault.{SinkFault}
 use Rattle.tv_argument.specs.Memory.{routed_values}

@@ -1,5 +1,5 @@
 -- The values of a filling satisfy the system.
-use Rattle.std.proofs.Common.{sym, subst}
+use Rattle.tv_core.proofs.Common.{sym, subst}
 use Rattle.tv_block.specs.Block.{block_of}
 use Rattle.tv_layout.proofs.Systems.{system_complete}
 use Rattle.tv_layout.specs.Values.{IsFill}

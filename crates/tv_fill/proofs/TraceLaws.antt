@@ -1,13 +1,12 @@
 -- What a trace has of a run's steps.
-use Rattle.std.proofs.Common.{◌≡◌, ℕ, ◌+◌, ◌-◌, ◌*◌, ◌<◌, ◌≤◌, ◌^◌, Bool, true, List, length, Option, Some, None, refl, sym, ap, ap₂, ◌∙◌, arith}
+use Rattle.tv_core.proofs.Common.{◌≡◌, ℕ, ◌+◌, ◌-◌, ◌*◌, ◌<◌, ◌≤◌, ◌^◌, Bool, true, List, length, Option, Some, None, refl, sym, ap, ap₂, ◌∙◌, arith}
+use Rattle.tv_core.proofs.Common.{slice_index, joined_below, Line, IsWidth}
 use Rattle.std.proofs.lemmas.Bool.{ltb-true}
-use Rattle.std.specs.Prelude.{slice_index, slice_index_or, nat_lt, is_some, unwrap_or, if◌then◌else◌}
+use Rattle.std.specs.Prelude.{slice_index_or, nat_lt, is_some, unwrap_or, if◌then◌else◌}
 use Rattle.tv_block.proofs.StepFills.{same_values, steps_are_given}
 use Rattle.tv_block.specs.Complete.{step_values, olds_of}
 use Rattle.tv_block.specs.StepWords.{IsTracedStep, step_head, step_tail, step_data}
 use Rattle.tv_block.specs.Values.{block_values}
-use Rattle.tv_core.specs.Below.{joined_below}
-use Rattle.tv_core.specs.Lines.{Line}
 use Rattle.tv_layout.specs.Values.{run_step_values as run_step}
 use Rattle.tv_lines.specs.Placed.{zero_line}
 use Rattle.tv_argument.proofs.FillingLaws.{joined_below-same}
@@ -22,7 +21,6 @@ use Rattle.tv_step.specs.Reads.{word_taken, ended_after}
 use Rattle.tv_step.specs.State.{State}
 use Rattle.tv_step.specs.Trace.{step_lines, lines_of, states_of, traced_state_after}
 use Rattle.tv_step.specs.declared.lines.TraceState.{TraceState}
-use Rattle.tv_word.specs.Widths.{IsWidth}
 use Rattle.tv_inputs.specs.Traced.{traced_view}
 use Rattle.tv_fill.specs.TraceValues.{no_state, traced_state_at, old_at, takes_at, taken_at, data_at, traced_values, StepInRange}
 

@@ -1,12 +1,7 @@
 -- The laws of a product added to a sum.
-use Rattle.std.proofs.Common.{◌≡◌, ℕ, ◌+◌, ◌-◌, ◌*◌, ◌%◌, ◌<◌, List, [], ◌++◌, refl, sym, ◌∙◌, ap₂, arith, mod-lt}
-use Rattle.std.specs.Prelude.{slice_index}
-use Rattle.tv_core.proofs.CombinationLaws.{value-below, value-append, value-wire, value-scaled, wire-below}
-use Rattle.tv_core.proofs.FieldLaws.{InField-none, InField-cons}
-use Rattle.tv_core.specs.Circuits.{fresh, put, pure, ◌>>=◌}
-use Rattle.tv_core.specs.Combinations.{wire, scaled}
-use Rattle.tv_core.specs.Constraints.{Combination, value}
-use Rattle.tv_core.specs.Laws.{Assigns}
+use Rattle.tv_core.proofs.Common.{◌≡◌, ℕ, ◌+◌, ◌-◌, ◌*◌, ◌%◌, ◌<◌, List, [], ◌++◌, refl, sym, ◌∙◌, ap₂, arith, mod-lt, slice_index, value-below, value-append}
+use Rattle.tv_core.proofs.Common.{value-wire, wire-below, InField-none, InField-cons, fresh, put, pure, ◌>>=◌, wire, scaled, Combination, value, Assigns}
+use Rattle.tv_core.proofs.CombinationLaws.{value-scaled}
 use Rattle.tv_core.specs.declared.field.TheConstants.{P}
 use Rattle.tv_inputs.specs.Accumulation.{closed_of, accumulated_of, AccumulatedIsSound, AccumulatedIsComplete, AccumulatedSizes}
 

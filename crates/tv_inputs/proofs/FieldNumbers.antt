@@ -1,10 +1,7 @@
 -- Words, bytes and flags are numbers of the field, and so is a choice of two.
-use Rattle.std.proofs.Common.{◌≡◌, ℕ, ◌*◌, ◌%◌, ◌^◌, ◌<◌, Bool, true, false, if◌then◌else◌, arith}
+use Rattle.tv_core.proofs.Common.{◌≡◌, ℕ, ◌*◌, ◌%◌, ◌^◌, ◌<◌, Bool, true, false, if◌then◌else◌, arith, for_widths, IsWidth, flag_of}
 use Rattle.tv_core.specs.declared.field.TheConstants.{P}
 use Rattle.tv_mem.specs.Bytes.{byte_of}
-use Rattle.tv_word.proofs.WidthLaws.{for_widths}
-use Rattle.tv_word.specs.Widths.{IsWidth}
-use Rattle.tv_word.specs.Word.{flag_of}
 
 pub small_word : (w : ℕ) → IsWidth w → (v : ℕ) → v < 2 ^ w → v < P
 small_word w width = for_widths (λ w. (v : ℕ) → v < 2 ^ w → v < P) (λ v h. omega arith) (λ v h. omega arith) w width

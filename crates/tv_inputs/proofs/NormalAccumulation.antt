@@ -1,11 +1,7 @@
 -- A product added to a sum is put by normal combinations.
-use Rattle.std.proofs.Common.{ℕ, ◌-◌, ◌≤◌, arith}
+use Rattle.tv_core.proofs.Common.{ℕ, ◌-◌, ◌≤◌, arith, fresh, put, pure, ◌>>=◌, wire, scaled, top, Combination, IsNormal, AreNormal}
 use Rattle.tv_core.proofs.CombinationLaws.{top-scaled}
 use Rattle.tv_core.proofs.NormalCircuits.{normal_append, normal_negated}
-use Rattle.tv_core.specs.Circuits.{fresh, put, pure, ◌>>=◌}
-use Rattle.tv_core.specs.Combinations.{wire, scaled, top}
-use Rattle.tv_core.specs.Constraints.{Combination}
-use Rattle.tv_core.specs.Normal.{IsNormal, AreNormal}
 use Rattle.tv_core.specs.declared.field.TheConstants.{P}
 use Rattle.tv_inputs.specs.Accumulation.{closed_of, accumulated_of}
 

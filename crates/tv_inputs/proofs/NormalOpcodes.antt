@@ -1,11 +1,9 @@
 -- Sums over the row of the opcodes are normal where the opcodes rise.
-use Rattle.std.proofs.Common.{◌≡◌, ℕ, ◌+◌, ◌<◌, ◌≤◌, nat_le, ◌&&◌, Bool, true, List, [], ◌∷◌, ◌++◌, arith}
+use Rattle.tv_core.proofs.Common.{◌≡◌, ℕ, ◌+◌, ◌<◌, ◌≤◌, Bool, true, List, [], ◌∷◌, ◌++◌, arith, top, Combination, IsNormal, IsNormalFrom}
+use Rattle.std.proofs.Common.{nat_le, ◌&&◌}
 use Rattle.std.proofs.lemmas.Bool.{and_parts, leb-true}
 use Rattle.tv_core.proofs.NormalCircuits.{normal_append}
 use Rattle.tv_core.proofs.NormalLaws.{IsNormalFrom-lower}
-use Rattle.tv_core.specs.Combinations.{top}
-use Rattle.tv_core.specs.Constraints.{Combination}
-use Rattle.tv_core.specs.Normal.{IsNormal, IsNormalFrom}
 use Rattle.tv_core.specs.declared.field.TheConstants.{P}
 use Rattle.tv_isa.specs.Opcodes.{place_of}
 use Rattle.tv_inputs.specs.OpcodeSums.{opcode_terms, opcode_sum}

@@ -1,15 +1,9 @@
 -- The operand is put by normal combinations.
-use Rattle.std.proofs.Common.{ℕ, ◌-◌, ◌<◌, ◌≤◌, [], ◌∷◌, arith}
+use Rattle.tv_core.proofs.Common.{ℕ, ◌-◌, ◌<◌, ◌≤◌, [], ◌∷◌, arith, pure, ◌>>=◌, wire, top, Combination, AreNormal, width_short, IsWidth}
 use Rattle.tv_bits.proofs.NormalLaws.{wire_normal, bits_of_normal}
 use Rattle.tv_bits.specs.Bits.{bits_of}
 use Rattle.tv_core.proofs.NormalCircuits.{normal_both}
-use Rattle.tv_core.specs.Circuits.{pure, ◌>>=◌}
-use Rattle.tv_core.specs.Combinations.{wire, top}
-use Rattle.tv_core.specs.Constraints.{Combination}
-use Rattle.tv_core.specs.Normal.{AreNormal}
 use Rattle.tv_core.specs.declared.field.TheConstants.{P}
-use Rattle.tv_word.proofs.WidthLaws.{width_short}
-use Rattle.tv_word.specs.Widths.{IsWidth}
 use Rattle.tv_inputs.proofs.NormalAccumulation.{accumulated_normal}
 use Rattle.tv_inputs.specs.Accumulation.{accumulated_of}
 use Rattle.tv_inputs.specs.Operand.{operand_of}

@@ -1,16 +1,11 @@
 -- What a step does to the tapes is put by normal combinations.
-use Rattle.std.proofs.Common.{ℕ, ◌+◌, ◌-◌, ◌^◌, ◌<◌, ◌≤◌, if◌then◌else◌, List, [], ◌∷◌, ◌++◌, inl, inr, refl, sym, subst, arith}
-use Rattle.std.proofs.lemmas.Bool.{cases_eq, eq-eqb, ne_eqb}
+use Rattle.tv_core.proofs.Common.{ℕ, ◌+◌, ◌-◌, ◌^◌, ◌<◌, ◌≤◌, if◌then◌else◌, List, [], ◌∷◌, ◌++◌, inl, inr, refl, sym, subst, arith, cases_eq, eq-eqb, ne_eqb}
+use Rattle.tv_core.proofs.Common.{fresh, put, pure, ◌>>=◌, wire, top, Combination, Constraint, IsNormal, AreNormal, IsWidth}
 use Rattle.tv_bits.proofs.NormalLaws.{wire_normal, times_normal}
 use Rattle.tv_bits.specs.Times.{times_of}
 use Rattle.tv_core.proofs.NormalCircuits.{normal_append, normal_both}
-use Rattle.tv_core.specs.Circuits.{fresh, put, pure, ◌>>=◌}
-use Rattle.tv_core.specs.Combinations.{wire, top}
-use Rattle.tv_core.specs.Constraints.{Combination, Constraint}
-use Rattle.tv_core.specs.Normal.{IsNormal, AreNormal}
 use Rattle.tv_core.specs.declared.field.TheConstants.{P}
 use Rattle.tv_isa.specs.declared.opcode.TheConstants.{READ}
-use Rattle.tv_word.specs.Widths.{IsWidth}
 use Rattle.tv_inputs.proofs.NormalOpcodes.{opcode_sum_normal, opcodes_top}
 use Rattle.tv_inputs.proofs.UpperLaws.{upper_normal}
 use Rattle.tv_inputs.specs.OpcodeSums.{opcode_sum}

@@ -1,14 +1,11 @@
 -- The laws of sums over the row of the opcodes that are used.
-use Rattle.std.proofs.Common.{◌≡◌, ℕ, ◌+◌, ◌*◌, ◌%◌, ◌<◌, ◌==◌, nat_lt, not, ◌&&◌, Bool, true, false, if◌then◌else◌, List, [], ◌∷◌, inl, inr, refl, sym, ◌∙◌}
-use Rattle.std.proofs.Common.{ap, arith}
-use Rattle.std.specs.Prelude.{slice_index}
-use Rattle.std.proofs.lemmas.Bool.{and_parts, ltb-true, eqb-true, not-true, cases_eq, eq-eqb, ne_eqb}
-use Rattle.tv_core.proofs.CombinationLaws.{value-below, value-cons}
-use Rattle.tv_core.specs.Constraints.{value}
+use Rattle.tv_core.proofs.Common.{◌≡◌, ℕ, ◌+◌, ◌*◌, ◌%◌, ◌<◌, ◌==◌, nat_lt, not, Bool, true, false, if◌then◌else◌, List, [], ◌∷◌, inl, inr, refl, sym, ◌∙◌, ap}
+use Rattle.tv_core.proofs.Common.{arith, slice_index, eqb-true, cases_eq, eq-eqb, ne_eqb, value-below, value-cons, value, flag_of}
+use Rattle.std.proofs.Common.{◌&&◌}
+use Rattle.std.proofs.lemmas.Bool.{and_parts, ltb-true, not-true}
 use Rattle.tv_core.specs.declared.field.TheConstants.{P}
 use Rattle.tv_isa.specs.Opcodes.{among, unused_ops, place_of}
 use Rattle.tv_inputs.specs.OpcodeSums.{opcode_terms, distinct, IsOpcode, OpcodeSumIsSound}
-use Rattle.tv_word.specs.Word.{flag_of}
 
 cold_sum : (c n v : ℕ) → n ≡ 0 → v < P → (c * n + v) % P ≡ v
 cold_sum c n v e h = rw e (omega arith)

@@ -1,29 +1,22 @@
 -- The laws of the operand.
-use Rattle.std.proofs.Common.{◌≡◌, ℕ, ◌+◌, ◌-◌, ◌*◌, ◌%◌, ◌^◌, ◌<◌, Bool, true, false, if◌then◌else◌, List, [], ◌∷◌, length, length-append, refl}
-use Rattle.std.proofs.Common.{sym, ◌∙◌, ap, ap₂, subst, arith}
+use Rattle.tv_core.proofs.Common.{◌≡◌, ℕ, ◌+◌, ◌-◌, ◌*◌, ◌%◌, ◌^◌, ◌<◌, Bool, true, false, if◌then◌else◌, List, [], ◌∷◌, length, refl, sym, ◌∙◌, ap, ap₂, subst}
+use Rattle.tv_core.proofs.Common.{arith, value-wire, InField-cons, fresh, put, pure, ◌>>=◌, wire, constant, Combination, value, HasFrom, width_short, IsWidth}
+use Rattle.tv_core.proofs.Common.{flag_of}
+use Rattle.std.proofs.Common.{length-append}
 use Rattle.tv_bits.proofs.DoubleRowLaws.{new_bits_constraints, new_bits_terms}
 use Rattle.tv_bits.proofs.SizeLaws.{length-bits, bits_in_field}
 use Rattle.tv_bits.proofs.BitsLaws.{bits_sound, bits_complete, bits_answer, new_bits_next, new_bits_answer}
 use Rattle.tv_bits.specs.Bits.{HasBits, bits_combination, bits_values, new_bits_of, bits_of}
 use Rattle.tv_bits.specs.declared.bit_wires.Bits.{Bits}
 use Rattle.tv_core.proofs.BelowLaws.{length-weighted}
-use Rattle.tv_core.proofs.CombinationLaws.{value-wire}
-use Rattle.tv_core.proofs.FieldLaws.{InField-cons}
-use Rattle.tv_core.specs.Circuits.{fresh, put, pure, ◌>>=◌}
-use Rattle.tv_core.specs.Combinations.{wire, constant}
-use Rattle.tv_core.specs.Constraints.{Combination, value}
-use Rattle.tv_core.specs.Laws.{HasFrom}
 use Rattle.tv_core.specs.declared.field.TheConstants.{P}
 use Rattle.tv_inputs.proofs.Settled.{Settles, sum_then, settles_to}
-use Rattle.tv_word.proofs.WidthLaws.{width_short}
-use Rattle.tv_word.specs.Widths.{IsWidth}
 use Rattle.tv_inputs.proofs.FieldNumbers.{small_word}
 use Rattle.tv_inputs.proofs.Sized.{Sized, sized_then, sized_pure, sized_as, sized_put}
 use Rattle.tv_inputs.proofs.TapeGates.{value-two}
 use Rattle.tv_inputs.specs.Accumulation.{closed_of}
 use Rattle.tv_inputs.specs.Operand.{operand_of, HasOperand, OperandIsSound, OperandIsComplete, OperandSizes, OperandCosts, operand_values, IsOperand}
 use Rattle.tv_inputs.specs.declared.records.OperandWires.{OperandWires}
-use Rattle.tv_word.specs.Word.{flag_of}
 
 word_below : (w : ℕ) (b : Bool) (m n : ℕ) → m < 2 ^ w → n < 2 ^ w → (if b then m else n) < 2 ^ w
 word_below w true m n h k = h

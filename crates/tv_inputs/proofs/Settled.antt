@@ -1,13 +1,10 @@
 -- What an assignment has at the wires of circuits one after another.
-use Rattle.std.proofs.Common.{◌≡◌, ℕ, ◌+◌, ◌*◌, ◌%◌, ◌==◌, if◌then◌else◌, List, [], ◌∷◌, ◌++◌, sym, ◌∙◌, ap₂, subst}
-use Rattle.std.specs.Prelude.{slice_index}
+use Rattle.tv_core.proofs.Common.{◌≡◌, ℕ, ◌+◌, ◌*◌, ◌%◌, ◌==◌, if◌then◌else◌, List, [], ◌∷◌, ◌++◌, sym, ◌∙◌, ap₂, subst, slice_index, Meets-split, Meets-join}
+use Rattle.tv_core.proofs.Common.{HasFrom-split, Circuit, pure, ◌>>=◌, Combination, value, Assigns, Meets, HasFrom}
 use Rattle.tv_bits.proofs.TimesLaws.{times_sound, times_complete, times_next}
 use Rattle.tv_bits.specs.Times.{times_of}
-use Rattle.tv_core.proofs.MeetsLaws.{Meets-split, Meets-join, HasFrom-split}
-use Rattle.tv_core.specs.Circuits.{Circuit, pure, ◌>>=◌}
-use Rattle.tv_core.specs.Constraints.{Combination, value}
 use Rattle.tv_core.specs.Inverse.{inverse_of}
-use Rattle.tv_core.specs.Laws.{Assigns, Meets, HasFrom, Fills}
+use Rattle.tv_core.specs.Laws.{Fills}
 use Rattle.tv_core.specs.declared.field.TheConstants.{P}
 use Rattle.tv_inputs.proofs.AccumulationLaws.{accumulated_sound, accumulated_complete, accumulated_next}
 use Rattle.tv_inputs.proofs.TapeGates.{if_zero_sound, if_zero_complete, if_zero_next}

@@ -1,9 +1,7 @@
 -- How many wires, constraints and terms a circuit makes, in parts.
-use Rattle.std.proofs.Common.{◌≡◌, ℕ, ◌+◌, length, length-append, refl, ◌∙◌, ap, ap₂, arith}
+use Rattle.tv_core.proofs.Common.{◌≡◌, ℕ, ◌+◌, length, refl, ◌∙◌, ap, ap₂, arith, Circuit, put, pure, ◌>>=◌, Combination, terms_in}
+use Rattle.std.proofs.Common.{length-append}
 use Rattle.tv_bits.proofs.GateLaws.{terms-append}
-use Rattle.tv_core.specs.Circuits.{Circuit, put, pure, ◌>>=◌}
-use Rattle.tv_core.specs.Constraints.{Combination}
-use Rattle.tv_core.specs.Meanings.{terms_in}
 
 -- a circuit makes these numbers of wires, constraints and terms, whatever the next wire is
 pub record Sized {A : Type 0} (circuit : Circuit A) (made constraints terms : ℕ) : Type 0 where

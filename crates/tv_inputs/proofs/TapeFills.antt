@@ -1,20 +1,14 @@
 -- Where an assignment has the tapes' values, and what the tapes cost.
-use Rattle.std.proofs.Common.{◌≡◌, ℕ, ◌+◌, ◌-◌, ◌*◌, ◌/◌, ◌%◌, ◌^◌, ◌<◌, ◌≤◌, ◌==◌, not, ◌&&◌, Bool, true, false, if◌then◌else◌, List, [], ◌∷◌, length, refl}
-use Rattle.std.proofs.Common.{◌∙◌, ap, arith}
-use Rattle.std.specs.Prelude.{slice_index}
+use Rattle.tv_core.proofs.Common.{◌≡◌, ℕ, ◌+◌, ◌-◌, ◌*◌, ◌/◌, ◌%◌, ◌^◌, ◌<◌, ◌≤◌, ◌==◌, not, Bool, true, false, if◌then◌else◌, List, [], ◌∷◌, length, refl, ◌∙◌}
+use Rattle.tv_core.proofs.Common.{ap, arith, slice_index, InField-cons, InField-none, fresh, put, pure, ◌>>=◌, Combination, InField, terms_in, IsWidth, flag_of}
+use Rattle.std.proofs.Common.{◌&&◌}
 use Rattle.tv_bits.proofs.TimesLaws.{residue_below}
 use Rattle.tv_bits.specs.Times.{times_of}
-use Rattle.tv_core.proofs.FieldLaws.{InField-cons, InField-none}
-use Rattle.tv_core.specs.Circuits.{fresh, put, pure, ◌>>=◌}
-use Rattle.tv_core.specs.Constraints.{Combination}
 use Rattle.tv_core.specs.Inverse.{inverse_of}
-use Rattle.tv_core.specs.Laws.{InField}
-use Rattle.tv_core.specs.Meanings.{terms_in}
 use Rattle.tv_core.specs.declared.field.TheConstants.{P}
 use Rattle.tv_isa.specs.declared.instr.Instr.{Instr}
 use Rattle.tv_numbers.specs.Numbers.{operand_word, asks, takes_primary, stepped}
 use Rattle.tv_numbers.specs.Views.{View}
-use Rattle.tv_word.specs.Widths.{IsWidth}
 use Rattle.tv_inputs.proofs.FieldNumbers.{flag_in_field, either}
 use Rattle.tv_inputs.proofs.TapeLaws.{tapes_settled}
 use Rattle.tv_inputs.proofs.UpperLaws.{length-upper}
@@ -22,7 +16,6 @@ use Rattle.tv_inputs.specs.Tapes.{if_zero_of, primary_of, auxiliary_of, tapes_of
 use Rattle.tv_inputs.specs.declared.records.OperandWires.{OperandWires}
 use Rattle.tv_inputs.specs.declared.records.StateWires.{StateWires}
 use Rattle.tv_inputs.specs.declared.records.TapeWires.{TapeWires}
-use Rattle.tv_word.specs.Word.{flag_of}
 
 pub flag_test : (b : Bool) → (flag_of b == 1) ≡ b
 flag_test true = refl

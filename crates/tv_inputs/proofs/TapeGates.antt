@@ -1,24 +1,20 @@
 -- The laws of the small circuits of the tapes.
-use Rattle.std.proofs.Common.{◌≡◌, ◌≢◌, ℕ, ◌+◌, ◌-◌, ◌*◌, ◌%◌, ◌^◌, ◌<◌, ◌≤◌, ◌==◌, not, ◌&&◌, Bool, true, false, if◌then◌else◌, List, [], ◌∷◌, inl, inr}
-use Rattle.std.proofs.Common.{refl, sym, ◌∙◌, ap, ap₂, arith, mod-lt, zero-mul, mul-zero, eq-eqb, true≢false}
-use Rattle.std.specs.Prelude.{slice_index}
-use Rattle.std.proofs.lemmas.Bool.{cases_eq, ne_eqb}
+use Rattle.tv_core.proofs.Common.{◌≡◌, ◌≢◌, ℕ, ◌+◌, ◌-◌, ◌*◌, ◌%◌, ◌^◌, ◌<◌, ◌≤◌, ◌==◌, not, Bool, true, false, if◌then◌else◌, List, [], ◌∷◌, inl, inr, refl}
+use Rattle.tv_core.proofs.Common.{sym, ◌∙◌, ap, ap₂, arith, mod-lt, zero-mul, slice_index, cases_eq, ne_eqb, value-below, value-less, value-cons, value-wire}
+use Rattle.tv_core.proofs.Common.{wire-below, fresh, put, pure, ◌>>=◌, wire, Combination, value, Assigns, Meets, flag_of}
+use Rattle.std.proofs.Common.{◌&&◌}
+use Rattle.std.proofs.Common.{mul-zero, eq-eqb, true≢false}
 use Rattle.tv_bits.proofs.BitLaws.{bit_cases}
 use Rattle.tv_bits.proofs.SelectLaws.{times_zero}
 use Rattle.tv_bits.specs.Bit.{IsBit}
-use Rattle.tv_core.proofs.CombinationLaws.{value-below, value-less, value-cons, value-wire, value-one_less, wire-below}
+use Rattle.tv_core.proofs.CombinationLaws.{value-one_less}
 use Rattle.tv_core.proofs.DifferenceLaws.{same_of_minus}
 use Rattle.tv_core.proofs.InverseLaws.{mul-inverse_of}
 use Rattle.tv_core.proofs.PrimeLaws.{p_zero_product_below}
 use Rattle.tv_core.proofs.Residues.{mul-mod_undone}
-use Rattle.tv_core.specs.Circuits.{fresh, put, pure, ◌>>=◌}
-use Rattle.tv_core.specs.Combinations.{wire}
-use Rattle.tv_core.specs.Constraints.{Combination, value}
 use Rattle.tv_core.specs.Inverse.{inverse_of}
-use Rattle.tv_core.specs.Laws.{Assigns, Meets}
 use Rattle.tv_core.specs.declared.field.TheConstants.{P}
 use Rattle.tv_inputs.specs.Tapes.{if_zero_of, left_in, primary_of, auxiliary_of}
-use Rattle.tv_word.specs.Word.{flag_of}
 
 -- ---- values of short combinations
 pub value-two : (z : List ℕ) (b c v w : ℕ) → value ((b, v) ∷ (c, w) ∷ []) z ≡ (b * slice_index z v + c * slice_index z w) % P

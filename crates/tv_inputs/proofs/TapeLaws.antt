@@ -1,14 +1,12 @@
 -- What an assignment that meets the tapes' constraints has.
-use Rattle.std.proofs.Common.{◌≡◌, ℕ, ◌+◌, ◌-◌, ◌*◌, ◌/◌, ◌%◌, ◌<◌, ◌≤◌, ◌==◌, nat_lt, not, ◌&&◌, Bool, true, false, if◌then◌else◌, [], ◌∷◌, inl, inr, refl}
-use Rattle.std.proofs.Common.{sym, ◌∙◌, ap, ap₂, subst, arith, zero-mul, true≢false, List}
-use Rattle.std.specs.Int.{bit_at}
-use Rattle.std.specs.Prelude.{slice_index}
-use Rattle.std.proofs.lemmas.Bool.{cases_eq, cases_lt, eq-eqb, eqb-true, ne_eqb, lt-ltb, le-ltb, and_parts}
+use Rattle.tv_core.proofs.Common.{◌≡◌, ℕ, ◌+◌, ◌-◌, ◌*◌, ◌/◌, ◌%◌, ◌<◌, ◌≤◌, ◌==◌, nat_lt, not, Bool, true, false, if◌then◌else◌, [], ◌∷◌, inl, inr, refl, sym}
+use Rattle.tv_core.proofs.Common.{◌∙◌, ap, ap₂, subst, arith, zero-mul, List, bit_at, slice_index, cases_eq, cases_lt, eq-eqb, eqb-true, ne_eqb, lt-ltb, le-ltb}
+use Rattle.tv_core.proofs.Common.{value-wire, fresh, put, pure, ◌>>=◌, wire, width_short, IsWidth, flag_of}
+use Rattle.std.proofs.Common.{◌&&◌}
+use Rattle.std.proofs.Common.{true≢false}
+use Rattle.std.proofs.lemmas.Bool.{and_parts}
 use Rattle.tv_bits.proofs.BitNumbers.{HasBits-bit_at}
 use Rattle.tv_bits.specs.Bit.{IsBit}
-use Rattle.tv_core.proofs.CombinationLaws.{value-wire}
-use Rattle.tv_core.specs.Circuits.{fresh, put, pure, ◌>>=◌}
-use Rattle.tv_core.specs.Combinations.{wire}
 use Rattle.tv_core.specs.Inverse.{inverse_of}
 use Rattle.tv_core.specs.declared.field.TheConstants.{P}
 use Rattle.tv_inputs.proofs.Settled.{Settles, if_zero_then, times_then, settles_then}
@@ -19,15 +17,12 @@ use Rattle.tv_isa.specs.declared.instr.Instr.{Instr}
 use Rattle.tv_numbers.specs.Numbers.{operand_word, asks, takes_primary, stepped}
 use Rattle.tv_numbers.specs.Views.{View}
 use Rattle.tv_word.proofs.FlagLaws.{flag_small}
-use Rattle.tv_word.proofs.WidthLaws.{width_short}
 use Rattle.tv_inputs.proofs.OpcodeLaws.{opcode_sum_sound}
 use Rattle.tv_inputs.proofs.TapeGates.{primary_sound, auxiliary_sound, primary_complete, auxiliary_complete}
 use Rattle.tv_inputs.proofs.UpperLaws.{upper_once}
 use Rattle.tv_inputs.specs.OpcodeSums.{opcode_sum}
 use Rattle.tv_inputs.specs.Operand.{upper_of}
 use Rattle.tv_inputs.specs.Tapes.{primary_of, auxiliary_of, tapes_of, TapesAreSound, HasTapes, tapes_values, AreTapes}
-use Rattle.tv_word.specs.Widths.{IsWidth}
-use Rattle.tv_word.specs.Word.{flag_of}
 
 -- ---- tests
 pub among_one : (j k : ℕ) → among (j ∷ []) k ≡ (k == j)

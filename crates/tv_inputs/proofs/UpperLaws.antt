@@ -1,22 +1,17 @@
 -- The number of an operand's upper bits: its value, its terms, and that it is normal.
-use Rattle.std.proofs.Common.{◌≡◌, ◌≢◌, ℕ, zero, suc, ◌+◌, ◌-◌, ◌*◌, ◌/◌, ◌%◌, ◌^◌, ◌<◌, ◌≤◌, List, [], ◌∷◌, ◌++◌, length, inl, inr, refl, sym}
-use Rattle.std.proofs.Common.{◌∙◌, ap, ap₂, subst, arith, append_assoc, div-le_self, mul_comm, mul_assoc, mul_left_comm, mul-zero, add-mul, mul-add}
+use Rattle.tv_core.proofs.Common.{◌≡◌, ◌≢◌, ℕ, zero, suc, ◌+◌, ◌-◌, ◌*◌, ◌/◌, ◌%◌, ◌^◌, ◌<◌, ◌≤◌, List, [], ◌∷◌, ◌++◌, length, inl, inr, refl, sym, ◌∙◌, ap}
+use Rattle.tv_core.proofs.Common.{ap₂, subst, arith, append_assoc, length-map, value-wire, value-less, wire, scaled, less, top, Combination, value, Assigns}
+use Rattle.tv_core.proofs.Common.{IsNormalFrom, width_short, IsWidth}
+use Rattle.std.proofs.Common.{div-le_self, mul_comm, mul_assoc, mul_left_comm, mul-zero, add-mul, mul-add}
 use Rattle.std.proofs.Math.Nat.{div-add-mod}
-use Rattle.std.proofs.lemmas.List.{length-map}
 use Rattle.std.proofs.lemmas.Nat.{pow-add, mul-mod_first, mul-mod_second, div-mul-add}
 use Rattle.tv_bits.proofs.NormalLaws.{wire_normal, bits_normal, bits_top, scaled_normal, less_normal}
 use Rattle.tv_bits.proofs.BitNumbers.{value-bits_below, HasBits-low, HasBits-small}
 use Rattle.tv_bits.specs.Bits.{HasBits, bits_combination}
 use Rattle.tv_core.proofs.BelowLaws.{below-power, length-weighted}
-use Rattle.tv_core.proofs.CombinationLaws.{value-wire, value-less, value-scaled, top-scaled}
+use Rattle.tv_core.proofs.CombinationLaws.{value-scaled, top-scaled}
 use Rattle.tv_core.proofs.PrimeLaws.{p_zero_product}
-use Rattle.tv_core.specs.Combinations.{wire, scaled, less, top}
-use Rattle.tv_core.specs.Constraints.{Combination, value}
-use Rattle.tv_core.specs.Laws.{Assigns}
-use Rattle.tv_core.specs.Normal.{IsNormalFrom}
 use Rattle.tv_core.specs.declared.field.TheConstants.{P}
-use Rattle.tv_word.proofs.WidthLaws.{width_short}
-use Rattle.tv_word.specs.Widths.{IsWidth}
 use Rattle.tv_inputs.specs.Operand.{power_inverse, upper_of, IsOperand}
 use Rattle.tv_inputs.specs.declared.records.OperandWires.{OperandWires}
 

@@ -6,7 +6,7 @@ use Rattle.tv_block.specs.Complete.{olds_of, block_made}
 use Rattle.tv_inputs.specs.States.{state_in}
 use Rattle.tv_block.specs.declared.records.Block.{Block}
 use Rattle.tv_inputs.specs.declared.records.StateWires.{StateWires}
-use Rattle.tv_core.specs.Laws.{Assigns, Meets, HasFrom, InField}
+use Rattle.tv_core.proofs.Common.{Assigns, Meets, HasFrom, InField, IsWidth}
 use Rattle.tv_core.specs.declared.limits.TheConstants.{NULL_CELL}
 use Rattle.tv_step.specs.Rows.{word_size}
 use Rattle.tv_numbers.specs.Numbers.{Transition, lines_in}
@@ -19,7 +19,6 @@ use Rattle.tv_step.specs.State.{State}
 use Rattle.tv_step.specs.Trace.{step_lines}
 use Rattle.tv_layout.specs.Blocks.{BlockCircuit, BlockValues, view_of}
 use Rattle.tv_block.proofs.SizeFills.{block_sizes}
-use Rattle.tv_word.specs.Widths.{IsWidth}
 
 -- it makes `made` wires, and three lines, whatever its inputs
 pub record BlockSizes (block : BlockCircuit) (made : ℕ) : Type 0 where

@@ -1,14 +1,10 @@
 -- What an assignment has at boot lines and padding, and lines whose times are their places.
-use Rattle.std.proofs.Common.{◌≡◌, ℕ, zero, suc, ◌+◌, ◌<◌, ◌≤◌, ◌^◌, List, [], ◌∷◌, ◌++◌, length, map, take, refl, sym, ap, ap₂, ◌∙◌, arith, subst}
+use Rattle.tv_core.proofs.Common.{◌≡◌, ℕ, zero, suc, ◌+◌, ◌<◌, ◌≤◌, ◌^◌, List, [], ◌∷◌, ◌++◌, length, map, take, refl, sym, ap, ap₂, ◌∙◌, arith, subst}
+use Rattle.tv_core.proofs.Common.{length-append, length-map, range_with_len, slice_index, value-wire, wire, constant, Combination, value, Assigns, HasFrom}
+use Rattle.tv_core.proofs.Common.{Line}
 use Rattle.std.proofs.lemmas.List.Elements.{All-head, All-tail}
-use Rattle.std.proofs.lemmas.List.{length-append, map-append, length-map}
-use Rattle.std.specs.List.{range_with_len}
-use Rattle.std.specs.Prelude.{slice_index}
-use Rattle.tv_core.proofs.CombinationLaws.{value-constant, value-wire}
-use Rattle.tv_core.specs.Combinations.{wire, constant}
-use Rattle.tv_core.specs.Constraints.{Combination, value}
-use Rattle.tv_core.specs.Laws.{Assigns, HasFrom}
-use Rattle.tv_core.specs.Lines.{Line}
+use Rattle.std.proofs.lemmas.List.{map-append}
+use Rattle.tv_core.proofs.CombinationLaws.{value-constant}
 use Rattle.tv_core.specs.declared.limits.TheConstants.{TAPE_CELLS, NULL_CELL}
 use Rattle.tv_lines.specs.PackedLines.{line_value}
 use Rattle.tv_lines.specs.Placed.{LinesFrom}

@@ -1,9 +1,7 @@
 -- Lines of a system are of the kinds by which they are checked, and near their predecessors.
-use Rattle.std.proofs.Common.{◌≡◌, ◌≢◌, ℕ, ◌+◌, ◌-◌, ◌*◌, ◌/◌, ◌<◌, ◌≤◌, ◌^◌, List, length, map, inl, inr, refl, sym, ap, ◌∙◌, subst, arith, zero-add}
-use Rattle.std.proofs.lemmas.Bool.{cases_eq, cases_lt, ne_eqb, eq-eqb}
-use Rattle.std.specs.Prelude.{slice_index}
-use Rattle.tv_core.specs.Laws.{Assigns, Meets, HasFrom}
-use Rattle.tv_core.specs.Lines.{Line}
+use Rattle.tv_core.proofs.Common.{◌≡◌, ◌≢◌, ℕ, ◌+◌, ◌-◌, ◌*◌, ◌/◌, ◌<◌, ◌≤◌, ◌^◌, List, length, map, inl, inr, refl, sym, ap, ◌∙◌, subst, arith, cases_eq}
+use Rattle.tv_core.proofs.Common.{cases_lt, ne_eqb, eq-eqb, slice_index, Assigns, Meets, HasFrom, Line, for_widths, IsWidth}
+use Rattle.std.proofs.Common.{zero-add}
 use Rattle.tv_core.specs.declared.limits.TheConstants.{CELL_BITS, TAPE_CELLS, NULL_CELL}
 use Rattle.tv_lines.specs.Ordered.{key}
 use Rattle.tv_lines.specs.PackedLines.{line_value}
@@ -17,8 +15,6 @@ use Rattle.tv_numbers.specs.Views.{View}
 use Rattle.tv_step.specs.Range.{AreWords}
 use Rattle.tv_step.specs.Rows.{word_size}
 use Rattle.tv_step.specs.Trace.{null_line}
-use Rattle.tv_word.proofs.WidthLaws.{for_widths}
-use Rattle.tv_word.specs.Widths.{IsWidth}
 use Rattle.tv_inputs.specs.States.{state_in}
 use Rattle.tv_layout.proofs.Blocks.{BlockSizes, HasCells, BlockIsSound}
 use Rattle.tv_layout.proofs.LineKinds.{of_image, first_boot, later_boot, least_first, some_first, later_first}

@@ -1,23 +1,19 @@
 -- What an assignment has at the tape's wires, at those of the first state and at the tie, where it meets them; and what
 -- it meets of them, where it has that.
-use Rattle.std.proofs.Common.{◌≡◌, ℕ, zero, suc, ◌+◌, ◌*◌, ◌%◌, ◌<◌, ◌^◌, List, [], ◌∷◌, length, sym, ap, ap₂, ◌∙◌, arith, subst, add-zero}
+use Rattle.tv_core.proofs.Common.{◌≡◌, ℕ, zero, suc, ◌+◌, ◌*◌, ◌%◌, ◌<◌, ◌^◌, List, [], ◌∷◌, length, sym, ap, ap₂, ◌∙◌, arith, subst, slice_index, wire-below}
+use Rattle.tv_core.proofs.Common.{value-wire, Meets-split, Meets-join, fresh, here, put, pure, turns, ◌>>=◌, wire, constant, value, Assigns, Meets, HasFrom}
+use Rattle.tv_core.proofs.Common.{sequence, IsWidth}
+use Rattle.std.proofs.Common.{add-zero}
 use Rattle.std.proofs.lemmas.List.Elements.{All-nil, All-cons}
-use Rattle.std.specs.Prelude.{slice_index}
 use Rattle.tv_bits.proofs.BitNumbers.{HasBits-below}
 use Rattle.tv_bits.proofs.BitsLaws.{bits_sound, bits_complete}
 use Rattle.tv_bits.specs.Bits.{bits_of, bits_values}
-use Rattle.tv_core.proofs.CombinationLaws.{wire-below, value-wire, value-constant}
+use Rattle.tv_core.proofs.CombinationLaws.{value-constant}
 use Rattle.tv_core.proofs.LoopLaws.{turn_met, turns_met}
-use Rattle.tv_core.proofs.MeetsLaws.{Meets-split, Meets-join, whole}
-use Rattle.tv_core.specs.Circuits.{fresh, here, put, pure, turns, ◌>>=◌}
-use Rattle.tv_core.specs.Combinations.{wire, constant}
-use Rattle.tv_core.specs.Constraints.{value}
-use Rattle.tv_core.specs.Laws.{Assigns, Meets, HasFrom}
-use Rattle.tv_core.specs.Loops.{sequence}
+use Rattle.tv_core.proofs.MeetsLaws.{whole}
 use Rattle.tv_core.specs.declared.field.TheConstants.{P}
 use Rattle.tv_step.proofs.RangeLaws.{word_at}
 use Rattle.tv_step.specs.Range.{AreWords}
-use Rattle.tv_word.specs.Widths.{IsWidth}
 use Rattle.tv_layout.proofs.FirstState.{HoldsZeros}
 use Rattle.tv_layout.proofs.Positions.{words_turn, zeros_turn}
 use Rattle.tv_layout.specs.Layout.{word_of, words_of, zero_wire_of, zero_wires_of, tie_of}

@@ -1,21 +1,18 @@
 -- The values for a run satisfy the system, and so it is a reduction.
-use Rattle.std.proofs.Common.{◌≡◌, ℕ, suc, ◌+◌, ◌-◌, ◌*◌, ◌<◌, ◌^◌, List, [], ◌∷◌, ◌++◌, length, map, replicate, refl, sym, ap, ◌∙◌, arith, subst, add-zero}
-use Rattle.std.proofs.Common.{take, drop, inl, inr}
+use Rattle.tv_core.proofs.Common.{◌≡◌, ℕ, suc, ◌+◌, ◌-◌, ◌*◌, ◌<◌, ◌^◌, List, [], ◌∷◌, ◌++◌, length, map, refl, sym, ap, ◌∙◌, arith, subst, take, drop, inl}
+use Rattle.tv_core.proofs.Common.{inr, length-append, slice_index, length-each_below, InField-cons, HasFrom-split, joined_below, each_below, Assigns, Meets}
+use Rattle.tv_core.proofs.Common.{HasFrom, InField, Line, cases_eq}
+use Rattle.std.proofs.Common.{replicate, add-zero}
 use Rattle.std.proofs.Math.Seq.{take-append_seam}
-use Rattle.std.proofs.lemmas.List.{length-append, get_or-append-add, get_or-replicate, get_or-take, get_or-drop, length-take}
+use Rattle.std.proofs.lemmas.List.{get_or-append-add, get_or-replicate, get_or-take, get_or-drop, length-take}
 use Rattle.std.proofs.lemmas.List.Elements.{All-weaker, All-replicate, All-from_get_or, All-tail}
-use Rattle.std.specs.Prelude.{slice_index}
 use Rattle.tv_benes.specs.declared.shape.Net.{Net}
 use Rattle.tv_bits.proofs.SizeLaws.{bits_in_field}
 use Rattle.tv_bits.specs.Bits.{bits_values}
-use Rattle.tv_core.proofs.BelowLaws.{length-each_below}
 use Rattle.tv_core.proofs.CombinationLaws.{Sat-from_Meets}
-use Rattle.tv_core.proofs.FieldLaws.{InField-cons, InField-append, InField-joined_below}
+use Rattle.tv_core.proofs.FieldLaws.{InField-append, InField-joined_below}
 use Rattle.tv_core.proofs.JoinedLaws.{length-joined_below, has_each_list}
-use Rattle.tv_core.proofs.MeetsLaws.{HasFrom-split}
-use Rattle.tv_core.specs.Below.{joined_below, each_below}
-use Rattle.tv_core.specs.Laws.{Assigns, Meets, HasFrom, InField}
-use Rattle.tv_core.specs.Lines.{Line, Honest}
+use Rattle.tv_core.specs.Lines.{Honest}
 use Rattle.tv_core.specs.declared.field.TheConstants.{P}
 use Rattle.tv_lines.specs.PackedLines.{line_value}
 use Rattle.tv_lines.specs.Placed.{LinesFrom}
@@ -47,7 +44,6 @@ use Rattle.tv_layout.specs.Sound.{padding, all_lines}
 use Rattle.tv_layout.specs.Values.{run_step_values, fill, IsFill}
 use Rattle.tv_layout.specs.declared.places.TheConstants.{STATE_WIRES}
 use Rattle.tv_word.proofs.WidthLaws.{word_small}
-use Rattle.std.proofs.lemmas.Bool.{cases_eq}
 use Rattle.tv_core.proofs.HasLaws.{has_of_each}
 use Rattle.tv_core.specs.Constraints.{Sat}
 use Rattle.tv_step.proofs.ReadLaws.{answering_takes_few}

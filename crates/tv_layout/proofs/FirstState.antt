@@ -1,8 +1,6 @@
 -- The first state: its wires hold 0, and so its numbers are those at the start.
-use Rattle.std.proofs.Common.{◌≡◌, ℕ, zero, suc, ◌+◌, ◌<◌, ◌≤◌, List, ◌∷◌, replicate, refl, sym, ap, ap₂, ◌∙◌, arith, add-zero}
-use Rattle.std.specs.List.{range_with_len}
-use Rattle.std.specs.Prelude.{slice_index}
-use Rattle.tv_core.specs.Circuits.{turns, pure}
+use Rattle.tv_core.proofs.Common.{◌≡◌, ℕ, zero, suc, ◌+◌, ◌<◌, ◌≤◌, List, ◌∷◌, refl, sym, ap, ap₂, ◌∙◌, arith, range_with_len, slice_index, turns, pure}
+use Rattle.std.proofs.Common.{replicate, add-zero}
 use Rattle.tv_numbers.specs.Views.{View}
 use Rattle.tv_inputs.specs.States.{StateUnder, state_in}
 use Rattle.tv_bits.specs.Wires.{words_at}

@@ -1,10 +1,9 @@
 -- That a program is within the limits is a fact, and not data; so it comes out of a ghost field, which holds it truncated.
-use Rattle.std.proofs.Common.{◌≡◌, ℕ, ◌≤◌, length, inl, inr, ap, arith}
+use Rattle.tv_core.proofs.Common.{◌≡◌, ℕ, ◌≤◌, length, inl, inr, ap, arith, IsWidth}
 use denote.Struct.Props.{props}
 use mathlib.Core.Logic.{∥∥₁_elim}
 use Rattle.tv_core.specs.declared.limits.TheConstants.{IMAGE_WORDS, TAPE_WORDS, STEPS}
 use Rattle.tv_step.specs.Range.{AreWords}
-use Rattle.tv_word.specs.Widths.{IsWidth}
 use Rattle.tv_layout.specs.Places.{WithinLimits, ProgramRuns}
 
 width_prop : (w : ℕ) → IsProp (IsWidth w)

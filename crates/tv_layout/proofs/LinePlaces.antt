@@ -1,11 +1,10 @@
 -- A line of a system by its place, and what it is made of.
-use Rattle.std.proofs.Common.{◌≡◌, ℕ, zero, suc, ◌+◌, ◌-◌, ◌*◌, ◌/◌, ◌%◌, ◌<◌, ◌≤◌, ◌^◌, List, [], ◌∷◌, ◌++◌, length, map, All, inl, inr, refl, sym, ap, ap₂}
-use Rattle.std.proofs.Common.{◌∙◌, arith, subst, add-zero, get_or}
-use Rattle.std.specs.List.{range_with_len}
-use Rattle.std.specs.Prelude.{slice_index}
+use Rattle.tv_core.proofs.Common.{◌≡◌, ℕ, zero, suc, ◌+◌, ◌-◌, ◌*◌, ◌/◌, ◌%◌, ◌<◌, ◌≤◌, ◌^◌, List, [], ◌∷◌, ◌++◌, length, map, All, inl, inr, refl, sym, ap}
+use Rattle.tv_core.proofs.Common.{ap₂, ◌∙◌, arith, subst, get_or, range_with_len, slice_index, cases_lt, length-append, length-map, joined_below, pure, turns}
+use Rattle.tv_core.proofs.Common.{◌>>=◌, wire, constant, top, Combination, IsWidth}
+use Rattle.std.proofs.Common.{add-zero}
 use Rattle.std.proofs.Math.Nat.{mul-le-mul_right}
-use Rattle.std.proofs.lemmas.Bool.{cases_lt}
-use Rattle.std.proofs.lemmas.List.{length-append, length-map, get_or-map, get_or_append_left, get_or-append_right}
+use Rattle.std.proofs.lemmas.List.{get_or-map, get_or_append_left, get_or-append_right}
 use Rattle.std.proofs.lemmas.List.Elements.{All-get_or, All-from_get_or}
 use Rattle.std.proofs.lemmas.List.FromFn.{length-map-range_with_len, get_or-map-range_with_len}
 use Rattle.tv_block.proofs.Placed.{block_places}
@@ -16,15 +15,10 @@ use Rattle.tv_block.specs.Under.{LineUnder}
 use Rattle.tv_block.specs.declared.records.Block.{Block}
 use Rattle.tv_inputs.specs.declared.records.StateWires.{StateWires}
 use Rattle.tv_core.proofs.JoinedLaws.{joined_below-suc, length-joined_below}
-use Rattle.tv_core.specs.Below.{joined_below}
-use Rattle.tv_core.specs.Circuits.{pure, turns, ◌>>=◌}
-use Rattle.tv_core.specs.Combinations.{wire, constant, top}
-use Rattle.tv_core.specs.Constraints.{Combination}
 use Rattle.tv_core.specs.declared.limits.TheConstants.{TAPE_CELLS, NULL_CELL}
 use Rattle.tv_core.specs.declared.lines.LineLc.{LineLc}
 use Rattle.tv_lines.specs.Placed.{no_line, line_in}
 use Rattle.tv_argument.specs.Memory.{IsMade}
-use Rattle.tv_word.specs.Widths.{IsWidth}
 use Rattle.tv_layout.proofs.Positions.{steps_next, log_above}
 use Rattle.tv_layout.proofs.Blocks.{step_sized}
 use Rattle.tv_layout.specs.Layout.{steps_of, state_at, block_at, line_of_word, boot_wires, boot_lines_of, padding_of, system_lines, step_block}

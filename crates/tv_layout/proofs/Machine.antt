@@ -1,6 +1,7 @@
 -- What a step in numbers says of the state of the machine that its numbers are of.
-use Rattle.std.proofs.Common.{◌≡◌, ℕ, Bool, true, false, List, [], ◌∷◌, ◌++◌, fold, refl, sym, ap, ◌∙◌, subst}
-use Rattle.tv_core.specs.Lines.{Line, written, HonestFrom}
+use Rattle.tv_core.proofs.Common.{◌≡◌, ℕ, Bool, true, false, List, [], ◌∷◌, ◌++◌, refl, sym, ap, ◌∙◌, subst, Line}
+use Rattle.std.proofs.Common.{fold}
+use Rattle.tv_core.specs.Lines.{written, HonestFrom}
 use Rattle.tv_mem.specs.Words.{AreBytes}
 use Rattle.tv_numbers.specs.Laws.{HoldsOlds, AuxFits, DoesStep}
 use Rattle.tv_numbers.specs.Numbers.{Transition, lines_in}

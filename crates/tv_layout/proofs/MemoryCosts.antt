@@ -1,7 +1,6 @@
 -- What the checks and the network of a system's memory argument make and add: the checks by a sum over the places of the
 -- lines, and by their kinds.
-use Rattle.std.proofs.Common.{◌≡◌, ℕ, zero, suc, ◌+◌, ◌-◌, ◌*◌, ◌<◌, ◌≤◌, ◌≢◌, refl, sym, ap, ap₂, ◌∙◌, arith, ◌/◌, length}
-use Rattle.std.proofs.lemmas.Bool.{ne_eqb}
+use Rattle.tv_core.proofs.Common.{◌≡◌, ℕ, zero, suc, ◌+◌, ◌-◌, ◌*◌, ◌<◌, ◌≤◌, ◌≢◌, refl, sym, ap, ap₂, ◌∙◌, arith, ◌/◌, length, ne_eqb}
 use Rattle.tv_core.proofs.BelowLaws.{sum_below-zero, sum_below-suc, sum_below-add}
 use Rattle.tv_core.specs.Below.{sum_below}
 use Rattle.tv_core.specs.declared.limits.TheConstants.{CELL_BITS, TAPE_CELLS}

@@ -1,5 +1,6 @@
 -- Every combination of a system is normal: its parts' are, one after another.
-use Rattle.std.proofs.Common.{◌≡◌, ℕ, zero, suc, ◌+◌, ◌*◌, ◌^◌, ◌<◌, [], sym, subst, arith}
+use Rattle.tv_core.proofs.Common.{◌≡◌, ℕ, zero, suc, ◌+◌, ◌*◌, ◌^◌, ◌<◌, [], sym, subst, arith, fresh, here, put, pure, ◌>>=◌, wire, constant, sequence}
+use Rattle.tv_core.proofs.Common.{IsNormal, AreNormal, width_short, IsWidth}
 use Rattle.tv_bits.proofs.NormalLaws.{wire_normal, constant_normal, bits_of_normal}
 use Rattle.tv_bits.specs.Bits.{bits_of}
 use Rattle.tv_block.proofs.NormalLaws.{block_normal}
@@ -8,15 +9,9 @@ use Rattle.tv_block.specs.Complete.{block_made}
 use Rattle.tv_block.specs.Places.{next_state}
 use Rattle.tv_block.specs.declared.records.Reached.{Reached}
 use Rattle.tv_core.proofs.NormalCircuits.{normal_both, normal_put, normal_turns}
-use Rattle.tv_core.specs.Circuits.{fresh, here, put, pure, ◌>>=◌}
-use Rattle.tv_core.specs.Combinations.{wire, constant}
-use Rattle.tv_core.specs.Loops.{sequence}
-use Rattle.tv_core.specs.Normal.{IsNormal, AreNormal}
 use Rattle.tv_argument.proofs.NormalLaws.{memory_normal}
 use Rattle.tv_inputs.proofs.NormalStates.{row_apart}
 use Rattle.tv_inputs.specs.States.{StateUnder, StateIsApart}
-use Rattle.tv_word.proofs.WidthLaws.{width_short}
-use Rattle.tv_word.specs.Widths.{IsWidth}
 use Rattle.tv_layout.proofs.FirstState.{first_under}
 use Rattle.tv_layout.proofs.LinePlaces.{state_is, line_number, lines_made}
 use Rattle.tv_layout.proofs.Positions.{steps_next, last_of, layout_list, memory_at, log_some}

@@ -1,11 +1,8 @@
 -- All lines of a system in numbers, by their places.
-use Rattle.std.proofs.Common.{◌≡◌, ℕ, zero, suc, ◌+◌, ◌-◌, ◌*◌, ◌/◌, ◌%◌, ◌<◌, ◌≤◌, List, [], ◌∷◌, ◌++◌, length, inl, inr, refl, sym, ap, ap₂, ◌∙◌, arith}
-use Rattle.std.proofs.Common.{subst, add-zero, zero-add}
-use Rattle.std.proofs.lemmas.Bool.{cases_lt}
-use Rattle.std.proofs.lemmas.List.{length-append, get_or_append_left, get_or-append_right}
-use Rattle.std.specs.Prelude.{slice_index}
-use Rattle.tv_core.specs.Below.{joined_below}
-use Rattle.tv_core.specs.Lines.{Line}
+use Rattle.tv_core.proofs.Common.{◌≡◌, ℕ, zero, suc, ◌+◌, ◌-◌, ◌*◌, ◌/◌, ◌%◌, ◌<◌, ◌≤◌, List, [], ◌∷◌, ◌++◌, length, inl, inr, refl, sym, ap, ap₂, ◌∙◌, arith}
+use Rattle.tv_core.proofs.Common.{subst, cases_lt, length-append, slice_index, joined_below, Line}
+use Rattle.std.proofs.Common.{add-zero, zero-add}
+use Rattle.std.proofs.lemmas.List.{get_or_append_left, get_or-append_right}
 use Rattle.tv_core.specs.declared.limits.TheConstants.{TAPE_CELLS}
 use Rattle.tv_layout.proofs.LinePlaces.{thirds, length-thirds}
 use Rattle.tv_lines.specs.Placed.{zero_line, number_in}

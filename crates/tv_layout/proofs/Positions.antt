@@ -1,14 +1,11 @@
 -- Where the parts of a system begin, and what an assignment meets of each.
-use Rattle.std.proofs.Common.{◌≡◌, ℕ, zero, suc, ◌+◌, ◌*◌, ◌≤◌, ◌^◌, true, false, List, ◌++◌, refl, ◌∙◌, arith, inl, inr}
+use Rattle.tv_core.proofs.Common.{◌≡◌, ℕ, zero, suc, ◌+◌, ◌*◌, ◌≤◌, ◌^◌, true, false, List, ◌++◌, refl, ◌∙◌, arith, inl, inr, Meets-split, Meets-join, fresh}
+use Rattle.tv_core.proofs.Common.{here, put, pure, turns, ◌>>=◌, wire, Meets}
 use Rattle.std.proofs.lemmas.Bool.Decides.{leb_tells}
 use Rattle.std.specs.Prelude.{nat_le}
 use Rattle.tv_benes.specs.declared.shape.Net.{Net}
 use Rattle.tv_bits.proofs.BitsLaws.{bits_next}
 use Rattle.tv_core.proofs.LoopLaws.{turns-next}
-use Rattle.tv_core.proofs.MeetsLaws.{Meets-split, Meets-join}
-use Rattle.tv_core.specs.Circuits.{fresh, here, put, pure, turns, ◌>>=◌}
-use Rattle.tv_core.specs.Combinations.{wire}
-use Rattle.tv_core.specs.Laws.{Meets}
 use Rattle.tv_layout.proofs.Blocks.{BlockSizes}
 use Rattle.tv_layout.specs.Blocks.{BlockCircuit}
 use Rattle.tv_layout.specs.Layout.{word_of, words_of, zero_wire_of, zero_wires_of, tie_of, step_of, steps_of, before_steps, layout_of, lines_argument}

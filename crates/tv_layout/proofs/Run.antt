@@ -1,15 +1,14 @@
 -- Steps in an assignment whose lines are honest are the machine's, one by one.
-use Rattle.std.proofs.Common.{◌≡◌, ℕ, zero, suc, ◌+◌, ◌-◌, ◌*◌, ◌<◌, ◌≤◌, Bool, true, false, List, [], ◌∷◌, ◌++◌, length, take, refl, sym, ap, ap₂, ◌∙◌}
-use Rattle.std.proofs.Common.{arith, subst, add-one, add-zero, append_assoc, inl, inr}
-use Rattle.std.proofs.lemmas.Bool.{cases_eq}
+use Rattle.tv_core.proofs.Common.{◌≡◌, ℕ, zero, suc, ◌+◌, ◌-◌, ◌*◌, ◌<◌, ◌≤◌, Bool, true, false, List, [], ◌∷◌, ◌++◌, length, take, refl, sym, ap, ap₂, ◌∙◌}
+use Rattle.tv_core.proofs.Common.{arith, subst, add-one, append_assoc, inl, inr, cases_eq, range_with_len, joined_below, Line}
+use Rattle.std.proofs.Common.{add-zero}
 use Rattle.std.proofs.lemmas.List.{take_all, append-nil}
 use Rattle.std.proofs.lemmas.List.Concat.{flat_map-cons}
-use Rattle.std.specs.List.{range_with_len, flat_map}
+use Rattle.std.specs.List.{flat_map}
 use Rattle.std.specs.Prelude.{if◌then◌else◌}
 use Rattle.tv_core.proofs.JoinedLaws.{joined_below-zero, joined_below-suc}
 use Rattle.tv_core.proofs.LineLaws.{HonestFrom-from_Honest}
-use Rattle.tv_core.specs.Below.{joined_below}
-use Rattle.tv_core.specs.Lines.{Line, Honest, HonestFrom, memory_after}
+use Rattle.tv_core.specs.Lines.{Honest, HonestFrom, memory_after}
 use Rattle.tv_numbers.specs.Laws.{HoldsOlds, AuxFits, DoesStep}
 use Rattle.tv_numbers.specs.Numbers.{Transition, lines_in}
 use Rattle.tv_numbers.specs.Views.{Matches}

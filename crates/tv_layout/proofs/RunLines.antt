@@ -1,9 +1,10 @@
 -- All lines of a run are in range, stand at their times, and are honest.
-use Rattle.std.proofs.Common.{◌≡◌, ℕ, zero, suc, ◌+◌, ◌*◌, ◌/◌, ◌<◌, ◌≤◌, ◌^◌, List, [], ◌∷◌, length, refl, sym, ap₂, ◌∙◌, arith}
-use Rattle.std.proofs.lemmas.List.{length-append, get_or_past}
+use Rattle.tv_core.proofs.Common.{◌≡◌, ℕ, zero, suc, ◌+◌, ◌*◌, ◌/◌, ◌<◌, ◌≤◌, ◌^◌, List, [], ◌∷◌, length, refl, sym, ap₂, ◌∙◌, arith, length-append, Line}
+use Rattle.tv_core.proofs.Common.{IsWidth}
+use Rattle.std.proofs.lemmas.List.{get_or_past}
 use Rattle.std.proofs.lemmas.List.Elements.{All-head, All-tail}
 use Rattle.tv_core.proofs.LineLaws.{Honest-from_HonestFrom, HonestFrom-from_Honest}
-use Rattle.tv_core.specs.Lines.{Line, Honest, HonestFrom, written, memory_after}
+use Rattle.tv_core.specs.Lines.{Honest, HonestFrom, written, memory_after}
 use Rattle.tv_core.specs.declared.limits.TheConstants.{NULL_CELL}
 use Rattle.tv_lines.specs.Placed.{LinesFrom, IsLine as Fits}
 use Rattle.tv_mem.specs.Bytes.{word_in}
@@ -18,7 +19,6 @@ use Rattle.tv_step.specs.Range.{AreWords, StateInRange}
 use Rattle.tv_step.specs.Rows.{word_size}
 use Rattle.tv_step.specs.State.{State}
 use Rattle.tv_step.specs.Trace.{looked_at, data_line, step_lines, lines_of, null_line}
-use Rattle.tv_word.specs.Widths.{IsWidth}
 use Rattle.tv_layout.proofs.Boot.{LinesFrom-append, length-boot_lines, boot_lines_placed, padding_placed, length-padding}
 use Rattle.tv_layout.proofs.Whole.{words_32, spare, filled, power_few}
 use Rattle.tv_layout.specs.Places.{WithinLimits, boot_count, line_count, runs_like, log_of}

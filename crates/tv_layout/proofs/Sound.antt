@@ -1,13 +1,10 @@
 -- A satisfying assignment of a system is a run.
-use Rattle.std.proofs.Common.{◌≡◌, ℕ, suc, ◌+◌, ◌-◌, ◌*◌, ◌<◌, ◌≤◌, ◌^◌, true, List, ◌++◌, length, map, refl, sym, ap, ◌∙◌, arith, subst}
-use Rattle.std.proofs.lemmas.Bool.{eq-eqb}
-use Rattle.std.specs.Prelude.{slice_index}
+use Rattle.tv_core.proofs.Common.{◌≡◌, ℕ, suc, ◌+◌, ◌-◌, ◌*◌, ◌<◌, ◌≤◌, ◌^◌, true, List, ◌++◌, length, map, refl, sym, ap, ◌∙◌, arith, subst, eq-eqb}
+use Rattle.tv_core.proofs.Common.{slice_index, joined_below, Assigns, Meets, HasFrom, Line}
 use Rattle.tv_benes.specs.declared.shape.Net.{Net}
 use Rattle.tv_core.proofs.CombinationLaws.{Assigns-from_Sat, Meets-from_Sat}
-use Rattle.tv_core.specs.Below.{joined_below}
 use Rattle.tv_core.specs.Constraints.{Sat}
-use Rattle.tv_core.specs.Laws.{Assigns, Meets, HasFrom}
-use Rattle.tv_core.specs.Lines.{Line, Honest}
+use Rattle.tv_core.specs.Lines.{Honest}
 use Rattle.tv_lines.specs.PackedLines.{line_value}
 use Rattle.tv_lines.specs.Placed.{LinesFrom}
 use Rattle.tv_argument.proofs.Sound.{memory_sound}

@@ -1,6 +1,7 @@
 -- The cells of a step's lines, from the step in numbers.
-use Rattle.std.proofs.Common.{◌≡◌, ℕ, ◌+◌, ◌/◌, ◌%◌, ◌<◌, ◌≤◌, ◌^◌, ◌==◌, Bool, true, false, ◌||◌, if◌then◌else◌, refl, sym, ap, ◌∙◌, arith, true≢false}
-use Rattle.std.proofs.lemmas.Bool.{ne_eqb}
+use Rattle.tv_core.proofs.Common.{◌≡◌, ℕ, ◌+◌, ◌/◌, ◌%◌, ◌<◌, ◌≤◌, ◌^◌, ◌==◌, Bool, true, false, if◌then◌else◌, refl, sym, ap, ◌∙◌, arith, ne_eqb, for_widths}
+use Rattle.tv_core.proofs.Common.{IsWidth}
+use Rattle.std.proofs.Common.{◌||◌, true≢false}
 use Rattle.tv_core.specs.declared.limits.TheConstants.{NULL_CELL}
 use Rattle.tv_isa.specs.Instruction.{decode}
 use Rattle.tv_isa.specs.Opcodes.{among, memory_ops}
@@ -11,8 +12,6 @@ use Rattle.tv_numbers.specs.Numbers.{operand_word, other_word, touches, takes_pr
 use Rattle.tv_numbers.specs.Views.{View}
 use Rattle.tv_step.specs.Rows.{word_size}
 use Rattle.tv_step.specs.Trace.{tape_cell}
-use Rattle.tv_word.proofs.WidthLaws.{for_widths}
-use Rattle.tv_word.specs.Widths.{IsWidth}
 use Rattle.tv_layout.proofs.Blocks.{HasCells}
 
 -- ---- a choice of two

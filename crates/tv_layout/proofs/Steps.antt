@@ -1,16 +1,12 @@
 -- Steps in a row, in an assignment that satisfies their constraints.
-use Rattle.std.proofs.Common.{◌≡◌, ℕ, zero, suc, ◌+◌, ◌*◌, ◌%◌, ◌<◌, ◌≤◌, ◌^◌, Bool, true, false, List, [], ◌∷◌, ◌++◌, length, map, refl, sym, ap, ap₂, ◌∙◌}
-use Rattle.std.proofs.Common.{arith, subst, inl, inr}
+use Rattle.tv_core.proofs.Common.{◌≡◌, ℕ, zero, suc, ◌+◌, ◌*◌, ◌%◌, ◌<◌, ◌≤◌, ◌^◌, Bool, true, false, List, [], ◌∷◌, ◌++◌, length, map, refl, sym, ap, ap₂, ◌∙◌}
+use Rattle.tv_core.proofs.Common.{arith, subst, inl, inr, joined_below, turns, pure, ◌>>=◌, Assigns, Meets, Line, IsWidth}
 use Rattle.std.proofs.lemmas.List.{map-append}
 use Rattle.std.proofs.lemmas.List.Elements.{All-replicate, All-nil, All-cons, All-append}
 use Rattle.std.specs.Prelude.{if◌then◌else◌}
 use Rattle.tv_core.proofs.JoinedLaws.{joined_below-zero, joined_below-suc, length-joined_below}
 use Rattle.tv_core.proofs.LoopLaws.{turn_met}
 use Rattle.tv_core.proofs.MeetsLaws.{parts}
-use Rattle.tv_core.specs.Below.{joined_below}
-use Rattle.tv_core.specs.Circuits.{turns, pure, ◌>>=◌}
-use Rattle.tv_core.specs.Laws.{Assigns, Meets}
-use Rattle.tv_core.specs.Lines.{Line}
 use Rattle.tv_core.specs.declared.lines.LineLc.{LineLc}
 use Rattle.tv_lines.specs.PackedLines.{line_value}
 use Rattle.tv_lines.specs.Placed.{line_in, LinesFrom, IsLine as Fits}
@@ -20,7 +16,6 @@ use Rattle.tv_numbers.specs.Views.{ViewInRange}
 use Rattle.tv_step.specs.Cells.{IsLine}
 use Rattle.tv_step.specs.Range.{AreWords}
 use Rattle.tv_step.specs.Rows.{instruction_size}
-use Rattle.tv_word.specs.Widths.{IsWidth}
 use Rattle.tv_layout.proofs.Boot.{LinesFrom-append}
 use Rattle.tv_layout.proofs.FirstState.{HoldsZeros, first_view}
 use Rattle.tv_inputs.specs.States.{state_in}

@@ -1,10 +1,8 @@
 -- One step with the values of a run, and all steps of the run.
-use Rattle.std.proofs.Common.{◌≡◌, ℕ, Bool, true, false, List, [], ◌∷◌, length, refl, sym, ap, ◌∙◌, subst, zero, suc, ◌+◌, ◌-◌, ◌*◌, ◌<◌, ◌≤◌, ◌^◌, ◌++◌, ap₂}
-use Rattle.std.proofs.Common.{arith, add-one, Some}
+use Rattle.tv_core.proofs.Common.{◌≡◌, ℕ, Bool, true, false, List, [], ◌∷◌, length, refl, sym, ap, ◌∙◌, subst, zero, suc, ◌+◌, ◌-◌, ◌*◌, ◌<◌, ◌≤◌, ◌^◌, ◌++◌}
+use Rattle.tv_core.proofs.Common.{ap₂, arith, add-one, Some, slice_index, Meets, Assigns, HasFrom, Line, IsWidth, flag_of, eqb-true, joined_below, pure}
 use Rattle.std.proofs.lemmas.List.Elements.{All-head, All-tail}
-use Rattle.std.specs.Prelude.{◌||◌, is_some, if◌then◌else◌, All, slice_index}
-use Rattle.tv_core.specs.Laws.{Meets, Assigns, HasFrom}
-use Rattle.tv_core.specs.Lines.{Line}
+use Rattle.std.specs.Prelude.{◌||◌, is_some, if◌then◌else◌, All}
 use Rattle.tv_numbers.specs.Laws.{HoldsOlds, AuxFits}
 use Rattle.tv_numbers.specs.Numbers.{Transition, lines_in}
 use Rattle.tv_numbers.specs.Views.{Matches, View, ViewInRange}
@@ -13,7 +11,6 @@ use Rattle.tv_step.specs.Cells.{cells_of, IsOn, IsInput}
 use Rattle.tv_step.specs.Machine.{next, state_after, start}
 use Rattle.tv_step.specs.Reads.{word_taken, finds_end, words_in, ended_after, words_taken}
 use Rattle.tv_step.specs.State.{State, Next}
-use Rattle.tv_word.specs.Widths.{IsWidth}
 use Rattle.tv_layout.proofs.Machine.{led}
 use Rattle.tv_layout.proofs.TakenWords.{AuxCase.{Takes, Ends, Other}, aux_case, taken_in}
 use Rattle.tv_block.specs.Block.{IsMachineStep, transition_in, reached}
@@ -21,14 +18,10 @@ use Rattle.tv_layout.proofs.Blocks.{BlockIsSound, BlockIsComplete, Given, ShowsS
 use Rattle.tv_layout.specs.Blocks.{BlockCircuit, BlockValues, view_of}
 use Rattle.tv_block.specs.declared.records.Block.{Block}
 use Rattle.tv_inputs.specs.declared.records.StateWires.{StateWires}
-use Rattle.tv_word.specs.Word.{flag_of}
-use Rattle.std.proofs.lemmas.Bool.{eqb-true}
 use Rattle.std.proofs.lemmas.List.{length-drop}
 use Rattle.tv_core.proofs.JoinedLaws.{joined_below-zero, joined_below-suc}
 use Rattle.tv_core.proofs.LoopLaws.{turns_met}
 use Rattle.tv_core.proofs.MeetsLaws.{whole}
-use Rattle.tv_core.specs.Below.{joined_below}
-use Rattle.tv_core.specs.Circuits.{pure}
 use Rattle.tv_step.proofs.EndLaws.{steps_at_the_end}
 use Rattle.tv_step.proofs.RangeLaws.{start_in_range, run_keeps_range}
 use Rattle.tv_step.proofs.ReadLaws.{tapes_are_left, ended_takes_nothing}

@@ -1,7 +1,8 @@
 -- The counts of a system, by what its parts cost, and at most: its wires and constraints within the limits are numbers of 32
 -- bits.
-use Rattle.std.proofs.Common.{◌≡◌, ℕ, suc, ◌+◌, ◌-◌, ◌*◌, ◌<◌, ◌≤◌, ◌^◌, length, ap, ◌∙◌, arith, List, sym, subst, ◌++◌, refl, ap₂}
-use Rattle.std.proofs.Math.Nat.{mul-le-mul, mul-le-mul_left, pow-le-pow_right}
+use Rattle.tv_core.proofs.Common.{◌≡◌, ℕ, suc, ◌+◌, ◌-◌, ◌*◌, ◌<◌, ◌≤◌, ◌^◌, length, ap, ◌∙◌, arith, List, sym, subst, ◌++◌, refl, ap₂, pow-le-pow_right}
+use Rattle.tv_core.proofs.Common.{width_short, for_widths, terms_in, each_below, pure, here, fresh, put, ◌>>=◌, turns, Constraint, IsWidth}
+use Rattle.std.proofs.Math.Nat.{mul-le-mul, mul-le-mul_left}
 use Rattle.tv_benes.proofs.Most.{switches_most, network_few}
 use Rattle.tv_benes.specs.Through.{switches}
 use Rattle.tv_benes.specs.declared.shape.Net.{Net}
@@ -11,7 +12,6 @@ use Rattle.tv_block.specs.Complete.{block_made, block_added}
 use Rattle.tv_argument.proofs.CheckCosts.{checks_cheap}
 use Rattle.tv_argument.specs.Checks.{AreShort, Checks}
 use Rattle.tv_argument.specs.Costs.{network_made}
-use Rattle.tv_word.proofs.WidthLaws.{width_short, for_widths}
 use Rattle.tv_layout.proofs.LineKinds.{kinds_short}
 use Rattle.tv_layout.proofs.MemoryCosts.{wires_are, constraints_are}
 use Rattle.tv_layout.proofs.Positions.{log_above, log_within, log_some, layout_next, memory_at, layout_list}
@@ -21,7 +21,6 @@ use Rattle.tv_layout.specs.Sizes.{memory_wires, memory_constraints, system_made,
 use Rattle.tv_layout.specs.declared.places.TheConstants.{STATE_WIRES}
 use Rattle.tv_block.specs.Block.{block_of}
 use Rattle.tv_block.specs.Costs.{block_terms}
-use Rattle.tv_core.specs.Meanings.{terms_in}
 use Rattle.tv_core.specs.declared.lines.LineLc.{LineLc}
 use Rattle.tv_argument.proofs.Complete.{memory_complete}
 use Rattle.tv_argument.proofs.Costs.{memory_cost}
@@ -37,10 +36,7 @@ use Rattle.tv_bits.specs.Bit.{bit_of}
 use Rattle.tv_bits.specs.Bits.{new_bit, new_bits_of, bits_of}
 use Rattle.tv_block.specs.declared.records.Reached.{Reached}
 use Rattle.tv_inputs.specs.declared.records.StateWires.{StateWires}
-use Rattle.tv_core.specs.Below.{each_below, weighted}
-use Rattle.tv_core.specs.Circuits.{pure, here, fresh, put, ◌>>=◌, turns}
-use Rattle.tv_core.specs.Constraints.{Constraint}
-use Rattle.tv_word.specs.Widths.{IsWidth}
+use Rattle.tv_core.specs.Below.{weighted}
 
 -- ---- words, the wires that are held to 0, and the end
 word_count : (w : ℕ) → IsWidth w → (first i next : ℕ) → length (word_of w first i next).list ≡ w + 1

@@ -1,5 +1,5 @@
 -- The circuit of tv_block has what a system needs of a step.
-use Rattle.std.proofs.Common.{ℕ, ◌-◌, length, sym, subst, arith, List, Option}
+use Rattle.tv_core.proofs.Common.{ℕ, ◌-◌, length, sym, subst, arith, List, Option, IsWidth, flag_of}
 use Rattle.tv_block.proofs.BlockLaws.{step_in, block_sound}
 use Rattle.tv_block.proofs.MachineFills.{machine_step_met, machine_values_fit}
 use Rattle.tv_block.specs.Block.{block_of}
@@ -8,13 +8,11 @@ use Rattle.tv_inputs.specs.States.{state_in}
 use Rattle.tv_inputs.specs.declared.records.StateWires.{StateWires}
 use Rattle.tv_step.specs.State.{State}
 use Rattle.tv_word.proofs.FlagLaws.{flag_small}
-use Rattle.tv_word.specs.Widths.{IsWidth}
 use Rattle.tv_layout.proofs.Fill.{fill_complete, layout_reduces}
 use Rattle.tv_layout.proofs.Sound.{layout_sound}
 use Rattle.tv_layout.proofs.Blocks.{HasCells, BlockIsSound, BlockIsComplete, Given, step_sized}
 use Rattle.tv_layout.proofs.StepCells.{numbers_have_cells}
 use Rattle.tv_layout.specs.Systems.{SystemIsSound, SystemIsComplete, SystemReduces}
-use Rattle.tv_word.specs.Word.{flag_of}
 
 module _ (w : ℕ) (width : IsWidth w) where
   pub step_sound : BlockIsSound w (block_of w)

@@ -1,10 +1,10 @@
 -- What a step takes of the auxiliary tape: in an assignment, and by the machine, by cases.
-use Rattle.std.proofs.Common.{◌≡◌, ℕ, Bool, true, false, List, [], ◌∷◌, ◌++◌, map, refl, sym, ap, ap₂, ◌∙◌, Option, Some, None}
+use Rattle.tv_core.proofs.Common.{◌≡◌, ℕ, Bool, true, false, List, [], ◌∷◌, ◌++◌, map, refl, sym, ap, ap₂, ◌∙◌, Option, Some, None, range_with_len, slice_index}
+use Rattle.tv_core.proofs.Common.{joined_below}
 use Rattle.std.proofs.lemmas.List.{map-append}
-use Rattle.std.specs.List.{range_with_len, flat_map}
-use Rattle.std.specs.Prelude.{slice_get, slice_index, ◌==◌, ◌&&◌, not, is_some, if◌then◌else◌}
+use Rattle.std.specs.List.{flat_map}
+use Rattle.std.specs.Prelude.{slice_get, ◌==◌, ◌&&◌, not, is_some, if◌then◌else◌}
 use Rattle.tv_inputs.specs.declared.records.Spot.{Spot}
-use Rattle.tv_core.specs.Below.{joined_below}
 use Rattle.tv_layout.specs.Blocks.{BlockCircuit}
 use Rattle.tv_layout.specs.Layout.{taken_wire, taken_wires, taken_at, taken_of, step_block}
 use Rattle.tv_layout.specs.Places.{runs_of}

@@ -1,17 +1,13 @@
 -- All lines of a system, in an assignment that meets its steps.
-use Rattle.std.proofs.Common.{◌≡◌, ℕ, ◌+◌, ◌-◌, ◌*◌, ◌<◌, ◌≤◌, ◌^◌, List, ◌++◌, length, map, sym, ap, ap₂, ◌∙◌, arith}
-use Rattle.std.proofs.Math.Nat.{pow-le-pow_right}
-use Rattle.std.proofs.lemmas.List.{length-append, length-map, map-append}
+use Rattle.tv_core.proofs.Common.{◌≡◌, ℕ, ◌+◌, ◌-◌, ◌*◌, ◌<◌, ◌≤◌, ◌^◌, List, ◌++◌, length, map, sym, ap, ap₂, ◌∙◌, arith, pow-le-pow_right, length-append}
+use Rattle.tv_core.proofs.Common.{length-map, joined_below, Assigns, Meets, HasFrom, Line, IsWidth}
+use Rattle.std.proofs.lemmas.List.{map-append}
 use Rattle.std.proofs.lemmas.List.Elements.{All-weaker}
-use Rattle.tv_core.specs.Below.{joined_below}
-use Rattle.tv_core.specs.Laws.{Assigns, Meets, HasFrom}
-use Rattle.tv_core.specs.Lines.{Line}
 use Rattle.tv_lines.specs.PackedLines.{line_value}
 use Rattle.tv_lines.specs.Placed.{LinesFrom}
 use Rattle.tv_numbers.specs.Numbers.{lines_in}
 use Rattle.tv_step.specs.Cells.{boot_lines}
 use Rattle.tv_step.specs.Range.{AreWords}
-use Rattle.tv_word.specs.Widths.{IsWidth}
 use Rattle.tv_layout.proofs.Boot.{boot_lines_valued, padding_valued, LinesFrom-append, length-boot_lines, boot_lines_placed, padding_placed, length-padding}
 use Rattle.tv_layout.proofs.FirstState.{HoldsZeros}
 use Rattle.tv_layout.proofs.Positions.{log_above, log_within}

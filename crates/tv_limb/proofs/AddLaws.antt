@@ -1,19 +1,14 @@
 -- The laws of a sum.
-use Rattle.std.proofs.Common.{◌≡◌, ℕ, ◌+◌, ◌*◌, ◌/◌, ◌%◌, ◌^◌, ◌-◌, ◌<◌, List, ap, ap₂, sym, subst, ◌∙◌, arith}
-use Rattle.std.proofs.lemmas.Bool.Decides.{nat_tests}
+use Rattle.tv_core.proofs.Common.{◌≡◌, ℕ, ◌+◌, ◌*◌, ◌/◌, ◌%◌, ◌^◌, ◌-◌, ◌<◌, List, ap, ap₂, sym, subst, ◌∙◌, arith, nat_tests, value-append, scaled, value}
+use Rattle.tv_core.proofs.Common.{HasFrom, width_short, IsWidth}
 use Rattle.tv_bits.proofs.SizeLaws.{length-bits, bits_in_field}
 use Rattle.tv_bits.proofs.BitNumbers.{HasBits-below, value-bits_below}
 use Rattle.tv_bits.specs.Bits.{HasBits, bits_combination, bits_values}
 use Rattle.tv_bits.specs.declared.bit_wires.Bits.{Bits}
-use Rattle.tv_core.proofs.CombinationLaws.{value-append, value-scaled}
-use Rattle.tv_core.specs.Combinations.{scaled}
-use Rattle.tv_core.specs.Constraints.{value}
-use Rattle.tv_core.specs.Laws.{HasFrom}
+use Rattle.tv_core.proofs.CombinationLaws.{value-scaled}
 use Rattle.tv_core.specs.declared.field.TheConstants.{P}
 use Rattle.tv_limb.proofs.SplitLaws.{split_sound, split_complete, split_answer, split_next}
 use Rattle.tv_limb.specs.Split.{split_at}
-use Rattle.tv_word.proofs.WidthLaws.{width_short}
-use Rattle.tv_word.specs.Widths.{IsWidth}
 use Rattle.tv_limb.specs.Sum.{sum_of_words, add_of, AddIsSound, AddIsComplete, AddSizes}
 use Rattle.tv_rows.specs.RowSum.{carry}
 

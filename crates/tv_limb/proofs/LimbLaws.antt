@@ -1,8 +1,7 @@
 -- The law of the halves of a word.
-use Rattle.std.proofs.Common.{◌≡◌, ◌+◌, ◌/◌, arith, subst}
+use Rattle.tv_core.proofs.Common.{◌≡◌, ◌+◌, ◌/◌, arith, subst, width_short}
 use Rattle.tv_bits.proofs.BitNumbers.{HasBits-low, HasBits-high, value-bits_below}
 use Rattle.tv_bits.specs.Bits.{HasBits}
-use Rattle.tv_word.proofs.WidthLaws.{width_short}
 use Rattle.tv_limb.specs.Limbs.{LimbsAreSound}
 
 pub limbs_sound : LimbsAreSound

@@ -1,12 +1,9 @@
 -- The laws of a number in two parts.
-use Rattle.std.proofs.Common.{◌≡◌, ℕ, ◌+◌, ◌-◌, ◌/◌, ◌%◌, ◌^◌, List, [], ap, subst, arith}
+use Rattle.tv_core.proofs.Common.{◌≡◌, ℕ, ◌+◌, ◌-◌, ◌/◌, ◌%◌, ◌^◌, List, [], ap, subst, arith, Meets-split, Meets-join, pure, ◌>>=◌, Combination, value}
 use Rattle.tv_bits.proofs.SizeLaws.{length-bits, bits_in_field}
 use Rattle.tv_bits.proofs.BitNumbers.{HasBits-low, HasBits-high}
 use Rattle.tv_bits.proofs.BitsLaws.{bits_sound, bits_complete, bits_answer, bits_next}
 use Rattle.tv_bits.specs.Bits.{HasBits, bits_of}
-use Rattle.tv_core.proofs.MeetsLaws.{Meets-split, Meets-join}
-use Rattle.tv_core.specs.Circuits.{pure, ◌>>=◌}
-use Rattle.tv_core.specs.Constraints.{Combination, value}
 use Rattle.tv_limb.specs.Split.{HasPartBits, split_at, split_of, SplitIsSound, SplitIsComplete, SplitSizes}
 
 -- what the circuit answers, and where it ends

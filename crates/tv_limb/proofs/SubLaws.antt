@@ -1,25 +1,17 @@
 -- The laws of a difference.
-use Rattle.std.proofs.Common.{◌≡◌, ℕ, ◌+◌, ◌-◌, ◌*◌, ◌/◌, ◌%◌, ◌^◌, ◌<◌, List, [], ◌∷◌, ap, ap₂, sym, ◌∙◌, arith}
-use Rattle.std.specs.Prelude.{slice_index}
-use Rattle.std.proofs.lemmas.Bool.Decides.{nat_tests}
+use Rattle.tv_core.proofs.Common.{◌≡◌, ℕ, ◌+◌, ◌-◌, ◌*◌, ◌/◌, ◌%◌, ◌^◌, ◌<◌, List, [], ◌∷◌, ap, ap₂, sym, ◌∙◌, arith, slice_index, nat_tests, value-append}
+use Rattle.tv_core.proofs.Common.{value-less, Meets-split, Meets-join, put, pure, ◌>>=◌, constant, value, Assigns, width_short, IsWidth}
 use Rattle.tv_bits.proofs.SizeLaws.{length-bits, bits_in_field}
 use Rattle.tv_bits.proofs.BitNumbers.{HasBits-below, HasBits-low, HasBits-high, HasBits-one, HasBits-from_values, value-bits_below}
 use Rattle.tv_bits.proofs.BitsLaws.{new_bits_sound, new_bits_complete, new_bits_answer, new_bits_next}
 use Rattle.tv_bits.specs.Bits.{HasBits, binary_value, bits_combination, new_bits_of}
 use Rattle.tv_bits.specs.declared.bit_wires.Bits.{Bits}
-use Rattle.tv_core.proofs.CombinationLaws.{value-append, value-less, value-constant}
-use Rattle.tv_core.proofs.MeetsLaws.{Meets-split, Meets-join}
-use Rattle.tv_core.specs.Circuits.{put, pure, ◌>>=◌}
-use Rattle.tv_core.specs.Combinations.{constant}
-use Rattle.tv_core.specs.Constraints.{value}
-use Rattle.tv_core.specs.Laws.{Assigns}
+use Rattle.tv_core.proofs.CombinationLaws.{value-constant}
 use Rattle.tv_core.specs.declared.field.TheConstants.{P}
 use Rattle.tv_limb.proofs.SplitLaws.{HasPartBits-from_HasBits}
 use Rattle.tv_limb.specs.Difference.{borrow, less_borrow, difference_of_words, sub_of, SubIsSound, SubIsComplete, SubSizes}
 use Rattle.tv_limb.specs.Split.{split_at}
-use Rattle.tv_word.proofs.WidthLaws.{width_short}
 use Rattle.tv_word.specs.Operations.{sub_result}
-use Rattle.tv_word.specs.Widths.{IsWidth}
 
 -- what the circuit answers, and where it ends
 pub sub_answer : (w : ℕ) (x y : Bits) (next : ℕ) → (sub_of w x y next).answer ≡ split_at w (record { first = next; n = w + 1 })

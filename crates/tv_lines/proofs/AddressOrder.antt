@@ -1,13 +1,15 @@
 -- Honest lines, sorted by cell and time.
-use Rattle.std.proofs.Common.{◌≡◌, ℕ, ◌+◌, ◌^◌, ◌<◌, ◌≤◌, ◌≢◌, ◌⊎◌, ◌==◌, Bool, true, false, List, ◌∷◌, ◌++◌, length, take, drop, get_or, Contains, All}
-use Rattle.std.proofs.Common.{IsPermutation, refl, sym, ap, ◌∙◌, arith, inl, inr}
+use Rattle.tv_core.proofs.Common.{◌≡◌, ℕ, ◌+◌, ◌^◌, ◌<◌, ◌≤◌, ◌≢◌, ◌⊎◌, ◌==◌, Bool, true, false, List, ◌∷◌, ◌++◌, length, take, drop, get_or, All, refl, sym}
+use Rattle.tv_core.proofs.Common.{ap, ◌∙◌, arith, inl, inr, cases_lt, eqb-true, eq-eqb, ne_eqb, Line}
+use Rattle.std.proofs.Common.{Contains}
+use Rattle.std.proofs.Common.{IsPermutation}
 use Rattle.std.specs.List.{IsDistinct}
 use Rattle.std.proofs.lemmas.List.{get_or_default, take-append-drop, drop_more, get_or-take, length-take-le}
 use Rattle.std.proofs.lemmas.List.Elements.{Contains-get_or}
 use Rattle.std.proofs.lemmas.List.Sorted.{All-permutation, IsPermutation-sym}
 use Rattle.std.proofs.lemmas.Map.Keys.{apart_from_distinct, IsDistinct-from_apart, IsDistinct-IsPermutation}
-use Rattle.std.proofs.lemmas.Bool.{cases_order, cases_lt, eqb-true, eqb-false, eq-eqb, ne_eqb}
-use Rattle.tv_core.specs.Lines.{Line, memory_after, Honest}
+use Rattle.std.proofs.lemmas.Bool.{cases_order, eqb-false}
+use Rattle.tv_core.specs.Lines.{memory_after, Honest}
 use Rattle.tv_lines.proofs.OrderedLaws.{HonestByTimes, by_times-permutation}
 use Rattle.tv_lines.proofs.TimeOrder.{LastWrite, NoWrite, last_write, place_from_time}
 use Rattle.tv_lines.specs.Ordered.{Follows, InTimeOrder, key, SortedLinesAreOrdered}

@@ -1,9 +1,6 @@
 -- Terms added to a normal combination, one after another.
-use Rattle.std.proofs.Common.{◌≡◌, ℕ, ◌-◌, ◌^◌, [], ◌∷◌, ◌++◌, ◌∙◌, ap, append_assoc}
+use Rattle.tv_core.proofs.Common.{◌≡◌, ℕ, ◌-◌, ◌^◌, [], ◌∷◌, ◌++◌, ◌∙◌, ap, append_assoc, Combination, scaled, normal}
 use Rattle.tv_core.proofs.Unique.{normal-front}
-use Rattle.tv_core.specs.Constraints.{Combination}
-use Rattle.tv_core.specs.Combinations.{scaled}
-use Rattle.tv_core.specs.Normal.{normal}
 use Rattle.tv_core.specs.declared.field.TheConstants.{P}
 use Rattle.tv_lines.specs.Predecessor.{less_above}
 

@@ -1,11 +1,7 @@
 -- The laws of the first line.
-use Rattle.std.proofs.Common.{◌≡◌, ℕ, ◌*◌, ◌%◌, List, refl, sym, ◌∙◌, ap₂, arith}
+use Rattle.tv_core.proofs.Common.{◌≡◌, ℕ, ◌*◌, ◌%◌, List, refl, sym, ◌∙◌, ap₂, arith, put, constant, value, Assigns}
 use Rattle.tv_bits.proofs.BitNumbers.{HasBits-small}
 use Rattle.tv_core.proofs.CombinationLaws.{value-constant}
-use Rattle.tv_core.specs.Circuits.{put}
-use Rattle.tv_core.specs.Combinations.{constant}
-use Rattle.tv_core.specs.Constraints.{value}
-use Rattle.tv_core.specs.Laws.{Assigns}
 use Rattle.tv_core.specs.declared.field.TheConstants.{P}
 use Rattle.tv_lines.proofs.Numbers.{number_value}
 use Rattle.tv_lines.specs.SortedPair.{first_line_of, FirstLineIsSound, FirstLineIsComplete, FirstLineSizes}

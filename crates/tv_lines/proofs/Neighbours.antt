@@ -1,9 +1,7 @@
 -- First line and sorted pairs along a list.
-use Rattle.std.proofs.Common.{◌≡◌, ℕ, ◌+◌, ◌<◌, get_or, ◌∙◌, ap, arith, zero-add}
+use Rattle.tv_core.proofs.Common.{◌≡◌, ℕ, ◌+◌, ◌<◌, get_or, ◌∙◌, ap, arith, length-each_below, each_below, Line}
+use Rattle.std.proofs.Common.{zero-add}
 use Rattle.std.proofs.lemmas.List.FromFn.{get_or-map-range_with_len}
-use Rattle.tv_core.proofs.BelowLaws.{length-each_below}
-use Rattle.tv_core.specs.Below.{each_below}
-use Rattle.tv_core.specs.Lines.{Line}
 use Rattle.tv_lines.proofs.FirstLaws.{first_line_sound}
 use Rattle.tv_lines.proofs.SortedLaws.{sorted_pair_sound}
 use Rattle.tv_lines.specs.Ordered.{Follows, Ordered}

@@ -1,20 +1,16 @@
 -- What a line's check puts is normal, and has one term more for each new wire.
-use Rattle.std.proofs.Common.{◌≡◌, ℕ, ◌+◌, ◌-◌, ◌%◌, ◌^◌, ◌≤◌, List, [], ◌++◌, length, sym, ◌∙◌, ap, arith}
-use Rattle.std.proofs.lemmas.List.{length-append}
+use Rattle.tv_core.proofs.Common.{◌≡◌, ℕ, ◌+◌, ◌-◌, ◌%◌, ◌^◌, ◌≤◌, List, [], ◌++◌, length, sym, ◌∙◌, ap, arith, length-append, value-append, put, wire}
+use Rattle.tv_core.proofs.Common.{constant, scaled, top, Combination, value, normal, IsNormal}
 use Rattle.tv_bits.specs.Bits.{bits_combination, new_bits_of}
 use Rattle.tv_bits.specs.Times.{kept_of}
 use Rattle.tv_bits.specs.declared.bit_wires.Bits.{Bits}
 use Rattle.tv_bits.proofs.NormalLaws.{wire_normal, scaled_bits_normal, new_bits_normal, kept_normal}
 use Rattle.tv_bits.proofs.BitsLaws.{new_bits_answer, new_bits_next}
 use Rattle.tv_bits.proofs.TimesLaws.{kept_answer}
-use Rattle.tv_core.proofs.CombinationLaws.{top-append, top-scaled, value-append}
+use Rattle.tv_core.proofs.CombinationLaws.{top-append, top-scaled}
 use Rattle.tv_core.proofs.NormalCircuits.{normal_append, normal_put, normal_then}
 use Rattle.tv_core.proofs.NormalLaws.{value-normal, IsNormalFrom-normal, top-normal}
 use Rattle.tv_core.proofs.Unique.{same_values}
-use Rattle.tv_core.specs.Circuits.{put}
-use Rattle.tv_core.specs.Combinations.{wire, constant, scaled, top}
-use Rattle.tv_core.specs.Constraints.{Combination, value}
-use Rattle.tv_core.specs.Normal.{normal, IsNormal}
 use Rattle.tv_core.specs.declared.field.TheConstants.{P}
 use Rattle.tv_core.specs.declared.lines.LineLc.{LineLc}
 use Rattle.tv_lines.specs.Predecessor.{less_above, cell_excess, excess, cell_difference, time_difference, either_of, follows_of, FollowsIsNormal}

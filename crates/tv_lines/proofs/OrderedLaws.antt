@@ -1,10 +1,10 @@
 -- What address order says of lines, by their times alone.
-use Rattle.std.proofs.Common.{◌≡◌, ℕ, ◌+◌, ◌-◌, ◌<◌, ◌≤◌, ◌⊎◌, List, length, get_or, Contains, IsPermutation, sym, ap, ◌∙◌, arith, inl, inr, zero, suc}
+use Rattle.tv_core.proofs.Common.{◌≡◌, ℕ, ◌+◌, ◌-◌, ◌<◌, ◌≤◌, ◌⊎◌, List, length, get_or, sym, ap, ◌∙◌, arith, inl, inr, zero, suc, Line}
+use Rattle.std.proofs.Common.{Contains, IsPermutation}
 use Rattle.std.proofs.lemmas.List.{get_or_default}
 use Rattle.std.proofs.lemmas.List.Elements.{Contains-get_or}
 use Rattle.std.proofs.lemmas.List.Sorted.{Contains-permutation, IsPermutation-sym}
 use Rattle.std.proofs.lemmas.Bool.{cases_order}
-use Rattle.tv_core.specs.Lines.{Line}
 use Rattle.tv_lines.specs.Ordered.{Ordered, Follows}
 
 -- honest lines in any order: by the times alone

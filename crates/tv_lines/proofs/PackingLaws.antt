@@ -1,9 +1,7 @@
 -- Packing and unpacking, as numbers.
-use Rattle.std.proofs.Common.{◌≡◌, ℕ, ◌+◌, ◌*◌, ◌/◌, ◌%◌, ◌^◌, ◌<◌, List, [], sym, ◌∙◌, ap, arith}
-use Rattle.tv_core.proofs.CombinationLaws.{value-append, value-scaled}
+use Rattle.tv_core.proofs.Common.{◌≡◌, ℕ, ◌+◌, ◌*◌, ◌/◌, ◌%◌, ◌^◌, ◌<◌, List, [], sym, ◌∙◌, ap, arith, value-append, scaled, Combination, value}
+use Rattle.tv_core.proofs.CombinationLaws.{value-scaled}
 use Rattle.tv_core.proofs.NormalLaws.{value-normal}
-use Rattle.tv_core.specs.Combinations.{scaled}
-use Rattle.tv_core.specs.Constraints.{Combination, value}
 use Rattle.tv_core.specs.declared.field.TheConstants.{P}
 use Rattle.tv_lines.specs.PackedLines.{unpacked, packed_terms, ItemIsRight, PackIsRight, PackIsOneToOne, UnpackUndoesPack}
 use Rattle.tv_core.proofs.LineLaws.{pair_same}

@@ -1,7 +1,7 @@
 -- The parts of a sorted pair: how far the cells are apart, the word that is carried, and a size.
-use Rattle.std.proofs.Common.{◌≡◌, ℕ, ◌+◌, ◌-◌, ◌*◌, ◌%◌, ◌^◌, ◌<◌, ◌≤◌, List, [], ◌∷◌, ◌++◌, length, sym, ◌∙◌, ap, ap₂, subst, arith}
-use Rattle.std.specs.Int.{bit_at}
-use Rattle.std.specs.Prelude.{slice_index}
+use Rattle.tv_core.proofs.Common.{◌≡◌, ℕ, ◌+◌, ◌-◌, ◌*◌, ◌%◌, ◌^◌, ◌<◌, ◌≤◌, List, [], ◌∷◌, ◌++◌, length, sym, ◌∙◌, ap, ap₂, subst, arith, bit_at, slice_index}
+use Rattle.tv_core.proofs.Common.{length-each_below, value-less, value-wire, Meets-split, Meets-join, HasFrom-split, fresh, put, pure, ◌>>=◌, constant, less}
+use Rattle.tv_core.proofs.Common.{wire, value, Assigns, Meets, HasFrom, Line}
 use Rattle.tv_bits.proofs.BitNumbers.{HasBits-below, HasBits-from_values, value-plus_one}
 use Rattle.tv_bits.proofs.BitsLaws.{new_bits_answer, new_bits_next, new_bits_sound, new_bits_complete}
 use Rattle.tv_bits.proofs.TimesLaws.{kept_answer, kept_next, kept_sound, kept_complete}
@@ -11,14 +11,6 @@ use Rattle.tv_bits.specs.Number.{number_of}
 use Rattle.tv_bits.specs.Times.{times_of}
 use Rattle.tv_bits.specs.Zero.{zero_of, zero_flag, zero_values}
 use Rattle.tv_bits.specs.declared.bit_wires.Bits.{Bits}
-use Rattle.tv_core.proofs.BelowLaws.{length-each_below}
-use Rattle.tv_core.proofs.CombinationLaws.{value-less, value-wire}
-use Rattle.tv_core.proofs.MeetsLaws.{Meets-split, Meets-join, HasFrom-split}
-use Rattle.tv_core.specs.Circuits.{fresh, put, pure, ◌>>=◌}
-use Rattle.tv_core.specs.Combinations.{constant, less, wire}
-use Rattle.tv_core.specs.Constraints.{value}
-use Rattle.tv_core.specs.Laws.{Assigns, Meets, HasFrom}
-use Rattle.tv_core.specs.Lines.{Line}
 use Rattle.tv_core.specs.declared.field.TheConstants.{P}
 use Rattle.tv_lines.proofs.Numbers.{number_value}
 use Rattle.tv_lines.specs.SortedPair.{apart_of, carried_of, size_of, size_values, cells_apart}

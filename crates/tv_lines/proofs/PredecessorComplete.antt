@@ -1,24 +1,14 @@
 -- A line that follows is complete.
-use Rattle.std.proofs.Common.{◌≡◌, ◌⊎◌, ℕ, ◌+◌, ◌-◌, ◌*◌, ◌%◌, ◌^◌, ◌<◌, ◌≤◌, ◌==◌, Bool, true, false, if◌then◌else◌, List, [], ◌∷◌, length, inl}
-use Rattle.std.proofs.Common.{inr, refl, sym, subst, ◌∙◌, ap, arith}
-use Rattle.std.proofs.Math.Nat.{pow-le-pow_right}
-use Rattle.std.proofs.lemmas.Bool.{eqb-true, eqb-false}
-use Rattle.std.specs.Int.{bit_at}
-use Rattle.std.specs.Prelude.{slice_index}
+use Rattle.tv_core.proofs.Common.{◌≡◌, ◌⊎◌, ℕ, ◌+◌, ◌-◌, ◌*◌, ◌%◌, ◌^◌, ◌<◌, ◌≤◌, ◌==◌, Bool, true, false, if◌then◌else◌, List, [], ◌∷◌, length, inl, inr, refl}
+use Rattle.tv_core.proofs.Common.{sym, subst, ◌∙◌, ap, arith, pow-le-pow_right, eqb-true, bit_at, slice_index, length-each_below, value-wire, Meets-join}
+use Rattle.tv_core.proofs.Common.{HasFrom-split, put, ◌>>=◌, wire, value, Assigns, Meets, HasFrom, Line}
+use Rattle.std.proofs.lemmas.Bool.{eqb-false}
 use Rattle.tv_bits.specs.Bits.{HasBits, bits_values, new_bits_of}
 use Rattle.tv_bits.specs.Times.{kept_of}
 use Rattle.tv_bits.specs.declared.bit_wires.Bits.{Bits}
 use Rattle.tv_bits.proofs.BitNumbers.{HasBits-from_values}
 use Rattle.tv_bits.proofs.BitsLaws.{new_bits_answer, new_bits_next, new_bits_complete}
 use Rattle.tv_bits.proofs.TimesLaws.{kept_answer, kept_complete}
-use Rattle.tv_core.proofs.BelowLaws.{length-each_below}
-use Rattle.tv_core.proofs.CombinationLaws.{value-wire}
-use Rattle.tv_core.proofs.MeetsLaws.{Meets-join, HasFrom-split}
-use Rattle.tv_core.specs.Circuits.{put, ◌>>=◌}
-use Rattle.tv_core.specs.Combinations.{wire}
-use Rattle.tv_core.specs.Constraints.{value}
-use Rattle.tv_core.specs.Laws.{Assigns, Meets, HasFrom}
-use Rattle.tv_core.specs.Lines.{Line}
 use Rattle.tv_core.specs.declared.field.TheConstants.{P}
 use Rattle.tv_core.specs.declared.lines.LineLc.{LineLc}
 use Rattle.tv_core.specs.declared.lines.Pair.{Pair}

@@ -1,18 +1,13 @@
 -- How many constraints a line that follows costs, and how many terms they have.
-use Rattle.std.proofs.Common.{◌≡◌, ℕ, ◌+◌, ◌*◌, ◌%◌, ◌^◌, length, ◌∙◌, ap, arith}
-use Rattle.std.proofs.lemmas.List.{length-append}
+use Rattle.tv_core.proofs.Common.{◌≡◌, ℕ, ◌+◌, ◌*◌, ◌%◌, ◌^◌, length, ◌∙◌, ap, arith, length-append, length-each_below, each_below, fresh, put, pure, ◌>>=◌}
+use Rattle.tv_core.proofs.Common.{scaled, wire, Combination, terms_in}
 use Rattle.tv_bits.proofs.BitsLaws.{new_bits_answer}
 use Rattle.tv_bits.proofs.DoubleRowLaws.{new_bits_constraints, new_bits_terms}
 use Rattle.tv_bits.proofs.GateLaws.{length-scaled, terms-append}
 use Rattle.tv_bits.specs.Bits.{bits_combination, new_bits_of}
 use Rattle.tv_bits.specs.Times.{times_of}
 use Rattle.tv_bits.specs.declared.bit_wires.Bits.{Bits}
-use Rattle.tv_core.proofs.BelowLaws.{length-each_below}
-use Rattle.tv_core.specs.Below.{each_below, weighted}
-use Rattle.tv_core.specs.Circuits.{fresh, put, pure, ◌>>=◌}
-use Rattle.tv_core.specs.Combinations.{scaled, wire}
-use Rattle.tv_core.specs.Constraints.{Combination}
-use Rattle.tv_core.specs.Meanings.{terms_in}
+use Rattle.tv_core.specs.Below.{weighted}
 use Rattle.tv_core.specs.declared.field.TheConstants.{P}
 use Rattle.tv_core.specs.declared.lines.LineLc.{LineLc}
 use Rattle.tv_core.specs.declared.lines.Pair.{Pair}

@@ -1,21 +1,13 @@
 -- The laws of a line that follows.
-use Rattle.std.proofs.Common.{◌≡◌, ◌⊎◌, ℕ, ◌+◌, ◌-◌, ◌*◌, ◌%◌, ◌^◌, ◌<◌, ◌≤◌, List, inl, inr, sym, ◌∙◌, ap, arith}
-use Rattle.std.specs.Prelude.{slice_index}
-use Rattle.std.proofs.Math.Nat.{pow-le-pow_right}
+use Rattle.tv_core.proofs.Common.{◌≡◌, ◌⊎◌, ℕ, ◌+◌, ◌-◌, ◌*◌, ◌%◌, ◌^◌, ◌<◌, ◌≤◌, List, inl, inr, sym, ◌∙◌, ap, arith, slice_index, pow-le-pow_right}
+use Rattle.tv_core.proofs.Common.{value-wire, value-below, wire-below, Meets-split, put, ◌>>=◌, wire, Combination, value, Assigns, Meets, Line}
 use Rattle.tv_bits.specs.Bits.{HasBits, binary_value, new_bits_of}
 use Rattle.tv_bits.specs.Times.{kept_of}
 use Rattle.tv_bits.specs.declared.bit_wires.Bits.{Bits}
 use Rattle.tv_bits.proofs.BitNumbers.{HasBits-below}
 use Rattle.tv_bits.proofs.BitsLaws.{new_bits_answer, new_bits_sound}
 use Rattle.tv_bits.proofs.TimesLaws.{kept_sound}
-use Rattle.tv_core.proofs.CombinationLaws.{value-wire, value-below, wire-below}
-use Rattle.tv_core.proofs.MeetsLaws.{Meets-split}
 use Rattle.tv_core.proofs.PrimeLaws.{p_zero_product_below}
-use Rattle.tv_core.specs.Circuits.{put, ◌>>=◌}
-use Rattle.tv_core.specs.Combinations.{wire}
-use Rattle.tv_core.specs.Constraints.{Combination, value}
-use Rattle.tv_core.specs.Laws.{Assigns, Meets}
-use Rattle.tv_core.specs.Lines.{Line}
 use Rattle.tv_core.specs.declared.field.TheConstants.{P}
 use Rattle.tv_core.specs.declared.lines.LineLc.{LineLc}
 use Rattle.tv_core.specs.declared.lines.Pair.{Pair}

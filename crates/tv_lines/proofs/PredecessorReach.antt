@@ -1,6 +1,5 @@
 -- How many bits a reach has, and that keys rise.
-use Rattle.std.proofs.Common.{◌-◌, ◌^◌, ◌<◌, ◌==◌, inl, inr, arith}
-use Rattle.std.proofs.lemmas.Bool.{cond_both}
+use Rattle.tv_core.proofs.Common.{◌-◌, ◌^◌, ◌<◌, ◌==◌, inl, inr, arith, cond_both}
 use Rattle.tv_lines.specs.Predecessor.{FollowsReaches, FollowsRises}
 
 pub follows_reaches : FollowsReaches

@@ -1,16 +1,11 @@
 -- How many wires, and as many values, below P.
-use Rattle.std.proofs.Common.{◌≡◌, ℕ, ◌+◌, ◌-◌, ◌*◌, ◌^◌, ◌<◌, ◌==◌, [], ◌∷◌, length, ◌∙◌, ap, arith}
-use Rattle.std.proofs.lemmas.Bool.{cond_both}
-use Rattle.std.proofs.lemmas.List.{length-append}
-use Rattle.std.specs.Int.{bit_at}
+use Rattle.tv_core.proofs.Common.{◌≡◌, ℕ, ◌+◌, ◌-◌, ◌*◌, ◌^◌, ◌<◌, ◌==◌, [], ◌∷◌, length, ◌∙◌, ap, arith, cond_both, length-append, bit_at, length-each_below}
+use Rattle.tv_core.proofs.Common.{InField-none, InField-cons, put, ◌>>=◌, Line}
 use Rattle.tv_bits.specs.Bits.{bits_values, new_bits_of}
 use Rattle.tv_bits.proofs.SizeLaws.{bits_in_field}
 use Rattle.tv_bits.proofs.BitsLaws.{new_bits_next}
 use Rattle.tv_bits.proofs.TimesLaws.{kept_next}
-use Rattle.tv_core.proofs.BelowLaws.{length-each_below}
-use Rattle.tv_core.proofs.FieldLaws.{InField-none, InField-cons, InField-append}
-use Rattle.tv_core.specs.Circuits.{put, ◌>>=◌}
-use Rattle.tv_core.specs.Lines.{Line}
+use Rattle.tv_core.proofs.FieldLaws.{InField-append}
 use Rattle.tv_core.specs.declared.field.TheConstants.{P}
 use Rattle.tv_core.specs.declared.lines.LineLc.{LineLc}
 use Rattle.tv_core.specs.declared.lines.Pair.{Pair}

@@ -1,9 +1,10 @@
 -- The order of two lines by their prefixes.
-use Rattle.std.proofs.Common.{◌≡◌, Bool, ◌⊎◌, inl, inr, ℕ, zero, suc, ◌+◌, ◌-◌, ◌*◌, ◌/◌, ◌%◌, ◌^◌, ◌<◌, ◌≤◌, if◌then◌else◌, List, ◌∷◌, refl, sym, ◌∙◌, ap}
-use Rattle.std.proofs.Common.{ap₂, subst, arith, mod-lt, mul-zero, div-one}
-use Rattle.std.specs.Prelude.{slice_index}
+use Rattle.tv_core.proofs.Common.{◌≡◌, Bool, ◌⊎◌, inl, inr, ℕ, zero, suc, ◌+◌, ◌-◌, ◌*◌, ◌/◌, ◌%◌, ◌^◌, ◌<◌, ◌≤◌, if◌then◌else◌, List, ◌∷◌, refl, sym, ◌∙◌, ap}
+use Rattle.tv_core.proofs.Common.{ap₂, subst, arith, mod-lt, slice_index, eq-eqb, ne_eqb, value-less, value-cons, value-wire, wire-below, less, wire, value}
+use Rattle.tv_core.proofs.Common.{Assigns, Meets, HasFrom, Line}
+use Rattle.std.proofs.Common.{mul-zero, div-one}
 use Rattle.std.proofs.Math.Nat.{div-le_self}
-use Rattle.std.proofs.lemmas.Bool.{cases_order, eq-eqb, ne_eqb}
+use Rattle.std.proofs.lemmas.Bool.{cases_order}
 use Rattle.tv_bits.proofs.OrderLaws.{above_of_prefix, IsPrefixDifference-above, IsPrefixDifference-first, first_difference-some, first_difference-below}
 use Rattle.tv_bits.proofs.PrefixLaws.{zero_product_next, zero_product_sound, zero_product_complete}
 use Rattle.tv_bits.proofs.BitNumbers.{HasBits-below, HasBits-high, value-bits_below}
@@ -11,12 +12,7 @@ use Rattle.tv_bits.specs.Bits.{HasBits}
 use Rattle.tv_bits.specs.Order.{prefix_difference, first_difference}
 use Rattle.tv_bits.specs.Prefixes.{products_values, prefix}
 use Rattle.tv_bits.specs.declared.bit_wires.Bits.{Bits}
-use Rattle.tv_core.proofs.CombinationLaws.{value-less, value-cons, value-wire, wire-below}
 use Rattle.tv_core.proofs.DifferenceLaws.{same_of_minus}
-use Rattle.tv_core.specs.Combinations.{less, wire}
-use Rattle.tv_core.specs.Constraints.{value}
-use Rattle.tv_core.specs.Laws.{Assigns, Meets, HasFrom}
-use Rattle.tv_core.specs.Lines.{Line}
 use Rattle.tv_core.specs.declared.field.TheConstants.{P}
 use Rattle.tv_lines.specs.SortedPair.{cell_less, key_less, prefix_less, rises_of, cells_apart, size, key_less_in, prefix_less_in, factor_in}
 use Rattle.tv_lines.specs.UnpackedLines.{HasWidths, HasLineBits}

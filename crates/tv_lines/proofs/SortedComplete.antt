@@ -1,17 +1,10 @@
 -- A sorted pair is complete.
-use Rattle.std.proofs.Common.{◌≡◌, ℕ, ◌+◌, ◌-◌, List, [], ◌∷◌, ◌++◌, length, inl, inr, sym, ◌∙◌, ap, subst, arith}
-use Rattle.std.specs.Prelude.{slice_index}
-use Rattle.std.proofs.lemmas.Bool.{cases_eq}
-use Rattle.std.proofs.lemmas.List.{length-append}
-use Rattle.std.specs.Int.{bit_at}
+use Rattle.tv_core.proofs.Common.{◌≡◌, ℕ, ◌+◌, ◌-◌, List, [], ◌∷◌, ◌++◌, length, inl, inr, sym, ◌∙◌, ap, subst, arith, slice_index, cases_eq, length-append}
+use Rattle.tv_core.proofs.Common.{bit_at, length-each_below, Meets-join, HasFrom-split, ◌>>=◌, HasFrom}
 use Rattle.tv_bits.proofs.BitNumbers.{HasBits-small}
 use Rattle.tv_bits.specs.Bits.{bits_values}
 use Rattle.tv_bits.specs.Prefixes.{products_values}
 use Rattle.tv_bits.specs.Zero.{zero_values}
-use Rattle.tv_core.proofs.BelowLaws.{length-each_below}
-use Rattle.tv_core.proofs.MeetsLaws.{Meets-join, HasFrom-split}
-use Rattle.tv_core.specs.Circuits.{◌>>=◌}
-use Rattle.tv_core.specs.Laws.{HasFrom}
 use Rattle.tv_lines.proofs.PairParts.{apart_answer, apart_next, apart_complete, carried_next, carried_complete, size_next, size_complete}
 use Rattle.tv_lines.proofs.PrefixOrder.{is_size, rises_complete}
 use Rattle.tv_lines.proofs.SortedLaws.{flag_same, flag_apart}

@@ -1,11 +1,9 @@
 -- A sorted pair is sound.
-use Rattle.std.proofs.Common.{◌≡◌, ◌≢◌, ℕ, ◌+◌, ◌-◌, ◌*◌, ◌%◌, ◌<◌, sym, ◌∙◌, ap, arith}
+use Rattle.tv_core.proofs.Common.{◌≡◌, ◌≢◌, ℕ, ◌+◌, ◌-◌, ◌*◌, ◌%◌, ◌<◌, sym, ◌∙◌, ap, arith, Meets-split, ◌>>=◌}
 use Rattle.tv_bits.proofs.BitNumbers.{HasBits-small}
 use Rattle.tv_bits.proofs.ZeroLaws.{zero_flag-zero, zero_flag-other}
 use Rattle.tv_bits.specs.Zero.{zero_flag}
 use Rattle.tv_core.proofs.DifferenceLaws.{same_of_minus}
-use Rattle.tv_core.proofs.MeetsLaws.{Meets-split}
-use Rattle.tv_core.specs.Circuits.{◌>>=◌}
 use Rattle.tv_core.specs.declared.field.TheConstants.{P}
 use Rattle.tv_lines.proofs.PairParts.{apart_sound, carried_sound, size_sound}
 use Rattle.tv_lines.proofs.PrefixOrder.{rises_sound}

@@ -1,7 +1,5 @@
 -- The values of a sorted pair are as many as its wires, and below P.
-use Rattle.std.proofs.Common.{◌≡◌, ℕ, ◌+◌, ◌-◌, ◌<◌, ◌==◌, List, [], ◌∷◌, ◌++◌, length, arith}
-use Rattle.std.proofs.lemmas.Bool.{cond_both}
-use Rattle.std.proofs.lemmas.List.{length-append}
+use Rattle.tv_core.proofs.Common.{◌≡◌, ℕ, ◌+◌, ◌-◌, ◌<◌, ◌==◌, List, [], ◌∷◌, ◌++◌, length, arith, cond_both, length-append, InField-none, InField-cons, ◌>>=◌}
 use Rattle.tv_bits.proofs.OrderLaws.{first_difference-le}
 use Rattle.tv_bits.proofs.PrefixLaws.{products_in_field, length-products}
 use Rattle.tv_bits.proofs.SizeLaws.{bits_in_field, zero_in_field}
@@ -9,8 +7,7 @@ use Rattle.tv_bits.specs.Bits.{bits_values}
 use Rattle.tv_bits.specs.Order.{first_difference}
 use Rattle.tv_bits.specs.Prefixes.{products_values}
 use Rattle.tv_bits.specs.Zero.{zero_values}
-use Rattle.tv_core.proofs.FieldLaws.{InField-none, InField-cons, InField-append}
-use Rattle.tv_core.specs.Circuits.{◌>>=◌}
+use Rattle.tv_core.proofs.FieldLaws.{InField-append}
 use Rattle.tv_core.specs.declared.field.TheConstants.{P}
 use Rattle.tv_lines.proofs.PairParts.{apart_next, carried_next, size_next}
 use Rattle.tv_lines.proofs.PrefixOrder.{rises_next}

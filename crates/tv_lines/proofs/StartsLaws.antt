@@ -1,11 +1,8 @@
 -- The laws of lines that begin a cell.
-use Rattle.std.proofs.Common.{◌≡◌, ℕ, ◌+◌, ◌-◌, ◌*◌, ◌%◌, ◌^◌, ◌<◌, List, [], ◌++◌, inl, refl, sym, ◌∙◌, ap, arith}
-use Rattle.tv_core.proofs.CombinationLaws.{value-constant, value-below, value-once}
-use Rattle.tv_core.specs.Circuits.{put}
-use Rattle.tv_core.specs.Combinations.{constant}
-use Rattle.tv_core.specs.Constraints.{value}
-use Rattle.tv_core.specs.Laws.{Assigns}
-use Rattle.tv_core.specs.Lines.{Line, pair_value}
+use Rattle.tv_core.proofs.Common.{◌≡◌, ℕ, ◌+◌, ◌-◌, ◌*◌, ◌%◌, ◌^◌, ◌<◌, List, [], ◌++◌, inl, refl, sym, ◌∙◌, ap, arith, value-below, put, constant, value}
+use Rattle.tv_core.proofs.Common.{Assigns, Line, scaled, normal}
+use Rattle.tv_core.proofs.CombinationLaws.{value-constant, value-once}
+use Rattle.tv_core.specs.Lines.{pair_value}
 use Rattle.tv_core.specs.declared.field.TheConstants.{P}
 use Rattle.tv_core.specs.declared.lines.Pair.{Pair}
 use Rattle.tv_core.specs.declared.lines.PairNum.{PairNum}
@@ -14,8 +11,6 @@ use Rattle.tv_lines.proofs.PredecessorNumbers.{same_cells}
 use Rattle.tv_lines.proofs.PredecessorValues.{value-less_above}
 use Rattle.tv_lines.specs.PackedLines.{packed_item}
 use Rattle.tv_lines.specs.Predecessor.{less_above}
-use Rattle.tv_core.specs.Combinations.{scaled}
-use Rattle.tv_core.specs.Normal.{normal}
 use Rattle.tv_core.proofs.NormalCircuits.{normal_put}
 use Rattle.tv_core.proofs.NormalLaws.{value-normal, IsNormalFrom-normal}
 use Rattle.tv_lines.specs.Starts.{boot_line_of, BootLineIsSound, BootLineIsComplete, BootLineSizes, least_line_of}

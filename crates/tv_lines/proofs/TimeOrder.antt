@@ -1,9 +1,10 @@
 -- Lines in time order, and the latest write of a cell before a line.
-use Rattle.std.proofs.Common.{◌≡◌, ℕ, ◌<◌, ◌⊎◌, ◌==◌, if◌then◌else◌, true, false, Bool, List, [], ◌∷◌, ◌++◌, length, get_or, fold, refl, sym, ap, ◌∙◌}
-use Rattle.std.proofs.Common.{subst, arith, inl, inr, zero, suc}
-use Rattle.std.proofs.lemmas.List.{get_or_default, get_or_at, get_or_append_left, length-append}
-use Rattle.std.proofs.lemmas.Bool.{cases_order, eqb-true, eqb-false}
-use Rattle.tv_core.specs.Lines.{Line, written, memory_after, Honest}
+use Rattle.tv_core.proofs.Common.{◌≡◌, ℕ, ◌<◌, ◌⊎◌, ◌==◌, if◌then◌else◌, true, false, Bool, List, [], ◌∷◌, ◌++◌, length, get_or, refl, sym, ap, ◌∙◌, subst}
+use Rattle.tv_core.proofs.Common.{arith, inl, inr, zero, suc, length-append, eqb-true, Line}
+use Rattle.std.proofs.Common.{fold}
+use Rattle.std.proofs.lemmas.List.{get_or_default, get_or_at, get_or_append_left}
+use Rattle.std.proofs.lemmas.Bool.{cases_order, eqb-false}
+use Rattle.tv_core.specs.Lines.{written, memory_after, Honest}
 use Rattle.tv_lines.proofs.OrderedLaws.{HonestByTimes, by_times, by_times-permutation}
 use Rattle.tv_lines.specs.Ordered.{InTimeOrder, OrderedLinesAreHonest}
 

@@ -1,17 +1,11 @@
 -- The laws of unpacking.
-use Rattle.std.proofs.Common.{◌≡◌, ℕ, ◌+◌, ◌*◌, ◌^◌, [], ◌++◌, length, refl, sym, ap, subst, arith}
-use Rattle.std.specs.Int.{bit_at}
-use Rattle.std.proofs.lemmas.List.{length-append}
+use Rattle.tv_core.proofs.Common.{◌≡◌, ℕ, ◌+◌, ◌*◌, ◌^◌, [], ◌++◌, length, refl, sym, ap, subst, arith, bit_at, length-append, length-each_below, Meets-split}
+use Rattle.tv_core.proofs.Common.{Meets-join, HasFrom-split, pure, ◌>>=◌, value, HasFrom}
 use Rattle.tv_bits.proofs.SizeLaws.{bits_in_field}
 use Rattle.tv_bits.proofs.BitNumbers.{HasBits-low, HasBits-high}
 use Rattle.tv_bits.proofs.BitsLaws.{bits_answer, bits_next, bits_sound, bits_complete}
 use Rattle.tv_bits.specs.Bits.{bits_of, bits_values}
-use Rattle.tv_core.proofs.BelowLaws.{length-each_below}
 use Rattle.tv_core.proofs.FieldLaws.{InField-append}
-use Rattle.tv_core.proofs.MeetsLaws.{Meets-split, Meets-join, HasFrom-split}
-use Rattle.tv_core.specs.Circuits.{pure, ◌>>=◌}
-use Rattle.tv_core.specs.Constraints.{value}
-use Rattle.tv_core.specs.Laws.{HasFrom}
 use Rattle.tv_core.specs.declared.lines.Pair.{Pair}
 use Rattle.tv_core.specs.declared.lines.PairNum.{PairNum}
 use Rattle.tv_lines.specs.UnpackedLines.{unpack_of, UnpackIsSound, UnpackIsComplete, UnpackSizes}

@@ -1,6 +1,7 @@
 -- Lines in order by cell: a sort makes them, and there is one such list.
-use Rattle.std.proofs.Common.{◌≡◌, ℕ, suc, ◌<◌, ◌≤◌, Bool, true, false, List, [], ◌∷◌, length, map, get_or, refl, sym, ◌∙◌, ap, ap₂, arith, inl, inr, rules}
-use Rattle.std.proofs.lemmas.Bool.{cases_order, lt-ltb, le-ltb, eq-eqb}
+use Rattle.tv_core.proofs.Common.{◌≡◌, ℕ, suc, ◌<◌, ◌≤◌, Bool, true, false, List, [], ◌∷◌, length, map, get_or, refl, sym, ◌∙◌, ap, ap₂, arith, inl, inr, rules}
+use Rattle.tv_core.proofs.Common.{lt-ltb, le-ltb, eq-eqb, Line}
+use Rattle.std.proofs.lemmas.Bool.{cases_order}
 use Rattle.std.proofs.lemmas.List.Sorted.{IsPermutation-refl, IsPermutation-cons, IsPermutation-trans, IsPermutation-insert, IsPermutation-map}
 use Rattle.std.proofs.lemmas.List.Sorted.{sum_by-IsPermutation, ranks_by, sorted_far}
 use Rattle.std.proofs.lemmas.List.Sums.{sum_by-cons}
@@ -12,7 +13,6 @@ use Rattle.std.specs.Ordering.{is_lt, nat_cmp, ordering_then, on, then_cmp}
 use Rattle.std.specs.Prelude.{if◌then◌else◌}
 use Rattle.std.specs.declared.cmp.Ordering.{Ordering}
 use Rattle.std.specs.declared.cmp.Ordering.TheVariants.{Less, Equal}
-use Rattle.tv_core.specs.Lines.{Line}
 use Rattle.tv_listing.specs.Listing.{compared, put_in, by_cell}
 use Rattle.tv_listing.specs.Row.{row_line}
 use Rattle.tv_listing.specs.declared.row.ListedLine.{ListedLine}

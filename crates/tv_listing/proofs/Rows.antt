@@ -1,10 +1,8 @@
 -- Lines in rows, one after another.
-use Rattle.std.proofs.Common.{◌≡◌, ℕ, zero, suc, ◌+◌, ◌<◌, ◌≤◌, ◌^◌, List, [], ◌∷◌, ◌++◌, length, map, take, get_or, refl, sym, ap, ap₂, ◌∙◌, append_assoc}
-use Rattle.std.proofs.Common.{arith}
-use Rattle.std.proofs.lemmas.List.{length-map, map-append, get_or-map}
-use Rattle.std.specs.Prelude.{slice_index}
+use Rattle.tv_core.proofs.Common.{◌≡◌, ℕ, zero, suc, ◌+◌, ◌<◌, ◌≤◌, ◌^◌, List, [], ◌∷◌, ◌++◌, length, map, take, get_or, refl, sym, ap, ap₂, ◌∙◌, append_assoc}
+use Rattle.tv_core.proofs.Common.{arith, length-map, slice_index, Line}
+use Rattle.std.proofs.lemmas.List.{map-append, get_or-map}
 use Rattle.tv_block.specs.Block.{block_of}
-use Rattle.tv_core.specs.Lines.{Line}
 use Rattle.tv_core.specs.declared.lines.LineLc.{LineLc}
 use Rattle.tv_layout.proofs.Boot.{boot_more}
 use Rattle.tv_layout.proofs.LinePlaces.{line_number}

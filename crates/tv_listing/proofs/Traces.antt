@@ -1,10 +1,9 @@
 -- The lines of a satisfying assignment up to a step, and those of the trace of its run.
-use Rattle.std.proofs.Common.{◌≡◌, ℕ, zero, suc, ◌+◌, ◌*◌, ◌≤◌, List, ◌++◌, length, take, refl, sym, ap, ◌∙◌, subst, arith, inl, inr}
+use Rattle.tv_core.proofs.Common.{◌≡◌, ℕ, zero, suc, ◌+◌, ◌*◌, ◌≤◌, List, ◌++◌, length, take, refl, sym, ap, ◌∙◌, subst, arith, inl, inr, cases_eq}
+use Rattle.tv_core.proofs.Common.{length-append, Line}
 use Rattle.std.proofs.Math.Seq.{take-append-add}
-use Rattle.std.proofs.lemmas.Bool.{cases_eq}
-use Rattle.std.proofs.lemmas.List.{length-append, take_all, take-append-le}
+use Rattle.std.proofs.lemmas.List.{take_all, take-append-le}
 use Rattle.tv_block.specs.Block.{block_of}
-use Rattle.tv_core.specs.Lines.{Line}
 use Rattle.tv_extract.proofs.ExtractLaws.{extracted_is_run, satisfying_have_runs}
 use Rattle.tv_extract.specs.declared.run.Run.{Run}
 use Rattle.tv_layout.proofs.Boot.{length-boot_lines}

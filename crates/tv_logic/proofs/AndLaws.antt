@@ -1,7 +1,8 @@
 -- The laws of the word of ands.
-use Rattle.std.proofs.Common.{◌≡◌, ℕ, ◌+◌, ◌-◌, ◌*◌, ◌/◌, ◌%◌, ◌^◌, ◌<◌, List, [], bit_and, refl, sym, ◌∙◌, ap, ap₂, arith, mul-one}
-use Rattle.std.specs.Int.{bit_at}
-use Rattle.std.specs.Prelude.{slice_index}
+use Rattle.tv_core.proofs.Common.{◌≡◌, ℕ, ◌+◌, ◌-◌, ◌*◌, ◌/◌, ◌%◌, ◌^◌, ◌<◌, List, [], refl, sym, ◌∙◌, ap, ap₂, arith, bit_at, slice_index, value-append}
+use Rattle.tv_core.proofs.Common.{value-wire, wire-below, Meets-split, Meets-join, here, fresh, put, pure, ◌>>=◌, wire, scaled, Combination, value, Assigns}
+use Rattle.tv_core.proofs.Common.{Meets, HasFrom, sequence, IsWidth}
+use Rattle.std.proofs.Common.{bit_and, mul-one}
 use Rattle.std.proofs.lemmas.Nat.{mul-mod_first}
 use Rattle.std.proofs.lemmas.Nat.Bits.{bit_at-lt}
 use Rattle.tv_bits.proofs.PairLaws.{two_ands_sound, two_ands_complete}
@@ -11,19 +12,12 @@ use Rattle.tv_bits.specs.Bits.{HasBits, binary_value, bits_combination}
 use Rattle.tv_bits.specs.Pairs.{two_ands, two_ands_of}
 use Rattle.tv_bits.specs.declared.bit_wires.Bits.{Bits}
 use Rattle.tv_core.proofs.BelowLaws.{sum_below-same, sum_below-mod_same, value-weighted, has_each}
-use Rattle.tv_core.proofs.CombinationLaws.{value-append, value-scaled, value-wire, wire-below}
+use Rattle.tv_core.proofs.CombinationLaws.{value-scaled}
 use Rattle.tv_core.proofs.LoopLaws.{turn_met, turns_met, turns-next}
-use Rattle.tv_core.proofs.MeetsLaws.{Meets-split, Meets-join}
 use Rattle.tv_core.specs.Below.{sum_below}
-use Rattle.tv_core.specs.Circuits.{here, fresh, put, pure, ◌>>=◌}
-use Rattle.tv_core.specs.Combinations.{wire, scaled}
-use Rattle.tv_core.specs.Constraints.{Combination, value}
-use Rattle.tv_core.specs.Laws.{Assigns, Meets, HasFrom}
-use Rattle.tv_core.specs.Loops.{sequence}
 use Rattle.tv_core.specs.declared.field.TheConstants.{P}
 use Rattle.tv_logic.proofs.PairSums.{word-pairs, pair-ands, and-below}
 use Rattle.tv_logic.specs.Ands.{pair_in, and_pair_of, new_and_pair_of, lowest_pair, and_of, and_values}
-use Rattle.tv_word.specs.Widths.{IsWidth}
 use Rattle.tv_word.proofs.WidthLaws.{word_small}
 
 -- ---- where the circuits end, and what they answer

@@ -1,17 +1,11 @@
 -- The laws of the zero flags.
-use Rattle.std.proofs.Common.{◌≡◌, ℕ, ◌+◌, ◌*◌, ◌%◌, List, [], ◌∷◌, ◌++◌, sym, subst, ◌∙◌, ap, ap₂, arith}
-use Rattle.std.specs.Prelude.{slice_index}
-use Rattle.std.proofs.lemmas.Bool.{cases_eq}
+use Rattle.tv_core.proofs.Common.{◌≡◌, ℕ, ◌+◌, ◌*◌, ◌%◌, List, [], ◌∷◌, ◌++◌, sym, subst, ◌∙◌, ap, ap₂, arith, slice_index, cases_eq, value-wire, Meets-split}
+use Rattle.tv_core.proofs.Common.{Meets-join, HasFrom-split, pure, ◌>>=◌, wire, Assigns, Meets, HasFrom}
 use Rattle.tv_bits.proofs.TimesLaws.{times_answer, times_next}
 use Rattle.tv_bits.proofs.WireProducts.{wires_sound, wires_complete}
 use Rattle.tv_bits.proofs.ZeroLaws.{zero_flag-zero, zero_flag-other, zero_sound, zero_complete, zero_answer, zero_next}
 use Rattle.tv_bits.specs.Times.{times_of}
 use Rattle.tv_bits.specs.Zero.{zero_flag, zero_of, zero_values}
-use Rattle.tv_core.proofs.CombinationLaws.{value-wire}
-use Rattle.tv_core.proofs.MeetsLaws.{Meets-split, Meets-join, HasFrom-split}
-use Rattle.tv_core.specs.Circuits.{pure, ◌>>=◌}
-use Rattle.tv_core.specs.Combinations.{wire}
-use Rattle.tv_core.specs.Laws.{Assigns, Meets, HasFrom}
 use Rattle.tv_core.specs.declared.field.TheConstants.{P}
 use Rattle.tv_logic.specs.Flags.{logic_flags_of, flag_values}
 use Rattle.tv_logic.specs.declared.answers.LogicFlags.{LogicFlags}

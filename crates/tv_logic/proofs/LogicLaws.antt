@@ -1,16 +1,15 @@
 -- The laws of the bitwise operations.
-use Rattle.std.proofs.Common.{◌≡◌, ℕ, ◌+◌, ◌-◌, ◌/◌, ◌^◌, ◌<◌, ◌∷◌, [], ◌++◌, bit_and, bit_or, bit_xor, length, length-append, subst, ◌∙◌, ap₂, arith}
+use Rattle.tv_core.proofs.Common.{◌≡◌, ℕ, ◌+◌, ◌-◌, ◌/◌, ◌^◌, ◌<◌, ◌∷◌, [], ◌++◌, length, subst, ◌∙◌, ap₂, arith, length-each_below, Meets-split, Meets-join}
+use Rattle.tv_core.proofs.Common.{HasFrom-split, pure, ◌>>=◌, HasFrom, InField, InField-none, InField-cons, IsWidth}
+use Rattle.std.proofs.Common.{bit_and, bit_or, bit_xor, length-append}
 use Rattle.std.specs.Int.Bits.{or_add_and, xor_add_and}
 use Rattle.tv_bits.proofs.SizeLaws.{zero_in_field, zero_flag-below}
 use Rattle.tv_bits.specs.declared.bit_wires.Bits.{Bits}
-use Rattle.tv_core.proofs.BelowLaws.{length-each_below}
-use Rattle.tv_core.proofs.MeetsLaws.{Meets-split, Meets-join, HasFrom-split}
-use Rattle.tv_core.specs.Circuits.{pure, ◌>>=◌}
-use Rattle.tv_core.specs.Laws.{HasFrom, Fills, InField}
+use Rattle.tv_core.specs.Laws.{Fills}
 use Rattle.tv_core.specs.declared.field.TheConstants.{P}
 use Rattle.tv_rows.proofs.DigitNumbers.{or_sum}
 use Rattle.tv_logic.proofs.FlagLaws.{flags_sound, flags_complete, flags_answer, flags_next, flags_same}
-use Rattle.tv_core.proofs.FieldLaws.{InField-none, InField-cons, InField-append, InField-each_below}
+use Rattle.tv_core.proofs.FieldLaws.{InField-append, InField-each_below}
 use Rattle.tv_logic.proofs.PairSums.{pair_in-small, and-below}
 use Rattle.tv_logic.proofs.WordLaws.{words_sound, words_complete, words_answer, words_next}
 use Rattle.tv_logic.specs.Ands.{pair_in, pair_values}
@@ -19,7 +18,6 @@ use Rattle.tv_logic.specs.Logic.{together, logic_of, logic_made, logic_wires, Lo
 use Rattle.tv_logic.specs.Words.{logic_words_of, word_values}
 use Rattle.tv_logic.specs.declared.answers.LogicWords.{LogicWords}
 use Rattle.tv_word.specs.Operations.{not_result}
-use Rattle.tv_word.specs.Widths.{IsWidth}
 use Rattle.tv_word.proofs.WidthLaws.{word_small}
 
 words_size : (w : ℕ) → IsWidth w → (a b : ℕ) → length (word_values w a b) ≡ w / 2 + 3

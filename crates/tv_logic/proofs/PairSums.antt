@@ -1,6 +1,6 @@
 -- A number as the sum of its pairs of bits.
-use Rattle.std.proofs.Common.{◌≡◌, ℕ, zero, suc, ◌+◌, ◌-◌, ◌*◌, ◌/◌, ◌%◌, ◌^◌, ◌<◌, min, bit_and, sym, ◌∙◌, ap, ap₂, arith, mul_assoc, mod-eq_of_lt}
-use Rattle.std.specs.Int.{bit_at}
+use Rattle.tv_core.proofs.Common.{◌≡◌, ℕ, zero, suc, ◌+◌, ◌-◌, ◌*◌, ◌/◌, ◌%◌, ◌^◌, ◌<◌, sym, ◌∙◌, ap, ap₂, arith, mod-eq_of_lt, bit_at, IsWidth}
+use Rattle.std.proofs.Common.{min, bit_and, mul_assoc}
 use Rattle.std.proofs.lemmas.Nat.{pow-add, and_le_l}
 use Rattle.std.proofs.lemmas.Nat.Bits.{bit_at-lt, bit_at_and}
 use Rattle.tv_bits.proofs.BitNumbers.{sum_below-plus, picked-bit_at}
@@ -9,7 +9,6 @@ use Rattle.tv_core.proofs.BelowLaws.{sum_below-zero, sum_below-suc, sum_below-sa
 use Rattle.tv_core.specs.Below.{sum_below}
 use Rattle.tv_core.specs.declared.field.TheConstants.{P}
 use Rattle.tv_logic.specs.Ands.{pair_in}
-use Rattle.tv_word.specs.Widths.{IsWidth}
 
 -- the pairs, each times its power of 2, are the number's bits
 pairs-sum : (h a : ℕ) → sum_below h (λ i. 2 ^ i * (bit_at a i + 2 ^ h * bit_at a (h + i))) ≡ a % 2 ^ (h + h)

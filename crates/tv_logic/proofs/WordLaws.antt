@@ -1,29 +1,23 @@
 -- The laws of the words that are linear in the inputs and the word of ands.
-use Rattle.std.proofs.Common.{◌≡◌, ℕ, ◌+◌, ◌-◌, ◌*◌, ◌/◌, ◌%◌, ◌^◌, ◌<◌, ◌≤◌, List, [], ◌∷◌, ◌++◌, length, bit_and, bit_or, bit_xor, sym, subst, ◌∙◌, ap, ap₂}
-use Rattle.std.proofs.Common.{arith}
+use Rattle.tv_core.proofs.Common.{◌≡◌, ℕ, ◌+◌, ◌-◌, ◌*◌, ◌/◌, ◌%◌, ◌^◌, ◌<◌, ◌≤◌, List, [], ◌∷◌, ◌++◌, length, sym, subst, ◌∙◌, ap, ap₂, arith, slice_index}
+use Rattle.tv_core.proofs.Common.{length-each_below, value-append, value-less, Meets-split, Meets-join, HasFrom-split, pure, ◌>>=◌, constant, value, Assigns}
+use Rattle.tv_core.proofs.Common.{Meets, HasFrom, width_short, IsWidth}
+use Rattle.std.proofs.Common.{bit_and, bit_or, bit_xor}
 use Rattle.std.specs.Int.Bits.{or_add_and, xor_add_and}
-use Rattle.std.specs.Prelude.{slice_index}
 use Rattle.tv_bits.proofs.TimesLaws.{kept_answer, kept_next, kept_sound, kept_complete}
 use Rattle.tv_bits.proofs.BitNumbers.{HasBits-below, value-bits_below}
 use Rattle.tv_bits.specs.Bits.{HasBits, bits_combination}
 use Rattle.tv_bits.specs.Pairs.{negative}
 use Rattle.tv_bits.specs.Times.{kept_of}
 use Rattle.tv_bits.specs.declared.bit_wires.Bits.{Bits}
-use Rattle.tv_core.proofs.BelowLaws.{length-each_below}
-use Rattle.tv_core.proofs.CombinationLaws.{value-append, value-scaled, value-less, value-constant}
-use Rattle.tv_core.proofs.MeetsLaws.{Meets-split, Meets-join, HasFrom-split}
-use Rattle.tv_core.specs.Circuits.{pure, ◌>>=◌}
-use Rattle.tv_core.specs.Combinations.{constant}
-use Rattle.tv_core.specs.Constraints.{value}
-use Rattle.tv_core.specs.Laws.{Assigns, Meets, HasFrom}
+use Rattle.tv_core.proofs.CombinationLaws.{value-scaled, value-constant}
 use Rattle.tv_core.specs.declared.field.TheConstants.{P}
 use Rattle.tv_logic.proofs.AndLaws.{and_answer, and_next, and_sound, and_complete}
 use Rattle.tv_logic.specs.Ands.{pair_in, pair_values, and_of}
 use Rattle.tv_logic.specs.Words.{sum_less, complement, logic_words_of, word_values}
 use Rattle.tv_logic.specs.declared.answers.LogicWords.{LogicWords}
-use Rattle.tv_word.proofs.WidthLaws.{width_short, word_small}
+use Rattle.tv_word.proofs.WidthLaws.{word_small}
 use Rattle.tv_word.specs.Operations.{not_result}
-use Rattle.tv_word.specs.Widths.{IsWidth}
 
 -- ---- the values
 or_number : (a b ands ors : ℕ) → a < 2 ^ 32 → b < 2 ^ 32 → ors + ands ≡ a + b → ((a + 1 * b % P) % P + (P - 1) * ands % P) % P ≡ ors

@@ -1,16 +1,12 @@
 -- Numbers of 2 w bits, given in two halves.
-use Rattle.std.proofs.Common.{◌≡◌, ℕ, ◌+◌, ◌*◌, ◌/◌, ◌%◌, ◌^◌, ◌<◌, List, length, ◌∙◌, arith, length-append}
-use Rattle.std.specs.Int.{bit_at}
+use Rattle.tv_core.proofs.Common.{◌≡◌, ℕ, ◌+◌, ◌*◌, ◌/◌, ◌%◌, ◌^◌, ◌<◌, List, length, ◌∙◌, arith, bit_at, length-each_below, HasFrom-split, each_below, HasFrom}
+use Rattle.tv_core.proofs.Common.{InField, IsWidth}
+use Rattle.std.proofs.Common.{length-append}
 use Rattle.std.proofs.lemmas.Nat.{shr_split}
-use Rattle.tv_core.proofs.BelowLaws.{length-each_below}
 use Rattle.tv_core.proofs.FieldLaws.{InField-append}
-use Rattle.tv_core.proofs.MeetsLaws.{HasFrom-split}
-use Rattle.tv_core.specs.Below.{each_below}
-use Rattle.tv_core.specs.Laws.{HasFrom, InField}
 use Rattle.tv_bits.proofs.SizeLaws.{bits_in_field}
 use Rattle.tv_bits.proofs.BitNumbers.{HasBits-from_values, HasBits-join}
 use Rattle.tv_bits.specs.Bits.{HasBits, bits_values}
-use Rattle.tv_word.specs.Widths.{IsWidth}
 use Rattle.tv_muldiv.specs.Weighed.{halves_values}
 
 pub length-halves : (w v : ℕ) → length (halves_values w v) ≡ 2 * w

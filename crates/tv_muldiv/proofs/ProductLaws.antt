@@ -1,18 +1,12 @@
 -- The laws of the product.
-use Rattle.std.proofs.Common.{◌≡◌, ℕ, ◌+◌, ◌-◌, ◌*◌, ◌/◌, ◌%◌, ◌^◌, ◌<◌, ◌≤◌, List, [], inl, inr, refl, sym, subst, ◌∙◌, ap, ap₂, arith, length-append}
-use Rattle.std.proofs.Common.{add-zero, mod-eq_of_lt}
-use Rattle.std.specs.Prelude.{slice_index}
-use Rattle.std.specs.Int.{bit_at}
-use Rattle.std.proofs.lemmas.Bool.{cases_eq}
+use Rattle.tv_core.proofs.Common.{◌≡◌, ℕ, ◌+◌, ◌-◌, ◌*◌, ◌/◌, ◌%◌, ◌^◌, ◌<◌, ◌≤◌, List, [], inl, inr, refl, sym, subst, ◌∙◌, ap, ap₂, arith, mod-eq_of_lt}
+use Rattle.tv_core.proofs.Common.{slice_index, bit_at, cases_eq, value-wire, Meets-split, Meets-join, HasFrom-split, here, fresh, put, pure, ◌>>=◌, wire, value}
+use Rattle.tv_core.proofs.Common.{Assigns, Meets, width_short, IsWidth}
+use Rattle.std.proofs.Common.{length-append}
+use Rattle.std.proofs.Common.{add-zero}
 use Rattle.std.proofs.lemmas.Nat.{mul-le, mul-mod}
 use Rattle.std.proofs.lemmas.Nat.Bits.{bit_at-lt, bit_at_lowest}
-use Rattle.tv_core.proofs.CombinationLaws.{value-wire}
 use Rattle.tv_core.proofs.FieldLaws.{InField-append}
-use Rattle.tv_core.proofs.MeetsLaws.{Meets-split, Meets-join, HasFrom-split}
-use Rattle.tv_core.specs.Circuits.{here, fresh, put, pure, ◌>>=◌}
-use Rattle.tv_core.specs.Combinations.{wire}
-use Rattle.tv_core.specs.Constraints.{value}
-use Rattle.tv_core.specs.Laws.{Assigns, Meets}
 use Rattle.tv_core.specs.declared.field.TheConstants.{P}
 use Rattle.tv_bits.proofs.NewBitsLaws.{bits_are, bits_met}
 use Rattle.tv_bits.proofs.BitNumbers.{HasBits-below, HasBits-bit_at, HasBits-low, HasBits-high, value-bits, value-bits_below}
@@ -22,8 +16,6 @@ use Rattle.tv_bits.specs.Bits.{HasBits, binary_value, bits_combination, new_bits
 use Rattle.tv_bits.specs.declared.bit_wires.Bits.{Bits}
 use Rattle.tv_muldiv.proofs.HalvesLaws.{length-halves, halves_are, halves_in_field}
 use Rattle.tv_bits.proofs.NonzeroLaws.{nonzero_sound, nonzero_complete, nonzero_sizes}
-use Rattle.tv_word.proofs.WidthLaws.{width_short}
-use Rattle.tv_word.specs.Widths.{IsWidth}
 use Rattle.tv_bits.specs.Nonzero.{nonzero_of, nonzero_flag, nonzero_values}
 use Rattle.tv_muldiv.specs.Product.{product_bits_of, product_of, ProductIsSound, ProductIsComplete, ProductSizes}
 use Rattle.tv_muldiv.specs.Weighed.{halves_values}

@@ -1,19 +1,11 @@
 -- The laws of the quotient.
-use Rattle.std.proofs.Common.{◌≡◌, ℕ, ◌+◌, ◌-◌, ◌*◌, ◌/◌, ◌%◌, ◌^◌, ◌<◌, List, []}
-use Rattle.std.proofs.Common.{◌∷◌, ◌++◌, length, inl, inr, refl, sym, subst, ◌∙◌, ap₂, arith, length-append}
-use Rattle.std.specs.Prelude.{slice_index}
-use Rattle.std.specs.Int.{bit_at}
-use Rattle.std.proofs.lemmas.Bool.{cases_lt}
-use Rattle.std.proofs.lemmas.Bool.Decides.{nat_tests}
-use Rattle.tv_core.proofs.BelowLaws.{length-each_below}
-use Rattle.tv_core.proofs.CombinationLaws.{value-append, value-scaled, value-less, value-wire, value-constant}
-use Rattle.tv_core.proofs.FieldLaws.{InField-cons, InField-append}
-use Rattle.tv_core.proofs.MeetsLaws.{Meets-split, Meets-join, HasFrom-split}
-use Rattle.tv_core.specs.Below.{each_below}
-use Rattle.tv_core.specs.Circuits.{here, fresh, put, pure, ◌>>=◌}
-use Rattle.tv_core.specs.Combinations.{wire, constant, scaled, less}
-use Rattle.tv_core.specs.Constraints.{value}
-use Rattle.tv_core.specs.Laws.{Assigns, Meets, HasFrom, InField}
+use Rattle.tv_core.proofs.Common.{◌≡◌, ℕ, ◌+◌, ◌-◌, ◌*◌, ◌/◌, ◌%◌, ◌^◌, ◌<◌, List, [], ◌∷◌, ◌++◌, length, inl, inr, refl, sym, subst, ◌∙◌, ap₂, arith}
+use Rattle.tv_core.proofs.Common.{slice_index, bit_at, cases_lt, nat_tests, length-each_below, value-append, value-less, value-wire, InField-cons, Meets-split}
+use Rattle.tv_core.proofs.Common.{Meets-join, HasFrom-split, each_below, here, fresh, put, pure, ◌>>=◌, wire, constant, scaled, less, value, Assigns, Meets}
+use Rattle.tv_core.proofs.Common.{HasFrom, InField, width_short, IsWidth}
+use Rattle.std.proofs.Common.{length-append}
+use Rattle.tv_core.proofs.CombinationLaws.{value-scaled, value-constant}
+use Rattle.tv_core.proofs.FieldLaws.{InField-append}
 use Rattle.tv_core.specs.declared.field.TheConstants.{P}
 use Rattle.tv_bits.proofs.NewBitsLaws.{bits_are, bits_met}
 use Rattle.tv_bits.proofs.PrefixLaws.{prefix_difference_sound, prefix_difference_complete, prefix_difference_next, length-products, products_in_field}
@@ -27,9 +19,7 @@ use Rattle.tv_bits.specs.Order.{IsPrefixDifference}
 use Rattle.tv_bits.specs.Prefixes.{prefix_difference_values}
 use Rattle.tv_bits.specs.Zero.{zero_flag}
 use Rattle.tv_bits.specs.declared.bit_wires.Bits.{Bits}
-use Rattle.tv_word.proofs.WidthLaws.{width_short}
 use Rattle.tv_word.specs.Operations.{udiv_result, umod_result}
-use Rattle.tv_word.specs.Widths.{IsWidth}
 use Rattle.tv_muldiv.proofs.QuotientNumbers.{Divides, Divides-sound, Divides-complete, quotient-small, remainder-small, above-below, above-difference}
 use Rattle.tv_muldiv.specs.Quotient.{gate_in, above_in, words_values, above_values, quotient_at, quotient_wires_of}
 use Rattle.tv_muldiv.specs.Quotient.{division_of, remainder_below_of, quotient_of, quotient_values, QuotientIsSound, QuotientIsComplete, QuotientSizes}

@@ -1,9 +1,9 @@
 -- Division by numbers modulo P.
-use Rattle.std.proofs.Common.{◌≡◌, ◌≢◌, ℕ, ◌+◌, ◌-◌, ◌*◌, ◌/◌, ◌%◌, ◌^◌, ◌<◌, ◌≤◌, inl, inr, sym, ◌∙◌, ap, arith, mod-lt, mul-zero}
-use Rattle.std.proofs.Common.{one-mul, zero-mul}
+use Rattle.tv_core.proofs.Common.{◌≡◌, ◌≢◌, ℕ, ◌+◌, ◌-◌, ◌*◌, ◌/◌, ◌%◌, ◌^◌, ◌<◌, ◌≤◌, inl, inr, sym, ◌∙◌, ap, arith, mod-lt, zero-mul, cases_eq, nat_tests}
+use Rattle.tv_core.proofs.Common.{IsWidth}
+use Rattle.std.proofs.Common.{mul-zero}
+use Rattle.std.proofs.Common.{one-mul}
 use Rattle.std.proofs.Math.Nat.{div-le_self}
-use Rattle.std.proofs.lemmas.Bool.{cases_eq}
-use Rattle.std.proofs.lemmas.Bool.Decides.{nat_tests}
 use Rattle.std.proofs.lemmas.Nat.{mul-le, div-mul-add, mod-mul-add}
 use Rattle.tv_core.specs.declared.field.TheConstants.{P}
 use Rattle.tv_bits.proofs.OrderLaws.{IsPrefixDifference-above, first_difference-some, first_difference-below, IsPrefixDifference-first, first_difference-none}
@@ -13,7 +13,6 @@ use Rattle.tv_bits.specs.Bit.{IsBit}
 use Rattle.tv_bits.specs.Order.{IsPrefixDifference}
 use Rattle.tv_bits.specs.Zero.{zero_flag}
 use Rattle.tv_word.specs.Operations.{udiv_result, umod_result}
-use Rattle.tv_word.specs.Widths.{IsWidth}
 use Rattle.tv_row_products.proofs.DivisionCases.{quotient-zero, quotient-other, remainder-zero, remainder-other, remainder-below}
 use Rattle.tv_muldiv.specs.Quotient.{gate_in, above_in}
 

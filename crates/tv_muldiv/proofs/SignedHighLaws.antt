@@ -1,12 +1,9 @@
 -- The laws of the high word of a signed product.
-use Rattle.std.proofs.Common.{◌≡◌, ℕ, ◌+◌, ◌-◌, ◌*◌, ◌/◌, ◌%◌, ◌^◌, ◌≤◌, List, [], ◌∷◌, ◌++◌, refl, sym, subst, ◌∙◌, ap, ap₂, arith, length-append}
-use Rattle.std.specs.Prelude.{slice_index}
-use Rattle.tv_core.proofs.CombinationLaws.{value-append, value-cons}
+use Rattle.tv_core.proofs.Common.{◌≡◌, ℕ, ◌+◌, ◌-◌, ◌*◌, ◌/◌, ◌%◌, ◌^◌, ◌≤◌, List, [], ◌∷◌, ◌++◌, refl, sym, subst, ◌∙◌, ap, ap₂, arith, slice_index}
+use Rattle.tv_core.proofs.Common.{value-append, value-cons, Meets-split, Meets-join, HasFrom-split, fresh, put, pure, ◌>>=◌, value, Assigns, Meets, width_short}
+use Rattle.tv_core.proofs.Common.{IsWidth}
+use Rattle.std.proofs.Common.{length-append}
 use Rattle.tv_core.proofs.FieldLaws.{InField-append}
-use Rattle.tv_core.proofs.MeetsLaws.{Meets-split, Meets-join, HasFrom-split}
-use Rattle.tv_core.specs.Circuits.{fresh, put, pure, ◌>>=◌}
-use Rattle.tv_core.specs.Constraints.{value}
-use Rattle.tv_core.specs.Laws.{Assigns, Meets}
 use Rattle.tv_core.specs.declared.field.TheConstants.{P}
 use Rattle.tv_bits.proofs.NewBitsLaws.{bits_are, bits_met}
 use Rattle.tv_bits.proofs.BitNumbers.{HasBits-below, HasBits-bit_at, HasBits-low, HasBits-high, value-bits_below}
@@ -21,9 +18,7 @@ use Rattle.tv_row_products.specs.RowSignedProduct.{excess_in}
 use Rattle.tv_muldiv.specs.SignedHigh.{signed_bits_of, excess, signed_high_of, SignedHighIsSound}
 use Rattle.tv_muldiv.specs.SignedHigh.{SignedHighIsComplete, SignedHighSizes}
 use Rattle.tv_muldiv.specs.Weighed.{signed_combination, halves_values}
-use Rattle.tv_word.proofs.WidthLaws.{width_short}
 use Rattle.tv_word.specs.Operations.{signed_product, product_twos}
-use Rattle.tv_word.specs.Widths.{IsWidth}
 use Rattle.tv_word.specs.Word.{signed}
 
 -- ---- values

@@ -1,7 +1,6 @@
 -- Worked steps in numbers, at both widths.
-use Rattle.std.proofs.Common.{◌≡◌, ℕ, true, false, List, refl}
+use Rattle.tv_core.proofs.Common.{◌≡◌, ℕ, true, false, List, refl, Line}
 use Rattle.std.specs.Prelude.{replicate, slice_set}
-use Rattle.tv_core.specs.Lines.{Line}
 use Rattle.tv_core.specs.declared.limits.TheConstants.{NULL_CELL}
 use Rattle.tv_numbers.specs.Numbers.{transition_of, step_words}
 use Rattle.tv_numbers.specs.Views.{View}

@@ -1,5 +1,6 @@
 -- Each row of the table of instructions: the numbers of the step are those of the machine's next state.
-use Rattle.std.proofs.Common.{◌≡◌, ℕ, ◌/◌, ◌%◌, ◌^◌, ◌<◌, ◌≤◌, ◌==◌, Bool, true, false, List, [], ◌∷◌, length, drop, refl, sym, ◌∙◌, ap, subst, true≢false}
+use Rattle.tv_core.proofs.Common.{◌≡◌, ℕ, ◌/◌, ◌%◌, ◌^◌, ◌<◌, ◌≤◌, ◌==◌, Bool, true, false, List, [], ◌∷◌, length, drop, refl, sym, ◌∙◌, ap, subst, IsWidth}
+use Rattle.std.proofs.Common.{true≢false}
 use Rattle.std.proofs.lemmas.Bool.{false_from_ne_true}
 use Rattle.tv_isa.specs.Opcodes.{among, unused_ops}
 use Rattle.tv_isa.specs.declared.instr.Instr.{Instr}
@@ -12,7 +13,6 @@ use Rattle.tv_step.specs.Cells.{cells_of}
 use Rattle.tv_step.specs.Machine.{executed, operand, reg, left_in}
 use Rattle.tv_step.specs.Rows.{moves}
 use Rattle.tv_step.specs.State.{State, Next}
-use Rattle.tv_word.specs.Widths.{IsWidth}
 use Rattle.tv_numbers.proofs.Cases.{each_map, word_ops, compare_ops, for_opcode}
 use Rattle.tv_numbers.specs.Numbers.{asks, operand_word, stepped, data_line}
 use Rattle.tv_numbers.specs.Views.{View, seen}

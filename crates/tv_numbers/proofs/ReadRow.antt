@@ -1,8 +1,10 @@
 -- A read: the numbers of the step are those of the machine's next state.
-use Rattle.std.proofs.Common.{◌≡◌, ◌≢◌, ℕ, suc, ◌+◌, ◌<◌, ◌≤◌, ◌==◌, nat_lt, Bool, true, false, not, ◌&&◌, ◌||◌, if◌then◌else◌, List, [], ◌∷◌, length, drop}
-use Rattle.std.proofs.Common.{drop-cons, add-one, refl, sym, ◌∙◌, ap, subst, inl, inr}
-use Rattle.std.specs.Prelude.{slice_index, slice_set}
-use Rattle.std.proofs.lemmas.Bool.{cases_eq, cases_lt, ne_eqb, eqb-true, lt-ltb, le-ltb, and_parts}
+use Rattle.tv_core.proofs.Common.{◌≡◌, ◌≢◌, ℕ, suc, ◌+◌, ◌<◌, ◌≤◌, ◌==◌, nat_lt, Bool, true, false, not, if◌then◌else◌, List, [], ◌∷◌, length, drop, add-one}
+use Rattle.tv_core.proofs.Common.{refl, sym, ◌∙◌, ap, subst, inl, inr, slice_index, cases_eq, cases_lt, ne_eqb, eqb-true, lt-ltb, le-ltb, flag_of}
+use Rattle.std.proofs.Common.{◌&&◌, ◌||◌}
+use Rattle.std.proofs.Common.{drop-cons}
+use Rattle.std.specs.Prelude.{slice_set}
+use Rattle.std.proofs.lemmas.Bool.{and_parts}
 use Rattle.std.proofs.lemmas.List.{drop_all}
 use Rattle.tv_core.specs.declared.limits.TheConstants.{TAPE_CELLS, NULL_CELL}
 use Rattle.tv_isa.specs.declared.instr.Instr.{Instr}
@@ -14,7 +16,6 @@ use Rattle.tv_step.specs.State.{State, Next}
 use Rattle.tv_numbers.proofs.NextRows.{instr, Fits, AuxTape, Came, NextRow}
 use Rattle.tv_numbers.specs.Tables.{next_pc}
 use Rattle.tv_numbers.specs.Views.{View, seen}
-use Rattle.tv_word.specs.Word.{flag_of}
 
 -- the word that a read of the primary tape takes is the data word
 pub held : (w : ℕ) (x : List ℕ) (gone ended o : ℕ) (takes : Bool) (st : State) (imm : Bool) (dest source a : ℕ)

@@ -1,10 +1,11 @@
 -- The numbers of a machine's step show it.
-use Rattle.std.proofs.Common.{◌≡◌, ℕ, ◌+◌, ◌-◌, ◌/◌, ◌^◌, ◌<◌, ◌==◌, Bool, true, false, ◌&&◌, ◌||◌, if◌then◌else◌, List, length, drop, nat_lt, Option, Some}
-use Rattle.std.proofs.Common.{None, refl, sym, ◌∙◌, ap, ap₂, subst, arith, true≢false}
+use Rattle.tv_core.proofs.Common.{◌≡◌, ℕ, ◌+◌, ◌-◌, ◌/◌, ◌^◌, ◌<◌, ◌==◌, Bool, true, false, if◌then◌else◌, List, length, drop, nat_lt, Option, Some, None, refl}
+use Rattle.tv_core.proofs.Common.{sym, ◌∙◌, ap, ap₂, subst, arith, eq-eqb, eqb-true, Line, IsWidth}
+use Rattle.std.proofs.Common.{◌&&◌, ◌||◌}
+use Rattle.std.proofs.Common.{true≢false}
 use Rattle.std.specs.Prelude.{is_some}
 use Rattle.std.proofs.lemmas.List.{length-drop}
-use Rattle.std.proofs.lemmas.Bool.{eq-eqb, eqb-true, and_parts, agree_below_at, false_from_ne_true}
-use Rattle.tv_core.specs.Lines.{Line}
+use Rattle.std.proofs.lemmas.Bool.{and_parts, agree_below_at, false_from_ne_true}
 use Rattle.tv_core.specs.declared.limits.TheConstants.{TAPE_CELLS, NULL_CELL}
 use Rattle.tv_isa.specs.Instruction.{decode}
 use Rattle.tv_isa.specs.Opcodes.{among, unused_ops, memory_ops}
@@ -23,7 +24,6 @@ use Rattle.tv_step.specs.Trace.{data_line as traced_line}
 use Rattle.tv_step.specs.declared.op.Op.{Op}
 use Rattle.tv_step.specs.declared.op.Op.TheVariants.{Unused}
 use Rattle.tv_word.proofs.FlagLaws.{flag_small}
-use Rattle.tv_word.specs.Widths.{IsWidth}
 use Rattle.tv_numbers.proofs.OldRows.{old_row}
 use Rattle.tv_numbers.proofs.StepLaws.{op_small, read_test, seen_of, numbers_do}
 use Rattle.tv_numbers.specs.Laws.{AtNumbers, HoldsOlds}

@@ -1,8 +1,9 @@
 -- The step in numbers is the machine's step.
-use Rattle.std.proofs.Common.{◌≡◌, ℕ, ◌+◌, ◌-◌, ◌/◌, ◌%◌, ◌^◌, ◌<◌, ◌==◌, Bool, true, false, not, ◌&&◌, if◌then◌else◌, List, [], ◌∷◌, length, drop, refl, sym}
-use Rattle.std.proofs.Common.{◌∙◌, ap, ap₂, subst, arith, inl, inr}
+use Rattle.tv_core.proofs.Common.{◌≡◌, ℕ, ◌+◌, ◌-◌, ◌/◌, ◌%◌, ◌^◌, ◌<◌, ◌==◌, Bool, true, false, not, if◌then◌else◌, List, [], ◌∷◌, length, drop, refl, sym}
+use Rattle.tv_core.proofs.Common.{◌∙◌, ap, ap₂, subst, arith, inl, inr, cases_eq, eq-eqb, eqb-true, for_widths, IsWidth, flag_of}
+use Rattle.std.proofs.Common.{◌&&◌}
 use Rattle.std.proofs.Math.Nat.{mod-lt}
-use Rattle.std.proofs.lemmas.Bool.{cases_eq, eq-eqb, eqb-true, and_parts, agree_below_at}
+use Rattle.std.proofs.lemmas.Bool.{and_parts, agree_below_at}
 use Rattle.tv_core.specs.declared.limits.TheConstants.{TAPE_CELLS}
 use Rattle.tv_isa.specs.Instruction.{decode}
 use Rattle.tv_isa.specs.declared.instr.Instr.{Instr}
@@ -15,8 +16,6 @@ use Rattle.tv_step.specs.Ops.{op_of}
 use Rattle.tv_step.specs.Reads.{is_read, reads_aux}
 use Rattle.tv_step.specs.State.{State}
 use Rattle.tv_step.specs.Trace.{looked_at, touched_line, step_lines}
-use Rattle.tv_word.proofs.WidthLaws.{for_widths}
-use Rattle.tv_word.specs.Widths.{IsWidth}
 use Rattle.tv_numbers.proofs.LineRows.{line_row}
 use Rattle.tv_numbers.proofs.NextRows.{Fits, AuxTape, next_row, answered}
 use Rattle.tv_numbers.proofs.RangeLaws.{operand_small, fetched_is_line, data_is_line}
@@ -24,7 +23,6 @@ use Rattle.tv_numbers.proofs.ReadRow.{row30}
 use Rattle.tv_numbers.specs.Laws.{AtNumbers, HoldsOlds, AuxFits, Leads, Halts, DoesStep, NumbersDo}
 use Rattle.tv_numbers.specs.Numbers.{asks, operand_word, stepped, data_line, Transition, lines_in, transition_of, step_words}
 use Rattle.tv_numbers.specs.Views.{View, seen, Matches}
-use Rattle.tv_word.specs.Word.{flag_of}
 
 -- an opcode of a decoded instruction has five bits
 pub op_small : (w head tail : ℕ) → (decode w head tail).op < 32

@@ -1,18 +1,9 @@
 -- The laws of the flag after a step.
-use Rattle.std.proofs.Common.{◌≡◌, ℕ, ◌+◌, ◌-◌, ◌*◌, ◌%◌, ◌^◌, ◌<◌, ◌==◌, Bool, true, false, if◌then◌else◌, List, [], ◌∷◌, ◌++◌, length, inl, inr, refl}
-use Rattle.std.proofs.Common.{sym, ◌∙◌, ap, ap₂, arith, mod-lt}
-use Rattle.std.specs.Int.{bit_at}
-use Rattle.std.specs.Prelude.{slice_index}
-use Rattle.std.proofs.lemmas.Bool.{cases_eq, ne_eqb}
+use Rattle.tv_core.proofs.Common.{◌≡◌, ℕ, ◌+◌, ◌-◌, ◌*◌, ◌%◌, ◌^◌, ◌<◌, ◌==◌, Bool, true, false, if◌then◌else◌, List, [], ◌∷◌, ◌++◌, length, inl, inr, refl}
+use Rattle.tv_core.proofs.Common.{sym, ◌∙◌, ap, ap₂, arith, mod-lt, bit_at, slice_index, cases_eq, ne_eqb, value-wire, value-append, value-cons, wire-below}
+use Rattle.tv_core.proofs.Common.{InField-cons, InField-none, fresh, put, pure, ◌>>=◌, wire, value, InField, terms_in, IsWidth, flag_of}
 use Rattle.tv_bits.specs.Times.{times_of}
 use Rattle.tv_bits.specs.declared.bit_wires.Bits.{Bits}
-use Rattle.tv_core.proofs.CombinationLaws.{value-wire, value-append, value-cons, wire-below}
-use Rattle.tv_core.proofs.FieldLaws.{InField-cons, InField-none}
-use Rattle.tv_core.specs.Circuits.{fresh, put, pure, ◌>>=◌}
-use Rattle.tv_core.specs.Combinations.{wire}
-use Rattle.tv_core.specs.Constraints.{value}
-use Rattle.tv_core.specs.Laws.{InField}
-use Rattle.tv_core.specs.Meanings.{terms_in}
 use Rattle.tv_core.specs.declared.field.TheConstants.{P}
 use Rattle.tv_inputs.proofs.Settled.{Settles, times_then, settles_sum}
 use Rattle.tv_isa.specs.Opcodes.{among, chosen, keeper_ops}
@@ -22,7 +13,6 @@ use Rattle.tv_numbers.specs.Tables.{flags}
 use Rattle.tv_numbers.proofs.Cases.{chosen_in}
 use Rattle.tv_numbers.specs.Views.{View}
 use Rattle.tv_word.proofs.FlagLaws.{flag_small}
-use Rattle.tv_word.specs.Widths.{IsWidth}
 use Rattle.tv_inputs.proofs.FieldNumbers.{flag_in_field, either}
 use Rattle.tv_parts.proofs.FlagLaws.{raised_ops, flag_sum, FlagCase, flag_number}
 use Rattle.tv_inputs.proofs.OpcodeLaws.{opcode_sum_sound}
@@ -35,7 +25,6 @@ use Rattle.tv_inputs.specs.OpcodeSums.{opcode_sum}
 use Rattle.tv_inputs.specs.Tapes.{took}
 use Rattle.tv_inputs.specs.declared.records.StateWires.{StateWires}
 use Rattle.tv_inputs.specs.declared.records.TapeWires.{TapeWires}
-use Rattle.tv_word.specs.Word.{flag_of}
 
 -- ---- the combinations' values
 -- a shift's bit in place of the test, as a product with its opcode's wire

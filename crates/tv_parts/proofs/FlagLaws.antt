@@ -1,10 +1,10 @@
 -- The numbers of the flag after a step.
-use Rattle.std.proofs.Common.{◌≡◌, ◌≢◌, ℕ, ◌+◌, ◌-◌, ◌*◌, ◌/◌, ◌%◌, ◌^◌, ◌<◌, ◌≤◌, ◌==◌, nat_lt, nat_le, int_lt, int_le, not, ◌||◌, Bool, true, false}
-use Rattle.std.proofs.Common.{if◌then◌else◌, List, [], ◌∷◌, inl, inr, refl, sym, ◌∙◌, ap, ap₂, subst, arith, eq-eqb, bit_and, bit_or, bit_xor, true≢false}
+use Rattle.tv_core.proofs.Common.{◌≡◌, ◌≢◌, ℕ, ◌+◌, ◌-◌, ◌*◌, ◌/◌, ◌%◌, ◌^◌, ◌<◌, ◌≤◌, ◌==◌, nat_lt, not, Bool, true, false, if◌then◌else◌, List, [], ◌∷◌, inl}
+use Rattle.tv_core.proofs.Common.{inr, refl, sym, ◌∙◌, ap, ap₂, subst, arith, bit_at, cases_eq, cases_lt, ne_eqb, nat_tests, for_widths, IsWidth, flag_of}
+use Rattle.std.proofs.Common.{nat_le, int_lt, int_le, ◌||◌}
+use Rattle.std.proofs.Common.{eq-eqb, bit_and, bit_or, bit_xor, true≢false}
 use Rattle.std.proofs.Common.{◌*ℤ◌}
-use Rattle.std.specs.Int.{bit_at}
-use Rattle.std.proofs.lemmas.Bool.{cases_eq, cases_lt, ne_eqb, le-leb, lt-leb}
-use Rattle.std.proofs.lemmas.Bool.Decides.{nat_tests}
+use Rattle.std.proofs.lemmas.Bool.{le-leb, lt-leb}
 use Rattle.tv_bits.proofs.BitLaws.{bit_cases}
 use Rattle.tv_bits.specs.Bit.{IsBit}
 use Rattle.tv_bits.specs.Nonzero.{nonzero_flag}
@@ -15,10 +15,8 @@ use Rattle.tv_row_products.specs.RowSignedProduct.{excess_in}
 use Rattle.tv_numbers.proofs.Cases.{for_opcode}
 use Rattle.tv_numbers.specs.Tables.{flags, results}
 use Rattle.tv_word.proofs.FlagLaws.{flag_small}
-use Rattle.tv_word.proofs.WidthLaws.{for_widths}
 use Rattle.tv_word.specs.Twos.{twos, fits}
-use Rattle.tv_word.specs.Widths.{IsWidth}
-use Rattle.tv_word.specs.Word.{has_bit, signed, flag_of}
+use Rattle.tv_word.specs.Word.{has_bit, signed}
 use Rattle.tv_parts.specs.Flag.{sign_at}
 use Rattle.tv_inputs.specs.TestNumbers.{zero_ops, tested_numbers}
 use Rattle.tv_inputs.specs.Rows.{covers, AreHalves}

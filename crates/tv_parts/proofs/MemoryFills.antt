@@ -1,19 +1,15 @@
 -- The laws of memory.
-use Rattle.std.proofs.Common.{◌≡◌, ℕ, ◌+◌, ◌-◌, ◌*◌, ◌/◌, ◌%◌, ◌^◌, ◌<◌, ◌≤◌, ◌==◌, ◌||◌, Bool, true, false, if◌then◌else◌, List, [], ◌∷◌, ◌++◌, length, refl}
-use Rattle.std.proofs.Common.{sym, ◌∙◌, ap, ap₂, subst, arith, mod-lt}
-use Rattle.std.specs.Prelude.{slice_index}
-use Rattle.std.proofs.lemmas.Bool.{eqb-true, ne_eqb}
+use Rattle.tv_core.proofs.Common.{◌≡◌, ℕ, ◌+◌, ◌-◌, ◌*◌, ◌/◌, ◌%◌, ◌^◌, ◌<◌, ◌≤◌, ◌==◌, Bool, true, false, if◌then◌else◌, List, [], ◌∷◌, ◌++◌, length, refl}
+use Rattle.tv_core.proofs.Common.{sym, ◌∙◌, ap, ap₂, subst, arith, mod-lt, slice_index, eqb-true, ne_eqb, value-wire, value-append, value-cons, wire-below}
+use Rattle.tv_core.proofs.Common.{InField-cons, InField-none, fresh, put, pure, ◌>>=◌, wire, constant, Combination, value, InField, terms_in, for_widths}
+use Rattle.tv_core.proofs.Common.{IsWidth, flag_of}
+use Rattle.std.proofs.Common.{◌||◌}
 use Rattle.tv_bits.proofs.BitNumbers.{HasBits-below}
 use Rattle.tv_bits.specs.Bits.{HasBits, bits_combination}
 use Rattle.tv_bits.specs.Times.{times_of}
-use Rattle.tv_core.proofs.CombinationLaws.{value-wire, value-append, value-cons, wire-below}
-use Rattle.tv_core.proofs.FieldLaws.{InField-cons, InField-none, InField-append}
+use Rattle.tv_core.proofs.FieldLaws.{InField-append}
 use Rattle.tv_core.specs.Below.{weighted}
-use Rattle.tv_core.specs.Circuits.{fresh, put, pure, ◌>>=◌}
-use Rattle.tv_core.specs.Combinations.{wire, constant}
-use Rattle.tv_core.specs.Constraints.{Combination, value}
-use Rattle.tv_core.specs.Laws.{InField, Fills}
-use Rattle.tv_core.specs.Meanings.{terms_in}
+use Rattle.tv_core.specs.Laws.{Fills}
 use Rattle.tv_core.specs.declared.field.TheConstants.{P}
 use Rattle.tv_core.specs.declared.limits.TheConstants.{TAPE_CELLS, NULL_CELL}
 use Rattle.tv_inputs.proofs.Settled.{Settles, sum_then, times_then, settles_sum, settles_then, settles_to, settles_pure}
@@ -24,8 +20,7 @@ use Rattle.tv_numbers.specs.Numbers.{operand_word, other_word, touches, takes_pr
 use Rattle.tv_numbers.specs.Views.{View}
 use Rattle.tv_step.specs.Rows.{word_size}
 use Rattle.tv_step.specs.Trace.{tape_cell}
-use Rattle.tv_word.proofs.WidthLaws.{for_widths, word_small}
-use Rattle.tv_word.specs.Widths.{IsWidth}
+use Rattle.tv_word.proofs.WidthLaws.{word_small}
 use Rattle.tv_inputs.proofs.FieldNumbers.{small_word, byte_small, either, flag_times}
 use Rattle.tv_parts.proofs.MemoryLaws.{located_is, line_cell, line_old, word_below, power_two, power_four, put_in_by, place_small, byte_value, byte_settled}
 use Rattle.tv_parts.proofs.MemoryLaws.{low_bit, next_bit, parity_bit, new_by}
@@ -45,7 +40,6 @@ use Rattle.tv_inputs.specs.declared.records.OperandWires.{OperandWires}
 use Rattle.tv_inputs.specs.declared.records.StateWires.{StateWires}
 use Rattle.tv_inputs.specs.declared.records.StoreWires.{StoreWires}
 use Rattle.tv_inputs.specs.declared.records.TapeWires.{TapeWires}
-use Rattle.tv_word.specs.Word.{flag_of}
 
 power_is : (z : List ℕ) (a both at : ℕ) → slice_index z 0 ≡ 1 → slice_index z both ≡ slice_index z a * slice_index z (a + 1) % P → (w : ℕ) → IsWidth w
     → HasBits z a w at → value (power_in w a both) z ≡ 256 ^ (at % (w / 8))

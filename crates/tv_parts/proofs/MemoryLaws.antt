@@ -1,18 +1,14 @@
 -- The laws of the data line and of the bytes of its word.
-use Rattle.std.proofs.Common.{◌≡◌, ℕ, zero, suc, ◌+◌, ◌-◌, ◌*◌, ◌/◌, ◌%◌, ◌^◌, ◌<◌, ◌==◌, ◌||◌, Bool, true, false, if◌then◌else◌, List, [], ◌∷◌, ◌++◌, inl}
-use Rattle.std.proofs.Common.{inr, refl, sym, ◌∙◌, ap, ap₂, subst, arith, true≢false}
-use Rattle.std.specs.Int.{bit_at}
-use Rattle.std.specs.Prelude.{slice_index}
-use Rattle.std.proofs.lemmas.Bool.{cases_eq, ne_eqb}
+use Rattle.tv_core.proofs.Common.{◌≡◌, ℕ, zero, suc, ◌+◌, ◌-◌, ◌*◌, ◌/◌, ◌%◌, ◌^◌, ◌<◌, ◌==◌, Bool, true, false, if◌then◌else◌, List, [], ◌∷◌, ◌++◌, inl, inr}
+use Rattle.tv_core.proofs.Common.{refl, sym, ◌∙◌, ap, ap₂, subst, arith, bit_at, slice_index, cases_eq, ne_eqb, value-wire, value-append, value-cons}
+use Rattle.tv_core.proofs.Common.{value-below, put, wire, constant, scaled, Combination, value, Assigns, width_short, for_widths, IsWidth, flag_of}
+use Rattle.std.proofs.Common.{◌||◌}
+use Rattle.std.proofs.Common.{true≢false}
 use Rattle.tv_bits.proofs.BitLaws.{bit_cases}
 use Rattle.tv_bits.proofs.BitNumbers.{value-bits_below, HasBits-below, HasBits-high, HasBits-low, HasBits-bit_at}
 use Rattle.tv_bits.specs.Bit.{IsBit}
 use Rattle.tv_bits.specs.Bits.{HasBits, bits_combination}
-use Rattle.tv_core.proofs.CombinationLaws.{value-wire, value-append, value-cons, value-scaled, value-constant, value-below}
-use Rattle.tv_core.specs.Circuits.{put}
-use Rattle.tv_core.specs.Combinations.{wire, constant, scaled}
-use Rattle.tv_core.specs.Constraints.{Combination, value}
-use Rattle.tv_core.specs.Laws.{Assigns}
+use Rattle.tv_core.proofs.CombinationLaws.{value-scaled, value-constant}
 use Rattle.tv_core.specs.declared.field.TheConstants.{P}
 use Rattle.tv_core.specs.declared.limits.TheConstants.{TAPE_CELLS, NULL_CELL}
 use Rattle.tv_inputs.proofs.Settled.{Settles, sum_then, settles_sum}
@@ -23,8 +19,6 @@ use Rattle.tv_numbers.specs.Numbers.{operand_word, touches, takes_primary, old_i
 use Rattle.tv_numbers.specs.Views.{View}
 use Rattle.tv_step.specs.Rows.{word_size}
 use Rattle.tv_step.specs.Trace.{tape_cell}
-use Rattle.tv_word.proofs.WidthLaws.{width_short, for_widths}
-use Rattle.tv_word.specs.Widths.{IsWidth}
 use Rattle.tv_inputs.proofs.FieldNumbers.{small_word, byte_small, flag_times}
 use Rattle.tv_inputs.proofs.TapeLaws.{no_primary}
 use Rattle.tv_inputs.proofs.OpcodeLaws.{opcode_sum_sound}
@@ -39,7 +33,6 @@ use Rattle.tv_inputs.specs.declared.records.DataWires.{DataWires}
 use Rattle.tv_inputs.specs.declared.records.OperandWires.{OperandWires}
 use Rattle.tv_inputs.specs.declared.records.StateWires.{StateWires}
 use Rattle.tv_inputs.specs.declared.records.TapeWires.{TapeWires}
-use Rattle.tv_word.specs.Word.{flag_of}
 
 -- ---- numbers of the line
 -- y and a flag times x less y

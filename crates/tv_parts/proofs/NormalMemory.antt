@@ -1,19 +1,15 @@
 -- What a step does to memory is put by normal combinations.
-use Rattle.std.proofs.Common.{ℕ, ◌+◌, ◌-◌, ◌/◌, ◌<◌, ◌≤◌, [], ◌∷◌, ◌++◌, refl, arith}
+use Rattle.tv_core.proofs.Common.{ℕ, ◌+◌, ◌-◌, ◌/◌, ◌<◌, ◌≤◌, [], ◌∷◌, ◌++◌, refl, arith, fresh, put, pure, ◌>>=◌, wire, constant, scaled, top, IsNormal}
+use Rattle.tv_core.proofs.Common.{IsNormalFrom, AreNormal, for_widths, IsWidth}
 use Rattle.tv_bits.proofs.NormalLaws.{wire_normal, constant_normal, rise_normal, bits_normal, bits_top, scaled_bits_top, times_normal}
 use Rattle.tv_bits.specs.Bits.{bits_combination}
 use Rattle.tv_bits.specs.Times.{times_of}
 use Rattle.tv_core.proofs.NormalCircuits.{normal_append, normal_negated, normal_both}
 use Rattle.tv_core.proofs.NormalLaws.{IsNormalFrom-lower}
-use Rattle.tv_core.specs.Circuits.{fresh, put, pure, ◌>>=◌}
-use Rattle.tv_core.specs.Combinations.{wire, constant, scaled, top}
-use Rattle.tv_core.specs.Normal.{IsNormal, IsNormalFrom, AreNormal}
 use Rattle.tv_core.specs.declared.field.TheConstants.{P}
 use Rattle.tv_core.specs.declared.limits.TheConstants.{TAPE_CELLS, NULL_CELL}
 use Rattle.tv_isa.specs.Opcodes.{memory_ops}
 use Rattle.tv_isa.specs.declared.opcode.TheConstants.{STORE_B, STORE_W}
-use Rattle.tv_word.proofs.WidthLaws.{for_widths}
-use Rattle.tv_word.specs.Widths.{IsWidth}
 use Rattle.tv_inputs.proofs.NormalAccumulation.{accumulated_normal}
 use Rattle.tv_inputs.proofs.NormalOpcodes.{opcode_sum_normal, opcodes_then}
 use Rattle.tv_inputs.proofs.UpperLaws.{upper_normal}

@@ -1,10 +1,6 @@
 -- The registers written are put by normal combinations.
-use Rattle.std.proofs.Common.{ℕ, ◌+◌, ◌<◌, ◌≤◌, [], ◌∷◌, refl, arith}
-use Rattle.std.specs.Prelude.{slice_index}
+use Rattle.tv_core.proofs.Common.{ℕ, ◌+◌, ◌<◌, ◌≤◌, [], ◌∷◌, refl, arith, slice_index, ◌>>=◌, wire, top, IsNormal, AreNormal}
 use Rattle.tv_core.proofs.NormalCircuits.{normal_both}
-use Rattle.tv_core.specs.Circuits.{◌>>=◌}
-use Rattle.tv_core.specs.Combinations.{wire, top}
-use Rattle.tv_core.specs.Normal.{IsNormal, AreNormal}
 use Rattle.tv_isa.specs.Opcodes.{writer_ops}
 use Rattle.tv_isa.specs.declared.opcode.TheConstants.{CMOV}
 use Rattle.tv_regs.proofs.NormalLaws.{reg_below, update_normal}

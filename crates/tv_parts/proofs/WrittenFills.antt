@@ -1,18 +1,12 @@
 -- Where an assignment has the registers that a step writes, and what they cost.
-use Rattle.std.proofs.Common.{◌≡◌, ℕ, zero, suc, ◌+◌, ◌*◌, ◌%◌, ◌<◌, ◌==◌, Bool, true, false, if◌then◌else◌, List, [], ◌∷◌, length, inl, inr, refl, sym, ◌∙◌}
-use Rattle.std.proofs.Common.{ap, ap₂, subst, arith, true≢false}
-use Rattle.std.specs.Prelude.{slice_index, slice_set}
-use Rattle.std.specs.List.{range_with_len}
-use Rattle.std.proofs.lemmas.Bool.{cases_eq, ne_eqb}
+use Rattle.tv_core.proofs.Common.{◌≡◌, ℕ, zero, suc, ◌+◌, ◌*◌, ◌%◌, ◌<◌, ◌==◌, Bool, true, false, if◌then◌else◌, List, [], ◌∷◌, length, inl, inr, refl, sym}
+use Rattle.tv_core.proofs.Common.{◌∙◌, ap, ap₂, subst, arith, slice_index, range_with_len, cases_eq, ne_eqb, value-wire, fresh, put, pure, ◌>>=◌, wire, value}
+use Rattle.tv_core.proofs.Common.{HasFrom, terms_in, flag_of}
+use Rattle.std.proofs.Common.{true≢false}
+use Rattle.std.specs.Prelude.{slice_set}
 use Rattle.std.proofs.lemmas.List.{length-set}
 use Rattle.tv_bits.proofs.GateLaws.{terms-append}
 use Rattle.tv_bits.specs.Bit.{IsBit}
-use Rattle.tv_core.proofs.CombinationLaws.{value-wire}
-use Rattle.tv_core.specs.Circuits.{fresh, put, pure, ◌>>=◌}
-use Rattle.tv_core.specs.Combinations.{wire}
-use Rattle.tv_core.specs.Constraints.{value}
-use Rattle.tv_core.specs.Laws.{HasFrom}
-use Rattle.tv_core.specs.Meanings.{terms_in}
 use Rattle.tv_core.specs.declared.field.TheConstants.{P}
 use Rattle.tv_inputs.proofs.Settled.{Settles, sum_then}
 use Rattle.tv_inputs.specs.Inputs.{input_of}
@@ -35,7 +29,6 @@ use Rattle.tv_inputs.specs.OpcodeSums.{opcode_sum}
 use Rattle.tv_parts.specs.Written.{WrittenIsComplete, WrittenSizes, WrittenCosts}
 use Rattle.tv_inputs.specs.declared.records.StateWires.{StateWires}
 use Rattle.tv_word.proofs.FlagLaws.{flag_small}
-use Rattle.tv_word.specs.Word.{flag_of}
 
 bit_test : (f : ℕ) → f < 2 → (0 + 1 * f) % P ≡ flag_of (f == 1)
 bit_test zero small = refl

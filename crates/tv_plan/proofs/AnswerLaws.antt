@@ -1,6 +1,7 @@
 -- What a call promises, from what reading found, from writing and from saying a line.
-use Rattle.std.proofs.Common.{◌≡◌, ℕ, ◌⊎◌, Bool, false, List, [], ◌∷◌, ◌++◌, take, Option, Some, None, option_map, true, Result, Ok, Err, inl, inr}
-use Rattle.std.proofs.Common.{refl, sym, ap, ◌∙◌, arith, rules}
+use Rattle.tv_core.proofs.Common.{◌≡◌, ℕ, ◌⊎◌, Bool, false, List, [], ◌∷◌, ◌++◌, take, Option, Some, None, true, Result, Ok, Err, inl, inr, refl, sym, ap, ◌∙◌}
+use Rattle.tv_core.proofs.Common.{arith, rules}
+use Rattle.std.proofs.Common.{option_map}
 use Rattle.std.specs.List.{list_any}
 use Rattle.std.specs.Prelude.{IfOk, IsErrAnd, MatchResult}
 use Rattle.std.proofs.lemmas.Bool.{or_parts}

@@ -1,5 +1,6 @@
 -- `asm`: what it promises.
-use Rattle.std.proofs.Common.{codes, [], ◌∷◌, refl}
+use Rattle.tv_core.proofs.Common.{[], ◌∷◌, refl}
+use Rattle.std.proofs.Common.{codes}
 use Rattle.tv_plan.specs.Asm.{image_in, asm_form, asm_plan, OnAsm}
 use Rattle.tv_plan.specs.Plan.{name_at, writes_bytes}
 use Rattle.tv_plan.proofs.Common.{Holds, input}

@@ -1,7 +1,7 @@
 -- `check`: reading the system twice is reading it once, and what the command promises.
-use Rattle.std.proofs.Common.{◌≡◌, ◌↔◌, ◌<◌, ◌==◌, ℕ, codes, max, Bool, true, false, if◌then◌else◌, List, [], ◌∷◌, length, take, All, Result, Ok, Err, refl, sym, ap}
-use Rattle.std.proofs.Common.{arith}
-use Rattle.std.proofs.lemmas.Bool.{eqb-true, eq-eqb, ne_eqb}
+use Rattle.tv_core.proofs.Common.{◌≡◌, ◌<◌, ◌==◌, ℕ, Bool, true, false, if◌then◌else◌, List, [], ◌∷◌, length, take, All, Result, Ok, Err, refl, sym, ap, arith}
+use Rattle.tv_core.proofs.Common.{eqb-true, eq-eqb, ne_eqb}
+use Rattle.std.proofs.Common.{◌↔◌, codes, max}
 use Rattle.std.proofs.lemmas.List.{take_all}
 use Rattle.tv_check.specs.Meaning.{VerdictMeans}
 use Rattle.tv_check.specs.Verdict.{HasRoom, judge, verdict_of}

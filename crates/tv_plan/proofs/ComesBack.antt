@@ -1,5 +1,5 @@
 -- An image that is disassembled and assembled again is the same.
-use Rattle.std.proofs.Common.{◌≡◌, ◌≤◌, ◌%◌, ◌/◌, ◌*◌, ◌+◌, ℕ, List, length, Ok, refl, ap, ◌∙◌, arith}
+use Rattle.tv_core.proofs.Common.{◌≡◌, ◌≤◌, ◌%◌, ◌/◌, ◌*◌, ◌+◌, ℕ, List, length, Ok, refl, ap, ◌∙◌, arith}
 use Rattle.tv_asm.specs.Header.{width_of}
 use Rattle.tv_core.specs.declared.limits.TheConstants.{TEXT_BYTES}
 use Rattle.tv_disasm.specs.Disassembly.{disassembly_of}

@@ -1,5 +1,5 @@
 -- From what reading a container came to, by what its file holds, to what a look at the file found.
-use Rattle.std.proofs.Common.{◌≡◌, ℕ, ◌≤◌, List, [], ◌∷◌, Option, Some, None, Result, Ok, Err, inl, inr, refl, arith}
+use Rattle.tv_core.proofs.Common.{◌≡◌, ℕ, ◌≤◌, List, [], ◌∷◌, Option, Some, None, Result, Ok, Err, inl, inr, refl, arith}
 use Rattle.std.specs.Prelude.{MatchResult}
 use Rattle.tv_plan.proofs.Common.{Names, Outside, OnlyReads, MissesOnly, Rose, Bad, What, Stop, MayStop, IsFound, Finds, Spares, Named, Look, input, held_at}
 use Rattle.tv_plan.proofs.Common.{made_of, map_ok}

@@ -1,5 +1,6 @@
 -- `disasm`: what it promises.
-use Rattle.std.proofs.Common.{codes, ◌∷◌, refl}
+use Rattle.tv_core.proofs.Common.{◌∷◌, refl}
+use Rattle.std.proofs.Common.{codes}
 use Rattle.tv_plan.proofs.Common.{Holds, input}
 use Rattle.tv_plan.specs.Disasm.{text_in, disasm_form, disasm_plan, OnDisasm}
 use Rattle.tv_plan.specs.Plan.{name_at, writes_bytes}

@@ -1,5 +1,5 @@
 -- What is found of a program and two tapes is what their files hold.
-use Rattle.std.proofs.Common.{ℕ, List, Ok}
+use Rattle.tv_core.proofs.Common.{ℕ, List, Ok}
 use Rattle.tv_plan.proofs.Common.{Names, name_at, ◌>>=◌, input, settled, bits, program_in}
 use Rattle.tv_plan.specs.Inputs.{primary_in, aux_in, inputs_of, HasInputs}
 use Rattle.tv_plan.proofs.ClaimLaws.{IsHeld, shows_input, shows_then, shows_made}

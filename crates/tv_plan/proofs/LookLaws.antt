@@ -1,7 +1,7 @@
 -- Looks at files, one after another, and what is made of what they find.
-use Rattle.std.proofs.Common.{◌≡◌, ℕ, ◌+◌, nat_le, List, [], ◌∷◌, ◌++◌, length, Option, Some, None, Result, Ok, Err, IsErrAnd, inl, inr, refl, ap, subst, ◌∙◌}
-use Rattle.std.proofs.Common.{◌≤◌, arith, rules}
-use Rattle.std.proofs.lemmas.Bool.{cond_both}
+use Rattle.tv_core.proofs.Common.{◌≡◌, ℕ, ◌+◌, List, [], ◌∷◌, ◌++◌, length, Option, Some, None, Result, Ok, Err, inl, inr, refl, ap, subst, ◌∙◌, ◌≤◌, arith}
+use Rattle.tv_core.proofs.Common.{rules, cond_both}
+use Rattle.std.proofs.Common.{nat_le, IsErrAnd}
 use Rattle.tv_plan.proofs.Common.{Names, Outside, OnlyReads, SameCounts, Bad, What, Stop, Fault, Memory, Contents, IsOneOf, IsFound, Finds, Leaves, Makes}
 use Rattle.tv_plan.proofs.Common.{Named, Look, ◌>>=◌, look_on, Outcome, outcome_by, map_ok, input, within, held_at, made_of}
 use Rattle.tv_plan.specs.Finds.{reading, reading_of}

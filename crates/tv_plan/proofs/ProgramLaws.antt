@@ -1,7 +1,7 @@
 -- What holds of a program and of tapes that files hold.
-use Rattle.std.proofs.Common.{◌≡◌, ◌≤◌, ◌^◌, ℕ, ◌+◌, nat_le, List, length, Option, Result, Ok, Err, inl, inr, refl}
+use Rattle.tv_core.proofs.Common.{◌≡◌, ◌≤◌, ◌^◌, ℕ, ◌+◌, List, length, Option, Result, Ok, Err, inl, inr, refl, cond_both, IsWidth}
+use Rattle.std.proofs.Common.{nat_le}
 use Rattle.std.specs.Prelude.{IfOk}
-use Rattle.std.proofs.lemmas.Bool.{cond_both}
 use Rattle.tv_asm.proofs.RangeLemmas.{images_short, images_words}
 use Rattle.tv_asm.specs.Assembly.{assembled}
 use Rattle.tv_asm.specs.declared.fault.AsmFault.{AsmFault}
@@ -10,7 +10,6 @@ use Rattle.tv_step.specs.Range.{AreWords}
 use Rattle.tv_tape.proofs.Narrow.{numbers_below, numbers_few}
 use Rattle.tv_tape.specs.Tape.{tape_of}
 use Rattle.tv_tape.specs.declared.items.TapeFault.{TapeFault}
-use Rattle.tv_word.specs.Widths.{IsWidth}
 use Rattle.tv_plan.specs.Inputs.{AreInputs, HasInputs}
 use Rattle.tv_plan.specs.Finds.{made_by}
 use Rattle.tv_plan.specs.Tapes.{tape_stop, numbers_of, numbers_in}

@@ -1,5 +1,6 @@
 -- `run`: what it promises.
-use Rattle.std.proofs.Common.{◌≡◌, ℕ, codes, [], ◌∷◌, refl, arith}
+use Rattle.tv_core.proofs.Common.{◌≡◌, ℕ, [], ◌∷◌, refl, arith}
+use Rattle.std.proofs.Common.{codes}
 use Rattle.tv_step.specs.Machine.{start, Accepts}
 use Rattle.tv_step.specs.declared.end.End.TheVariants.{Answer}
 use Rattle.tv_step.proofs.EndLaws.{answer_is_within}

@@ -1,6 +1,5 @@
 -- Of which quantities the contents of files may pass the limits.
-use Rattle.std.proofs.lemmas.Bool.{cond_both}
-use Rattle.std.proofs.Common.{◌≡◌, ℕ, ◌%◌, ◌/◌, ◌==◌, List, [], ◌∷◌, length, Result, Ok, Err, inl}
+use Rattle.tv_core.proofs.Common.{cond_both, ◌≡◌, ℕ, ◌%◌, ◌/◌, ◌==◌, List, [], ◌∷◌, length, Result, Ok, Err, inl}
 use Rattle.tv_asm.specs.Assembly.{assembled}
 use Rattle.tv_asm.specs.declared.fault.AsmFault.{AsmFault}
 use Rattle.tv_asm.specs.declared.fault.AsmFault.TheVariants as asm

@@ -1,6 +1,6 @@
 -- From a file that was streamed to what writing a plan's file is.
-use Rattle.std.proofs.Common.{◌≡◌, ℕ, List, [], ◌∷◌, option_map, Result, Ok, Err, inl, inr, refl, ap, ◌∙◌, arith, rules}
-use Rattle.std.specs.List.{range_with_len}
+use Rattle.tv_core.proofs.Common.{◌≡◌, ℕ, List, [], ◌∷◌, Result, Ok, Err, inl, inr, refl, ap, ◌∙◌, arith, rules, range_with_len}
+use Rattle.std.proofs.Common.{option_map}
 use Rattle.std.specs.Prelude.{OnOk, MatchResult}
 use Rattle.tv_container.proofs.Buffers.{counts_then, ran_out_since}
 use Rattle.tv_container.proofs.Streamed.{not_created}

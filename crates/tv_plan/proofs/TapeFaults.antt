@@ -1,5 +1,5 @@
 -- What is found of a tape's text is never an allocation failure.
-use Rattle.std.proofs.Common.{◌≡◌, ◌≢◌, ◌+◌, ℕ, Bool, true, false, nat_lt, List, [], ◌∷◌, Result, Ok, Err}
+use Rattle.tv_core.proofs.Common.{◌≡◌, ◌≢◌, ◌+◌, ℕ, Bool, true, false, nat_lt, List, [], ◌∷◌, Result, Ok, Err}
 use Rattle.tv_tape.specs.Tape.{◌>>=◌, given, items_of, numbers_of, tape_of}
 use Rattle.tv_tape.specs.declared.items.TapeFault.{TapeFault}
 use Rattle.tv_tape.specs.declared.items.TapeFault.TheVariants.{BadItem, TooBig, TooMany, Memory}

@@ -1,5 +1,6 @@
 -- What is found of a program text is never an allocation failure.
-use Rattle.std.proofs.Common.{◌≢◌, ◌==◌, ◌+◌, ℕ, Bool, true, false, nat_le, List, [], ◌∷◌, ◌++◌, length, Result, Ok, Err}
+use Rattle.tv_core.proofs.Common.{◌≢◌, ◌==◌, ◌+◌, ℕ, Bool, true, false, List, [], ◌∷◌, ◌++◌, length, Result, Ok, Err}
+use Rattle.std.proofs.Common.{nat_le}
 use Rattle.tv_asm.specs.Assembly.{assembled, at_line, context_after, image_of, line_words, with_line}
 use Rattle.tv_asm.specs.Labels.{address, is_defined}
 use Rattle.tv_asm.specs.Steps.{◌>>=◌, check}

@@ -1,5 +1,5 @@
 -- The bytes of a word of 16 bits are the first of those that it has in 32.
-use Rattle.std.proofs.Common.{◌≡◌, ◌/◌, ℕ, take, refl}
+use Rattle.tv_core.proofs.Common.{◌≡◌, ◌/◌, ℕ, take, refl}
 use Rattle.tv_word.specs.Word.{word_bytes}
 use Rattle.tv_plan.proofs.Common.{Width, Bits16, Bits32, bits}
 

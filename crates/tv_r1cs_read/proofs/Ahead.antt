@@ -1,8 +1,7 @@
 -- A combination that is read term by term.
-use Rattle.std.proofs.Common.{◌≡◌, ℕ, ◌+◌, ◌<◌, ◌≤◌, suc, List, [], ◌∷◌, ◌++◌, Result, Ok, Err, append_assoc, append-nil, add-one, ap, refl, sym, ◌∙◌, arith}
-use Rattle.std.proofs.lemmas.Bool.Decides.{nat_tests}
+use Rattle.tv_core.proofs.Common.{◌≡◌, ℕ, ◌+◌, ◌<◌, ◌≤◌, suc, List, [], ◌∷◌, ◌++◌, Result, Ok, Err, append_assoc, append-nil, add-one, ap, refl, sym, ◌∙◌}
+use Rattle.tv_core.proofs.Common.{arith, nat_tests, Combination}
 use Rattle.std.proofs.lemmas.List.{map-append}
-use Rattle.tv_core.specs.Constraints.{Combination}
 use Rattle.tv_core.specs.declared.field.TheConstants.{P}
 use Rattle.tv_container.specs.declared.why.ReadRefusal.{ReadRefusal}
 use Rattle.tv_container.specs.declared.why.ReadWhy.TheVariants.{TooWide, Truncated, WireRange}

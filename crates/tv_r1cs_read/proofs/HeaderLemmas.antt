@@ -1,5 +1,5 @@
 -- What comes before the constraints, step by step.
-use Rattle.std.proofs.Common.{◌≡◌, ℕ, List, Result, Ok, Err, ap}
+use Rattle.tv_core.proofs.Common.{◌≡◌, ℕ, List, Result, Ok, Err, ap}
 use Rattle.std.specs.Prelude.{IfErr, IfOk, OnOk}
 use Rattle.tv_files.specs.Outside.{Outside}
 use Rattle.tv_container.proofs.Chain.{reads_done, stopped_here}

@@ -1,5 +1,5 @@
 -- What the window holds of a constraint, part by part.
-use Rattle.std.proofs.Common.{◌≡◌, ℕ, ◌+◌, ◌-◌, ◌<◌, ◌≤◌, arith}
+use Rattle.tv_core.proofs.Common.{◌≡◌, ℕ, ◌+◌, ◌-◌, ◌<◌, ◌≤◌, arith}
 use Rattle.tv_container.specs.Reading.{Holds, Piece}
 use Rattle.tv_r1cs_read.specs.declared.held.Held.{Held}
 use Rattle.tv_r1cs_read.specs.Held.{IsHeld}

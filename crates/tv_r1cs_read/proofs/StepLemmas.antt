@@ -1,7 +1,7 @@
 -- A step of reading, by its place in the file.
-use Rattle.std.proofs.Common.{◌≡◌, ℕ, ◌+◌, ◌-◌, ◌*◌, ◌<◌, ◌≤◌, Bool, List, [], ◌∷◌, ◌++◌, Option, Some, None, Ok, Err, ap, refl, sym, ◌∙◌, arith}
+use Rattle.tv_core.proofs.Common.{◌≡◌, ℕ, ◌+◌, ◌-◌, ◌*◌, ◌<◌, ◌≤◌, Bool, List, [], ◌∷◌, ◌++◌, Option, Some, None, Ok, Err, ap, refl, sym, ◌∙◌, arith}
+use Rattle.tv_core.proofs.Common.{Constraint}
 use Rattle.tv_files.specs.Outside.{Outside}
-use Rattle.tv_core.specs.Constraints.{Constraint}
 use Rattle.tv_container.specs.declared.why.ReadRefusal.{ReadRefusal}
 use Rattle.tv_container.specs.Places.{places}
 use Rattle.tv_container.specs.Reading.{IsPiece, Piece, ReadsIn, Refuses}

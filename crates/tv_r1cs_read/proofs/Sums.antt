@@ -1,11 +1,12 @@
 -- Terms that are summed as they are read, with none kept.
-use Rattle.std.proofs.Common.{◌≡◌, ℕ, ◌+◌, ◌-◌, ◌*◌, ◌%◌, ◌≤◌, List, [], ◌∷◌, ◌++◌, Result, Ok, refl, ap, sym, ◌∙◌, arith, slice_index, ◌==◌, Bool, true}
-use Rattle.std.proofs.Common.{false, add-zero, zero-add, add_assoc}
-use Rattle.std.proofs.lemmas.Bool.{eqb-true, eqb-false, eq-eqb, ne_eqb}
+use Rattle.tv_core.proofs.Common.{◌≡◌, ℕ, ◌+◌, ◌-◌, ◌*◌, ◌%◌, ◌≤◌, List, [], ◌∷◌, ◌++◌, Result, Ok, refl, ap, sym, ◌∙◌, arith, ◌==◌, Bool, true, false}
+use Rattle.tv_core.proofs.Common.{eqb-true, eq-eqb, ne_eqb, length-map, Combination, value}
+use Rattle.std.proofs.Common.{slice_index}
+use Rattle.std.proofs.Common.{add-zero, zero-add, add_assoc}
+use Rattle.std.proofs.lemmas.Bool.{eqb-false}
 use Rattle.std.proofs.Math.Nat.{mod-mod}
-use Rattle.std.proofs.lemmas.List.{length-map, length_push}
+use Rattle.std.proofs.lemmas.List.{length_push}
 use Rattle.std.proofs.lemmas.List.Sums.{sum_by_push}
-use Rattle.tv_core.specs.Constraints.{Combination, value}
 use Rattle.tv_core.specs.declared.field.TheConstants.{P}
 use Rattle.tv_core.proofs.Residues.{add-mod_same, add_cancel-mod, mul-mod_same, sum_by-map}
 use Rattle.tv_container.specs.Places.{Fault, number}

@@ -1,10 +1,9 @@
 -- Files as a whole, from before they were created.
-use Rattle.std.proofs.Common.{◌≡◌, inl, inr, ℕ, List, ◌++◌, length, append_assoc, ap, refl, sym, ◌∙◌, arith}
+use Rattle.tv_core.proofs.Common.{◌≡◌, inl, inr, ℕ, List, ◌++◌, length, append_assoc, ap, refl, sym, ◌∙◌, arith, Constraint}
 use Rattle.std.proofs.lemmas.Grind.{flat_map-append}
 use Rattle.tv_container.specs.Bytes.{front_bytes, section_bytes, section_head}
 use Rattle.tv_container.proofs.Streamed.{written_whole}
 use Rattle.tv_container.proofs.Written.{but_front, front_front}
-use Rattle.tv_core.specs.Constraints.{Constraint}
 use Rattle.tv_r1cs_write.specs.Bytes.{constraint_bytes, counts_bytes, head_bytes, label_bytes, rows_bytes, rows_size}
 use Rattle.tv_r1cs_write.specs.Laws.{FilesAreFronts, FilesAreOfSystems, FilesAreWhole}
 use Rattle.tv_r1cs_write.specs.Streams.{SystemProgress, begun_bytes, finished_bytes}

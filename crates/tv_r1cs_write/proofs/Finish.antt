@@ -1,8 +1,7 @@
 -- The end of a file: the labels, and the last bytes that are held.
-use Rattle.std.proofs.Common.{◌≡◌, ℕ, ◌*◌, List, [], ◌++◌, length, Some, Result, Ok, Err, append_assoc, append-nil, ap, sym, ◌∙◌, arith}
+use Rattle.tv_core.proofs.Common.{◌≡◌, ℕ, ◌*◌, List, [], ◌++◌, length, Some, Result, Ok, Err, append_assoc, append-nil, ap, sym, ◌∙◌, arith, Constraint}
 use Rattle.tv_container.specs.Bytes.{section_head}
 use Rattle.tv_container.specs.Taking.{PassesOn}
-use Rattle.tv_core.specs.Constraints.{Constraint}
 use Rattle.tv_core.specs.declared.sink.SinkFault.{SinkFault}
 use Rattle.tv_files.specs.Outside.{Outside}
 use Rattle.tv_r1cs_write.specs.Bytes.{head_bytes, rows_bytes, label_bytes}

@@ -1,9 +1,10 @@
 -- The numbers below another one, but for those of a list.
-use Rattle.std.proofs.Common.{◌≡◌, ◌≢◌, ℕ, ◌+◌, ◌-◌, ◌<◌, ◌≤◌, not, List, [], ◌∷◌, ◌++◌, refl, sym, ◌∙◌, ap, arith, append-nil, eqb, inl, inr}
-use Rattle.std.proofs.Common.{true, false, cond, length, get_or, eq-eqb, ne_eqb}
-use Rattle.std.specs.List.{AllPairs, filter, list_any, range_with_len}
+use Rattle.tv_core.proofs.Common.{◌≡◌, ◌≢◌, ℕ, ◌+◌, ◌-◌, ◌<◌, ◌≤◌, not, List, [], ◌∷◌, ◌++◌, refl, sym, ◌∙◌, ap, arith, append-nil, inl, inr, true, false, cond}
+use Rattle.tv_core.proofs.Common.{length, get_or, range_with_len, cases_eq, cases_lt}
+use Rattle.std.proofs.Common.{eqb}
+use Rattle.std.proofs.Common.{eq-eqb, ne_eqb}
+use Rattle.std.specs.List.{AllPairs, filter, list_any}
 use Rattle.std.specs.List.Sorted.{IsStrictlyIncreasing}
-use Rattle.std.proofs.lemmas.Bool.{cases_eq, cases_lt}
 use Rattle.std.proofs.lemmas.Grind.{flat_map-append}
 use Rattle.std.proofs.lemmas.List.Elements.{All-from_get_or, filter-append}
 use Rattle.std.proofs.lemmas.List.Folds.{list_any_at, list_any_none}

@@ -1,12 +1,11 @@
 -- Constraints that were written are read.
-use Rattle.std.proofs.Common.{◌≡◌, ℕ, ◌+◌, ◌*◌, ◌<◌, ◌≤◌, ◌^◌, suc, List, [], ◌∷◌, ◌++◌, length, Ok, refl, ◌∙◌, arith}
-use Rattle.std.proofs.lemmas.List.{length-append}
+use Rattle.tv_core.proofs.Common.{◌≡◌, ℕ, ◌+◌, ◌*◌, ◌<◌, ◌≤◌, ◌^◌, suc, List, [], ◌∷◌, ◌++◌, length, Ok, refl, ◌∙◌, arith, length-append, Combination}
+use Rattle.tv_core.proofs.Common.{Constraint}
 use Rattle.std.proofs.lemmas.List.Elements.{All-head, All-tail}
 use Rattle.std.specs.List.{All}
 use Rattle.tv_container.specs.Bytes.{four_bytes, eight_bytes, term_bytes, terms_bytes}
 use Rattle.tv_container.specs.declared.sections.Section.{Section}
 use Rattle.tv_container.proofs.BytesAt.{At, at_first, at_rest, number_of_four, number_of_eight, length-four_bytes, length-eight_bytes}
-use Rattle.tv_core.specs.Constraints.{Combination, Constraint}
 use Rattle.tv_core.specs.declared.field.TheConstants.{P}
 use Rattle.tv_r1cs_read.specs.R1cs.{Read, term_at, terms_at, combination_at, constraint_at, constraints_from}
 use Rattle.tv_r1cs_read.proofs.Ahead.{combination_at-counted, count_at-good, term_at-good}

@@ -1,12 +1,12 @@
 -- From what a sink that writes promises to what streaming a system is.
-use Rattle.std.proofs.Common.{◌≡◌, ◌+◌, ◌^◌, ◌<◌, ◌≤◌, ℕ, List, [], ◌∷◌, ◌++◌, length, Result, Ok, Err, inr, append_assoc, refl, sym, ap, ◌∙◌}
+use Rattle.tv_core.proofs.Common.{◌≡◌, ◌+◌, ◌^◌, ◌<◌, ◌≤◌, ℕ, List, [], ◌∷◌, ◌++◌, length, Result, Ok, Err, inr, append_assoc, refl, sym, ap, ◌∙◌, Circuit}
+use Rattle.tv_core.proofs.Common.{PutsAll}
 use Rattle.tv_container.proofs.Buffers.{caused_seen, quiet_from}
 use Rattle.tv_container.proofs.Streamed.{streamed_last, streamed_part}
 use Rattle.tv_container.specs.Written.{HasFront}
-use Rattle.tv_core.specs.Circuits.{Circuit}
 use Rattle.tv_core.specs.Constraints.{System}
 use Rattle.tv_core.specs.Meanings.{system_counts}
-use Rattle.tv_core.specs.Sinks.{PutsAll, PutsSome}
+use Rattle.tv_core.specs.Sinks.{PutsSome}
 use Rattle.tv_core.specs.declared.lines.Counts.{Counts}
 use Rattle.tv_core.specs.declared.sink.SinkFault.{SinkFault}
 use Rattle.tv_files.proofs.Cases.{OnOk-map}

@@ -1,7 +1,6 @@
 -- A system that was written is read.
-use Rattle.std.proofs.Common.{◌≡◌, ℕ, ◌+◌, ◌-◌, ◌*◌, ◌<◌, ◌≤◌, ◌^◌, List, [], ◌∷◌, ◌++◌, length, Ok, Some, ap, refl, subst, ◌∙◌, arith}
-use Rattle.std.proofs.lemmas.Bool.Decides.{nat_tests}
-use Rattle.std.proofs.lemmas.List.{length-append}
+use Rattle.tv_core.proofs.Common.{◌≡◌, ℕ, ◌+◌, ◌-◌, ◌*◌, ◌<◌, ◌≤◌, ◌^◌, List, [], ◌∷◌, ◌++◌, length, Ok, Some, ap, refl, subst, ◌∙◌, arith, nat_tests}
+use Rattle.tv_core.proofs.Common.{length-append, Constraint, terms_in}
 use Rattle.std.proofs.lemmas.List.Elements.{All-head, All-tail}
 use Rattle.std.specs.List.{All}
 use Rattle.tv_container.specs.Bytes.{four_bytes, eight_bytes, field_bytes, front_bytes, section_bytes, section_head}
@@ -10,8 +9,7 @@ use Rattle.tv_container.specs.declared.sections.Section.{Section}
 use Rattle.tv_container.proofs.BytesAt.{At, at_first, at_rest, at_start, field_read, length-eight_bytes, length-field_bytes, length-four_bytes}
 use Rattle.tv_container.proofs.BytesAt.{length-front_bytes, length-section_bytes, length-section_head, number_of_four, section_read, sections_counted}
 use Rattle.tv_container.proofs.SectionLemmas.{sections_from-end}
-use Rattle.tv_core.specs.Constraints.{Constraint}
-use Rattle.tv_core.specs.Meanings.{terms_in, system_counts}
+use Rattle.tv_core.specs.Meanings.{system_counts}
 use Rattle.tv_core.specs.declared.lines.Counts.{Counts}
 use Rattle.tv_r1cs_read.specs.R1cs.{checked, counted, header_in, header_of, constraints_from, r1cs_system}
 use Rattle.tv_r1cs_read.specs.declared.header.Header.{Header}

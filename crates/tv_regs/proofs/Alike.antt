@@ -1,5 +1,5 @@
 -- What a call gave, as the same list in other words.
-use Rattle.std.proofs.Common.{◌≡◌, ℕ, List, ◌++◌, subst}
+use Rattle.tv_core.proofs.Common.{◌≡◌, ℕ, List, ◌++◌, subst}
 use Rattle.tv_core.specs.Values.{ValuesMeaning, GivesSome}
 use Rattle.tv_core.specs.declared.sink.SinkFault.{SinkFault}
 use Rattle.tv_regs.specs.Triple.{roots_values, curve_values, passing_values, point_values}

@@ -1,13 +1,8 @@
 -- A wire that is 0 or 1 times a difference, as numbers, and wires in lists.
-use Rattle.std.proofs.Common.{◌≡◌, ℕ, zero, suc, ◌+◌, ◌-◌, ◌*◌, ◌%◌, ◌<◌, List, [], ◌∷◌, length, get_or, inl, inr, ◌∙◌, ap, ap₂, arith}
-use Rattle.std.specs.Prelude.{slice_index}
-use Rattle.std.proofs.lemmas.Bool.{cases_lt}
+use Rattle.tv_core.proofs.Common.{◌≡◌, ℕ, zero, suc, ◌+◌, ◌-◌, ◌*◌, ◌%◌, ◌<◌, List, [], ◌∷◌, length, get_or, inl, inr, ◌∙◌, ap, ap₂, arith, slice_index}
+use Rattle.tv_core.proofs.Common.{cases_lt, value-less, value-wire, wire, less, value, Assigns, InField}
 use Rattle.std.proofs.lemmas.List.{get_or-map, get_or_past}
 use Rattle.std.proofs.lemmas.List.Elements.{All-get_or}
-use Rattle.tv_core.proofs.CombinationLaws.{value-less, value-wire}
-use Rattle.tv_core.specs.Combinations.{wire, less}
-use Rattle.tv_core.specs.Constraints.{value}
-use Rattle.tv_core.specs.Laws.{Assigns, InField}
 use Rattle.tv_core.specs.declared.field.TheConstants.{P}
 use Rattle.tv_bits.specs.Wires.{words_at, wires_top}
 

@@ -1,9 +1,8 @@
 -- What the registers' circuits put is normal.
-use Rattle.std.proofs.Common.{◌≡◌, ℕ, zero, suc, ◌+◌, ◌-◌, ◌*◌, ◌<◌, ◌≤◌, List, [], ◌∷◌, ◌++◌, length, inl, inr, sym}
-use Rattle.std.proofs.Common.{ap, subst, arith, eq-zero-or-pos}
-use Rattle.std.specs.Prelude.{slice_index}
+use Rattle.tv_core.proofs.Common.{◌≡◌, ℕ, zero, suc, ◌+◌, ◌-◌, ◌*◌, ◌<◌, ◌≤◌, List, [], ◌∷◌, ◌++◌, length, inl, inr, sym, ap, subst, arith, slice_index}
+use Rattle.tv_core.proofs.Common.{cases_lt, each_below, here, fresh, put, pure, ◌>>=◌, wire, scaled, top, Combination, sequence, IsNormal, AreNormal}
+use Rattle.std.proofs.Common.{eq-zero-or-pos}
 use Rattle.std.proofs.Math.Nat.{mul-pos}
-use Rattle.std.proofs.lemmas.Bool.{cases_lt}
 use Rattle.std.proofs.lemmas.List.{get_or_past}
 use Rattle.tv_bits.proofs.NormalLaws.{wire_normal, rise_normal, row_normal, kept_normal, times_normal, select_normal}
 use Rattle.tv_bits.specs.OneHot.{row_sum}
@@ -13,12 +12,7 @@ use Rattle.tv_bits.specs.Times.{times_of}
 use Rattle.tv_core.proofs.BelowLaws.{each_below-zero}
 use Rattle.tv_core.proofs.CombinationLaws.{top-append, top-scaled}
 use Rattle.tv_core.proofs.NormalCircuits.{normal_append, normal_negated, normal_both, normal_turns}
-use Rattle.tv_core.specs.Below.{each_below}
-use Rattle.tv_core.specs.Circuits.{here, fresh, put, pure, ◌>>=◌}
-use Rattle.tv_core.specs.Combinations.{wire, scaled, top}
-use Rattle.tv_core.specs.Constraints.{Combination}
-use Rattle.tv_core.specs.Loops.{sequence}
-use Rattle.tv_core.specs.Normal.{IsNormal, IsNormalConstraint, AreNormal}
+use Rattle.tv_core.specs.Normal.{IsNormalConstraint}
 use Rattle.tv_core.specs.declared.field.TheConstants.{P}
 use Rattle.tv_regs.proofs.Gates.{wires_top-at}
 use Rattle.tv_regs.proofs.TripleLaws.{other_branch, negative_small, square_small, square_positive, product_number, long_cubic, long_departure, roots_next}

@@ -1,15 +1,8 @@
 -- The laws of reading a register.
-use Rattle.std.proofs.Common.{ℕ, ◌+◌, List, [], inl, inr, refl, sym, ◌∙◌, ap, arith, mod-lt}
-use Rattle.std.specs.Prelude.{slice_index}
-use Rattle.std.proofs.lemmas.Bool.{cases_eq}
-use Rattle.tv_core.proofs.CombinationLaws.{wire-below}
+use Rattle.tv_core.proofs.Common.{ℕ, ◌+◌, List, [], inl, inr, refl, sym, ◌∙◌, ap, arith, mod-lt, slice_index, cases_eq, wire-below, InField-none, InField-cons}
+use Rattle.tv_core.proofs.Common.{Meets-split, Meets-join, fresh, put, pure, turns, ◌>>=◌, InField, sequence}
 use Rattle.tv_core.proofs.DifferenceLaws.{same_of_minus}
-use Rattle.tv_core.proofs.FieldLaws.{InField-none, InField-cons}
 use Rattle.tv_core.proofs.LoopLaws.{turn_met, turns_met}
-use Rattle.tv_core.proofs.MeetsLaws.{Meets-split, Meets-join}
-use Rattle.tv_core.specs.Circuits.{fresh, put, pure, turns, ◌>>=◌}
-use Rattle.tv_core.specs.Laws.{InField}
-use Rattle.tv_core.specs.Loops.{sequence}
 use Rattle.tv_regs.proofs.Gates.{times_itself, word_of, product_value, word_below}
 use Rattle.tv_regs.specs.Reads.{read_of, read_turn, read_reg_of, read_reg_values, ReadRegIsSound, ReadRegIsComplete, ReadRegSizes}
 use Rattle.tv_bits.proofs.SelectLaws.{times_one, times_zero}

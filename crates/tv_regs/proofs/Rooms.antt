@@ -1,7 +1,6 @@
 -- What stands below the next wire in the gadgets of `triple`.
-use Rattle.std.proofs.Common.{◌≡◌, ℕ, ◌+◌, ◌≤◌, ◌<◌, [], max, arith}
-use Rattle.tv_core.specs.Combinations.{top}
-use Rattle.tv_core.specs.Constraints.{Combination}
+use Rattle.tv_core.proofs.Common.{◌≡◌, ℕ, ◌+◌, ◌≤◌, ◌<◌, [], arith, top, Combination}
+use Rattle.std.proofs.Common.{max}
 
 pub top_number : (f : ℕ) {t k n : ℕ} → t ≤ f + k → k ≡ 4 → f + 4 ≤ n → t ≤ n
 top_number f h e g = omega arith

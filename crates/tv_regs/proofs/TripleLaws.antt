@@ -1,10 +1,10 @@
 -- The laws of three registers read at once.
-use Rattle.std.proofs.Common.{◌≡◌, ℕ, ◌+◌, ◌-◌, ◌*◌, ◌/◌, ◌%◌, ◌<◌, ◌≤◌, ◌==◌, if◌then◌else◌, List, [], ◌∷◌, ◌++◌, length, inl, inr, refl, sym, ◌∙◌, ap, ap₂}
-use Rattle.std.proofs.Common.{arith, false, eq-zero-or-pos, mod-lt, mod-eq_of_lt, zero-mul, mul-one}
-use Rattle.std.specs.Prelude.{slice_index}
+use Rattle.tv_core.proofs.Common.{◌≡◌, ℕ, ◌+◌, ◌-◌, ◌*◌, ◌/◌, ◌%◌, ◌<◌, ◌≤◌, ◌==◌, if◌then◌else◌, List, [], ◌∷◌, ◌++◌, length, inl, inr, refl, sym, ◌∙◌, ap}
+use Rattle.tv_core.proofs.Common.{ap₂, arith, false, mod-lt, mod-eq_of_lt, zero-mul, slice_index, nat_tests, length-append, length-each_below, value-below}
+use Rattle.tv_core.proofs.Common.{value-append, value-cons, value-wire, wire-below, InField-none, InField-cons, Meets-split, Meets-join, each_below, fresh, put}
+use Rattle.tv_core.proofs.Common.{pure, turns, ◌>>=◌, wire, scaled, less, top, Combination, value, Assigns, Meets, HasFrom, InField, sequence, normal, IsNormal}
+use Rattle.std.proofs.Common.{eq-zero-or-pos, mul-one}
 use Rattle.std.proofs.Math.Nat.{div-add-mod}
-use Rattle.std.proofs.lemmas.Bool.Decides.{nat_tests}
-use Rattle.std.proofs.lemmas.List.{length-append}
 use Rattle.tv_bits.proofs.BitLaws.{bit_cases}
 use Rattle.tv_bits.proofs.GateLaws.{length-negated}
 use Rattle.tv_bits.proofs.SelectLaws.{pick_sound, pick_complete}
@@ -13,23 +13,15 @@ use Rattle.tv_bits.specs.Pairs.{negative}
 use Rattle.tv_bits.specs.Ratio.{ratio_of}
 use Rattle.tv_bits.specs.Select.{selected, pick_of}
 use Rattle.tv_bits.specs.Times.{times_of}
-use Rattle.tv_core.proofs.BelowLaws.{has_each, length-each_below}
-use Rattle.tv_core.proofs.CombinationLaws.{value-below, value-append, value-cons, value-wire, wire-below, top-scaled}
+use Rattle.tv_core.proofs.BelowLaws.{has_each}
+use Rattle.tv_core.proofs.CombinationLaws.{top-scaled}
 use Rattle.tv_core.proofs.DifferenceLaws.{same_of_minus}
-use Rattle.tv_core.proofs.FieldLaws.{InField-none, InField-cons, InField-append, InField-each_below}
+use Rattle.tv_core.proofs.FieldLaws.{InField-append, InField-each_below}
 use Rattle.tv_core.proofs.HasLaws.{HasFrom-after}
 use Rattle.tv_core.proofs.LoopLaws.{turn_met, turns_met, turns-next}
-use Rattle.tv_core.proofs.MeetsLaws.{Meets-split, Meets-join}
 use Rattle.tv_core.proofs.NormalCircuits.{normal_append, normal_negated}
 use Rattle.tv_core.proofs.NormalLaws.{value-normal, IsNormalFrom-normal}
 use Rattle.tv_core.proofs.Unique.{same_values}
-use Rattle.tv_core.specs.Below.{each_below}
-use Rattle.tv_core.specs.Circuits.{fresh, put, pure, turns, ◌>>=◌}
-use Rattle.tv_core.specs.Combinations.{wire, scaled, less, top}
-use Rattle.tv_core.specs.Constraints.{Combination, value}
-use Rattle.tv_core.specs.Laws.{Assigns, Meets, HasFrom, InField}
-use Rattle.tv_core.specs.Loops.{sequence}
-use Rattle.tv_core.specs.Normal.{normal, IsNormal}
 use Rattle.tv_core.specs.declared.field.TheConstants.{P}
 use Rattle.tv_regs.proofs.Gates.{word_of, word_below}
 use Rattle.tv_regs.proofs.TripleNumbers.{cubic_number, root_other, root_named, root_dest, curve_passes, passing_divides}

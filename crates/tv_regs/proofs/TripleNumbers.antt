@@ -1,14 +1,12 @@
 -- The numbers of three registers read at once: a curve of degree two through three points, modulo P.
-use Rattle.std.proofs.Common.{◌⊎◌, ◌≡◌, ℕ, ◌+◌, ◌-◌, ◌*◌, ◌/◌, ◌%◌, ◌<◌, ◌≤◌, List, inl, inr, refl, sym, ◌∙◌, ap, arith, mod-lt, mod-eq_of_lt, zero-mul}
+use Rattle.tv_core.proofs.Common.{◌⊎◌, ◌≡◌, ℕ, ◌+◌, ◌-◌, ◌*◌, ◌/◌, ◌%◌, ◌<◌, ◌≤◌, List, inl, inr, refl, sym, ◌∙◌, ap, arith, mod-lt, mod-eq_of_lt, zero-mul}
+use Rattle.tv_core.proofs.Common.{slice_index, cases_lt, InField}
 use Rattle.std.proofs.Common.{mul-zero}
-use Rattle.std.specs.Prelude.{slice_index}
 use Rattle.std.proofs.Math.Nat.{div-add-mod}
-use Rattle.std.proofs.lemmas.Bool.{cases_lt}
 use Rattle.std.proofs.lemmas.Nat.{mul-mod_first}
 use Rattle.tv_bits.proofs.TimesLaws.{ratio_divides}
 use Rattle.tv_core.proofs.DifferenceLaws.{same_of_minus}
 use Rattle.tv_core.proofs.PrimeLaws.{p_zero_product_below}
-use Rattle.tv_core.specs.Laws.{InField}
 use Rattle.tv_core.specs.declared.field.TheConstants.{P}
 use Rattle.tv_regs.proofs.Gates.{word_below}
 use Rattle.tv_regs.specs.Triple.{minus, first_divided, second_divided, curve_by, curve_through, curve_at, root_product, passing}

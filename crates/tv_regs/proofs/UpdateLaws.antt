@@ -1,25 +1,18 @@
 -- The laws of one register written by its number.
-use Rattle.std.proofs.Common.{◌≡◌, ◌≢◌, ℕ, ◌+◌, ◌-◌, ◌*◌, ◌%◌, ◌<◌, ◌==◌, if◌then◌else◌, List, [], ◌∷◌, length, inl, inr, refl, sym, ◌∙◌, ap, ap₂, arith}
+use Rattle.tv_core.proofs.Common.{◌≡◌, ◌≢◌, ℕ, ◌+◌, ◌-◌, ◌*◌, ◌%◌, ◌<◌, ◌==◌, if◌then◌else◌, List, [], ◌∷◌, length, inl, inr, refl, sym, ◌∙◌, ap, ap₂, arith}
+use Rattle.tv_core.proofs.Common.{range_with_len, slice_index, cases_eq, length-map, value-append, value-wire, value-cons, wire-below, Meets-split, Meets-join}
+use Rattle.tv_core.proofs.Common.{each_below, here, fresh, put, pure, turns, ◌>>=◌, wire, scaled, value, Assigns, sequence}
 use Rattle.std.proofs.Common.{mul-one, eq-zero-or-pos}
-use Rattle.std.specs.List.{range_with_len}
-use Rattle.std.specs.Prelude.{slice_index}
-use Rattle.std.proofs.lemmas.Bool.{cases_eq}
-use Rattle.std.proofs.lemmas.List.{ext_get_or, length-map}
+use Rattle.std.proofs.lemmas.List.{ext_get_or}
 use Rattle.std.proofs.lemmas.List.FromFn.{get_or-map-range_with_len}
 use Rattle.tv_bits.proofs.SelectLaws.{times_zero, sound_by, complete_by}
 use Rattle.tv_bits.specs.OneHot.{row_sum}
 use Rattle.tv_core.proofs.BelowLaws.{value-weighted}
-use Rattle.tv_core.proofs.CombinationLaws.{value-append, value-scaled, value-wire, value-cons, wire-below}
+use Rattle.tv_core.proofs.CombinationLaws.{value-scaled}
 use Rattle.tv_core.proofs.DifferenceLaws.{same_of_minus}
 use Rattle.tv_core.proofs.LoopLaws.{turn_met, turns_met, turns-next}
-use Rattle.tv_core.proofs.MeetsLaws.{Meets-split, Meets-join}
 use Rattle.tv_core.proofs.PrimeLaws.{p_zero_product_below}
-use Rattle.tv_core.specs.Below.{sum_below, each_below, weighted}
-use Rattle.tv_core.specs.Circuits.{here, fresh, put, pure, turns, ◌>>=◌}
-use Rattle.tv_core.specs.Combinations.{wire, scaled}
-use Rattle.tv_core.specs.Constraints.{value}
-use Rattle.tv_core.specs.Laws.{Assigns}
-use Rattle.tv_core.specs.Loops.{sequence}
+use Rattle.tv_core.specs.Below.{sum_below, weighted}
 use Rattle.tv_core.specs.declared.field.TheConstants.{P}
 use Rattle.tv_regs.proofs.Gates.{word_of}
 use Rattle.tv_regs.proofs.TripleLaws.{value-rise, other_branch}

@@ -1,11 +1,11 @@
 -- The laws of writing a register.
-use Rattle.std.proofs.Common.{◌≡◌, ◌≢◌, ℕ, zero, suc, ◌+◌, ◌-◌, ◌*◌, ◌%◌, ◌<◌, ◌≤◌, ◌==◌, Bool, true, false, if◌then◌else◌, List, [], ◌∷◌, ◌++◌, length, inl}
-use Rattle.std.proofs.Common.{inr, refl, sym, ◌∙◌, ap, ap₂, arith, mod-lt, mul-one, add-zero}
-use Rattle.std.specs.List.{range_with_len}
-use Rattle.std.specs.Prelude.{slice_index}
+use Rattle.tv_core.proofs.Common.{◌≡◌, ◌≢◌, ℕ, zero, suc, ◌+◌, ◌-◌, ◌*◌, ◌%◌, ◌<◌, ◌≤◌, ◌==◌, Bool, true, false, if◌then◌else◌, List, [], ◌∷◌, ◌++◌, length}
+use Rattle.tv_core.proofs.Common.{inl, inr, refl, sym, ◌∙◌, ap, ap₂, arith, mod-lt, range_with_len, slice_index, cases_eq, length-map, value-below, value-less}
+use Rattle.tv_core.proofs.Common.{value-append, value-wire, wire-below, InField-cons, Meets-split, Meets-join, each_below, here, fresh, put, pure, ◌>>=◌, wire}
+use Rattle.tv_core.proofs.Common.{less, top, Combination, value, Assigns, HasFrom, InField, sequence, normal}
+use Rattle.std.proofs.Common.{mul-one, add-zero}
 use Rattle.std.proofs.Math.ListN.{length-set}
-use Rattle.std.proofs.lemmas.Bool.{cases_eq}
-use Rattle.std.proofs.lemmas.List.{ext_get_or, get_or-set_same, get_or-set_other, length-map}
+use Rattle.std.proofs.lemmas.List.{ext_get_or, get_or-set_same, get_or-set_other}
 use Rattle.std.proofs.lemmas.List.Elements.{All-set}
 use Rattle.std.proofs.lemmas.List.FromFn.{get_or-map-range_with_len}
 use Rattle.tv_bits.proofs.BitLaws.{bit_cases}
@@ -13,20 +13,12 @@ use Rattle.tv_bits.specs.Bit.{IsBit}
 use Rattle.tv_bits.specs.OneHot.{row_sum}
 use Rattle.tv_bits.specs.Select.{pick_of}
 use Rattle.tv_core.proofs.BelowLaws.{sum_below-suc, sum_below-same, value-weighted, each_below-zero, each_below-suc}
-use Rattle.tv_core.proofs.CombinationLaws.{top-append, value-below, value-less, value-append, value-wire, wire-below}
+use Rattle.tv_core.proofs.CombinationLaws.{top-append}
 use Rattle.tv_core.proofs.DifferenceLaws.{same_of_minus, cancel_minus}
-use Rattle.tv_core.proofs.FieldLaws.{InField-cons}
 use Rattle.tv_core.proofs.LoopLaws.{turn_met, turns_met, turns-next}
-use Rattle.tv_core.proofs.MeetsLaws.{Meets-split, Meets-join}
 use Rattle.tv_core.proofs.NormalLaws.{value-normal}
 use Rattle.tv_core.proofs.Residues.{sum_by-map}
-use Rattle.tv_core.specs.Below.{sum_below, each_below}
-use Rattle.tv_core.specs.Circuits.{here, fresh, put, pure, ◌>>=◌}
-use Rattle.tv_core.specs.Combinations.{wire, less, top}
-use Rattle.tv_core.specs.Constraints.{Combination, value}
-use Rattle.tv_core.specs.Laws.{Assigns, HasFrom, InField}
-use Rattle.tv_core.specs.Loops.{sequence}
-use Rattle.tv_core.specs.Normal.{normal}
+use Rattle.tv_core.specs.Below.{sum_below}
 use Rattle.tv_core.specs.declared.field.TheConstants.{P}
 use Rattle.tv_regs.proofs.Gates.{word_of, word_below, product_value, wires_top-at}
 use Rattle.tv_regs.proofs.TripleLaws.{value-rise}

@@ -1,16 +1,12 @@
 -- The program counter after a step is put by normal combinations.
-use Rattle.std.proofs.Common.{◌≢◌, ℕ, ◌+◌, ◌-◌, ◌%◌, ◌^◌, ◌<◌, ◌≤◌, [], ◌∷◌, ◌++◌, arith}
+use Rattle.tv_core.proofs.Common.{◌≢◌, ℕ, ◌+◌, ◌-◌, ◌%◌, ◌^◌, ◌<◌, ◌≤◌, [], ◌∷◌, ◌++◌, arith, fresh, put, pure, ◌>>=◌, wire, IsNormal, IsNormalFrom, AreNormal}
+use Rattle.tv_core.proofs.Common.{for_widths, IsWidth}
 use Rattle.tv_bits.proofs.NormalLaws.{wire_normal, times_normal}
 use Rattle.tv_bits.specs.Times.{times_of}
 use Rattle.tv_core.proofs.NormalCircuits.{normal_append}
-use Rattle.tv_core.specs.Circuits.{fresh, put, pure, ◌>>=◌}
-use Rattle.tv_core.specs.Combinations.{wire}
-use Rattle.tv_core.specs.Normal.{IsNormal, IsNormalFrom, AreNormal}
 use Rattle.tv_core.specs.declared.field.TheConstants.{P}
 use Rattle.tv_isa.specs.Opcodes.{place_of}
 use Rattle.tv_isa.specs.declared.opcode.TheConstants.{JMP, CJMP, CNJMP, ANSWER}
-use Rattle.tv_word.proofs.WidthLaws.{for_widths}
-use Rattle.tv_word.specs.Widths.{IsWidth}
 use Rattle.tv_inputs.proofs.NormalAccumulation.{accumulated_normal}
 use Rattle.tv_inputs.proofs.NormalTapes.{if_zero_normal}
 use Rattle.tv_inputs.proofs.UpperLaws.{upper_normal, upper_top}

@@ -1,19 +1,14 @@
 -- The result of a step, and the sign of its test, are put by normal combinations.
-use Rattle.std.proofs.Common.{ℕ, ◌+◌, ◌-◌, ◌^◌, ◌<◌, ◌≤◌, [], ◌∷◌, ◌++◌, refl, arith}
+use Rattle.tv_core.proofs.Common.{ℕ, ◌+◌, ◌-◌, ◌^◌, ◌<◌, ◌≤◌, [], ◌∷◌, ◌++◌, refl, arith, fresh, put, pure, ◌>>=◌, wire, top, Combination, IsNormal}
+use Rattle.tv_core.proofs.Common.{IsNormalFrom, AreNormal, width_short, for_widths, IsWidth}
 use Rattle.tv_bits.proofs.NormalLaws.{wire_normal, rise_normal, times_normal}
 use Rattle.tv_bits.specs.Times.{times_of}
 use Rattle.tv_core.proofs.NormalCircuits.{normal_append, normal_both}
 use Rattle.tv_core.proofs.NormalLaws.{IsNormalFrom-lower}
-use Rattle.tv_core.specs.Circuits.{fresh, put, pure, ◌>>=◌}
-use Rattle.tv_core.specs.Combinations.{wire, top}
-use Rattle.tv_core.specs.Constraints.{Combination}
-use Rattle.tv_core.specs.Normal.{IsNormal, IsNormalFrom, AreNormal}
 use Rattle.tv_core.specs.declared.field.TheConstants.{P}
 use Rattle.tv_isa.specs.Opcodes.{place_of}
 use Rattle.tv_isa.specs.declared.opcode.TheConstants.{AND, OR, XOR, NOT, ADD, SUB, MULL, UMULH, SMULH, UDIV, UMOD, SHL, SHR, CMPE, CMPA, CMPAE, CMPG, CMPGE}
 use Rattle.tv_isa.specs.declared.opcode.TheConstants.{MOV, CMOV, LOAD_B}
-use Rattle.tv_word.proofs.WidthLaws.{width_short, for_widths}
-use Rattle.tv_word.specs.Widths.{IsWidth}
 use Rattle.tv_inputs.proofs.NormalAccumulation.{accumulated_normal}
 use Rattle.tv_inputs.proofs.NormalOpcodes.{opcodes_normal, opcodes_then, opcode_sum_normal}
 use Rattle.tv_results.proofs.ResultFills.{result_answer, result_next}

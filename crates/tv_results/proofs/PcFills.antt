@@ -1,18 +1,12 @@
 -- The laws of the next program counter.
-use Rattle.std.proofs.Common.{◌≡◌, ℕ, ◌+◌, ◌-◌, ◌*◌, ◌/◌, ◌%◌, ◌^◌, ◌<◌, ◌==◌, not, Bool, true, false, if◌then◌else◌, List, [], ◌∷◌, ◌++◌, length}
-use Rattle.std.proofs.Common.{length-append, refl, ◌∙◌, ap, ap₂, subst, arith}
-use Rattle.std.specs.Prelude.{slice_index}
+use Rattle.tv_core.proofs.Common.{◌≡◌, ℕ, ◌+◌, ◌-◌, ◌*◌, ◌/◌, ◌%◌, ◌^◌, ◌<◌, ◌==◌, not, Bool, true, false, if◌then◌else◌, List, [], ◌∷◌, ◌++◌, length, refl}
+use Rattle.tv_core.proofs.Common.{◌∙◌, ap, ap₂, subst, arith, slice_index, value-wire, value-append, value-cons, value-below, InField-cons, InField-none, fresh}
+use Rattle.tv_core.proofs.Common.{put, pure, ◌>>=◌, wire, Combination, value, InField, terms_in, for_widths, IsWidth, flag_of}
+use Rattle.std.proofs.Common.{length-append}
 use Rattle.tv_bits.proofs.BitNumbers.{HasBits-below}
 use Rattle.tv_bits.proofs.TimesLaws.{residue_below}
 use Rattle.tv_bits.specs.Times.{times_of}
-use Rattle.tv_core.proofs.CombinationLaws.{value-wire, value-append, value-cons, value-below}
-use Rattle.tv_core.proofs.FieldLaws.{InField-cons, InField-none}
-use Rattle.tv_core.specs.Circuits.{fresh, put, pure, ◌>>=◌}
-use Rattle.tv_core.specs.Combinations.{wire}
-use Rattle.tv_core.specs.Constraints.{Combination, value}
 use Rattle.tv_core.specs.Inverse.{inverse_of}
-use Rattle.tv_core.specs.Laws.{InField}
-use Rattle.tv_core.specs.Meanings.{terms_in}
 use Rattle.tv_core.specs.declared.field.TheConstants.{P}
 use Rattle.tv_inputs.proofs.Settled.{Settles, if_zero_then, times_then, settles_sum}
 use Rattle.tv_isa.specs.Opcodes.{chosen, place_of}
@@ -21,8 +15,6 @@ use Rattle.tv_numbers.specs.Numbers.{operand_word}
 use Rattle.tv_numbers.specs.Tables.{target, pcs}
 use Rattle.tv_numbers.specs.Views.{View}
 use Rattle.tv_word.proofs.FlagLaws.{flag_small}
-use Rattle.tv_word.proofs.WidthLaws.{for_widths}
-use Rattle.tv_word.specs.Widths.{IsWidth}
 use Rattle.tv_inputs.proofs.OpcodeLaws.{opcode_wire_is}
 use Rattle.tv_numbers.proofs.Cases.{chosen_in}
 use Rattle.tv_results.proofs.PcLaws.{distance, wrap_of, after_of, flag_jump, jump_gate, target_by, jump_number, pc_number}
@@ -35,7 +27,6 @@ use Rattle.tv_results.specs.Pc.{from_last, goes_in, after_in, jump_in, pc_of, pc
 use Rattle.tv_inputs.specs.Tapes.{if_zero_of}
 use Rattle.tv_inputs.specs.declared.records.OperandWires.{OperandWires}
 use Rattle.tv_inputs.specs.declared.records.StateWires.{StateWires}
-use Rattle.tv_word.specs.Word.{flag_of}
 
 -- ---- the combinations' values
 folded_four : (k l m n : ℕ) → (k + (l + (m + n % P) % P) % P) % P ≡ (k + l + m + n % P) % P

@@ -1,16 +1,13 @@
 -- The numbers of the next program counter.
-use Rattle.std.proofs.Common.{◌≡◌, ◌≢◌, ℕ, ◌+◌, ◌-◌, ◌*◌, ◌/◌, ◌%◌, ◌^◌, ◌<◌, ◌==◌, not, Bool, true, false, if◌then◌else◌, inl, inr, refl, sym, ◌∙◌, ap}
-use Rattle.std.proofs.Common.{arith, eq-eqb}
-use Rattle.std.proofs.lemmas.Bool.{cases_eq, ne_eqb}
+use Rattle.tv_core.proofs.Common.{◌≡◌, ◌≢◌, ℕ, ◌+◌, ◌-◌, ◌*◌, ◌/◌, ◌%◌, ◌^◌, ◌<◌, ◌==◌, not, Bool, true, false, if◌then◌else◌, inl, inr, refl, sym, ◌∙◌, ap}
+use Rattle.tv_core.proofs.Common.{arith, cases_eq, ne_eqb, for_widths, IsWidth, flag_of}
+use Rattle.std.proofs.Common.{eq-eqb}
 use Rattle.tv_bits.proofs.BitLaws.{bit_cases}
 use Rattle.tv_bits.specs.Bit.{IsBit}
 use Rattle.tv_core.specs.declared.field.TheConstants.{P}
 use Rattle.tv_isa.specs.Opcodes.{among, chosen, unused_ops}
 use Rattle.tv_numbers.proofs.Cases.{for_opcode}
 use Rattle.tv_numbers.specs.Tables.{next_pc, target, pcs}
-use Rattle.tv_word.proofs.WidthLaws.{for_widths}
-use Rattle.tv_word.specs.Widths.{IsWidth}
-use Rattle.tv_word.specs.Word.{flag_of}
 
 -- ---- the place after the instruction
 -- how far the counter is from the last instruction's, and whether it wraps

@@ -1,18 +1,12 @@
 -- The laws of a step's result, and of the number that is tested.
-use Rattle.std.proofs.Common.{◌≡◌, ℕ, ◌+◌, ◌-◌, ◌*◌, ◌/◌, ◌%◌, ◌^◌, ◌<◌, ◌==◌, ◌||◌, Bool, true, false, if◌then◌else◌, List, [], ◌∷◌, ◌++◌, length}
-use Rattle.std.proofs.Common.{length-append, div-le_self, inl, inr, refl, sym, ◌∙◌, ap, ap₂, arith, mod-lt, true≢false}
-use Rattle.std.specs.Int.{bit_at}
-use Rattle.std.specs.Prelude.{slice_index}
-use Rattle.std.proofs.lemmas.Bool.{cases_eq, eqb-true, ne_eqb}
+use Rattle.tv_core.proofs.Common.{◌≡◌, ℕ, ◌+◌, ◌-◌, ◌*◌, ◌/◌, ◌%◌, ◌^◌, ◌<◌, ◌==◌, Bool, true, false, if◌then◌else◌, List, [], ◌∷◌, ◌++◌, length, inl, inr}
+use Rattle.tv_core.proofs.Common.{refl, sym, ◌∙◌, ap, ap₂, arith, mod-lt, bit_at, slice_index, cases_eq, eqb-true, ne_eqb, value-wire, value-append, value-cons}
+use Rattle.tv_core.proofs.Common.{value-below, wire-below, InField-cons, InField-none, fresh, put, pure, ◌>>=◌, wire, Combination, value, Meets, InField}
+use Rattle.tv_core.proofs.Common.{terms_in, for_widths, IsWidth, flag_of}
+use Rattle.std.proofs.Common.{◌||◌}
+use Rattle.std.proofs.Common.{length-append, div-le_self, true≢false}
 use Rattle.tv_bits.proofs.BitNumbers.{HasBits-below}
 use Rattle.tv_bits.specs.Times.{times_of}
-use Rattle.tv_core.proofs.CombinationLaws.{value-wire, value-append, value-cons, value-below, wire-below}
-use Rattle.tv_core.proofs.FieldLaws.{InField-cons, InField-none}
-use Rattle.tv_core.specs.Circuits.{fresh, put, pure, ◌>>=◌}
-use Rattle.tv_core.specs.Combinations.{wire}
-use Rattle.tv_core.specs.Constraints.{Combination, value}
-use Rattle.tv_core.specs.Laws.{Meets, InField}
-use Rattle.tv_core.specs.Meanings.{terms_in}
 use Rattle.tv_core.specs.declared.field.TheConstants.{P}
 use Rattle.tv_inputs.proofs.Settled.{Settles, times_then, settles_sum, settles_then, settles_to}
 use Rattle.tv_isa.specs.Opcodes.{among, chosen, place_of}
@@ -22,8 +16,6 @@ use Rattle.tv_numbers.proofs.Cases.{chosen_in}
 use Rattle.tv_numbers.specs.Numbers.{operand_word, other_word, takes_primary, found}
 use Rattle.tv_numbers.specs.Views.{View}
 use Rattle.tv_step.specs.Rows.{word_size}
-use Rattle.tv_word.proofs.WidthLaws.{for_widths}
-use Rattle.tv_word.specs.Widths.{IsWidth}
 use Rattle.tv_inputs.proofs.FieldNumbers.{small_word, byte_small, either, flag_times}
 use Rattle.tv_inputs.proofs.TapeLaws.{no_primary, no_auxiliary, one_tape}
 use Rattle.tv_inputs.proofs.OpcodeLaws.{opcode_sum_sound, opcode_wire_is}
@@ -46,7 +38,6 @@ use Rattle.tv_inputs.specs.declared.records.ResultWires.{ResultWires}
 use Rattle.tv_inputs.specs.declared.records.Sources.{Sources}
 use Rattle.tv_inputs.specs.declared.records.StateWires.{StateWires}
 use Rattle.tv_inputs.specs.declared.records.TapeWires.{TapeWires}
-use Rattle.tv_word.specs.Word.{flag_of}
 
 -- ---- numbers
 -- the gate of the low half: an opcode that has it, or a word that is found

@@ -1,7 +1,7 @@
 -- The numbers of a step's result.
-use Rattle.std.proofs.Common.{◌≡◌, ℕ, ◌+◌, ◌-◌, ◌*◌, ◌/◌, ◌%◌, ◌^◌, ◌<◌, ◌==◌, Bool, true, false, if◌then◌else◌, [], ◌∷◌, drop, refl, sym, ◌∙◌, ap}
-use Rattle.std.proofs.Common.{ap₂, subst, arith, bit_and, bit_or, bit_xor}
-use Rattle.std.specs.Int.{bit_at}
+use Rattle.tv_core.proofs.Common.{◌≡◌, ℕ, ◌+◌, ◌-◌, ◌*◌, ◌/◌, ◌%◌, ◌^◌, ◌<◌, ◌==◌, Bool, true, false, if◌then◌else◌, [], ◌∷◌, drop, refl, sym, ◌∙◌, ap, ap₂}
+use Rattle.tv_core.proofs.Common.{subst, arith, bit_at, for_widths, IsWidth}
+use Rattle.std.proofs.Common.{bit_and, bit_or, bit_xor}
 use Rattle.std.specs.Int.Bits.{or_add_and, xor_add_and}
 use Rattle.tv_core.specs.declared.field.TheConstants.{P}
 use Rattle.tv_isa.specs.Opcodes.{among, chosen, writer_ops}
@@ -9,8 +9,6 @@ use Rattle.tv_mem.specs.Bytes.{byte_of}
 use Rattle.tv_numbers.proofs.Cases.{EachOf, each_of}
 use Rattle.tv_numbers.specs.Tables.{results}
 use Rattle.tv_step.specs.Rows.{word_size}
-use Rattle.tv_word.proofs.WidthLaws.{for_widths}
-use Rattle.tv_word.specs.Widths.{IsWidth}
 use Rattle.tv_inputs.proofs.FieldNumbers.{small_word, byte_small, either}
 use Rattle.tv_inputs.specs.TestNumbers.{zero_ops, carry_ops, place_bits}
 use Rattle.tv_inputs.specs.Results.{result_number, tested_number}

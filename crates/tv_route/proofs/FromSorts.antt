@@ -1,9 +1,10 @@
 -- A rearrangement of 0, 1, .. n - 1, as after a sort, is a permutation.
-use Rattle.std.proofs.Common.{◌≡◌, ◌≢◌, ℕ, ◌<◌, ◌==◌, Bool, true, false, List, length, get_or, All, IsPermutation, refl, sym, ◌∙◌, subst}
-use Rattle.std.proofs.Common.{arith, eq-eqb}
-use Rattle.std.specs.Prelude.{slice_index}
+use Rattle.tv_core.proofs.Common.{◌≡◌, ◌≢◌, ℕ, ◌<◌, ◌==◌, Bool, true, false, List, length, get_or, All, refl, sym, ◌∙◌, subst, arith, slice_index, eqb-true}
+use Rattle.tv_core.proofs.Common.{ne_eqb}
+use Rattle.std.proofs.Common.{IsPermutation}
+use Rattle.std.proofs.Common.{eq-eqb}
 use Rattle.std.specs.List.{IsDistinct}
-use Rattle.std.proofs.lemmas.Bool.{eqb-true, eqb-false, ne_eqb}
+use Rattle.std.proofs.lemmas.Bool.{eqb-false}
 use Rattle.std.proofs.lemmas.List.{get_or_default}
 use Rattle.std.proofs.lemmas.List.Sorted.{All-permutation, Contains-permutation, length_permutation}
 use Rattle.std.proofs.lemmas.Map.Keys.{apart_from_distinct, IsDistinct-from_apart, IsDistinct-IsPermutation}

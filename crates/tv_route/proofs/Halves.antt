@@ -1,8 +1,8 @@
 -- The halves of a permutation: every input is settled, and of each two fellows one goes down.
-use Rattle.std.proofs.Common.{◌≡◌, ◌≢◌, ℕ, zero, suc, ◌+◌, ◌*◌, ◌/◌, ◌%◌, ◌<◌, ◌≤◌, ◌==◌, inl, inr, Bool, true, false, not, if◌then◌else◌, List, length}
-use Rattle.std.proofs.Common.{get_or, set, replicate, Some, None, is_none, refl, sym, ◌∙◌, ap, subst, arith, get_or-set_same, get_or-set_other}
-use Rattle.std.specs.Prelude.{slice_index, unwrap_or}
-use Rattle.std.proofs.lemmas.Bool.{cases_eq, cases_lt, cond_both}
+use Rattle.tv_core.proofs.Common.{◌≡◌, ◌≢◌, ℕ, zero, suc, ◌+◌, ◌*◌, ◌/◌, ◌%◌, ◌<◌, ◌≤◌, ◌==◌, inl, inr, Bool, true, false, not, if◌then◌else◌, List, length}
+use Rattle.tv_core.proofs.Common.{get_or, set, Some, None, refl, sym, ◌∙◌, ap, subst, arith, slice_index, cases_eq, cases_lt, cond_both}
+use Rattle.std.proofs.Common.{replicate, is_none, get_or-set_same, get_or-set_other}
+use Rattle.std.specs.Prelude.{unwrap_or}
 use Rattle.std.proofs.lemmas.List.{get_or-replicate, length-replicate, get_or_past}
 use Rattle.std.proofs.lemmas.List.Sums.{count_by-le-length}
 use Rattle.tv_route.proofs.PairLaws.{other_pairs, other-even, partners_pair, partner_of}

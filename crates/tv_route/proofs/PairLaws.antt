@@ -1,8 +1,7 @@
 -- Numbers in pairs, and inputs in pairs by their outputs.
-use Rattle.std.proofs.Common.{◌≡◌, ◌≢◌, ℕ, zero, suc, ◌+◌, ◌-◌, ◌*◌, ◌%◌, ◌<◌, ◌==◌, ◌⊎◌, inl, inr, if◌then◌else◌, List, length, get_or, set, sym, ◌∙◌, ap}
-use Rattle.std.proofs.Common.{subst, arith, length-set, get_or-set_same, get_or-set_other}
-use Rattle.std.specs.Prelude.{slice_index}
-use Rattle.std.proofs.lemmas.Bool.{cases_eq}
+use Rattle.tv_core.proofs.Common.{◌≡◌, ◌≢◌, ℕ, zero, suc, ◌+◌, ◌-◌, ◌*◌, ◌%◌, ◌<◌, ◌==◌, ◌⊎◌, inl, inr, if◌then◌else◌, List, length, get_or, set, sym, ◌∙◌, ap}
+use Rattle.tv_core.proofs.Common.{subst, arith, slice_index, cases_eq}
+use Rattle.std.proofs.Common.{length-set, get_or-set_same, get_or-set_other}
 use Rattle.tv_route.specs.Permutations.{Permutes}
 use Rattle.tv_route.specs.Route.{other, partners}
 

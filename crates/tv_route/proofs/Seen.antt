@@ -1,13 +1,12 @@
 -- Which numbers were seen, one after another.
-use Rattle.std.proofs.Common.{◌≡◌, ◌≢◌, ℕ, zero, suc, ◌+◌, ◌<◌, ◌≤◌, ◌⊎◌, Bool, true, false, List, [], ◌∷◌, length, get_or, set, replicate}
-use Rattle.std.proofs.Common.{inl, inr, sum_by, refl, sym, ◌∙◌, ap, subst, arith, length-set, get_or-set_same, get_or-set_other}
-use Rattle.std.specs.Prelude.{slice_index}
-use Rattle.std.proofs.lemmas.Bool.{cases_eq, cases_lt}
+use Rattle.tv_core.proofs.Common.{◌≡◌, ◌≢◌, ℕ, zero, suc, ◌+◌, ◌<◌, ◌≤◌, ◌⊎◌, Bool, true, false, List, [], ◌∷◌, length, get_or, set, inl, inr, refl, sym, ◌∙◌}
+use Rattle.tv_core.proofs.Common.{ap, subst, arith, slice_index, cases_eq, cases_lt, flag_of}
+use Rattle.std.proofs.Common.{replicate}
+use Rattle.std.proofs.Common.{sum_by, length-set, get_or-set_same, get_or-set_other}
 use Rattle.std.proofs.lemmas.List.{get_or-replicate, length-replicate}
 use Rattle.std.proofs.lemmas.List.Folds.{sum_by-replicate}
 use Rattle.std.proofs.lemmas.List.Sums.{sum_by-set, sum_by-cons}
 use Rattle.tv_route.specs.Permutations.{Permutes}
-use Rattle.tv_word.specs.Word.{flag_of}
 
 -- the first i numbers are different ones below the length, and these were seen
 pub record IsSeen (p : List ℕ) (i : ℕ) (seen : List Bool) : Type 0 where

@@ -1,7 +1,7 @@
 -- One step of each definition, as the code makes it.
-use Rattle.std.proofs.Common.{◌≡◌, ◌≢◌, ℕ, zero, suc, ◌+◌, ◌-◌, ◌*◌, ◌/◌, ◌^◌, ◌<◌, ◌==◌, Bool, true, false, if◌then◌else◌, List, [], ◌∷◌, ◌++◌, get_or, set}
-use Rattle.std.proofs.Common.{Some, None, is_none, refl, sym, ◌∙◌, ap, ap₂, arith, append_assoc, append-nil, add-one}
-use Rattle.std.specs.Prelude.{slice_index}
+use Rattle.tv_core.proofs.Common.{◌≡◌, ◌≢◌, ℕ, zero, suc, ◌+◌, ◌-◌, ◌*◌, ◌/◌, ◌^◌, ◌<◌, ◌==◌, Bool, true, false, if◌then◌else◌, List, [], ◌∷◌, ◌++◌, get_or}
+use Rattle.tv_core.proofs.Common.{set, Some, None, refl, sym, ◌∙◌, ap, ap₂, arith, append_assoc, append-nil, add-one, slice_index}
+use Rattle.std.proofs.Common.{is_none}
 use Rattle.tv_benes.proofs.Permutations.{places-suc}
 use Rattle.tv_benes.specs.Through.{missing, places}
 use Rattle.tv_benes.specs.declared.shape.Net.{Net}

@@ -1,9 +1,9 @@
 -- What a walk settles: it goes round, so what is settled after it is closed under both pairings, the two of a pair
 -- being settled apart.
-use Rattle.std.proofs.Common.{◌≡◌, ◌≢◌, ℕ, zero, suc, ◌+◌, ◌*◌, ◌<◌, ◌≤◌, ◌==◌, ◌⊎◌, inl, inr, Bool, true, false, not, if◌then◌else◌, List, length, get_or}
-use Rattle.std.proofs.Common.{set, Some, None, is_none, sum_by, refl, sym, ◌∙◌, ap, subst, arith, length-set, get_or-set_same, get_or-set_other, eq-eqb}
-use Rattle.std.specs.Prelude.{slice_index}
-use Rattle.std.proofs.lemmas.Bool.{cases_eq, cond_both, eqb-true, eqb-false}
+use Rattle.tv_core.proofs.Common.{◌≡◌, ◌≢◌, ℕ, zero, suc, ◌+◌, ◌*◌, ◌<◌, ◌≤◌, ◌==◌, ◌⊎◌, inl, inr, Bool, true, false, not, if◌then◌else◌, List, length, get_or}
+use Rattle.tv_core.proofs.Common.{set, Some, None, refl, sym, ◌∙◌, ap, subst, arith, slice_index, cases_eq, cond_both, eqb-true}
+use Rattle.std.proofs.Common.{is_none, sum_by, length-set, get_or-set_same, get_or-set_other, eq-eqb}
+use Rattle.std.proofs.lemmas.Bool.{eqb-false}
 use Rattle.std.proofs.lemmas.List.Sums.{sum_by-set, get_or-le-sum_by}
 use Rattle.tv_route.proofs.PairLaws.{IsPairing}
 use Rattle.tv_route.specs.Route.{Mark, other, walk}

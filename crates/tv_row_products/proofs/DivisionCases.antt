@@ -1,6 +1,5 @@
 -- Quotient and remainder by the two cases of their definitions: the divisor is 0, or it isn't.
-use Rattle.std.proofs.Common.{◌≡◌, ◌≢◌, ℕ, ◌/◌, ◌%◌, ◌<◌, refl, arith, mod-lt}
-use Rattle.std.proofs.lemmas.Bool.Decides.{nat_tests}
+use Rattle.tv_core.proofs.Common.{◌≡◌, ◌≢◌, ℕ, ◌/◌, ◌%◌, ◌<◌, refl, arith, mod-lt, nat_tests}
 use Rattle.tv_word.specs.Operations.{udiv_result, umod_result}
 
 pub quotient-zero : (a b : ℕ) → b ≡ 0 → udiv_result a b ≡ 0

@@ -1,5 +1,6 @@
 -- The rows' circuits put normal combinations.
-use Rattle.std.proofs.Common.{ℕ, ◌+◌, ◌-◌, ◌*◌, ◌<◌, ◌++◌, arith}
+use Rattle.tv_core.proofs.Common.{ℕ, ◌+◌, ◌-◌, ◌*◌, ◌<◌, ◌++◌, arith, fresh, put, pure, ◌>>=◌, wire, less, Combination, IsNormal, AreNormal, width_short}
+use Rattle.tv_core.proofs.Common.{IsWidth}
 use Rattle.tv_bits.proofs.NormalLaws.{wire_normal, less_normal, bits_normal, power_some, row_number_normal, times_normal, gated_normal}
 use Rattle.tv_bits.specs.Bits.{bits_combination}
 use Rattle.tv_bits.specs.Gate.{gated_of}
@@ -9,16 +10,10 @@ use Rattle.tv_bits.specs.declared.double_rows.DoubleRow.{DoubleRow}
 use Rattle.tv_bits.specs.declared.signed_words.SignedWord.{SignedWord}
 use Rattle.tv_core.proofs.NormalCircuits.{normal_put}
 use Rattle.tv_core.proofs.NormalLaws.{IsNormalFrom-lower}
-use Rattle.tv_core.specs.Circuits.{fresh, put, pure, ◌>>=◌}
-use Rattle.tv_core.specs.Combinations.{wire, less}
-use Rattle.tv_core.specs.Constraints.{Combination}
-use Rattle.tv_core.specs.Normal.{IsNormal, AreNormal}
 use Rattle.tv_core.specs.declared.field.TheConstants.{P}
 use Rattle.tv_row_products.specs.RowDivision.{dividing, room_below, bits_less, row_division_of}
 use Rattle.tv_row_products.specs.RowProduct.{row_product_of}
 use Rattle.tv_row_products.specs.RowSignedProduct.{row_signed_product_of, sign_weight, signed_word}
-use Rattle.tv_word.proofs.WidthLaws.{width_short}
-use Rattle.tv_word.specs.Widths.{IsWidth}
 
 -- ---- coefficients
 weight_some : (w : ℕ) → IsWidth w → 0 < sign_weight w

@@ -1,7 +1,8 @@
 -- The laws of a division in a row.
-use Rattle.std.proofs.Common.{◌≡◌, ℕ, ◌+◌, ◌-◌, ◌*◌, ◌%◌, ◌^◌, ◌<◌, List, [], ◌∷◌, ◌++◌, refl, sym, ◌∙◌, ap, ap₂, arith, zero-mul, one-mul}
-use Rattle.std.proofs.Common.{mod-eq_of_lt}
-use Rattle.std.specs.Prelude.{slice_index}
+use Rattle.tv_core.proofs.Common.{◌≡◌, ℕ, ◌+◌, ◌-◌, ◌*◌, ◌%◌, ◌^◌, ◌<◌, List, [], ◌∷◌, ◌++◌, refl, sym, ◌∙◌, ap, ap₂, arith, zero-mul, mod-eq_of_lt}
+use Rattle.tv_core.proofs.Common.{slice_index, value-below, value-append, value-cons, value-wire, wire-below, InField-none, InField-cons, fresh, put, pure}
+use Rattle.tv_core.proofs.Common.{◌>>=◌, wire, Combination, value, Assigns, Meets, HasFrom, width_short, IsWidth}
+use Rattle.std.proofs.Common.{one-mul}
 use Rattle.tv_bits.proofs.GateLaws.{gated_sound, gated_complete}
 use Rattle.tv_bits.proofs.BitNumbers.{HasBits-below, value-bits_below}
 use Rattle.tv_bits.proofs.TimesLaws.{times_sound, times_complete, residue_below}
@@ -14,19 +15,13 @@ use Rattle.tv_bits.specs.Zero.{zero_flag}
 use Rattle.tv_bits.specs.declared.bit_wires.Bits.{Bits}
 use Rattle.tv_bits.specs.declared.double_rows.DoubleRow.{DoubleRow}
 use Rattle.tv_core.proofs.BelowLaws.{length-weighted}
-use Rattle.tv_core.proofs.CombinationLaws.{value-below, value-append, value-cons, value-wire, value-empty, wire-below}
-use Rattle.tv_core.proofs.FieldLaws.{InField-none, InField-cons, word-below}
+use Rattle.tv_core.proofs.CombinationLaws.{value-empty}
+use Rattle.tv_core.proofs.FieldLaws.{word-below}
 use Rattle.tv_core.proofs.NormalLaws.{residue_first}
-use Rattle.tv_core.specs.Circuits.{fresh, put, pure, ◌>>=◌}
-use Rattle.tv_core.specs.Combinations.{wire}
-use Rattle.tv_core.specs.Constraints.{Combination, value}
-use Rattle.tv_core.specs.Laws.{Assigns, Meets, HasFrom}
 use Rattle.tv_core.specs.declared.field.TheConstants.{P}
 use Rattle.tv_row_products.proofs.RowDivisionNumbers.{Divides, Divides-sound, division_row, below_word, division_met}
 use Rattle.tv_row_products.specs.RowDivision.{dividing, IsRowDivision, below_divisor, room_below, bits_less, row_division_of, row_division_values, RowDivisionIsSound}
 use Rattle.tv_row_products.specs.RowDivision.{RowDivisionIsComplete, RowDivisionSizes, RowDivisionCosts}
-use Rattle.tv_word.proofs.WidthLaws.{width_short}
-use Rattle.tv_word.specs.Widths.{IsWidth}
 
 -- ---- the combinations
 module _ (z : List ℕ) (assigns : Assigns z) where

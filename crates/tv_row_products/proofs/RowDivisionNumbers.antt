@@ -1,9 +1,8 @@
 -- The numbers of a division in a row.
-use Rattle.std.proofs.Common.{◌≡◌, ◌≢◌, ℕ, ◌+◌, ◌-◌, ◌*◌, ◌/◌, ◌%◌, ◌^◌, ◌<◌, ◌≤◌, ◌==◌, if◌then◌else◌, inl, inr, refl, sym, ◌∙◌, ap, ap₂, arith}
-use Rattle.std.proofs.Common.{zero-mul, one-mul, mul_comm}
+use Rattle.tv_core.proofs.Common.{◌≡◌, ◌≢◌, ℕ, ◌+◌, ◌-◌, ◌*◌, ◌/◌, ◌%◌, ◌^◌, ◌<◌, ◌≤◌, ◌==◌, if◌then◌else◌, inl, inr, refl, sym, ◌∙◌, ap, ap₂, arith, zero-mul}
+use Rattle.tv_core.proofs.Common.{cases_eq, nat_tests, IsWidth}
+use Rattle.std.proofs.Common.{one-mul, mul_comm}
 use Rattle.std.proofs.Math.Nat.{mod-mod, div-add-mod, div-le_self}
-use Rattle.std.proofs.lemmas.Bool.{cases_eq}
-use Rattle.std.proofs.lemmas.Bool.Decides.{nat_tests}
 use Rattle.std.proofs.lemmas.Nat.{mul-le, div-mul-add, mod-mul-add, mul-mod_second}
 use Rattle.tv_bits.proofs.RowNumbers.{row_below}
 use Rattle.tv_bits.proofs.ZeroLaws.{zero_flag-zero, zero_flag-other}
@@ -15,7 +14,6 @@ use Rattle.tv_core.specs.declared.field.TheConstants.{P}
 use Rattle.tv_row_products.proofs.DivisionCases.{quotient-zero, quotient-other, remainder-zero, remainder-other, remainder-below}
 use Rattle.tv_row_products.specs.RowDivision.{below_divisor}
 use Rattle.tv_word.specs.Operations.{udiv_result, umod_result}
-use Rattle.tv_word.specs.Widths.{IsWidth}
 
 -- what the constraints say of the numbers at the wires: words a and b, the row's halves, the bit, the word that it keeps,
 -- the product of the high half, and the bits' number

@@ -1,7 +1,6 @@
 -- The laws of a signed product in a row.
-use Rattle.std.proofs.Common.{◌≡◌, ℕ, ◌+◌, ◌-◌, ◌*◌, ◌/◌, ◌%◌, ◌^◌, ◌<◌, List, [], ◌∷◌, refl, sym, ◌∙◌, ap, ap₂, arith}
-use Rattle.std.specs.Prelude.{slice_index}
-use Rattle.std.specs.Int.{bit_at}
+use Rattle.tv_core.proofs.Common.{◌≡◌, ℕ, ◌+◌, ◌-◌, ◌*◌, ◌/◌, ◌%◌, ◌^◌, ◌<◌, List, [], ◌∷◌, refl, sym, ◌∙◌, ap, ap₂, arith, slice_index, bit_at, value-cons}
+use Rattle.tv_core.proofs.Common.{value-wire, fresh, put, pure, ◌>>=◌, wire, value, Assigns, Meets, HasFrom, IsWidth}
 use Rattle.tv_bits.proofs.DoubleRowLaws.{value-row_number}
 use Rattle.tv_bits.proofs.GateLaws.{gated_sound, gated_complete}
 use Rattle.tv_bits.proofs.RowNumbers.{row_low, row_high, row_whole}
@@ -14,18 +13,13 @@ use Rattle.tv_bits.specs.SignedWords.{HoldsSigned}
 use Rattle.tv_bits.specs.Times.{times_of}
 use Rattle.tv_bits.specs.declared.double_rows.DoubleRow.{DoubleRow}
 use Rattle.tv_bits.specs.declared.signed_words.SignedWord.{SignedWord}
-use Rattle.tv_core.proofs.CombinationLaws.{value-cons, value-wire, value-empty}
-use Rattle.tv_core.specs.Circuits.{fresh, put, pure, ◌>>=◌}
-use Rattle.tv_core.specs.Combinations.{wire}
-use Rattle.tv_core.specs.Constraints.{value}
-use Rattle.tv_core.specs.Laws.{Assigns, Meets, HasFrom}
+use Rattle.tv_core.proofs.CombinationLaws.{value-empty}
 use Rattle.tv_core.specs.declared.field.TheConstants.{P}
 use Rattle.tv_row_products.proofs.SignedNumbers.{Stands, Stands-product, Stands-signed, Stands-exact, Stands-meets, signed_value, most_product, twos-below, over_flag}
 use Rattle.tv_row_products.specs.RowSignedProduct.{IsRowSignedProduct, sign_weight, signed_word, signed_in, signed_row, row_signed_product_of}
 use Rattle.tv_row_products.specs.RowSignedProduct.{row_signed_product_values, RowSignedProductIsSound, RowSignedProductFits, RowSignedProductIsComplete}
 use Rattle.tv_row_products.specs.RowSignedProduct.{RowSignedProductSizes, RowSignedProductCosts}
 use Rattle.tv_word.specs.Operations.{signed_product, product_twos}
-use Rattle.tv_word.specs.Widths.{IsWidth}
 use Rattle.tv_word.specs.Word.{signed}
 
 -- ---- the numbers

@@ -1,9 +1,10 @@
 -- Signed numbers as residues modulo P.
-use Rattle.std.proofs.Common.{◌⊎◌, ◌≡◌, ◌≢◌, ℕ, zero, suc, ◌+◌, ◌-◌, ◌*◌, ◌%◌, ◌^◌, ◌<◌, ◌≤◌, ℤ, pos, negsuc, neg_ℤ, ◌*ℤ◌, ◌-ℤ◌, w64, Bool, true, false}
-use Rattle.std.proofs.Common.{if◌then◌else◌, inl, inr, refl, sym, ◌∙◌, ap, ap₂, arith, FitsSigned, to_z, of_z, mod-eq_of_lt, zero-mul, mul-zero, mul_comm}
-use Rattle.std.specs.Int.{bit_at, cast_unsigned}
+use Rattle.tv_core.proofs.Common.{◌⊎◌, ◌≡◌, ◌≢◌, ℕ, zero, suc, ◌+◌, ◌-◌, ◌*◌, ◌%◌, ◌^◌, ◌<◌, ◌≤◌, Bool, true, false, if◌then◌else◌, inl, inr, refl, sym, ◌∙◌}
+use Rattle.tv_core.proofs.Common.{ap, ap₂, arith, mod-eq_of_lt, zero-mul, bit_at, cases_lt, lt-ltb, le-ltb, IsWidth}
+use Rattle.std.proofs.Common.{ℤ, pos, negsuc, neg_ℤ, ◌*ℤ◌, ◌-ℤ◌, w64}
+use Rattle.std.proofs.Common.{FitsSigned, to_z, of_z, mul-zero, mul_comm}
+use Rattle.std.specs.Int.{cast_unsigned}
 use Rattle.std.proofs.Math.IntN.{pos-*ℤ-pos, pos-*ℤ-negsuc, negsuc-*ℤ-pos, negsuc-*ℤ-negsuc}
-use Rattle.std.proofs.lemmas.Bool.{cases_lt, lt-ltb, le-ltb}
 use Rattle.std.proofs.lemmas.Int.{ints, to_z-of_z}
 use Rattle.std.proofs.lemmas.Nat.{mul-le}
 use Rattle.tv_core.proofs.Residues.{mul-mod_same, mul-mod_zero}
@@ -13,7 +14,6 @@ use Rattle.tv_bits.specs.Nonzero.{nonzero_flag}
 use Rattle.tv_row_products.specs.RowSignedProduct.{excess_in}
 use Rattle.tv_word.specs.Operations.{signed_product, product_twos}
 use Rattle.tv_word.specs.Twos.{twos, fits}
-use Rattle.tv_word.specs.Widths.{IsWidth}
 use Rattle.tv_word.specs.Word.{signed}
 
 -- ---- a number and its negation, in two's complement

@@ -1,14 +1,12 @@
 -- Shifts by any distance, by a word that is 0 where the distance reaches the width.
-use Rattle.std.proofs.Common.{◌≡◌, ℕ, ◌*◌, ◌/◌, ◌%◌, ◌^◌, ◌<◌, ◌≤◌, if◌then◌else◌, ap, arith}
-use Rattle.std.proofs.Common.{mod-eq_of_lt, zero-mul, one-mul}
+use Rattle.tv_core.proofs.Common.{◌≡◌, ℕ, ◌*◌, ◌/◌, ◌%◌, ◌^◌, ◌<◌, ◌≤◌, if◌then◌else◌, ap, arith, mod-eq_of_lt, zero-mul, cases_lt, lt-ltb, le-ltb, nat_tests}
+use Rattle.tv_core.proofs.Common.{IsWidth}
+use Rattle.std.proofs.Common.{one-mul}
 use Rattle.std.proofs.Math.Nat.{zero-mod, zero-div}
-use Rattle.std.proofs.lemmas.Bool.{cases_lt, lt-ltb, le-ltb}
-use Rattle.std.proofs.lemmas.Bool.Decides.{nat_tests}
 use Rattle.tv_bits.specs.ZeroSign.{sign_at_zero}
 use Rattle.tv_core.specs.declared.field.TheConstants.{P}
 use Rattle.tv_rows.specs.RowShift.{right_high, shifted_word, ShiftsByAnyDistance}
 use Rattle.tv_word.specs.Operations.{mull_result, shl_result, shr_result}
-use Rattle.tv_word.specs.Widths.{IsWidth}
 
 module _ (w s a : ℕ) where
   within : a < w → shifted_word w s a ≡ s

@@ -1,8 +1,8 @@
 -- The laws of the bitwise operations as digits.
-use Rattle.std.proofs.Common.{◌≡◌, ℕ, ◌+◌, ◌-◌, ◌*◌, ◌/◌, ◌%◌, ◌^◌, ◌≤◌, List, ◌++◌, bit_and, bit_xor, length, length-append}
-use Rattle.std.proofs.Common.{refl, sym, ◌∙◌, ap, ap₂, arith, add-zero, mul-zero, zero-mul, one-mul, mod-eq_of_lt}
-use Rattle.std.specs.Int.{bit_at}
-use Rattle.std.specs.Prelude.{slice_index}
+use Rattle.tv_core.proofs.Common.{◌≡◌, ℕ, ◌+◌, ◌-◌, ◌*◌, ◌/◌, ◌%◌, ◌^◌, ◌≤◌, List, ◌++◌, length, refl, sym, ◌∙◌, ap, ap₂, arith, zero-mul, mod-eq_of_lt, bit_at}
+use Rattle.tv_core.proofs.Common.{slice_index, value-below, value-append, InField-none, put, ◌>>=◌, Combination, value, Meets, IsWidth}
+use Rattle.std.proofs.Common.{bit_and, bit_xor, length-append}
+use Rattle.std.proofs.Common.{add-zero, mul-zero, one-mul}
 use Rattle.std.proofs.Math.Nat.{mul_assoc}
 use Rattle.std.proofs.lemmas.Nat.{mul-mod_first}
 use Rattle.tv_bits.proofs.BitNumbers.{HasBits-below, HasBits-bit_at, sum_below-plus}
@@ -11,17 +11,11 @@ use Rattle.tv_bits.specs.DoubleRow.{HasRowBits}
 use Rattle.tv_bits.specs.declared.bit_wires.Bits.{Bits}
 use Rattle.tv_bits.specs.declared.double_rows.DoubleRow.{DoubleRow}
 use Rattle.tv_core.proofs.BelowLaws.{sum_below-mod_same, sum_below-same, sum_below-mul, value-weighted, length-weighted}
-use Rattle.tv_core.proofs.CombinationLaws.{value-below, value-append}
-use Rattle.tv_core.proofs.FieldLaws.{InField-none}
-use Rattle.tv_core.specs.Circuits.{put, ◌>>=◌}
-use Rattle.tv_core.specs.Constraints.{Combination, value}
-use Rattle.tv_core.specs.Laws.{Meets}
 use Rattle.tv_core.specs.declared.field.TheConstants.{P}
 use Rattle.tv_rows.proofs.DigitNumbers.{number_of, sums, parts, SameDigits, bitwise_from, same_digits, bitwise_row, or_sum}
 use Rattle.tv_rows.specs.Digits.{digits_combination, digit_sum, digits_of, bitwise_of, AreBitwise}
 use Rattle.tv_rows.specs.Digits.{BitwiseIsSound, BitwiseIsComplete, BitwiseSizes, BitwiseCosts}
 use Rattle.tv_rows.specs.declared.digits.TheConstants.{BASE}
-use Rattle.tv_word.specs.Widths.{IsWidth}
 
 -- the bits of a word from number `from` on
 abbrev bits_from : ℕ → ℕ → ℕ → ℕ

@@ -1,10 +1,9 @@
 -- Numbers by their digits, and the bitwise operations of words by theirs.
-use Rattle.std.proofs.Common.{◌≡◌, ℕ, zero, suc, ◌+◌, ◌-◌, ◌*◌, ◌/◌, ◌%◌, ◌^◌, ◌<◌, ◌≤◌, inl, inr, sym, ◌∙◌, ap, arith, mul_comm}
+use Rattle.tv_core.proofs.Common.{◌≡◌, ℕ, zero, suc, ◌+◌, ◌-◌, ◌*◌, ◌/◌, ◌%◌, ◌^◌, ◌<◌, ◌≤◌, inl, inr, sym, ◌∙◌, ap, arith, bit_at, cases_eq, cases_lt, IsWidth}
+use Rattle.std.proofs.Common.{mul_comm}
 use Rattle.std.proofs.Common.{min, bit_and, bit_or, bit_xor}
-use Rattle.std.specs.Int.{bit_at}
 use Rattle.std.specs.Int.Bits.{and_lt, or_add_and, xor_add_and}
 use Rattle.std.proofs.Math.Nat.{pow-suc, mul-le-mul_left}
-use Rattle.std.proofs.lemmas.Bool.{cases_eq, cases_lt}
 use Rattle.std.proofs.lemmas.Nat.{div-mul-add, mod-mul-add, xor_lt, or_lt}
 use Rattle.std.proofs.lemmas.Nat.Bits.{bit_at-lt, bit_at_and, bit_at_xor, same_from_bits_below}
 use Rattle.tv_bits.specs.Bit.{IsBit}
@@ -13,7 +12,6 @@ use Rattle.tv_core.proofs.BelowLaws.{sum_below-zero, sum_below-suc, sum_below-sa
 use Rattle.tv_core.specs.Below.{sum_below}
 use Rattle.tv_core.specs.declared.field.TheConstants.{P}
 use Rattle.tv_rows.specs.declared.digits.TheConstants.{BASE}
-use Rattle.tv_word.specs.Widths.{IsWidth}
 
 -- the number of n digits
 abbrev pub number_of : ℕ → (ℕ → ℕ) → ℕ

@@ -1,20 +1,15 @@
 -- The bitwise operations as digits put normal combinations.
-use Rattle.std.proofs.Common.{ℕ, ◌+◌, ◌-◌, ◌*◌, ◌/◌, ◌%◌, ◌^◌, ◌<◌, ◌≤◌, ◌++◌, arith}
-use Rattle.std.proofs.Math.Nat.{pow-le-pow_right}
+use Rattle.tv_core.proofs.Common.{ℕ, ◌+◌, ◌-◌, ◌*◌, ◌/◌, ◌%◌, ◌^◌, ◌<◌, ◌≤◌, ◌++◌, arith, pow-le-pow_right, put, ◌>>=◌, top, Combination, IsNormal}
+use Rattle.tv_core.proofs.Common.{IsNormalFrom, AreNormal, IsWidth}
 use Rattle.tv_bits.proofs.NormalLaws.{weighted_normal}
 use Rattle.tv_bits.specs.declared.bit_wires.Bits.{Bits}
 use Rattle.tv_bits.specs.declared.double_rows.DoubleRow.{DoubleRow}
 use Rattle.tv_core.proofs.BelowLaws.{top-weighted}
 use Rattle.tv_core.proofs.NormalCircuits.{normal_append}
 use Rattle.tv_core.proofs.NormalLaws.{IsNormalFrom-lower}
-use Rattle.tv_core.specs.Circuits.{put, ◌>>=◌}
-use Rattle.tv_core.specs.Combinations.{top}
-use Rattle.tv_core.specs.Constraints.{Combination}
-use Rattle.tv_core.specs.Normal.{IsNormal, IsNormalFrom, AreNormal}
 use Rattle.tv_core.specs.declared.field.TheConstants.{P}
 use Rattle.tv_rows.specs.Digits.{digits_combination, digit_sum, digits_of, bitwise_of}
 use Rattle.tv_rows.specs.declared.digits.TheConstants.{BASE}
-use Rattle.tv_word.specs.Widths.{IsWidth}
 
 -- a number of the field other than 0
 abbrev IsSome : ℕ → Type 0

@@ -1,18 +1,13 @@
 -- The power of a distance, and the shifts on a row, put normal combinations.
-use Rattle.std.proofs.Common.{ℕ, ◌+◌, ◌<◌, ◌≤◌, arith}
+use Rattle.tv_core.proofs.Common.{ℕ, ◌+◌, ◌<◌, ◌≤◌, arith, fresh, put, pure, ◌>>=◌, Combination, IsNormal, AreNormal, for_widths, IsWidth}
 use Rattle.tv_bits.proofs.NormalLaws.{wire_normal, power_some, row_number_normal}
 use Rattle.tv_bits.specs.Gate.{gated_of}
 use Rattle.tv_bits.specs.Times.{times_of}
 use Rattle.tv_bits.specs.declared.bit_wires.Bits.{Bits}
 use Rattle.tv_bits.specs.declared.double_rows.DoubleRow.{DoubleRow}
-use Rattle.tv_core.specs.Circuits.{fresh, put, pure, ◌>>=◌}
-use Rattle.tv_core.specs.Constraints.{Combination}
-use Rattle.tv_core.specs.Normal.{IsNormal, AreNormal}
 use Rattle.tv_core.specs.declared.field.TheConstants.{P}
 use Rattle.tv_rows.specs.Power.{factor_by, pair_power, low_power_of, wide_power_of, shift_power_of}
 use Rattle.tv_rows.specs.RowShift.{right_shift_of}
-use Rattle.tv_word.proofs.WidthLaws.{for_widths}
-use Rattle.tv_word.specs.Widths.{IsWidth}
 
 -- ---- combinations
 factor_normal : (k b : ℕ) → 1 < k → k ≤ P → 0 < b → IsNormal (factor_by k b)

@@ -1,5 +1,6 @@
 -- The rows' circuits put normal combinations.
-use Rattle.std.proofs.Common.{ℕ, ◌+◌, ◌-◌, ◌*◌, ◌%◌, ◌^◌, ◌<◌, ◌≤◌, [], arith}
+use Rattle.tv_core.proofs.Common.{ℕ, ◌+◌, ◌-◌, ◌*◌, ◌%◌, ◌^◌, ◌<◌, ◌≤◌, [], arith, fresh, put, pure, ◌>>=◌, wire, less, scaled, top, Combination, IsNormal}
+use Rattle.tv_core.proofs.Common.{IsNormalFrom, AreNormal, IsWidth}
 use Rattle.tv_bits.proofs.NormalLaws.{power_some}
 use Rattle.tv_bits.specs.Gate.{gated_of}
 use Rattle.tv_bits.specs.Times.{times_of}
@@ -7,14 +8,10 @@ use Rattle.tv_bits.specs.declared.double_rows.DoubleRow.{DoubleRow}
 use Rattle.tv_bits.specs.declared.signed_words.SignedWord.{SignedWord}
 use Rattle.tv_core.proofs.CombinationLaws.{top-append, top-scaled}
 use Rattle.tv_core.proofs.NormalCircuits.{normal_append, normal_negated}
-use Rattle.tv_core.specs.Circuits.{fresh, put, pure, ◌>>=◌}
-use Rattle.tv_core.specs.Combinations.{wire, less, scaled, top}
-use Rattle.tv_core.specs.Constraints.{Combination}
-use Rattle.tv_core.specs.Normal.{IsNormal, IsNormalFrom, IsNormalConstraint, AreNormal}
+use Rattle.tv_core.specs.Normal.{IsNormalConstraint}
 use Rattle.tv_core.specs.declared.field.TheConstants.{P}
 use Rattle.tv_rows.specs.RowDifference.{comparing, minuend, subtrahend, row_difference_of}
 use Rattle.tv_rows.specs.RowSum.{row_sum_of}
-use Rattle.tv_word.specs.Widths.{IsWidth}
 
 -- ---- the negative of 2 ^ w
 negated_some : (w : ℕ) → IsWidth w → 0 < (P - 1) * (2 ^ w % P) % P

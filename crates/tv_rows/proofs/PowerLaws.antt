@@ -1,7 +1,7 @@
 -- The laws of the power of a distance.
-use Rattle.std.proofs.Common.{◌≡◌, ℕ, ◌+◌, ◌*◌, ◌/◌, ◌%◌, ◌^◌, ◌<◌, ◌≤◌, List, [], ◌∷◌, length, refl, sym, ◌∙◌, ap, ap₂, arith}
-use Rattle.std.specs.Int.{bit_at}
-use Rattle.std.specs.Prelude.{slice_index}
+use Rattle.tv_core.proofs.Common.{◌≡◌, ℕ, ◌+◌, ◌*◌, ◌/◌, ◌%◌, ◌^◌, ◌<◌, ◌≤◌, List, [], ◌∷◌, length, refl, sym, ◌∙◌, ap, ap₂, arith, bit_at, slice_index}
+use Rattle.tv_core.proofs.Common.{value-wire, InField-none, InField-cons, fresh, put, pure, ◌>>=◌, wire, value, Assigns, Meets, HasFrom, InField, terms_in}
+use Rattle.tv_core.proofs.Common.{for_widths, IsWidth}
 use Rattle.std.proofs.lemmas.Nat.Bits.{bit_at-lt}
 use Rattle.tv_bits.proofs.BitLaws.{product_bit}
 use Rattle.tv_bits.proofs.BitNumbers.{HasBits-bit_at}
@@ -9,21 +9,12 @@ use Rattle.tv_bits.specs.Bit.{IsBit}
 use Rattle.tv_bits.specs.Bits.{HasBits}
 use Rattle.tv_bits.specs.Times.{times_of}
 use Rattle.tv_bits.specs.declared.bit_wires.Bits.{Bits}
-use Rattle.tv_core.proofs.CombinationLaws.{value-wire}
-use Rattle.tv_core.proofs.FieldLaws.{InField-none, InField-cons}
-use Rattle.tv_core.specs.Circuits.{fresh, put, pure, ◌>>=◌}
-use Rattle.tv_core.specs.Combinations.{wire}
-use Rattle.tv_core.specs.Constraints.{value}
-use Rattle.tv_core.specs.Laws.{Assigns, Meets, HasFrom, InField}
-use Rattle.tv_core.specs.Meanings.{terms_in}
 use Rattle.tv_core.specs.declared.field.TheConstants.{P}
 use Rattle.tv_rows.proofs.PowerNumbers.{both_is, middle_is, low_is, wide_is, power_small}
 use Rattle.tv_rows.specs.Power.{factor_by, pair_power, low_power_of, wide_power_of, shift_power_of, shift_power_made, shift_power_wires}
 use Rattle.tv_rows.specs.Power.{low_power_values, wide_power_values, shift_power_values, IsShiftPower}
 use Rattle.tv_rows.specs.Power.{ShiftPowerIsSound, ShiftPowerIsComplete, ShiftPowerSizes, ShiftPowerCosts}
 use Rattle.tv_rows.specs.declared.powers.ShiftPower.{ShiftPower}
-use Rattle.tv_word.proofs.WidthLaws.{for_widths}
-use Rattle.tv_word.specs.Widths.{IsWidth}
 
 module _ (z : List ℕ) (assigns : Assigns z) where
   -- ---- the combinations, of wires that hold bits

@@ -1,8 +1,6 @@
 -- The laws of a difference in a row.
-use Rattle.std.proofs.Common.{◌≡◌, ℕ, ◌+◌, ◌-◌, ◌*◌, ◌%◌, ◌^◌, ◌<◌, List, [], ◌∷◌, ◌++◌, refl, sym, ◌∙◌, ap, ap₂, arith}
-use Rattle.std.specs.Prelude.{slice_index}
-use Rattle.std.specs.Int.{bit_at}
-use Rattle.std.proofs.lemmas.List.{length-append}
+use Rattle.tv_core.proofs.Common.{◌≡◌, ℕ, ◌+◌, ◌-◌, ◌*◌, ◌%◌, ◌^◌, ◌<◌, List, [], ◌∷◌, ◌++◌, refl, sym, ◌∙◌, ap, ap₂, arith, slice_index, bit_at, length-append}
+use Rattle.tv_core.proofs.Common.{value-append, value-cons, value-wire, fresh, put, pure, ◌>>=◌, wire, scaled, Combination, value, Assigns, Meets, HasFrom}
 use Rattle.std.proofs.lemmas.Nat.{mul-mod_first}
 use Rattle.tv_bits.proofs.DoubleRowLaws.{value-row_number}
 use Rattle.tv_bits.proofs.GateLaws.{gated_sound, gated_complete, length-scaled, length-less}
@@ -12,11 +10,7 @@ use Rattle.tv_bits.specs.Gate.{gated_of}
 use Rattle.tv_bits.specs.Times.{times_of}
 use Rattle.tv_bits.specs.declared.double_rows.DoubleRow.{DoubleRow}
 use Rattle.tv_bits.specs.declared.signed_words.SignedWord.{SignedWord}
-use Rattle.tv_core.proofs.CombinationLaws.{value-append, value-cons, value-scaled, value-wire, value-empty}
-use Rattle.tv_core.specs.Circuits.{fresh, put, pure, ◌>>=◌}
-use Rattle.tv_core.specs.Combinations.{wire, scaled}
-use Rattle.tv_core.specs.Constraints.{Combination, value}
-use Rattle.tv_core.specs.Laws.{Assigns, Meets, HasFrom}
+use Rattle.tv_core.proofs.CombinationLaws.{value-scaled, value-empty}
 use Rattle.tv_core.specs.declared.field.TheConstants.{P}
 use Rattle.tv_rows.proofs.RowDifferenceNumbers.{difference_sound, difference_met, difference_row, bit_small}
 use Rattle.tv_rows.specs.RowDifference.{sign_difference, minuend, subtrahend, row_difference_of, row_difference_values, RowDifferenceIsSound}

@@ -1,10 +1,9 @@
 -- The numbers of a difference in a row.
-use Rattle.std.proofs.Common.{◌≡◌, ◌⊎◌, ℕ, ◌+◌, ◌-◌, ◌*◌, ◌%◌, ◌^◌, ◌<◌, ◌≤◌, if◌then◌else◌, Bool, true, false, not, int_lt, int_le, ℤ, inl}
-use Rattle.std.proofs.Common.{inr, refl, sym, ◌∙◌, ap, arith, zero-mul, one-mul}
+use Rattle.tv_core.proofs.Common.{◌≡◌, ◌⊎◌, ℕ, ◌+◌, ◌-◌, ◌*◌, ◌%◌, ◌^◌, ◌<◌, ◌≤◌, if◌then◌else◌, Bool, true, false, not, inl, inr, refl, sym, ◌∙◌, ap, arith}
+use Rattle.tv_core.proofs.Common.{zero-mul, bit_at, cases_eq, nat_tests, IsWidth}
+use Rattle.std.proofs.Common.{int_lt, int_le, ℤ}
+use Rattle.std.proofs.Common.{one-mul}
 use Rattle.std.specs.Prelude.{nat_lt}
-use Rattle.std.specs.Int.{bit_at}
-use Rattle.std.proofs.lemmas.Bool.{cases_eq}
-use Rattle.std.proofs.lemmas.Bool.Decides.{nat_tests}
 use Rattle.std.proofs.lemmas.Int.{ints}
 use Rattle.tv_bits.proofs.RowNumbers.{row_below}
 use Rattle.tv_bits.specs.DoubleRow.{IsRow, whole}
@@ -12,7 +11,6 @@ use Rattle.tv_core.specs.declared.field.TheConstants.{P}
 use Rattle.tv_rows.specs.RowDifference.{is_above, difference_low, difference_high, RowDifferenceEqual}
 use Rattle.tv_word.proofs.FlagLaws.{flag_small}
 use Rattle.tv_word.proofs.SignedLaws.{int_lt_cases}
-use Rattle.tv_word.specs.Widths.{IsWidth}
 use Rattle.tv_word.specs.Word.{signed}
 
 -- ---- the order of signed words is that of words with their top bits crossed over

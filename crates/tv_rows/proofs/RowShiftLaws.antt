@@ -1,6 +1,7 @@
 -- The laws of shifts on a row of twice a word's width.
-use Rattle.std.proofs.Common.{◌≡◌, ℕ, ◌+◌, ◌*◌, ◌%◌, ◌^◌, List, [], refl, sym, ◌∙◌, ap, ap₂, arith, add-zero}
-use Rattle.std.specs.Prelude.{slice_index}
+use Rattle.tv_core.proofs.Common.{◌≡◌, ℕ, ◌+◌, ◌*◌, ◌%◌, ◌^◌, List, [], refl, sym, ◌∙◌, ap, ap₂, arith, slice_index, value-wire, value-cons, fresh, put, pure}
+use Rattle.tv_core.proofs.Common.{◌>>=◌, wire, value, Assigns, Meets, HasFrom}
+use Rattle.std.proofs.Common.{add-zero}
 use Rattle.std.proofs.lemmas.Nat.{mul-mod_first}
 use Rattle.tv_bits.proofs.DoubleRowLaws.{value-row_number}
 use Rattle.tv_bits.proofs.GateLaws.{gated_sound, gated_complete}
@@ -9,11 +10,7 @@ use Rattle.tv_bits.specs.DoubleRow.{whole, row_number}
 use Rattle.tv_bits.specs.Gate.{gated_of}
 use Rattle.tv_bits.specs.Times.{times_of}
 use Rattle.tv_bits.specs.declared.double_rows.DoubleRow.{DoubleRow}
-use Rattle.tv_core.proofs.CombinationLaws.{value-wire, value-cons, value-empty}
-use Rattle.tv_core.specs.Circuits.{fresh, put, pure, ◌>>=◌}
-use Rattle.tv_core.specs.Combinations.{wire}
-use Rattle.tv_core.specs.Constraints.{value}
-use Rattle.tv_core.specs.Laws.{Assigns, Meets, HasFrom}
+use Rattle.tv_core.proofs.CombinationLaws.{value-empty}
 use Rattle.tv_core.specs.declared.field.TheConstants.{P}
 use Rattle.tv_rows.proofs.RowShiftNumbers.{right_row, right_times, right_number, right_low_is, right_high_is}
 use Rattle.tv_rows.specs.RowShift.{raised, right_shift_of, right_shift_values}

@@ -1,6 +1,7 @@
 -- The numbers of rows that hold shifted words.
-use Rattle.std.proofs.Common.{◌≡◌, ◌≢◌, ℕ, ◌+◌, ◌-◌, ◌*◌, ◌/◌, ◌%◌, ◌^◌, ◌<◌, ◌≤◌, sym, subst, ◌∙◌, ap, arith, mul_comm, mul_assoc}
-use Rattle.std.proofs.Math.Nat.{pow-le-pow_right, div-div-eq-div-mul, mul-div_cancel}
+use Rattle.tv_core.proofs.Common.{◌≡◌, ◌≢◌, ℕ, ◌+◌, ◌-◌, ◌*◌, ◌/◌, ◌%◌, ◌^◌, ◌<◌, ◌≤◌, sym, subst, ◌∙◌, ap, arith, pow-le-pow_right, IsWidth}
+use Rattle.std.proofs.Common.{mul_comm, mul_assoc}
+use Rattle.std.proofs.Math.Nat.{div-div-eq-div-mul, mul-div_cancel}
 use Rattle.std.proofs.lemmas.Nat.{mul-le, pow-add}
 use Rattle.tv_bits.proofs.RowNumbers.{row_below, row_is, row_low, row_high, row_of, row_whole}
 use Rattle.tv_bits.specs.DoubleRow.{IsRow, whole}
@@ -8,7 +9,6 @@ use Rattle.std.proofs.lemmas.Nat.{pow_pos}
 use Rattle.tv_core.proofs.PrimeLaws.{p_cancels}
 use Rattle.tv_core.specs.declared.field.TheConstants.{P}
 use Rattle.tv_rows.specs.RowShift.{right_low, right_high}
-use Rattle.tv_word.specs.Widths.{IsWidth}
 
 -- 2 ^ w is the power times that of what is left
 power_parts : (w m : ℕ) → m < w → 2 ^ w ≡ 2 ^ (w - m) * 2 ^ m

@@ -1,20 +1,14 @@
 -- The laws of a sum in a row.
-use Rattle.std.proofs.Common.{◌≡◌, ℕ, ◌+◌, ◌*◌, ◌%◌, ◌^◌, ◌<◌, List, ◌++◌, sym, ◌∙◌, ap₂, arith}
-use Rattle.std.specs.Prelude.{slice_index}
-use Rattle.std.proofs.lemmas.Bool.Decides.{nat_tests}
+use Rattle.tv_core.proofs.Common.{◌≡◌, ℕ, ◌+◌, ◌*◌, ◌%◌, ◌^◌, ◌<◌, List, ◌++◌, sym, ◌∙◌, ap₂, arith, slice_index, nat_tests, value-append, value-wire, wire}
+use Rattle.tv_core.proofs.Common.{value, Assigns, IsWidth}
 use Rattle.tv_bits.proofs.DoubleRowLaws.{value-row_number}
 use Rattle.tv_bits.proofs.GateLaws.{gated_sound, gated_complete, gated_sizes, gated_cost_laws}
 use Rattle.tv_bits.proofs.RowNumbers.{row_below, row_is, row_low}
 use Rattle.tv_bits.specs.DoubleRow.{IsRow, whole, row_number}
 use Rattle.tv_bits.specs.declared.double_rows.DoubleRow.{DoubleRow}
-use Rattle.tv_core.proofs.CombinationLaws.{value-append, value-wire}
-use Rattle.tv_core.specs.Combinations.{wire}
-use Rattle.tv_core.specs.Constraints.{value}
-use Rattle.tv_core.specs.Laws.{Assigns}
 use Rattle.tv_core.specs.declared.field.TheConstants.{P}
 use Rattle.tv_rows.specs.RowSum.{IsRowSum, row_sum_of, RowSumIsSound, RowSumIsComplete, RowSumSizes, RowSumCosts}
 use Rattle.tv_rows.specs.RowSum.{carry}
-use Rattle.tv_word.specs.Widths.{IsWidth}
 
 -- the numbers
 sum_small : (w : ℕ) → IsWidth w → (a b : ℕ) → a < 2 ^ w → b < 2 ^ w → a + b < P

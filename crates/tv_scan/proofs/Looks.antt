@@ -1,7 +1,6 @@
 -- What earlier lines leave in a cell, one line after another.
-use Rattle.std.proofs.Common.{◌≡◌, ℕ, zero, suc, ◌+◌, ◌-◌, ◌%◌, ◌<◌, ◌≤◌, ◌==◌, if◌then◌else◌, List, [], ◌∷◌, length, take, get_or, inl, inr, sym, ◌∙◌, ap}
-use Rattle.std.proofs.Common.{arith}
-use Rattle.std.proofs.lemmas.Bool.{cases_eq, eq-eqb, ne_eqb, cond_both}
+use Rattle.tv_core.proofs.Common.{◌≡◌, ℕ, zero, suc, ◌+◌, ◌-◌, ◌%◌, ◌<◌, ◌≤◌, ◌==◌, if◌then◌else◌, List, [], ◌∷◌, length, take, get_or, inl, inr, sym, ◌∙◌, ap}
+use Rattle.tv_core.proofs.Common.{arith, cases_eq, eq-eqb, ne_eqb, cond_both, Line}
 use Rattle.std.proofs.lemmas.List.{take_more}
 use Rattle.std.proofs.lemmas.List.Sums.{fold-append}
 use Rattle.tv_bits.proofs.ZeroLaws.{zero_flag-zero, zero_flag-other}
@@ -9,7 +8,7 @@ use Rattle.tv_bits.specs.Bit.{IsBit}
 use Rattle.tv_bits.specs.Select.{selected}
 use Rattle.tv_bits.specs.Zero.{zero_flag}
 use Rattle.tv_core.proofs.DifferenceLaws.{same_of_minus}
-use Rattle.tv_core.specs.Lines.{Line, written, memory_after}
+use Rattle.tv_core.specs.Lines.{written, memory_after}
 use Rattle.tv_core.specs.declared.field.TheConstants.{P}
 use Rattle.tv_lines.specs.Placed.{zero_line}
 use Rattle.tv_scan.specs.Scan.{word_after}

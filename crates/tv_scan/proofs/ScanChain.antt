@@ -1,15 +1,10 @@
 -- What the turns of a scan put and give, one after another.
-use Rattle.std.proofs.Common.{◌≡◌, ℕ, zero, suc, ◌+◌, ◌-◌, ◌%◌, ◌<◌, ◌==◌, if◌then◌else◌, List, [], ◌∷◌, ◌++◌, length, map, get_or, Result, refl, sym, ◌∙◌}
-use Rattle.std.proofs.Common.{ap, ap₂, subst, arith}
+use Rattle.tv_core.proofs.Common.{◌≡◌, ℕ, zero, suc, ◌+◌, ◌-◌, ◌%◌, ◌<◌, ◌==◌, if◌then◌else◌, List, [], ◌∷◌, ◌++◌, length, map, get_or, Result, refl, sym, ◌∙◌}
+use Rattle.tv_core.proofs.Common.{ap, ap₂, subst, arith, puts_in_then, put, pure, turns, constant, wire, Combination, Line, PutsAll}
 use Rattle.tv_bits.specs.Zero.{zero_values}
 use Rattle.tv_core.proofs.Chain.{puts_then, refused_then, puts_nothing, puts_turn, turn_refused}
-use Rattle.tv_core.proofs.TailCalls.{puts_in_then}
-use Rattle.tv_core.specs.Circuits.{put, pure, turns}
-use Rattle.tv_core.specs.Combinations.{constant, wire}
-use Rattle.tv_core.specs.Constraints.{Combination}
 use Rattle.tv_core.specs.Values.{ValuesMeaning, GivesSome}
-use Rattle.tv_core.specs.Lines.{Line}
-use Rattle.tv_core.specs.Sinks.{Meaning, PutsAll, PutsSome, PutsIn}
+use Rattle.tv_core.specs.Sinks.{Meaning, PutsSome, PutsIn}
 use Rattle.tv_core.specs.declared.field.TheConstants.{P}
 use Rattle.tv_core.specs.declared.lines.LineLc.{LineLc}
 use Rattle.tv_core.specs.declared.lines.LineNum.{LineNum}

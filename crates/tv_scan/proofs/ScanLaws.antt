@@ -1,23 +1,20 @@
 -- The laws of the scan.
-use Rattle.std.proofs.Common.{◌≡◌, ℕ, zero, suc, ◌+◌, ◌-◌, ◌*◌, ◌%◌, ◌<◌, ◌≤◌, List, [], ◌∷◌, ◌++◌, length, map, get_or, refl, sym, ◌∙◌, ap, ap₂, subst, arith}
-use Rattle.std.specs.Prelude.{slice_index}
-use Rattle.std.proofs.lemmas.List.{length-map, take_all}
+use Rattle.tv_core.proofs.Common.{◌≡◌, ℕ, zero, suc, ◌+◌, ◌-◌, ◌*◌, ◌%◌, ◌<◌, ◌≤◌, List, [], ◌∷◌, ◌++◌, length, map, get_or, refl, sym, ◌∙◌, ap, ap₂, subst}
+use Rattle.tv_core.proofs.Common.{arith, slice_index, length-map, value-less, value-below, value-wire, InField-none, InField-cons, Meets-split, Meets-join}
+use Rattle.tv_core.proofs.Common.{HasFrom-split, put, pure, turns, ◌>>=◌, constant, less, Combination, value, Assigns, Meets, HasFrom, InField, Line}
+use Rattle.std.proofs.lemmas.List.{take_all}
 use Rattle.tv_bits.proofs.SelectLaws.{select_answer, select_next, select_sound, select_complete}
 use Rattle.tv_bits.proofs.SizeLaws.{zero_in_field}
 use Rattle.tv_bits.proofs.ZeroLaws.{zero_next, zero_sound, zero_complete}
 use Rattle.tv_bits.specs.Select.{select_of, selected}
 use Rattle.tv_bits.specs.Bit.{IsBit}
 use Rattle.tv_bits.specs.Zero.{zero_of, zero_flag, zero_values}
-use Rattle.tv_core.proofs.CombinationLaws.{value-less, value-below, value-wire, value-once}
-use Rattle.tv_core.proofs.FieldLaws.{InField-none, InField-cons, InField-append, InField-joined_below}
+use Rattle.tv_core.proofs.CombinationLaws.{value-once}
+use Rattle.tv_core.proofs.FieldLaws.{InField-append, InField-joined_below}
 use Rattle.tv_core.proofs.JoinedLaws.{length-joined_below, has_each_list}
 use Rattle.tv_core.proofs.LoopLaws.{turns-next}
-use Rattle.tv_core.proofs.MeetsLaws.{Meets-split, Meets-join, HasFrom-split, parts, whole}
-use Rattle.tv_core.specs.Circuits.{put, pure, turns, ◌>>=◌}
-use Rattle.tv_core.specs.Combinations.{constant, less}
-use Rattle.tv_core.specs.Constraints.{Combination, value}
-use Rattle.tv_core.specs.Laws.{Assigns, Meets, HasFrom, InField}
-use Rattle.tv_core.specs.Lines.{Line, memory_after}
+use Rattle.tv_core.proofs.MeetsLaws.{parts, whole}
+use Rattle.tv_core.specs.Lines.{memory_after}
 use Rattle.tv_core.specs.declared.field.TheConstants.{P}
 use Rattle.tv_core.specs.declared.lines.LineLc.{LineLc}
 use Rattle.tv_lines.specs.PackedLines.{line_value}

@@ -1,7 +1,7 @@
 -- The laws of the chosen half of a word.
-use Rattle.std.proofs.Common.{◌≡◌, ℕ, ◌+◌, ◌^◌, ◌<◌, List, [], inl, inr, refl, ◌∙◌, ap, ap₂, arith, mul-one}
-use Rattle.std.specs.Int.{bit_at}
-use Rattle.std.specs.Prelude.{slice_index}
+use Rattle.tv_core.proofs.Common.{◌≡◌, ℕ, ◌+◌, ◌^◌, ◌<◌, List, [], inl, inr, refl, ◌∙◌, ap, ap₂, arith, bit_at, slice_index, value-wire, Meets-split}
+use Rattle.tv_core.proofs.Common.{Meets-join, here, fresh, put, pure, ◌>>=◌, wire, Assigns, Meets, HasFrom, sequence}
+use Rattle.std.proofs.Common.{mul-one}
 use Rattle.tv_bits.proofs.BitLaws.{bit_cases}
 use Rattle.tv_bits.proofs.SelectLaws.{select_sound, select_complete}
 use Rattle.tv_bits.proofs.BitNumbers.{HasBits-below, HasBits-bit_at, HasBits-from_bits, HasBits-low, HasBits-high}
@@ -9,13 +9,7 @@ use Rattle.tv_bits.specs.Bit.{IsBit}
 use Rattle.tv_bits.specs.Bits.{HasBits, bits_values}
 use Rattle.tv_bits.specs.Select.{selected, pick_of}
 use Rattle.tv_core.proofs.BelowLaws.{has_each}
-use Rattle.tv_core.proofs.CombinationLaws.{value-wire}
 use Rattle.tv_core.proofs.LoopLaws.{turn_met, turns_met, turns-next}
-use Rattle.tv_core.proofs.MeetsLaws.{Meets-split, Meets-join}
-use Rattle.tv_core.specs.Circuits.{here, fresh, put, pure, ◌>>=◌}
-use Rattle.tv_core.specs.Combinations.{wire}
-use Rattle.tv_core.specs.Laws.{Assigns, Meets, HasFrom}
-use Rattle.tv_core.specs.Loops.{sequence}
 use Rattle.tv_shift.specs.Halves.{chosen_half, half_bit_of, halves_of}
 
 half_bit-next : (n b x i at : ℕ) → (half_bit_of n b x i at).next ≡ at + 1

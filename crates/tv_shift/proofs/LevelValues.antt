@@ -1,9 +1,9 @@
 -- The values of the levels of a thermometer, given one level after another.
-use Rattle.std.proofs.Common.{◌≡◌, ℕ, zero, suc, ◌+◌, ◌-◌, ◌^◌, ◌<◌, [], ◌++◌, length, length-append, inl, inr, refl, subst, ◌∙◌, ap, ap₂, arith, add-one}
-use Rattle.std.proofs.lemmas.Bool.{cases_eq}
-use Rattle.tv_core.proofs.BelowLaws.{length-each_below}
+use Rattle.tv_core.proofs.Common.{◌≡◌, ℕ, zero, suc, ◌+◌, ◌-◌, ◌^◌, ◌<◌, [], ◌++◌, length, inl, inr, refl, subst, ◌∙◌, ap, ap₂, arith, add-one, cases_eq}
+use Rattle.tv_core.proofs.Common.{length-each_below, GivesAll}
+use Rattle.std.proofs.Common.{length-append}
 use Rattle.tv_core.proofs.ValuesChain.{gives_then, gives_then_refused, gives_refused_then, gives_nothing}
-use Rattle.tv_core.specs.Values.{ValuesMeaning, GivesAll, GivesSome}
+use Rattle.tv_core.specs.Values.{ValuesMeaning, GivesSome}
 use Rattle.tv_core.specs.declared.sink.SinkFault.{SinkFault}
 use Rattle.tv_shift.proofs.MarkTerms.{products-more}
 use Rattle.tv_shift.specs.Thermometer.{products_below, level_value, level_values, thermometer_values}

@@ -1,12 +1,11 @@
 -- The laws of a part that masks let through.
-use Rattle.std.proofs.Common.{◌≡◌, ℕ, ◌+◌, ◌-◌, ◌*◌, ◌/◌, ◌%◌, ◌^◌, ◌<◌, ◌≤◌, List, [], ◌++◌, inl, inr, refl, sym, subst, ◌∙◌, ap, ap₂, arith, mul-one}
-use Rattle.std.proofs.Common.{mod-eq_of_lt}
+use Rattle.tv_core.proofs.Common.{◌≡◌, ℕ, ◌+◌, ◌-◌, ◌*◌, ◌/◌, ◌%◌, ◌^◌, ◌<◌, ◌≤◌, List, [], ◌++◌, inl, inr, refl, sym, subst, ◌∙◌, ap, ap₂, arith, mod-eq_of_lt}
+use Rattle.tv_core.proofs.Common.{cases_lt, bit_at, slice_index, value-append, value-less, value-wire, Meets-split, Meets-join, here, fresh, put, pure, ◌>>=◌}
+use Rattle.tv_core.proofs.Common.{wire, Combination, value, Assigns, Meets, HasFrom, sequence, for_widths, IsWidth}
+use Rattle.std.proofs.Common.{mul-one}
 use Rattle.std.proofs.Math.Nat.{mod-le}
-use Rattle.std.proofs.lemmas.Bool.{cases_lt}
 use Rattle.std.proofs.lemmas.Nat.{pow-add, mul-mod_first}
 use Rattle.std.proofs.lemmas.Nat.Bits.{bit_at-lt}
-use Rattle.std.specs.Int.{bit_at}
-use Rattle.std.specs.Prelude.{slice_index}
 use Rattle.tv_bits.proofs.PairLaws.{two_ands_sound, two_ands_complete}
 use Rattle.tv_bits.proofs.BitNumbers.{sum_below-plus, HasBits-below, HasBits-bit_at, HasBits-low, HasBits-high, picked-bit_at}
 use Rattle.tv_bits.specs.Bit.{IsBit}
@@ -14,15 +13,8 @@ use Rattle.tv_bits.specs.Bits.{HasBits, bits_combination}
 use Rattle.tv_bits.specs.Pairs.{two_ands, two_ands_of}
 use Rattle.tv_bits.specs.Select.{selected}
 use Rattle.tv_core.proofs.BelowLaws.{sum_below-same, sum_below-mod_same, sum_below-zeros, sum_below-add, value-weighted, has_each}
-use Rattle.tv_core.proofs.CombinationLaws.{value-append, value-less, value-wire}
 use Rattle.tv_core.proofs.LoopLaws.{turn_met, turns_met, turns-next}
-use Rattle.tv_core.proofs.MeetsLaws.{Meets-split, Meets-join}
 use Rattle.tv_core.specs.Below.{sum_below}
-use Rattle.tv_core.specs.Circuits.{here, fresh, put, pure, ◌>>=◌}
-use Rattle.tv_core.specs.Combinations.{wire}
-use Rattle.tv_core.specs.Constraints.{Combination, value}
-use Rattle.tv_core.specs.Laws.{Assigns, Meets, HasFrom}
-use Rattle.tv_core.specs.Loops.{sequence}
 use Rattle.tv_core.specs.declared.field.TheConstants.{P}
 use Rattle.tv_bits.proofs.BitLaws.{bit_cases, product_bit}
 use Rattle.tv_shift.proofs.ShiftNumbers.{half_power}
@@ -33,8 +25,6 @@ use Rattle.tv_shift.specs.Thermometer.{below}
 use Rattle.tv_shift.specs.declared.masks.Part.{Part}
 use Rattle.tv_shift.specs.declared.masks.Part.TheVariants.{Low, High}
 use Rattle.tv_shift.specs.declared.masks.Places.{Places}
-use Rattle.tv_word.proofs.WidthLaws.{for_widths}
-use Rattle.tv_word.specs.Widths.{IsWidth}
 
 -- ---- sums
 -- the s low bits of a number are its remainder

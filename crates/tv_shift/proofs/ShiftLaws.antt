@@ -1,12 +1,12 @@
 -- The laws of the shift, from those of its parts.
-use Rattle.std.proofs.Common.{◌≡◌, ℕ, ◌+◌, ◌-◌, ◌*◌, ◌/◌, ◌%◌, ◌^◌, ◌<◌, List, [], ◌∷◌, ◌++◌, length, min, inl, inr, refl, sym, subst, ◌∙◌, ap, ap₂, arith}
-use Rattle.std.proofs.Common.{mod-lt, mod-eq_of_lt}
+use Rattle.tv_core.proofs.Common.{◌≡◌, ℕ, ◌+◌, ◌-◌, ◌*◌, ◌/◌, ◌%◌, ◌^◌, ◌<◌, List, [], ◌∷◌, ◌++◌, length, inl, inr, refl, sym, subst, ◌∙◌, ap, ap₂, arith}
+use Rattle.tv_core.proofs.Common.{mod-lt, mod-eq_of_lt, cases_eq, bit_at, slice_index, length-each_below, value-less, value-wire, wire-below, Meets-split}
+use Rattle.tv_core.proofs.Common.{Meets-join, HasFrom-split, here, fresh, put, pure, ◌>>=◌, wire, scaled, less, Combination, value, Assigns, Meets, HasFrom}
+use Rattle.tv_core.proofs.Common.{IsWidth}
+use Rattle.std.proofs.Common.{min}
 use Rattle.std.proofs.Math.Nat.{div-le_self}
-use Rattle.std.proofs.lemmas.Bool.{cases_eq}
 use Rattle.std.proofs.lemmas.Nat.{pow_pos}
 use Rattle.std.proofs.lemmas.Nat.Bits.{bit_at-lt}
-use Rattle.std.specs.Int.{bit_at}
-use Rattle.std.specs.Prelude.{slice_index}
 use Rattle.tv_bits.proofs.SelectLaws.{select_sound, select_complete}
 use Rattle.tv_bits.proofs.BitNumbers.{HasBits-below, HasBits-bit_at, HasBits-low, HasBits-high, value-bits_below}
 use Rattle.tv_bits.proofs.ZeroLaws.{zero_flag-zero, zero_flag-other, zero_sound, zero_complete, zero_next}
@@ -14,13 +14,7 @@ use Rattle.tv_bits.specs.Bit.{IsBit}
 use Rattle.tv_bits.specs.Bits.{HasBits, bits_combination, bits_values}
 use Rattle.tv_bits.specs.Select.{selected, select_of, pick_of}
 use Rattle.tv_bits.specs.Zero.{zero_flag, zero_of, zero_values}
-use Rattle.tv_core.proofs.BelowLaws.{length-each_below}
-use Rattle.tv_core.proofs.CombinationLaws.{value-less, value-scaled, value-wire, wire-below}
-use Rattle.tv_core.proofs.MeetsLaws.{Meets-split, Meets-join, HasFrom-split}
-use Rattle.tv_core.specs.Circuits.{here, fresh, put, pure, ◌>>=◌}
-use Rattle.tv_core.specs.Combinations.{wire, scaled, less}
-use Rattle.tv_core.specs.Constraints.{Combination, value}
-use Rattle.tv_core.specs.Laws.{Assigns, Meets, HasFrom}
+use Rattle.tv_core.proofs.CombinationLaws.{value-scaled}
 use Rattle.tv_core.specs.declared.field.TheConstants.{P}
 use Rattle.tv_shift.proofs.HalfLaws.{halves_sound, halves_complete, halves_next}
 use Rattle.tv_shift.proofs.MaskLaws.{low_sound, high_sound, part_complete, masked_next}
@@ -41,7 +35,6 @@ use Rattle.tv_shift.specs.declared.ends.Shift.{Shift}
 use Rattle.tv_shift.specs.declared.masks.Part.TheVariants.{Low, High}
 use Rattle.tv_shift.specs.declared.masks.Parts.{Parts}
 use Rattle.tv_shift.specs.declared.masks.Places.{Places}
-use Rattle.tv_word.specs.Widths.{IsWidth}
 use Rattle.tv_word.proofs.WidthLaws.{word_small}
 
 -- what is known of places, and of parts, for a word v, a distance whose low bits represent s, and the bit b above them

@@ -1,9 +1,9 @@
 -- Shifts of whole numbers.
-use Rattle.std.proofs.Common.{◌≡◌, ◌≢◌, ℕ, ◌+◌, ◌-◌, ◌*◌, ◌/◌, ◌%◌, ◌^◌, ◌<◌, ◌≤◌, inl, inr, refl, sym, ◌∙◌, ap, ap₂, arith, mod-lt, mod-eq_of_lt}
-use Rattle.std.proofs.Math.Nat.{pow-le-pow_right, div-add-mod, div-le_self, div-div-eq-div-mul, add-mul-mod_self_left, mul-div_cancel_left, mod-le}
+use Rattle.tv_core.proofs.Common.{◌≡◌, ◌≢◌, ℕ, ◌+◌, ◌-◌, ◌*◌, ◌/◌, ◌%◌, ◌^◌, ◌<◌, ◌≤◌, inl, inr, refl, sym, ◌∙◌, ap, ap₂, arith, mod-lt, mod-eq_of_lt}
+use Rattle.tv_core.proofs.Common.{pow-le-pow_right, bit_at, for_widths, IsWidth}
+use Rattle.std.proofs.Math.Nat.{div-add-mod, div-le_self, div-div-eq-div-mul, add-mul-mod_self_left, mul-div_cancel_left, mod-le}
 use Rattle.std.proofs.Math.Nat.{mul-lt-mul_of_pos_left}
 use Rattle.std.proofs.Math.Pow.{mod-mod-pow}
-use Rattle.std.specs.Int.{bit_at}
 use Rattle.tv_bits.proofs.BitLaws.{bit_cases}
 use Rattle.tv_bits.specs.Bit.{IsBit}
 use Rattle.tv_core.proofs.PrimeLaws.{p_cancels_below}
@@ -12,8 +12,7 @@ use Rattle.tv_shift.specs.Halves.{chosen_half, other_half}
 use Rattle.tv_shift.specs.Masks.{half_log}
 use Rattle.tv_shift.specs.Shift.{half_left, half_right}
 use Rattle.tv_shift.specs.Thermometer.{products_below}
-use Rattle.tv_word.proofs.WidthLaws.{for_widths, word_small}
-use Rattle.tv_word.specs.Widths.{IsWidth}
+use Rattle.tv_word.proofs.WidthLaws.{word_small}
 use Rattle.std.proofs.lemmas.Nat.{pow-add, pow_pos, mod-pow-add, mul-mod_first}
 
 -- half a word

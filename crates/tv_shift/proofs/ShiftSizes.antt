@@ -1,9 +1,10 @@
 -- Where a shift ends and what it answers; its values are as many as its wires, and in the field.
-use Rattle.std.proofs.Common.{◌≡◌, ℕ, zero, suc, ◌+◌, ◌-◌, ◌*◌, ◌/◌, ◌%◌, ◌^◌, ◌<◌, [], ◌∷◌, ◌++◌, length, length-append, ◌∙◌, ap, arith, mod-lt}
+use Rattle.tv_core.proofs.Common.{◌≡◌, ℕ, zero, suc, ◌+◌, ◌-◌, ◌*◌, ◌/◌, ◌%◌, ◌^◌, ◌<◌, [], ◌∷◌, ◌++◌, length, ◌∙◌, ap, arith, mod-lt, bit_at}
+use Rattle.tv_core.proofs.Common.{length-each_below, pure, ◌>>=◌, InField, InField-none, InField-cons, IsWidth}
+use Rattle.std.proofs.Common.{length-append}
 use Rattle.std.proofs.Math.Nat.{div-le_self}
 use Rattle.std.proofs.lemmas.Nat.{pow_pos}
 use Rattle.std.proofs.lemmas.Nat.Bits.{bit_at-lt}
-use Rattle.std.specs.Int.{bit_at}
 use Rattle.tv_bits.proofs.BitLaws.{product_bit}
 use Rattle.tv_bits.proofs.SelectLaws.{select_next}
 use Rattle.tv_bits.proofs.SizeLaws.{bits_in_field, zero_in_field}
@@ -12,11 +13,10 @@ use Rattle.tv_bits.specs.Bit.{IsBit}
 use Rattle.tv_bits.specs.Bits.{bits_combination}
 use Rattle.tv_bits.specs.Zero.{zero_of, zero_values}
 use Rattle.tv_bits.specs.declared.bit_wires.Bits.{Bits}
-use Rattle.tv_core.proofs.BelowLaws.{length-each_below}
-use Rattle.tv_core.specs.Circuits.{Made, pure, ◌>>=◌}
-use Rattle.tv_core.specs.Laws.{Fills, InField}
+use Rattle.tv_core.specs.Circuits.{Made}
+use Rattle.tv_core.specs.Laws.{Fills}
 use Rattle.tv_core.specs.declared.field.TheConstants.{P}
-use Rattle.tv_core.proofs.FieldLaws.{InField-none, InField-cons, InField-append, InField-each_below, word-below}
+use Rattle.tv_core.proofs.FieldLaws.{InField-append, InField-each_below, word-below}
 use Rattle.tv_shift.proofs.HalfLaws.{halves_next}
 use Rattle.tv_shift.proofs.LevelValues.{values-none, values-more, length-values}
 use Rattle.tv_shift.proofs.MaskLaws.{masked_next}
@@ -31,7 +31,6 @@ use Rattle.tv_shift.specs.declared.ends.Shift.{Shift}
 use Rattle.tv_shift.specs.declared.masks.Part.{Part}
 use Rattle.tv_shift.specs.declared.masks.Part.TheVariants.{Low, High}
 use Rattle.tv_shift.specs.declared.masks.Parts.{Parts}
-use Rattle.tv_word.specs.Widths.{IsWidth}
 
 -- ---- where the circuits end
 pub places_next : (w : ℕ) → IsWidth w → (x y next : ℕ) → (places_of w x y next).next ≡ next + places_made w

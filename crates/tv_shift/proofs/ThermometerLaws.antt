@@ -1,22 +1,19 @@
 -- The laws of a thermometer: its marks, and the power of 2 that they add up to.
-use Rattle.std.proofs.Common.{◌≡◌, ℕ, zero, suc, ◌+◌, ◌-◌, ◌*◌, ◌%◌, ◌^◌, ◌<◌, ◌≤◌, List, [], ◌++◌, min, if◌then◌else◌, inl, inr, refl, sym, subst, ◌∙◌, ap}
-use Rattle.std.proofs.Common.{ap₂, arith, mul-one, mod-lt}
+use Rattle.tv_core.proofs.Common.{◌≡◌, ℕ, zero, suc, ◌+◌, ◌-◌, ◌*◌, ◌%◌, ◌^◌, ◌<◌, ◌≤◌, List, [], ◌++◌, if◌then◌else◌, inl, inr, refl, sym, subst, ◌∙◌, ap, ap₂}
+use Rattle.tv_core.proofs.Common.{arith, mod-lt, cases_lt, lt-ltb, le-ltb, slice_index, value-append, value-cons, value-wire, wire-below, Meets-split}
+use Rattle.tv_core.proofs.Common.{Meets-join, HasFrom-split, here, fresh, put, pure, turns, ◌>>=◌, scaled, Combination, value, Assigns, Meets, HasFrom}
+use Rattle.tv_core.proofs.Common.{sequence}
+use Rattle.std.proofs.Common.{min}
+use Rattle.std.proofs.Common.{mul-one}
 use Rattle.std.proofs.Math.Nat.{pow-suc, mod-one}
-use Rattle.std.proofs.lemmas.Bool.{cases_lt, lt-ltb, le-ltb}
 use Rattle.std.proofs.lemmas.Nat.{mod-pow-add, pow_pos}
-use Rattle.std.specs.Prelude.{slice_index}
 use Rattle.tv_bits.proofs.BitNumbers.{HasBits-bit_at}
 use Rattle.tv_bits.specs.Bit.{IsBit}
 use Rattle.tv_bits.specs.Bits.{HasBits}
 use Rattle.tv_core.proofs.BelowLaws.{has_each}
-use Rattle.tv_core.proofs.CombinationLaws.{value-append, value-cons, value-scaled, value-wire, value-constant, wire-below}
+use Rattle.tv_core.proofs.CombinationLaws.{value-scaled, value-constant}
 use Rattle.tv_core.proofs.LoopLaws.{turn_met, turns_met, turns-next}
-use Rattle.tv_core.proofs.MeetsLaws.{Meets-split, Meets-join, HasFrom-split, parts, whole}
-use Rattle.tv_core.specs.Circuits.{here, fresh, put, pure, turns, ◌>>=◌}
-use Rattle.tv_core.specs.Combinations.{scaled}
-use Rattle.tv_core.specs.Constraints.{Combination, value}
-use Rattle.tv_core.specs.Laws.{Assigns, Meets, HasFrom}
-use Rattle.tv_core.specs.Loops.{sequence}
+use Rattle.tv_core.proofs.MeetsLaws.{parts, whole}
 use Rattle.tv_core.specs.declared.field.TheConstants.{P}
 use Rattle.tv_bits.proofs.BitLaws.{bit_cases}
 use Rattle.tv_shift.proofs.LevelValues.{values-more, length-values}

@@ -1,14 +1,14 @@
 -- Looking into a normal combination.
-use Rattle.std.proofs.Common.{◌≡◌, ℕ, zero, suc, ◌+◌, ◌*◌, ◌%◌, ◌<◌, ◌≤◌, ◌&&◌, ◌∷◌, Some, None, refl, sym, ◌∙◌, ap, ap₂, subst, arith, eqb, ltb, []}
-use Rattle.std.proofs.Common.{◌++◌, not, true, false, inl, inr, cond, length, get_or, eq-eqb, ne_eqb, ltb-true, one-mul, mod-eq_of_lt}
+use Rattle.tv_core.proofs.Common.{◌≡◌, ℕ, zero, suc, ◌+◌, ◌*◌, ◌%◌, ◌<◌, ◌≤◌, ◌∷◌, Some, None, refl, sym, ◌∙◌, ap, ap₂, subst, arith, [], ◌++◌, not, true}
+use Rattle.tv_core.proofs.Common.{false, inl, inr, cond, length, get_or, mod-eq_of_lt, cases_lt, scaled, Combination, IsNormalFrom}
+use Rattle.std.proofs.Common.{◌&&◌, eqb, ltb}
+use Rattle.std.proofs.Common.{eq-eqb, ne_eqb, ltb-true, one-mul}
 use Rattle.std.specs.List.{list_all}
 use Rattle.std.specs.Prelude.{Option, IfSome, is_some}
-use Rattle.std.proofs.lemmas.Bool.{and_left, and_right, cases_lt, cond-true, cond-false, ltb-false, or_from}
+use Rattle.std.proofs.lemmas.Bool.{and_left, and_right, cond-true, cond-false, ltb-false, or_from}
 use Rattle.std.specs.List.Sorted.{IsNonDecreasingBy, IsPartitionPoint}
-use Rattle.tv_core.specs.Combinations.{scaled}
-use Rattle.tv_core.specs.Constraints.{Combination}
 use Rattle.tv_core.specs.declared.field.TheConstants.{P}
-use Rattle.tv_core.specs.Normal.{coefficient, IsNormalFrom}
+use Rattle.tv_core.specs.Normal.{coefficient}
 use Rattle.tv_shrink.specs.Substitution.{has_wire, constant_in, without}
 use Rattle.tv_shrink.proofs.ReplacingLaws.{found_here, found_later}
 use Rattle.tv_core.proofs.NormalLaws.{Over, IsNormalFrom-lower}

@@ -1,5 +1,5 @@
 -- What holds of each element of a list.
-use Rattle.std.proofs.Common.{◌≡◌, true, false, ℕ, zero, suc, List, ◌∷◌, ◌++◌, get_or, set, []}
+use Rattle.tv_core.proofs.Common.{◌≡◌, true, false, ℕ, zero, suc, List, ◌∷◌, ◌++◌, get_or, set, []}
 use Rattle.std.specs.List.{AllByRecursion}
 use Rattle.std.proofs.lemmas.List.Elements.{recursion_from_All, All-from_recursion, All-push, All-set}
 

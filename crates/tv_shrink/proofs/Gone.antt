@@ -1,10 +1,12 @@
 -- The wires that are gone, and the numbers of the others.
-use Rattle.std.proofs.Common.{◌≡◌, ◌≢◌, ℕ, zero, suc, ◌+◌, ◌-◌, ◌<◌, ◌≤◌, Bool, not, ◌||◌, List, ◌∷◌, ◌++◌, refl, sym, ◌∙◌, ap, arith, eqb, ltb, []}
-use Rattle.std.proofs.Common.{true, false, inl, inr, cond, length, get_or, eqb-true, add-one, append-nil, subst}
+use Rattle.tv_core.proofs.Common.{◌≡◌, ◌≢◌, ℕ, zero, suc, ◌+◌, ◌-◌, ◌<◌, ◌≤◌, Bool, not, List, ◌∷◌, ◌++◌, refl, sym, ◌∙◌, ap, arith, [], true, false, inl, inr}
+use Rattle.tv_core.proofs.Common.{cond, length, get_or, add-one, append-nil, subst, cases_eq, cases_lt, length-append}
+use Rattle.std.proofs.Common.{◌||◌, eqb, ltb}
+use Rattle.std.proofs.Common.{eqb-true}
 use Rattle.std.specs.List.{dedup, dedup_from, list_any}
 use Rattle.std.specs.List.Sorted.{IsNonDecreasingBy, IsPartitionPoint, IsStrictlyIncreasing}
-use Rattle.std.proofs.lemmas.Bool.{cases_Bool, cases_eq, cases_lt, ltb-false, ltb-true}
-use Rattle.std.proofs.lemmas.List.{get_or_append_left, get_or_push, length-append}
+use Rattle.std.proofs.lemmas.Bool.{cases_Bool, ltb-false, ltb-true}
+use Rattle.std.proofs.lemmas.List.{get_or_append_left, get_or_push}
 use Rattle.std.proofs.lemmas.List.Kept.{AllPairs-from_increasing}
 use Rattle.tv_r1cs_write.specs.Bytes.{others}
 use Rattle.tv_r1cs_write.proofs.Others.{absent, others_more, there, AreAhead}

@@ -1,11 +1,12 @@
 -- The wires that are kept, and the place of each among them.
-use Rattle.std.proofs.Common.{◌≡◌, ℕ, zero, suc, ◌+◌, ◌-◌, ◌<◌, ◌≤◌, Bool, not, List, ◌∷◌, ◌++◌, refl, sym, ◌∙◌, ap, arith, eqb, subst}
-use Rattle.std.proofs.Common.{true, false, cond, map, length, get_or, take, eq-eqb, ne_eqb}
-use Rattle.std.specs.List.{AllByRecursion, AllPairs, filter, list_any, range_with_len}
-use Rattle.std.specs.Prelude.{slice_index}
+use Rattle.tv_core.proofs.Common.{◌≡◌, ℕ, zero, suc, ◌+◌, ◌-◌, ◌<◌, ◌≤◌, Bool, not, List, ◌∷◌, ◌++◌, refl, sym, ◌∙◌, ap, arith, subst, true, false, cond, map}
+use Rattle.tv_core.proofs.Common.{length, get_or, take, range_with_len, slice_index, length-append, length-map}
+use Rattle.std.proofs.Common.{eqb}
+use Rattle.std.proofs.Common.{eq-eqb, ne_eqb}
+use Rattle.std.specs.List.{AllByRecursion, AllPairs, filter, list_any}
 use Rattle.std.proofs.lemmas.Bool.{false_from_ne_true, not-true}
 use Rattle.std.proofs.lemmas.List.Elements.{filter-append, filter_agree, filter_passes, recursion_from_All, All-filter}
-use Rattle.std.proofs.lemmas.List.{ext_get_or, get_or-map, get_or_at, length-append, length-map}
+use Rattle.std.proofs.lemmas.List.{ext_get_or, get_or-map, get_or_at}
 use Rattle.std.proofs.lemmas.List.FromFn.{get_or-range_with_len, length-range_with_len}
 use Rattle.std.proofs.lemmas.List.Kept.{AllPairs-filter}
 use Rattle.std.proofs.lemmas.List.Sums.{position_or_len_is}

@@ -1,12 +1,12 @@
 -- Terms put over others, and the constraints whose terms are not among those.
-use Rattle.std.proofs.Common.{◌≡◌, ◌⊎◌, ℕ, zero, suc, ◌+◌, ◌-◌, ◌<◌, ◌≤◌, List, ◌∷◌, ◌++◌, Option, Some, None, refl, sym, ◌∙◌, ap, ap₂, subst, arith, inl, []}
-use Rattle.std.proofs.Common.{inr, map, length, get_or, set, take, drop, take-append-drop, take_all, append-nil}
+use Rattle.tv_core.proofs.Common.{◌≡◌, ◌⊎◌, ℕ, zero, suc, ◌+◌, ◌-◌, ◌<◌, ◌≤◌, List, ◌∷◌, ◌++◌, Option, Some, None, refl, sym, ◌∙◌, ap, ap₂, subst, arith, inl}
+use Rattle.tv_core.proofs.Common.{[], inr, map, length, get_or, set, take, drop, append-nil, length-append, Combination, Constraint}
+use Rattle.std.proofs.Common.{take-append-drop, take_all}
 use Rattle.std.specs.List.{AllByRecursion}
 use Rattle.std.specs.Option.{option_map}
 use Rattle.std.specs.Prelude.{slice_range}
 use Rattle.std.proofs.Math.Seq.{drop-append-add}
-use Rattle.std.proofs.lemmas.List.{append_assoc, drop_all, get_or_read, length-append, length-drop, length-take-le, map_push}
-use Rattle.tv_core.specs.Constraints.{Combination, Constraint}
+use Rattle.std.proofs.lemmas.List.{append_assoc, drop_all, get_or_read, length-drop, length-take-le, map_push}
 use Rattle.tv_shrink.specs.Spans.{end_of, laid, row_at, row_terms, span_of, AreApart, AreInside, AreLaid, IsClear, IsFree, IsInside}
 use Rattle.tv_shrink.specs.declared.arena.Span.{Span}
 use Rattle.tv_shrink.proofs.Elements.{each_at, each_pushed, each_set, each_weaker}

@@ -1,18 +1,17 @@
 -- What the functions on a constraint's combinations return.
-use Rattle.std.proofs.Common.{◌≡◌, ◌≢◌, ℕ, ◌+◌, ◌-◌, ◌*◌, ◌%◌, ◌<◌, ◌≤◌, Bool, not, ◌||◌, leb, length, ◌∷◌, ◌++◌, Some, None, sym, ◌∙◌, ap, []}
-use Rattle.std.proofs.Common.{ap₂, append-nil, arith, eqb, true, false, inl, inr, cond, mod-lt, mul-zero}
-use Rattle.std.proofs.lemmas.Bool.{cond_both, le-leb, leb-true, not-true, or_cases, or_left, or_right}
-use Rattle.std.proofs.lemmas.List.{length-append, length-map}
+use Rattle.tv_core.proofs.Common.{◌≡◌, ◌≢◌, ℕ, ◌+◌, ◌-◌, ◌*◌, ◌%◌, ◌<◌, ◌≤◌, Bool, not, length, ◌∷◌, ◌++◌, Some, None, sym, ◌∙◌, ap, [], ap₂, append-nil, arith}
+use Rattle.tv_core.proofs.Common.{true, false, inl, inr, cond, mod-lt, cond_both, length-append, length-map, scaled, value-append, Combination, Constraint}
+use Rattle.tv_core.proofs.Common.{value, normal, IsNormalFrom}
+use Rattle.std.proofs.Common.{◌||◌, leb}
+use Rattle.std.proofs.Common.{eqb, mul-zero}
+use Rattle.std.proofs.lemmas.Bool.{le-leb, leb-true, not-true, or_cases, or_left, or_right}
 use Rattle.std.specs.Option.{option_or}
-use Rattle.tv_core.specs.Combinations.{scaled}
-use Rattle.tv_core.proofs.CombinationLaws.{value-append}
 use Rattle.tv_core.proofs.InverseLaws.{inverse_of-below, mul-inverse_of}
 use Rattle.tv_core.proofs.PrimeLaws.{p_cancels}
 use Rattle.tv_core.proofs.Unique.{normal-same, same_values}
-use Rattle.tv_core.specs.Constraints.{Combination, Constraint, value}
 use Rattle.tv_core.specs.Inverse.{inverse_of}
 use Rattle.tv_core.specs.declared.field.TheConstants.{P}
-use Rattle.tv_core.specs.Normal.{coefficient, normal, IsNormalFrom}
+use Rattle.tv_core.specs.Normal.{coefficient}
 use Rattle.tv_shrink.specs.Substitution.{has_wire, without, constant_in, difference, linear_form, solved, replaced, fits}
 use Rattle.tv_core.proofs.NormalLaws.{Over, Over-append, Over-normal, Over-scaled, Over-weaker, IsNormalFrom-normal, length-normal, value-normal}
 use Rattle.tv_shrink.proofs.Constants.{joined, parted, scaled_once}

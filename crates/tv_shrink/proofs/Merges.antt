@@ -1,13 +1,12 @@
 -- One step of adding two combinations.
-use Rattle.std.proofs.Common.{◌≡◌, ◌≢◌, ℕ, ◌+◌, ◌*◌, ◌%◌, ◌<◌, ◌≤◌, Bool, List, ◌∷◌, ◌++◌, refl, sym, ◌∙◌, ap, ap₂, subst, arith, eqb, true, false, []}
-use Rattle.std.proofs.Common.{◌-◌, ◌^◌, cond, eq-eqb, inl, inr, length, min, eqb-true, add-mul, mul-zero, append_assoc, append-nil}
-use Rattle.std.specs.Prelude.{slice_index}
-use Rattle.std.proofs.lemmas.Bool.{cases_lt, cond_both, cond-true, eqb-false}
-use Rattle.tv_core.proofs.CombinationLaws.{value-cons, value-append, value-below}
-use Rattle.tv_core.specs.Combinations.{scaled}
-use Rattle.tv_core.specs.Constraints.{Combination, value}
+use Rattle.tv_core.proofs.Common.{◌≡◌, ◌≢◌, ℕ, ◌+◌, ◌*◌, ◌%◌, ◌<◌, ◌≤◌, Bool, List, ◌∷◌, ◌++◌, refl, sym, ◌∙◌, ap, ap₂, subst, arith, true, false, [], ◌-◌, ◌^◌}
+use Rattle.tv_core.proofs.Common.{cond, inl, inr, length, append_assoc, append-nil, slice_index, cases_lt, cond_both, value-cons, value-append, value-below}
+use Rattle.tv_core.proofs.Common.{scaled, Combination, value, normal, IsNormalFrom}
+use Rattle.std.proofs.Common.{eqb}
+use Rattle.std.proofs.Common.{eq-eqb, min, eqb-true, add-mul, mul-zero}
+use Rattle.std.proofs.lemmas.Bool.{cond-true, eqb-false}
 use Rattle.tv_core.specs.declared.field.TheConstants.{P}
-use Rattle.tv_core.specs.Normal.{normal, IsNormalFrom, with_term}
+use Rattle.tv_core.specs.Normal.{with_term}
 use Rattle.tv_shrink.specs.Merge.{first_wire, head_at, tail_at}
 use Rattle.tv_core.proofs.NormalLaws.{Over, Over-append, Over-scaled, normal_from, IsNormalFrom-lower}
 use Rattle.tv_core.proofs.Unique.{normal-step}

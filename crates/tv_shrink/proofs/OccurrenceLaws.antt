@@ -1,10 +1,10 @@
 -- The rows that wires may stand in.
-use Rattle.std.proofs.Common.{◌≡◌, ℕ, suc, ◌+◌, ◌-◌, ◌%◌, ◌<◌, ◌≤◌, Bool, List, ◌∷◌, ◌++◌, true, refl, sym, ◌∙◌, ap, ap₂, subst, arith, []}
-use Rattle.std.proofs.Common.{◌||◌, eqb, eq-eqb, ne_eqb, cond, inl, inr, map, length, length-set, get_or, set, reverse}
+use Rattle.tv_core.proofs.Common.{◌≡◌, ℕ, suc, ◌+◌, ◌-◌, ◌%◌, ◌<◌, ◌≤◌, Bool, List, ◌∷◌, ◌++◌, true, refl, sym, ◌∙◌, ap, ap₂, subst, arith, [], cond, inl, inr}
+use Rattle.tv_core.proofs.Common.{map, length, get_or, set, slice_index, cases_eq, length-map}
+use Rattle.std.proofs.Common.{◌||◌, eqb, eq-eqb, ne_eqb, length-set, reverse}
 use Rattle.std.specs.List.{AllByRecursion, list_any}
-use Rattle.std.specs.Prelude.{slice_index}
-use Rattle.std.proofs.lemmas.Bool.{cases_eq, or_left, or_right}
-use Rattle.std.proofs.lemmas.List.{get_or_default, get_or-map, get_or-reverse, get_or-set_other, get_or-set_same, length-map, length-reverse, reverse-append}
+use Rattle.std.proofs.lemmas.Bool.{or_left, or_right}
+use Rattle.std.proofs.lemmas.List.{get_or_default, get_or-map, get_or-reverse, get_or-set_other, get_or-set_same, length-reverse, reverse-append}
 use Rattle.std.proofs.lemmas.Nat.{mod_below}
 use Rattle.tv_shrink.specs.Occurrences.{has_row, rows_from, AreLinked, LeadBack}
 use Rattle.tv_shrink.proofs.Elements.{each_at, each_set, each_weaker}

@@ -1,18 +1,16 @@
 -- A pass keeps a system's solutions: what it leaves says the same of the wires that are not gone.
-use Rattle.std.proofs.Common.{◌≡◌, ◌≢◌, ℕ, zero, suc, ◌*◌, ◌%◌, ◌<◌, ◌≤◌, List, ◌∷◌, Option, Some, None, refl, sym, ◌∙◌, ap, ap₂, subst, arith, []}
-use Rattle.std.proofs.Common.{◌++◌, ◌||◌, eqb, eqb-true, ne_eqb, true, false, inl, inr, map, length, get_or, set, get_or-set_other, get_or-set_same, length-set}
+use Rattle.tv_core.proofs.Common.{◌≡◌, ◌≢◌, ℕ, zero, suc, ◌*◌, ◌%◌, ◌<◌, ◌≤◌, List, ◌∷◌, Option, Some, None, refl, sym, ◌∙◌, ap, ap₂, subst, arith, [], ◌++◌}
+use Rattle.tv_core.proofs.Common.{true, false, inl, inr, map, length, get_or, set, slice_index, cond_both, cases_eq, value-below, Combination, Constraint}
+use Rattle.tv_core.proofs.Common.{value, Assigns, IsNormalFrom}
+use Rattle.std.proofs.Common.{◌||◌, eqb, eqb-true, ne_eqb, get_or-set_other, get_or-set_same, length-set}
 use Rattle.std.specs.List.{AllByRecursion, list_all, fold}
 use Rattle.std.specs.Option.{option_map}
-use Rattle.std.specs.Prelude.{slice_index}
-use Rattle.std.proofs.lemmas.Bool.{cond_both, cases_eq, eqb-false, or_cases, or_from, or_parts}
+use Rattle.std.proofs.lemmas.Bool.{eqb-false, or_cases, or_from, or_parts}
 use Rattle.std.proofs.lemmas.List.Folds.{list_any-append}
 use Rattle.std.proofs.Math.Bool.{or-false}
 use Rattle.std.proofs.lemmas.List.Elements.{All-set}
-use Rattle.tv_core.proofs.CombinationLaws.{value-below}
-use Rattle.tv_core.specs.Constraints.{Combination, Constraint, value, Holds}
-use Rattle.tv_core.specs.Laws.{Assigns}
+use Rattle.tv_core.specs.Constraints.{Holds}
 use Rattle.tv_core.specs.declared.field.TheConstants.{P}
-use Rattle.tv_core.specs.Normal.{IsNormalFrom}
 use Rattle.tv_shrink.specs.Substitution.{linear_form, greatest_from, solved, replaced, replaced_in}
 use Rattle.tv_shrink.specs.Pass.{Pass, dropped, substituted, row_fits, attempted, eliminated, treated, linear_row, turn}
 use Rattle.tv_core.proofs.NormalLaws.{Over, Over-weaker, value-local}

@@ -1,14 +1,11 @@
 -- A shrunk system as it is put into a sink, and its file.
-use Rattle.std.proofs.Common.{◌≡◌, ◌+◌, ◌<◌, ◌≤◌, ℕ, zero, suc, List, ◌∷◌, ◌++◌, length, take, Option, Some, None, refl, sym, ap, ap₂, ◌∙◌, subst, arith, []}
-use Rattle.std.proofs.Common.{get_or, append-nil, add-one}
+use Rattle.tv_core.proofs.Common.{◌≡◌, ◌+◌, ◌<◌, ◌≤◌, ℕ, zero, suc, List, ◌∷◌, ◌++◌, length, take, Option, Some, None, refl, sym, ap, ap₂, ◌∙◌, subst, arith}
+use Rattle.tv_core.proofs.Common.{[], get_or, append-nil, add-one, Circuit, fresh, pure, put, turns, ◌>>=◌, Constraint, terms_in}
 use Rattle.std.specs.List.{filter_map}
 use Rattle.std.proofs.lemmas.List.Elements.{filter_map-append}
 use Rattle.std.proofs.lemmas.List.Sums.{sum_by_push}
 use Rattle.std.proofs.lemmas.List.{take_more, take_all}
 use Rattle.tv_shrink.proofs.Elements.{each_at}
-use Rattle.tv_core.specs.Circuits.{Circuit, fresh, pure, put, turns, ◌>>=◌}
-use Rattle.tv_core.specs.Constraints.{Constraint}
-use Rattle.tv_core.specs.Meanings.{terms_in}
 use Rattle.tv_shrink.specs.Emission.{row_circuit, row_count, rows_circuit, wires_circuit}
 use Rattle.tv_shrink.specs.Tidy.{AreWithin, IsWithin, RowIsWithin}
 

@@ -1,6 +1,7 @@
 -- Terms that were read, made normal.
-use Rattle.std.proofs.Common.{◌≡◌, ℕ, ◌<◌, ◌≤◌, List, ◌∷◌, ◌++◌, Option, Some, None, refl, sym, ◌∙◌, ap, subst, arith, ltb, inl, inr, []}
-use Rattle.std.proofs.Common.{cond, length, Result, Ok, Err}
+use Rattle.tv_core.proofs.Common.{◌≡◌, ℕ, ◌<◌, ◌≤◌, List, ◌∷◌, ◌++◌, Option, Some, None, refl, sym, ◌∙◌, ap, subst, arith, inl, inr, [], cond, length, Result}
+use Rattle.tv_core.proofs.Common.{Ok, Err, top, Combination, Constraint, normal}
+use Rattle.std.proofs.Common.{ltb}
 use Rattle.std.specs.List.{AllByRecursion, All}
 use Rattle.std.specs.Option.{option_or}
 use Rattle.tv_container.specs.Places.{Fault, ◌>>=◌, wrong}
@@ -19,14 +20,13 @@ use Rattle.std.proofs.lemmas.List.{map_push}
 use Rattle.std.proofs.lemmas.Bool.{cases_Bool, ltb-false}
 use Rattle.std.proofs.lemmas.List.Elements.{recursion_from_All}
 use Rattle.tv_container.specs.declared.why.ReadWhy.{ReadWhy}
-use Rattle.tv_core.specs.Combinations.{top}
 use Rattle.tv_core.specs.declared.lines.Counts.{Counts}
 use Rattle.tv_r1cs_read.specs.Survey.{survey_of}
-use Rattle.tv_core.specs.Constraints.{Combination, Constraint, System}
+use Rattle.tv_core.specs.Constraints.{System}
 use Rattle.tv_r1cs_read.specs.Rows.{combination_of, constraint_of, IsOver}
 use Rattle.tv_r1cs_read.specs.declared.rows.Row.{Row}
 use Rattle.tv_shrink.specs.Answers.{first_wide, read_fault, start_rows, wide, wide_in, all_terms, most, Halted, IsLong, IsSmall, IsTooWide, FaultMeans, Leaves}
-use Rattle.tv_core.specs.Normal.{normal, normal_constraint}
+use Rattle.tv_core.specs.Normal.{normal_constraint}
 use Rattle.tv_core.proofs.NormalLaws.{Over, Over-normal, IsNormalFrom-normal}
 use Rattle.tv_shrink.specs.Tidy.{RowsAreNormal, IsWithin, RowIsNormal}
 use Rattle.tv_shrink.proofs.Elements.{each_pushed}

@@ -1,24 +1,23 @@
 -- A combination in place of a wire: the value stays where the wire has the combination's value.
-use Rattle.std.proofs.Common.{◌≡◌, ◌≢◌, ◌⊎◌, ℕ, ◌+◌, ◌-◌, ◌*◌, ◌%◌, ◌<◌, ◌≤◌, Bool, not, List, ◌∷◌, ◌++◌, Option, Some, None, refl, sym, ◌∙◌, ap, subst, []}
-use Rattle.std.proofs.Common.{arith, ltb, eqb, true, false, inl, inr, cond, max, ltb-false, eqb-true, eq-eqb, add-mul, mul-add, mul_assoc, mul_comm}
-use Rattle.std.proofs.Common.{one-mul, mod-lt, mod-eq_of_lt}
+use Rattle.tv_core.proofs.Common.{◌≡◌, ◌≢◌, ◌⊎◌, ℕ, ◌+◌, ◌-◌, ◌*◌, ◌%◌, ◌<◌, ◌≤◌, Bool, not, List, ◌∷◌, ◌++◌, Option, Some, None, refl, sym, ◌∙◌, ap, subst, []}
+use Rattle.tv_core.proofs.Common.{arith, true, false, inl, inr, cond, mod-lt, mod-eq_of_lt, slice_index, cond_both, cases_lt, value-cons, value-append}
+use Rattle.tv_core.proofs.Common.{value-below, value-less, wire-below, Combination, Constraint, value, scaled, less, Assigns, normal, IsNormalFrom}
+use Rattle.std.proofs.Common.{ltb, eqb, max, ltb-false, eqb-true, eq-eqb, add-mul, mul-add, mul_assoc, mul_comm}
+use Rattle.std.proofs.Common.{one-mul}
 use Rattle.std.specs.List.{list_all}
-use Rattle.std.specs.Prelude.{slice_index}
-use Rattle.std.proofs.lemmas.Bool.{cond_both, eqb-false, or_cases, or_parts, and_parts, or_left, or_right, cases_lt, cond-false}
+use Rattle.std.proofs.lemmas.Bool.{eqb-false, or_cases, or_parts, and_parts, or_left, or_right, cond-false}
 use Rattle.std.proofs.lemmas.Nat.{mul-mod_second}
 use Rattle.std.proofs.lemmas.List.Sums.{sum_by-cons}
 use Rattle.std.specs.Option.{option_or}
-use Rattle.tv_core.proofs.CombinationLaws.{value-cons, value-append, value-scaled, value-below, value-less, wire-below}
+use Rattle.tv_core.proofs.CombinationLaws.{value-scaled}
 use Rattle.tv_core.proofs.DifferenceLaws.{same_of_minus}
 use Rattle.tv_core.proofs.InverseLaws.{mul-inverse_of, inverse_of-below}
 use Rattle.tv_core.proofs.Residues.{add-mod_same, mul-mod_zero, mul-mod_one, same_of_difference}
 use Rattle.tv_core.proofs.Unique.{summed, summed-none}
-use Rattle.tv_core.specs.Constraints.{Combination, Constraint, value, Holds}
-use Rattle.tv_core.specs.Combinations.{scaled, less}
+use Rattle.tv_core.specs.Constraints.{Holds}
 use Rattle.tv_core.specs.Inverse.{inverse_of}
-use Rattle.tv_core.specs.Laws.{Assigns}
 use Rattle.tv_core.specs.declared.field.TheConstants.{P}
-use Rattle.tv_core.specs.Normal.{coefficient, normal, IsNormalFrom}
+use Rattle.tv_core.specs.Normal.{coefficient}
 use Rattle.tv_shrink.specs.Substitution.{has_wire, without, constant_in, difference, linear_form, greater_from, greatest_from, solved, replaced}
 use Rattle.tv_core.proofs.NormalLaws.{Over, Over-normal, Over-append, Over-scaled, value-normal, regrouped, exchanged, residue_first, IsNormalFrom-normal}
 

@@ -1,13 +1,13 @@
 -- What is left once a pass has run, its wires numbered anew.
-use Rattle.std.proofs.Common.{◌≡◌, ℕ, ◌+◌, ◌<◌, ◌≤◌, ◌&&◌, List, ◌∷◌, Option, Some, None, refl, sym, ◌∙◌, ap, ap₂, subst, []}
-use Rattle.std.proofs.Common.{arith, true, map, length}
-use Rattle.std.specs.List.{AllByRecursion, filter_map, fold, list_all, range_with_len}
+use Rattle.tv_core.proofs.Common.{◌≡◌, ℕ, ◌+◌, ◌<◌, ◌≤◌, List, ◌∷◌, Option, Some, None, refl, sym, ◌∙◌, ap, ap₂, subst, [], arith, true, map, length}
+use Rattle.tv_core.proofs.Common.{range_with_len, length-map, Combination, Constraint}
+use Rattle.std.proofs.Common.{◌&&◌}
+use Rattle.std.specs.List.{AllByRecursion, filter_map, fold, list_all}
 use Rattle.std.specs.Option.{option_map}
 use Rattle.tv_r1cs_write.specs.Bytes.{others}
 use Rattle.std.proofs.lemmas.Bool.{and_parts}
-use Rattle.std.proofs.lemmas.List.{length-map, length-take}
+use Rattle.std.proofs.lemmas.List.{length-take}
 use Rattle.std.proofs.lemmas.List.FromFn.{length-range_with_len}
-use Rattle.tv_core.specs.Constraints.{Combination, Constraint}
 use Rattle.tv_core.specs.declared.lines.Counts.{Counts}
 use Rattle.tv_shrink.specs.Answers.{counted_system, start_rows, IsReady}
 use Rattle.tv_shrink.specs.Renumbering.{moved, moved_rows}

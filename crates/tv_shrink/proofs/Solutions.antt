@@ -1,16 +1,14 @@
 -- The solutions of a shrunk system are those of the system at the wires that are kept.
-use Rattle.std.proofs.Common.{◌≡◌, ℕ, suc, ◌+◌, ◌*◌, ◌%◌, ◌<◌, ◌≤◌, List, ◌∷◌, Option, Some, None, refl, sym, ◌∙◌, ap, ap₂, subst, arith, true, []}
-use Rattle.std.proofs.Common.{false, inl, inr, map, length, take}
-use Rattle.std.specs.List.{AllByRecursion, All, filter_map, range_with_len}
+use Rattle.tv_core.proofs.Common.{◌≡◌, ℕ, suc, ◌+◌, ◌*◌, ◌%◌, ◌<◌, ◌≤◌, List, ◌∷◌, Option, Some, None, refl, sym, ◌∙◌, ap, ap₂, subst, arith, true, [], false}
+use Rattle.tv_core.proofs.Common.{inl, inr, map, length, take, range_with_len, slice_index, cases_lt, length-map, value-cons, wire-below, Combination}
+use Rattle.tv_core.proofs.Common.{Constraint, value, Assigns, Meets}
+use Rattle.std.specs.List.{AllByRecursion, All, filter_map}
 use Rattle.std.specs.Option.{option_map}
-use Rattle.std.specs.Prelude.{slice_index}
-use Rattle.std.proofs.lemmas.Bool.{cases_lt}
-use Rattle.std.proofs.lemmas.List.{ext_get_or, get_or-map, get_or_past, length-map}
+use Rattle.std.proofs.lemmas.List.{ext_get_or, get_or-map, get_or_past}
 use Rattle.std.proofs.lemmas.List.Elements.{All-from_recursion, recursion_from_All, All-get_or}
 use Rattle.std.proofs.lemmas.List.FromFn.{length-map-range_with_len, get_or-map-range_with_len}
-use Rattle.tv_core.proofs.CombinationLaws.{value-cons, wire-below, Assigns-from_Sat, Meets-from_Sat, Sat-from_Meets}
-use Rattle.tv_core.specs.Constraints.{Combination, Constraint, System, value, Holds, Sat}
-use Rattle.tv_core.specs.Laws.{Assigns, Meets}
+use Rattle.tv_core.proofs.CombinationLaws.{Assigns-from_Sat, Meets-from_Sat, Sat-from_Meets}
+use Rattle.tv_core.specs.Constraints.{System, Holds, Sat}
 use Rattle.tv_core.specs.declared.field.TheConstants.{P}
 use Rattle.tv_shrink.specs.Laws.{AreOver, IsWhole, KeepsSolutions, SolutionsAreOne, KeepsPublics}
 use Rattle.tv_core.specs.Normal.{normal_constraint}

@@ -1,16 +1,15 @@
 -- Terms in the order of their wires, the coefficients of each wire added up.
-use Rattle.std.proofs.Common.{◌≡◌, ◌≢◌, ℕ, zero, suc, ◌+◌, ◌*◌, ◌%◌, ◌<◌, ◌≤◌, List, ◌∷◌, ◌++◌, refl, sym, ◌∙◌, ap, ap₂, arith, length, get_or, drop, []}
-use Rattle.std.proofs.Common.{add-one, add-mul, drop-cons}
+use Rattle.tv_core.proofs.Common.{◌≡◌, ◌≢◌, ℕ, zero, suc, ◌+◌, ◌*◌, ◌%◌, ◌<◌, ◌≤◌, List, ◌∷◌, ◌++◌, refl, sym, ◌∙◌, ap, ap₂, arith, length, get_or, drop, []}
+use Rattle.tv_core.proofs.Common.{add-one, slice_index, value-below, value-cons, Combination, value, normal, length-map}
+use Rattle.std.proofs.Common.{add-mul, drop-cons}
 use Rattle.std.specs.List.Sorted.{IsNonDecreasingBy}
-use Rattle.std.specs.Prelude.{slice_index, IsPermutation}
+use Rattle.std.specs.Prelude.{IsPermutation}
 use Rattle.std.proofs.lemmas.List.Sorted.{sum_by-IsPermutation}
-use Rattle.tv_core.proofs.CombinationLaws.{value-below, value-cons}
-use Rattle.tv_core.specs.Constraints.{Combination, value}
 use Rattle.tv_core.specs.declared.field.TheConstants.{P}
-use Rattle.tv_core.specs.Normal.{normal, with_term}
+use Rattle.tv_core.specs.Normal.{with_term}
 use Rattle.tv_shrink.proofs.Merges.{with_term-front}
 use Rattle.tv_core.proofs.NormalLaws.{Over, normal_from, regrouped, residue_first}
-use Rattle.std.proofs.lemmas.List.{get_or_default, get_or-map, length-map}
+use Rattle.std.proofs.lemmas.List.{get_or_default, get_or-map}
 use Rattle.tv_r1cs_read.specs.Rows.{combination_of}
 use Rattle.tv_core.proofs.Unique.{by_values, normal-step}
 

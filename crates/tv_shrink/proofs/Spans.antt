@@ -1,13 +1,12 @@
 -- Constraints whose terms lie one after another in a list.
-use Rattle.std.proofs.Common.{◌≡◌, ℕ, ◌+◌, ◌-◌, ◌<◌, ◌≤◌, List, ◌∷◌, ◌++◌, Option, Some, None, refl, sym, ◌∙◌, ap, ap₂, arith, append-nil, map, []}
-use Rattle.std.proofs.Common.{length, get_or, take, drop}
+use Rattle.tv_core.proofs.Common.{◌≡◌, ℕ, ◌+◌, ◌-◌, ◌<◌, ◌≤◌, List, ◌∷◌, ◌++◌, Option, Some, None, refl, sym, ◌∙◌, ap, ap₂, arith, append-nil, map, [], length}
+use Rattle.tv_core.proofs.Common.{get_or, take, drop, length-append, length-map, Combination, Constraint}
 use Rattle.std.specs.Option.{option_map}
 use Rattle.std.specs.Prelude.{slice_range}
 use Rattle.tv_r1cs_write.specs.Bytes.{others}
 use Rattle.std.proofs.Math.Seq.{drop-append_seam, take-append_seam}
-use Rattle.std.proofs.lemmas.List.{append_assoc, drop-append-le, drop-map, get_or-map, length-append, length-drop, length-map, length-take}
+use Rattle.std.proofs.lemmas.List.{append_assoc, drop-append-le, drop-map, get_or-map, length-drop, length-take}
 use Rattle.std.proofs.lemmas.List.{take-append-le, take-map}
-use Rattle.tv_core.specs.Constraints.{Combination, Constraint}
 use Rattle.tv_shrink.specs.Renumbering.{moved, moved_rows}
 use Rattle.tv_shrink.specs.Spans.{end_of, row_at, row_terms, span_of, AreInside}
 use Rattle.tv_shrink.specs.declared.arena.Span.{Span}

@@ -1,12 +1,11 @@
 -- What the steps of a pass keep.
-use Rattle.std.proofs.Common.{◌≡◌, ℕ, ◌∷◌, ◌<◌, ◌≤◌, ◌^◌, Bool, List, Option, None, Some, Result, Ok, Err, OnOk, refl, sym, ◌∙◌, ap, []}
-use Rattle.std.proofs.Common.{ap₂, subst, true, false, length, length-set, get_or, set}
+use Rattle.tv_core.proofs.Common.{◌≡◌, ℕ, ◌∷◌, ◌<◌, ◌≤◌, ◌^◌, Bool, List, Option, None, Some, Result, Ok, Err, refl, sym, ◌∙◌, ap, [], ap₂, subst, true, false}
+use Rattle.tv_core.proofs.Common.{length, get_or, set, range_with_len, cond_both, length-map, Combination, Constraint}
+use Rattle.std.proofs.Common.{OnOk}
+use Rattle.std.proofs.Common.{length-set}
 use Rattle.std.specs.Prelude.{OnErr}
-use Rattle.std.specs.List.{fold, list_all, range_with_len}
+use Rattle.std.specs.List.{fold, list_all}
 use Rattle.std.specs.Option.{option_map}
-use Rattle.std.proofs.lemmas.Bool.{cond_both}
-use Rattle.std.proofs.lemmas.List.{length-map}
-use Rattle.tv_core.specs.Constraints.{Combination, Constraint}
 use Rattle.tv_shrink.specs.Pass.{Pass, attempted, dropped, eliminated, linear_row, row_fits, substituted, treated, turn}
 use Rattle.tv_shrink.specs.Substitution.{greatest_from, has_wire, replaced_in, solved}
 use Rattle.tv_shrink.specs.Tidy.{pass_of, IsKept, RowIsNormal, State}

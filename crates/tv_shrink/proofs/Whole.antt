@@ -1,5 +1,6 @@
 -- The constraints of a system that a file holds are of wires that there are.
-use Rattle.std.proofs.Common.{ℕ, zero, suc, ◌+◌, ◌-◌, ◌==◌, ◌<◌, not, Bool, true, false, ltb, List, Result, Ok, Err, if◌then◌else◌, []}
+use Rattle.tv_core.proofs.Common.{ℕ, zero, suc, ◌+◌, ◌-◌, ◌==◌, ◌<◌, not, Bool, true, false, List, Result, Ok, Err, if◌then◌else◌, [], Constraint}
+use Rattle.std.proofs.Common.{ltb}
 use Rattle.std.specs.Prelude.{IfOk}
 use Rattle.std.specs.List.{All}
 use Rattle.std.proofs.lemmas.Bool.{ltb-true, not-false}
@@ -8,7 +9,6 @@ use Rattle.tv_container.proofs.Chain.{bind_any, bind_if, passed}
 use Rattle.tv_container.specs.Places.{Fault, unless, number, fit}
 use Rattle.tv_container.specs.declared.sections.Section.{Section}
 use Rattle.tv_container.specs.declared.why.ReadWhy.TheVariants.{BadCount, WireRange, NotCanonical}
-use Rattle.tv_core.specs.Constraints.{Constraint}
 use Rattle.tv_core.specs.declared.field.TheConstants.{P}
 use Rattle.tv_r1cs_read.specs.R1cs.{term_at, terms_at, count_at, combination_at, constraint_at, constraints_from, header_of, r1cs_system}
 use Rattle.tv_r1cs_write.specs.Narrow.{HasWiresBelow}

@@ -1,16 +1,15 @@
 -- Lines hold what their cells hold, and what a step changes of the cells is its data line.
-use Rattle.std.proofs.Common.{◌≡◌, ◌≢◌, ℕ, ◌+◌, ◌-◌, ◌/◌, ◌%◌, ◌<◌, ◌^◌, ◌==◌, Bool, true, false, cond, nat_lt, List, [], ◌∷◌, length, All, refl, sym, ap}
-use Rattle.std.proofs.Common.{◌∙◌, arith, subst, Option, Some, None, add-zero}
-use Rattle.std.specs.Prelude.{if◌then◌else◌, slice_index, slice_get}
-use Rattle.std.proofs.lemmas.Bool.{lt-ltb, le-ltb, eqb-true, eqb-false}
+use Rattle.tv_core.proofs.Common.{◌≡◌, ◌≢◌, ℕ, ◌+◌, ◌-◌, ◌/◌, ◌%◌, ◌<◌, ◌^◌, ◌==◌, Bool, true, false, cond, nat_lt, List, [], ◌∷◌, length, All, refl, sym, ap}
+use Rattle.tv_core.proofs.Common.{◌∙◌, arith, subst, Option, Some, None, slice_index, lt-ltb, le-ltb, eqb-true, Line, for_widths, IsWidth}
+use Rattle.std.proofs.Common.{add-zero}
+use Rattle.std.specs.Prelude.{if◌then◌else◌, slice_get}
+use Rattle.std.proofs.lemmas.Bool.{eqb-false}
 use Rattle.std.proofs.lemmas.List.{get_or_past, get_or-drop}
 use Rattle.std.proofs.lemmas.List.Elements.{All-cons, All-nil, All-head}
-use Rattle.tv_core.specs.Lines.{Line, written}
+use Rattle.tv_core.specs.Lines.{written}
 use Rattle.tv_core.specs.declared.limits.TheConstants.{TAPE_CELLS, NULL_CELL}
 use Rattle.tv_mem.proofs.WordLaws.{words_are_small, others_after_byte, others_after_word}
 use Rattle.tv_mem.specs.Bytes.{word_in}
-use Rattle.tv_word.proofs.WidthLaws.{for_widths}
-use Rattle.tv_word.specs.Widths.{IsWidth}
 use Rattle.tv_step.proofs.LineLaws.{cell_is_low, came, memory_stays, tape_same}
 use Rattle.tv_step.proofs.RangeLaws.{operand_is_word, run_keeps_range}
 use Rattle.tv_step.specs.Cells.{cell_word, cells_of, IsOn, IsLine, LinesInRange, OldsAreInCells, StepWritesItsLine}

@@ -1,5 +1,5 @@
 -- Runs that answer, step by step.
-use Rattle.std.proofs.Common.{◌≡◌, ℕ, zero, suc, ◌+◌, ◌-◌, ◌<◌, ◌≤◌, refl, sym, ap, ◌∙◌, arith, subst}
+use Rattle.tv_core.proofs.Common.{◌≡◌, ℕ, zero, suc, ◌+◌, ◌-◌, ◌<◌, ◌≤◌, refl, sym, ap, ◌∙◌, arith, subst}
 use Rattle.tv_step.proofs.RunLaws.{state_next}
 use Rattle.tv_step.specs.Machine.{next, ended, end_from, end_of, left_in, state_after}
 use Rattle.tv_step.specs.Runs.{IsDefined, Answering, AnswerIsWithin, EndAnswers, LastAnswers, StepsAtTheEnd, StepsAtTheFront, AnswerStays}

@@ -1,5 +1,5 @@
 -- Worked runs of the definitions.
-use Rattle.std.proofs.Common.{◌≡◌, ℕ, [], ◌∷◌, refl, Bool, true, false}
+use Rattle.tv_core.proofs.Common.{◌≡◌, ℕ, [], ◌∷◌, refl, Bool, true, false}
 use Rattle.tv_step.specs.Machine.{end_of, start, reg}
 use Rattle.tv_step.specs.Rows.{row}
 use Rattle.tv_step.specs.declared.end.End.TheVariants as ends

@@ -1,11 +1,12 @@
 -- Boot lines leave the start, and the lines of a run are honest.
-use Rattle.std.proofs.Common.{◌≡◌, ℕ, zero, suc, ◌+◌, ◌-◌, ◌*◌, ◌/◌, ◌<◌, ◌≤◌, ◌==◌, Bool, true, false, cond, nat_lt, List, [], ◌∷◌, ◌++◌, length, fold, All}
-use Rattle.std.proofs.Common.{refl, sym, ap, ◌∙◌, arith, add-zero, zero-add}
-use Rattle.std.specs.Prelude.{slice_index}
-use Rattle.std.proofs.lemmas.Bool.{ltb-true, ltb-false, eq-eqb, ne_eqb, eqb-true}
+use Rattle.tv_core.proofs.Common.{◌≡◌, ℕ, zero, suc, ◌+◌, ◌-◌, ◌*◌, ◌/◌, ◌<◌, ◌≤◌, ◌==◌, Bool, true, false, cond, nat_lt, List, [], ◌∷◌, ◌++◌, length, All}
+use Rattle.tv_core.proofs.Common.{refl, sym, ap, ◌∙◌, arith, slice_index, eq-eqb, ne_eqb, eqb-true, Line}
+use Rattle.std.proofs.Common.{fold}
+use Rattle.std.proofs.Common.{add-zero, zero-add}
+use Rattle.std.proofs.lemmas.Bool.{ltb-true, ltb-false}
 use Rattle.std.proofs.lemmas.List.Sums.{fold-append}
 use Rattle.tv_core.proofs.LineLaws.{Honest-from_HonestFrom}
-use Rattle.tv_core.specs.Lines.{Line, written, HonestFrom, memory_after}
+use Rattle.tv_core.specs.Lines.{written, HonestFrom, memory_after}
 use Rattle.tv_core.specs.declared.limits.TheConstants.{TAPE_CELLS}
 use Rattle.tv_mem.specs.Bytes.{word_in}
 use Rattle.tv_step.proofs.CellLaws.{olds_are_in_cells, step_writes_its_line}

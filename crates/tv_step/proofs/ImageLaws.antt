@@ -1,13 +1,11 @@
 -- Memory with the first words of an image.
-use Rattle.std.proofs.Common.{◌≡◌, ◌≢◌, ◌<◌, ◌≤◌, ℕ, ◌+◌, ◌*◌, ◌/◌, ◌%◌, ◌^◌, List, length, take, cond, ap, ap₂, sym, ◌∙◌, inl, inr, arith}
-use Rattle.std.specs.Prelude.{slice_index}
+use Rattle.tv_core.proofs.Common.{◌≡◌, ◌≢◌, ◌<◌, ◌≤◌, ℕ, ◌+◌, ◌*◌, ◌/◌, ◌%◌, ◌^◌, List, length, take, cond, ap, ap₂, sym, ◌∙◌, inl, inr, arith, slice_index}
+use Rattle.tv_core.proofs.Common.{for_widths, IsWidth}
 use Rattle.std.proofs.Math.Nat.{zero-div}
 use Rattle.std.proofs.lemmas.Bool.Decides.{eqb_tells, leb_tells}
 use Rattle.std.proofs.lemmas.List.{get_or-take, get_or_past, length-take-le, take_all}
 use Rattle.tv_mem.proofs.WordLaws.{same_word}
 use Rattle.tv_mem.specs.Bytes.{Bytes, byte_of, with_word, word_in}
-use Rattle.tv_word.proofs.WidthLaws.{for_widths}
-use Rattle.tv_word.specs.Widths.{IsWidth}
 use Rattle.tv_step.proofs.RangeLaws.{word_at}
 use Rattle.tv_step.specs.Range.{AreWords}
 use Rattle.tv_step.specs.Machine.{image_bytes}

@@ -1,13 +1,10 @@
 -- The data line of a step.
-use Rattle.std.proofs.Common.{◌≡◌, ℕ, ◌+◌, ◌-◌, ◌*◌, ◌/◌, ◌%◌, ◌^◌, ◌<◌, ◌==◌, false, cond, nat_lt, List, [], ◌∷◌, length, Option, Some, None, refl, ap}
-use Rattle.std.proofs.Common.{arith, true≢false}
+use Rattle.tv_core.proofs.Common.{◌≡◌, ℕ, ◌+◌, ◌-◌, ◌*◌, ◌/◌, ◌%◌, ◌^◌, ◌<◌, ◌==◌, false, cond, nat_lt, List, [], ◌∷◌, length, Option, Some, None, refl, ap}
+use Rattle.tv_core.proofs.Common.{arith, lt-ltb, le-ltb, Line, for_widths, IsWidth}
+use Rattle.std.proofs.Common.{true≢false}
 use Rattle.std.specs.Prelude.{if◌then◌else◌, slice_get}
-use Rattle.std.proofs.lemmas.Bool.{lt-ltb, le-ltb}
-use Rattle.tv_core.specs.Lines.{Line}
 use Rattle.tv_core.specs.declared.limits.TheConstants.{TAPE_CELLS}
 use Rattle.tv_mem.specs.Bytes.{word_in}
-use Rattle.tv_word.proofs.WidthLaws.{for_widths}
-use Rattle.tv_word.specs.Widths.{IsWidth}
 use Rattle.tv_step.proofs.RunLaws.{either}
 use Rattle.tv_step.specs.Cells.{is_store, OnlyStoresWrite}
 use Rattle.tv_step.specs.Machine.{fetched, operand, reg, left_in, state_after}

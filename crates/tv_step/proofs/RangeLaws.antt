@@ -1,19 +1,16 @@
 -- A step keeps a state in range.
-use Rattle.std.proofs.Common.{◌≡◌, ℕ, zero, suc, ◌+◌, ◌-◌, ◌*◌, ◌/◌, ◌%◌, ◌^◌, ◌<◌, ◌≤◌, ◌⊎◌, inl, inr, ◌==◌, Bool, true, false, cond, nat_lt, List, [], ◌∷◌}
-use Rattle.std.proofs.Common.{length, refl, ap, subst, ◌∙◌, arith, rules}
-use Rattle.std.specs.Prelude.{ℤ, pos, negsuc, ◌*ℤ◌, slice_index}
+use Rattle.tv_core.proofs.Common.{◌≡◌, ℕ, zero, suc, ◌+◌, ◌-◌, ◌*◌, ◌/◌, ◌%◌, ◌^◌, ◌<◌, ◌≤◌, ◌⊎◌, inl, inr, ◌==◌, Bool, true, false, cond, nat_lt, List, []}
+use Rattle.tv_core.proofs.Common.{◌∷◌, length, refl, ap, subst, ◌∙◌, arith, rules, slice_index, cond_both, cases_lt, for_widths, IsWidth}
+use Rattle.std.specs.Prelude.{ℤ, pos, negsuc, ◌*ℤ◌}
 use Rattle.std.specs.Int.Bits.{and_lt}
 use Rattle.std.proofs.Math.Nat.{div-le_self, mod-lt, mod-le}
 use Rattle.std.proofs.lemmas.Nat.{or_lt, xor_lt}
-use Rattle.std.proofs.lemmas.Bool.{cond_both, cases_lt}
 use Rattle.std.proofs.lemmas.List.{get_or_past, length-set}
 use Rattle.std.proofs.lemmas.List.Elements.{All-set, All-tail, All-head, All-replicate}
 use Rattle.tv_mem.proofs.WordLaws.{words_are_small, bytes_after_byte, bytes_after_word}
 use Rattle.tv_mem.specs.Bytes.{Bytes}
 use Rattle.tv_mem.specs.Words.{AreBytes}
-use Rattle.tv_word.proofs.WidthLaws.{for_widths}
 use Rattle.tv_word.specs.Twos.{twos}
-use Rattle.tv_word.specs.Widths.{IsWidth}
 use Rattle.tv_word.specs.Word.{signed}
 use Rattle.tv_word.proofs.ArithmeticLaws.{high_small}
 use Rattle.tv_step.proofs.RunLaws.{either, state_next}

@@ -1,10 +1,11 @@
 -- What steps take of the tapes.
-use Rattle.std.proofs.Common.{◌≡◌, ℕ, zero, suc, ◌+◌, ◌-◌, ◌≤◌, ◌==◌, ◌&&◌, ◌||◌, Bool, true, false, not, nat_lt, List, [], ◌∷◌, ◌++◌, length, take}
-use Rattle.std.proofs.Common.{drop, Some, None, refl, sym, ap, ◌∙◌, subst, arith, add-zero}
-use Rattle.std.specs.Prelude.{Option, if◌then◌else◌, is_some, slice_get, slice_index}
-use Rattle.std.proofs.lemmas.Bool.{eqb-true, ne_eqb, lt-ltb, le-ltb}
+use Rattle.tv_core.proofs.Common.{◌≡◌, ℕ, zero, suc, ◌+◌, ◌-◌, ◌≤◌, ◌==◌, Bool, true, false, not, nat_lt, List, [], ◌∷◌, ◌++◌, length, take, drop, Some, None}
+use Rattle.tv_core.proofs.Common.{refl, sym, ap, ◌∙◌, subst, arith, slice_index, eqb-true, ne_eqb, lt-ltb, le-ltb, length-append}
+use Rattle.std.proofs.Common.{◌&&◌, ◌||◌}
+use Rattle.std.proofs.Common.{add-zero}
+use Rattle.std.specs.Prelude.{Option, if◌then◌else◌, is_some, slice_get}
 use Rattle.std.proofs.Math.Seq.{take-append_seam}
-use Rattle.std.proofs.lemmas.List.{get_or-drop, drop-drop, length-append, append_assoc}
+use Rattle.std.proofs.lemmas.List.{get_or-drop, drop-drop, append_assoc}
 use Rattle.tv_step.proofs.EndLaws.{end_answers}
 use Rattle.tv_step.proofs.RunLaws.{either, state_next}
 use Rattle.tv_step.specs.Machine.{next, fetched, operand, reg, left_in, state_after}

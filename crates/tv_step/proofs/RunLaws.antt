@@ -1,5 +1,5 @@
 -- Runs, from where some steps were taken.
-use Rattle.std.proofs.Common.{◌≡◌, ◌<◌, ℕ, zero, suc, ◌+◌, ◌-◌, Bool, true, false, cond, ap, ◌∙◌, refl, arith}
+use Rattle.tv_core.proofs.Common.{◌≡◌, ◌<◌, ℕ, zero, suc, ◌+◌, ◌-◌, Bool, true, false, cond, ap, ◌∙◌, refl, arith}
 use Rattle.tv_step.specs.Machine.{next, ended, end_from, end_of, left_in, state_after}
 use Rattle.tv_step.specs.State.{State, Next}
 use Rattle.tv_step.specs.declared.end.End.TheVariants as ends

@@ -1,5 +1,6 @@
 -- What is left of a tape of words.
-use Rattle.std.proofs.Common.{◌≡◌, ℕ, suc, List, [], ◌∷◌, Option, Some, None, All, IfSome, refl, sym, subst, ◌∙◌, arith}
+use Rattle.tv_core.proofs.Common.{◌≡◌, ℕ, suc, List, [], ◌∷◌, Option, Some, None, All, refl, sym, subst, ◌∙◌, arith}
+use Rattle.std.proofs.Common.{IfSome}
 
 pub all_left : (P : ℕ → Type 0) (old new : List ℕ) (r : Option ℕ) → IfSome r (λ word. old ≡ word ∷ new) → (r ≡ None → (old ≡ []) × (new ≡ [])) → All P old
     → All P new

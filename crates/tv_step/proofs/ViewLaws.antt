@@ -1,5 +1,5 @@
 -- The state that a step of the program leaves.
-use Rattle.std.proofs.Common.{◌≡◌, ap, sym, ◌∙◌, ℕ}
+use Rattle.tv_core.proofs.Common.{◌≡◌, ap, sym, ◌∙◌, ℕ}
 use Rattle.tv_step.specs.Machine.{next, left_in, state_after}
 use Rattle.tv_step.specs.State.{State, Next}
 use Rattle.tv_step.specs.Views.{CameTo}

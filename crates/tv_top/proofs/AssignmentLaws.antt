@@ -1,6 +1,8 @@
 -- What is found of an assignment that was read: a run, or why it has none.
-use Rattle.std.proofs.Common.{◌≡◌, ◌<◌, ◌≤◌, ◌==◌, ℕ, max, Bool, true, false, List, length, Result, Ok, Err, inl, inr, refl, sym, ap, arith}
-use Rattle.std.proofs.lemmas.Bool.{eqb-true, eq-eqb, eqb-false, ne_eqb}
+use Rattle.tv_core.proofs.Common.{◌≡◌, ◌<◌, ◌≤◌, ◌==◌, ℕ, Bool, true, false, List, length, Result, Ok, Err, inl, inr, refl, sym, ap, arith, eqb-true, eq-eqb}
+use Rattle.tv_core.proofs.Common.{ne_eqb}
+use Rattle.std.proofs.Common.{max}
+use Rattle.std.proofs.lemmas.Bool.{eqb-false}
 use Rattle.std.proofs.lemmas.List.{take_all}
 use Rattle.tv_benes.specs.declared.shape.Net.{Net}
 use Rattle.tv_core.specs.declared.limits.TheConstants.{TAPE_WORDS, STEPS}

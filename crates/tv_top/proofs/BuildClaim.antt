@@ -1,5 +1,6 @@
 -- `build`: what it promises.
-use Rattle.std.proofs.Common.{codes, ◌∷◌, refl, arith}
+use Rattle.tv_core.proofs.Common.{◌∷◌, refl, arith}
+use Rattle.std.proofs.Common.{codes}
 use Rattle.tv_layout.proofs.NormalLaws.{system_normal}
 use Rattle.tv_layout.proofs.Systems.{system_reduces}
 use Rattle.tv_top.specs.Build.{program_system, build_ends, build_form, build_plan, HasSystem, OnBuild, program_runs}

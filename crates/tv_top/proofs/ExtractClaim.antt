@@ -1,5 +1,6 @@
 -- `extract`: what it promises.
-use Rattle.std.proofs.Common.{codes, ◌∷◌, refl, arith}
+use Rattle.tv_core.proofs.Common.{◌∷◌, refl, arith}
+use Rattle.std.proofs.Common.{codes}
 use Rattle.tv_top.specs.Assignment.{assigned_of, HasAssigned}
 use Rattle.tv_top.specs.Extract.{extract_ends, extract_form, extract_plan, OnExtract}
 use Rattle.tv_plan.specs.Plan.{name_at}

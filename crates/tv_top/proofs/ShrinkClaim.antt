@@ -1,5 +1,6 @@
 -- `shrink`: what it promises.
-use Rattle.std.proofs.Common.{◌≡◌, ℕ, Bool, true, false, ltb, Option, Some, None, Result, Ok, Err, if◌then◌else◌, codes, [], ◌∷◌, refl, sym, List}
+use Rattle.tv_core.proofs.Common.{◌≡◌, ℕ, Bool, true, false, Option, Some, None, Result, Ok, Err, if◌then◌else◌, [], ◌∷◌, refl, sym, List}
+use Rattle.std.proofs.Common.{ltb, codes}
 use Rattle.std.specs.Prelude.{IfOk}
 use Rattle.tv_check.proofs.Room.{has_room}
 use Rattle.tv_core.specs.Constraints.{System}

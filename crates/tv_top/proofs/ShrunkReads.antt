@@ -1,7 +1,6 @@
 -- From what shrinking the system of a file came to to what a look at the file found.
-use Rattle.std.proofs.Common.{◌≡◌, ℕ, ◌≤◌, List, [], ◌∷◌, Option, Some, Result, Ok, Err, inl, inr, refl, arith}
+use Rattle.tv_core.proofs.Common.{◌≡◌, ℕ, ◌≤◌, List, [], ◌∷◌, Option, Some, Result, Ok, Err, inl, inr, refl, arith, le-ltb, lt-ltb}
 use Rattle.std.specs.Prelude.{MatchResult}
-use Rattle.std.proofs.lemmas.Bool.{le-ltb, lt-ltb}
 use Rattle.tv_container.specs.Reading.{Known, IsMissing}
 use Rattle.tv_core.specs.Constraints.{System}
 use Rattle.tv_shrink.specs.Answers.{most, all_terms, FaultMeans, Halted, HaltsBy}

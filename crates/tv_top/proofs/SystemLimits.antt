@@ -1,5 +1,5 @@
 -- The system of a program's runs is within the limits.
-use Rattle.std.proofs.Common.{◌≤◌, ℕ, arith}
+use Rattle.tv_core.proofs.Common.{◌≤◌, ℕ, arith}
 use Rattle.tv_core.specs.declared.limits.TheConstants.{IMAGE_WORDS, TAPE_WORDS, STEPS}
 use Rattle.tv_layout.specs.Places.{WithinLimits}
 use Rattle.tv_plan.proofs.Common.{HasImage, image_words}

@@ -1,12 +1,10 @@
 -- The tapes that `extract` writes are read again.
-use Rattle.std.proofs.Common.{◌≡◌, ℕ, zero, suc, ◌-◌, ◌^◌, ◌<◌, ◌≤◌, ◌==◌, Bool, true, false, List, ◌∷◌, length, refl, ap, arith}
-use Rattle.std.specs.Prelude.{slice_index}
-use Rattle.std.proofs.lemmas.List.{length-append, length-map}
+use Rattle.tv_core.proofs.Common.{◌≡◌, ℕ, zero, suc, ◌-◌, ◌^◌, ◌<◌, ◌≤◌, ◌==◌, Bool, true, false, List, ◌∷◌, length, refl, ap, arith, slice_index}
+use Rattle.tv_core.proofs.Common.{length-append, length-map, joined_below}
 use Rattle.std.proofs.lemmas.List.Elements.{All-cons}
 use Rattle.tv_block.specs.Block.{block_of}
 use Rattle.tv_inputs.specs.declared.records.Spot.{Spot}
 use Rattle.tv_core.proofs.JoinedLaws.{joined_below-zero, joined_below-suc}
-use Rattle.tv_core.specs.Below.{joined_below}
 use Rattle.tv_extract.specs.Runs.{IsRunOf}
 use Rattle.tv_extract.specs.declared.run.Run.{Run}
 use Rattle.tv_layout.specs.Layout.{taken_wire, taken_wires, taken_of, step_block}

@@ -1,10 +1,11 @@
 -- `trial`: what it promises.
-use Rattle.std.proofs.Common.{◌≡◌, ℕ, codes, ◌+◌, ◌*◌, ◌≤◌, true, List, [], ◌∷◌, length, All, if◌then◌else◌, count_by, Ok, inl, inr, refl, ap, ◌∙◌, arith}
-use Rattle.std.proofs.lemmas.Bool.{eq-eqb}
+use Rattle.tv_core.proofs.Common.{◌≡◌, ℕ, ◌+◌, ◌*◌, ◌≤◌, true, List, [], ◌∷◌, length, All, if◌then◌else◌, Ok, inl, inr, refl, ap, ◌∙◌, arith, eq-eqb}
+use Rattle.tv_core.proofs.Common.{Constraint, value}
+use Rattle.std.proofs.Common.{codes, count_by}
 use Rattle.std.proofs.lemmas.List.Elements.{All-head, All-tail}
 use Rattle.std.proofs.lemmas.List.Sums.{sum_by-cons}
 use Rattle.tv_benes.specs.declared.shape.Net.TheVariants.{Benes}
-use Rattle.tv_core.specs.Constraints.{Constraint, Holds, value}
+use Rattle.tv_core.specs.Constraints.{Holds}
 use Rattle.tv_core.specs.Meanings.{holds, product_in}
 use Rattle.tv_core.specs.declared.limits.TheConstants.{DRAWS}
 use Rattle.tv_draw.proofs.RunLaws.{drawn_is}

@@ -1,8 +1,7 @@
 -- Values that are read piece by piece.
-use Rattle.std.proofs.Common.{◌≡◌, ℕ, ◌+◌, ◌*◌, ◌<◌, ◌≤◌, zero, suc, List, [], ◌∷◌, ◌++◌, length, take, drop, get_or, ◌/◌, Result, Ok, Err, append_assoc}
-use Rattle.std.proofs.Common.{append-nil, add-one, ap, refl, sym, ◌∙◌, arith}
-use Rattle.std.proofs.lemmas.Bool.Decides.{nat_tests}
-use Rattle.std.proofs.lemmas.List.{take-take, drop-take, drop-drop, get_or-take, length-take, length-append, take_all, take-append-le}
+use Rattle.tv_core.proofs.Common.{◌≡◌, ℕ, ◌+◌, ◌*◌, ◌<◌, ◌≤◌, zero, suc, List, [], ◌∷◌, ◌++◌, length, take, drop, get_or, ◌/◌, Result, Ok, Err, append_assoc}
+use Rattle.tv_core.proofs.Common.{append-nil, add-one, ap, refl, sym, ◌∙◌, arith, nat_tests, length-append}
+use Rattle.std.proofs.lemmas.List.{take-take, drop-take, drop-drop, get_or-take, length-take, take_all, take-append-le}
 use Rattle.std.specs.Simd.{first_chunks}
 use Rattle.tv_core.specs.declared.field.TheConstants.{P}
 use Rattle.tv_container.specs.declared.why.ReadRefusal.TheVariants.{Bad}

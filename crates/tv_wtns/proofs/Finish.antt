@@ -1,5 +1,5 @@
 -- The last bytes that are held.
-use Rattle.std.proofs.Common.{◌≡◌, ℕ, List, [], ◌++◌, Some, Result, Ok, Err, append-nil, ap, sym, ◌∙◌}
+use Rattle.tv_core.proofs.Common.{◌≡◌, ℕ, List, [], ◌++◌, Some, Result, Ok, Err, append-nil, ap, sym, ◌∙◌}
 use Rattle.tv_container.specs.Taking.{PassesOn}
 use Rattle.tv_container.proofs.Written.{has_more, has_front}
 use Rattle.tv_core.specs.declared.sink.SinkFault.{SinkFault}

@@ -1,5 +1,5 @@
 -- The first values of an assignment, where it has no more.
-use Rattle.std.proofs.Common.{◌≡◌, ℕ, ◌≤◌, List, length, Result, Ok, Err, ap, sym, ◌∙◌, arith}
+use Rattle.tv_core.proofs.Common.{◌≡◌, ℕ, ◌≤◌, List, length, Result, Ok, Err, ap, sym, ◌∙◌, arith}
 use Rattle.std.proofs.lemmas.List.{take_all}
 use Rattle.tv_container.specs.Places.{Fault}
 use Rattle.tv_wtns.specs.Wtns.{Firsts, firsts_of, firsts}

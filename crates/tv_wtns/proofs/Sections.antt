@@ -1,5 +1,5 @@
 -- An assignment, once what stands before its values is known.
-use Rattle.std.proofs.Common.{◌≡◌, ℕ, List, Ok, refl}
+use Rattle.tv_core.proofs.Common.{◌≡◌, ℕ, List, Ok, refl}
 use Rattle.tv_container.specs.Field.{this_field}
 use Rattle.tv_container.specs.Reading.{Refuses}
 use Rattle.tv_container.specs.Sections.{wanted}

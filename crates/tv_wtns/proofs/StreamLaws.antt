@@ -1,10 +1,10 @@
 -- From what a taker that writes promises to what streaming an assignment is.
-use Rattle.std.proofs.Common.{◌≡◌, ◌^◌, ◌<◌, ℕ, List, [], ◌∷◌, ◌++◌, length, Result, Ok, Err, inr, append_assoc, sym, ◌∙◌, refl}
+use Rattle.tv_core.proofs.Common.{◌≡◌, ◌^◌, ◌<◌, ℕ, List, [], ◌∷◌, ◌++◌, length, Result, Ok, Err, inr, append_assoc, sym, ◌∙◌, refl, GivesAll}
 use Rattle.std.specs.Prelude.{OnOk}
 use Rattle.tv_container.proofs.Buffers.{caused_seen, quiet_from}
 use Rattle.tv_container.proofs.Streamed.{streamed_last, streamed_part}
 use Rattle.tv_container.specs.Written.{HasFront, IsStreamed}
-use Rattle.tv_core.specs.Values.{GivesAll, GivesSome}
+use Rattle.tv_core.specs.Values.{GivesSome}
 use Rattle.tv_core.specs.declared.sink.SinkFault.{SinkFault}
 use Rattle.tv_files.proofs.Cases.{OnOk-map}
 use Rattle.tv_files.specs.Calls.{Creates}

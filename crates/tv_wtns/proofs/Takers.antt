@@ -1,5 +1,5 @@
 -- A value that is written, and one that is refused.
-use Rattle.std.proofs.Common.{◌≡◌, ℕ, ◌<◌, List, [], ◌∷◌, ◌++◌, take, Result, Ok, Err, append_assoc, append-nil, ap, refl, sym, ◌∙◌, arith}
+use Rattle.tv_core.proofs.Common.{◌≡◌, ℕ, ◌<◌, List, [], ◌∷◌, ◌++◌, take, Result, Ok, Err, append_assoc, append-nil, ap, refl, sym, ◌∙◌, arith}
 use Rattle.std.specs.Prelude.{false, is_err}
 use Rattle.std.proofs.lemmas.Grind.{flat_map-append}
 use Rattle.std.proofs.lemmas.List.Elements.{All-push}

@@ -1,4 +1,5 @@
-use Rattle.std.proofs.Common.{◌≡◌, ℕ, ◌%◌, ◌^◌, List, map, IfOk, sym, ◌∙◌, ap, subst}
+use Rattle.tv_core.proofs.Common.{◌≡◌, ℕ, ◌%◌, ◌^◌, List, map, sym, ◌∙◌, ap, subst}
+use Rattle.std.proofs.Common.{IfOk}
 use Rattle.std.proofs.lemmas.List.Sorted.{IsNonDecreasingBy-from_sort}
 use Rattle.std.specs.Prelude.{IsPermutation}
 use Rattle.tv_lines.specs.Ordered.{key}

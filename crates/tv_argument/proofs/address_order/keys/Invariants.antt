@@ -1,4 +1,4 @@
-use Rattle.std.proofs.Common.{◌≡◌, map, take}
+use Rattle.tv_core.proofs.Common.{◌≡◌, map, take}
 use Rattle.tv_lines.specs.Ordered.{key}
 use Rattle.tv_lines.specs.PackedLines.{unpacked}
 use Rattle.tv_argument.proofs.address_order.keys.Given as goal

@@ -1,6 +1,4 @@
-use Rattle.std.proofs.Common.{◌≡◌, List, length, map, ◌∙◌, arith}
-use Rattle.std.proofs.lemmas.List.{length-map}
-use Rattle.tv_core.specs.Lines.{Line}
+use Rattle.tv_core.proofs.Common.{◌≡◌, List, length, map, ◌∙◌, arith, length-map, Line}
 use Rattle.tv_lines.specs.PackedLines.{unpacked}
 use Rattle.tv_argument.proofs.Previous.{order_permutes}
 use Rattle.tv_argument.specs.Order.{address_order}

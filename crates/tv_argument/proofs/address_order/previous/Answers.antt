@@ -1,4 +1,4 @@
-use Rattle.std.proofs.Common.{◌≡◌, ◌+◌, length, set, sym, ◌∙◌, subst, arith}
+use Rattle.tv_core.proofs.Common.{◌≡◌, ◌+◌, length, set, sym, ◌∙◌, subst, arith}
 use Rattle.tv_argument.proofs.Written.{IsPlaced, placed_more, placed_all, before_zero, before_some}
 use Rattle.tv_argument.specs.Order.{index_before, place_at}
 use Rattle.tv_argument.proofs.address_order.previous.Goals as goal

@@ -1,4 +1,4 @@
-use Rattle.std.proofs.Common.{◌≡◌, ◌%◌, ◌^◌, map, take}
+use Rattle.tv_core.proofs.Common.{◌≡◌, ◌%◌, ◌^◌, map, take}
 use Rattle.tv_argument.proofs.address_order.times.Given as goal
 
 abbrev pub invariant-loop-key : goal.invariant-loop-key

@@ -1,6 +1,6 @@
-use Rattle.std.proofs.Common.{◌≡◌, ◌<◌, ap, arith}
+use Rattle.tv_core.proofs.Common.{◌≡◌, ◌<◌, ap, arith, puts_no_turn, refused}
 use Rattle.tv_core.proofs.BelowLaws.{sum_below-zero}
-use Rattle.tv_core.proofs.Chain.{puts_no_turn, puts_turn, turn_refused, refused}
+use Rattle.tv_core.proofs.Chain.{puts_turn, turn_refused}
 use Rattle.tv_argument.proofs.Parts.{sum_next, sum_most}
 use Rattle.tv_core.proofs.Rooms.{room_left}
 use Rattle.tv_argument.specs.Checks.{check_made, check_added}

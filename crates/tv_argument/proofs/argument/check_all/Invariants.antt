@@ -1,7 +1,6 @@
 use Rattle.tv_benes.specs.Places.{output}
 use Rattle.tv_core.specs.Below.{sum_below}
-use Rattle.tv_core.specs.Loops.{sequence}
-use Rattle.tv_core.specs.Sinks.{PutsAll, Grows}
+use Rattle.tv_core.proofs.Common.{sequence, PutsAll, Grows}
 use Rattle.tv_lines.specs.Placed.{line_in}
 use Rattle.tv_argument.specs.Checks.{check_of, check_made, check_added}
 use Rattle.tv_argument.proofs.argument.check_all.Given as goal

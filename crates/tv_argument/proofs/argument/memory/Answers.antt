@@ -1,6 +1,4 @@
-use Rattle.std.proofs.Common.{◌^◌}
-use Rattle.tv_core.proofs.Chain.{some_first, refused}
-use Rattle.tv_core.proofs.TailCalls.{puts_in_then}
+use Rattle.tv_core.proofs.Common.{◌^◌, some_first, refused, puts_in_then}
 use Rattle.tv_argument.proofs.Made.{are_made}
 use Rattle.tv_argument.specs.Memory.{checked_network_of}
 use Rattle.tv_argument.proofs.argument.memory.Goals as goal

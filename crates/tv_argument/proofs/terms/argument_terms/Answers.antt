@@ -1,5 +1,4 @@
-use Rattle.std.proofs.Common.{◌≡◌, suc, ◌-◌, ◌*◌, ◌^◌, ◌≤◌, ◌∙◌, sym, ap, arith}
-use Rattle.std.proofs.Math.Nat.{pow-le-pow_right}
+use Rattle.tv_core.proofs.Common.{◌≡◌, suc, ◌-◌, ◌*◌, ◌^◌, ◌≤◌, ◌∙◌, sym, ap, arith, pow-le-pow_right}
 use Rattle.tv_argument.proofs.FewTerms.{inner_few}
 use Rattle.tv_argument.proofs.terms.argument_terms.Goals as goal
 

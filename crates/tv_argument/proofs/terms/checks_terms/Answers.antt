@@ -1,4 +1,4 @@
-use Rattle.std.proofs.Common.{◌≡◌, sym, arith}
+use Rattle.tv_core.proofs.Common.{◌≡◌, sym, arith}
 use Rattle.tv_core.proofs.BelowLaws.{sum_below-zero}
 use Rattle.tv_lines.specs.Placed.{line_in}
 use Rattle.tv_argument.proofs.Parts.{sum_next}

@@ -1,4 +1,4 @@
-use Rattle.std.proofs.Common.{◌≡◌, ◌*◌, ◌^◌, ◌≤◌}
+use Rattle.tv_core.proofs.Common.{◌≡◌, ◌*◌, ◌^◌, ◌≤◌}
 use Rattle.tv_core.specs.Below.{sum_below}
 use Rattle.tv_lines.specs.Placed.{line_in}
 use Rattle.tv_argument.specs.Checks.{check_terms}

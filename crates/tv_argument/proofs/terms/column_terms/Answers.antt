@@ -1,4 +1,4 @@
-use Rattle.std.proofs.Common.{◌≡◌, ◌+◌, ◌*◌, ◌∙◌, sym, ap, ap₂, arith}
+use Rattle.tv_core.proofs.Common.{◌≡◌, ◌+◌, ◌*◌, ◌∙◌, sym, ap, ap₂, arith}
 use Rattle.tv_core.proofs.BelowLaws.{sum_below-zero}
 use Rattle.tv_benes.specs.Costs.{switch_terms}
 use Rattle.tv_lines.specs.PackedLines.{pack_item}

@@ -1,4 +1,4 @@
-use Rattle.std.proofs.Common.{◌≡◌, ◌*◌, ◌≤◌}
+use Rattle.tv_core.proofs.Common.{◌≡◌, ◌*◌, ◌≤◌}
 use Rattle.tv_benes.specs.Costs.{column_terms}
 use Rattle.tv_argument.specs.Memory.{items_of}
 use Rattle.tv_argument.proofs.terms.column_terms.Given as goal

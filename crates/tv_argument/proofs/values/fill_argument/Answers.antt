@@ -1,7 +1,6 @@
-use Rattle.std.proofs.Common.{◌-◌, ◌^◌}
+use Rattle.tv_core.proofs.Common.{◌-◌, ◌^◌, first_given, in_given, gives_refused}
 use Rattle.tv_benes.specs.Items.{bit_at, pair_at}
 use Rattle.tv_benes.specs.Through.{through}
-use Rattle.tv_core.proofs.ValuesChain.{first_given, in_given, gives_refused}
 use Rattle.tv_argument.proofs.FillingLaws.{checks_moved, given_in}
 use Rattle.tv_argument.proofs.values.fill_argument.Goals as goal
 

@@ -1,9 +1,7 @@
-use Rattle.std.proofs.Common.{◌≡◌, ℕ, ◌<◌, List, length, refl, ap, ◌∙◌, arith}
+use Rattle.tv_core.proofs.Common.{◌≡◌, ℕ, ◌<◌, List, length, refl, ap, ◌∙◌, arith, gives_refused, Line}
 use Rattle.std.proofs.lemmas.List.{get_or_read_under}
 use Rattle.tv_benes.specs.Items.{pair_at}
-use Rattle.tv_core.proofs.ValuesChain.{gives_refused}
 use Rattle.tv_core.proofs.JoinedLaws.{gives_no_list, gives_list, gives_list_refused}
-use Rattle.tv_core.specs.Lines.{Line}
 use Rattle.tv_core.specs.declared.lines.PairNum.{PairNum}
 use Rattle.tv_lines.specs.PackedLines.{unpacked}
 use Rattle.tv_lines.specs.Placed.{number_in}

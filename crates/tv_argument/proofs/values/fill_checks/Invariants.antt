@@ -1,7 +1,5 @@
-use Rattle.std.proofs.Common.{◌≡◌, false}
+use Rattle.tv_core.proofs.Common.{◌≡◌, false, joined_below, GivesAll}
 use Rattle.tv_benes.specs.Items.{pair_at}
-use Rattle.tv_core.specs.Below.{joined_below}
-use Rattle.tv_core.specs.Values.{GivesAll}
 use Rattle.tv_lines.specs.PackedLines.{unpacked}
 use Rattle.tv_lines.specs.Placed.{number_in}
 use Rattle.tv_argument.specs.Checks.{check_values}

@@ -1,4 +1,4 @@
-use Rattle.std.proofs.Common.{rules, ◌≡◌, length, true, subst, arith}
+use Rattle.tv_core.proofs.Common.{rules, ◌≡◌, length, true, subst, arith}
 use Rattle.tv_route.specs.Permutations.{Permutes}
 use Rattle.tv_argument_tests.proofs.argument.assignment.Goals as goal
 

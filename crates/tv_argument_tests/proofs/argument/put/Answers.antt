@@ -1,4 +1,4 @@
-use Rattle.std.proofs.Common.{arith}
+use Rattle.tv_core.proofs.Common.{arith}
 use Rattle.tv_argument_tests.proofs.Made.{eight, eight_made, few_wires, checks_made, checks_added}
 use Rattle.tv_argument_tests.proofs.argument.put.Goals as goal
 

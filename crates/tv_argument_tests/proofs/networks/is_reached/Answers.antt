@@ -1,4 +1,4 @@
-use Rattle.std.proofs.Common.{rules, ◌≡◌, length, true}
+use Rattle.tv_core.proofs.Common.{rules, ◌≡◌, length, true}
 use Rattle.tv_argument_tests.proofs.Made.{routable}
 use Rattle.tv_argument_tests.proofs.networks.is_reached.Goals as goal
 

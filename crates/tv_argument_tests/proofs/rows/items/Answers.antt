@@ -1,6 +1,5 @@
-use Rattle.std.proofs.Common.{◌≡◌, ◌++◌, ◌∷◌, [], List, map, sym, ap, ◌∙◌, subst, arith}
-use Rattle.std.proofs.lemmas.List.{length-map, map-append}
-use Rattle.tv_core.specs.Lines.{Line}
+use Rattle.tv_core.proofs.Common.{◌≡◌, ◌++◌, ◌∷◌, [], List, map, sym, ap, ◌∙◌, subst, arith, length-map, Line}
+use Rattle.std.proofs.lemmas.List.{map-append}
 use Rattle.tv_lines.proofs.PackingLaws.{unpack_packed}
 use Rattle.tv_lines.specs.PackedLines.{unpacked, without_old, LineInRange}
 use Rattle.tv_lines.specs.Placed.{LinesFrom}

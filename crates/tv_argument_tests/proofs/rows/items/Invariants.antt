@@ -1,4 +1,4 @@
-use Rattle.std.proofs.Common.{◌≡◌, length, map}
+use Rattle.tv_core.proofs.Common.{◌≡◌, length, map}
 use Rattle.tv_lines.specs.PackedLines.{unpacked}
 use Rattle.tv_lines.specs.Placed.{LinesFrom}
 use Rattle.tv_argument_tests.proofs.rows.items.Given as goal

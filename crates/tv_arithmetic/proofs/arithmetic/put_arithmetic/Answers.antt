@@ -1,4 +1,4 @@
-use Rattle.tv_core.proofs.Chain.{all_then, some_then, some_first, all_pure, refused}
+use Rattle.tv_core.proofs.Common.{all_then, some_then, some_first, all_pure, refused}
 use Rattle.tv_arithmetic.specs.Arithmetic.{arithmetic_of}
 use Rattle.tv_arithmetic.proofs.arithmetic.put_arithmetic.Goals as goal
 

@@ -1,5 +1,4 @@
-use Rattle.tv_core.proofs.Chain.{some_first, refused}
-use Rattle.tv_core.proofs.TailCalls.{puts_in_then}
+use Rattle.tv_core.proofs.Common.{some_first, refused, puts_in_then}
 use Rattle.tv_arithmetic.specs.Arithmetic.{products_of}
 use Rattle.tv_arithmetic.proofs.arithmetic.put_products.Goals as goal
 

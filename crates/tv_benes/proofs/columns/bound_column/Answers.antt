@@ -1,5 +1,5 @@
-use Rattle.std.proofs.Common.{◌≡◌, ◌+◌, ◌*◌, arith}
-use Rattle.tv_core.proofs.Chain.{puts_no_turn, puts_turn, turn_refused, refused}
+use Rattle.tv_core.proofs.Common.{◌≡◌, ◌+◌, ◌*◌, arith, puts_no_turn, refused}
+use Rattle.tv_core.proofs.Chain.{puts_turn, turn_refused}
 use Rattle.tv_core.proofs.Rooms.{room_left}
 use Rattle.tv_benes.proofs.Sizes.{made_at, made_later}
 use Rattle.tv_benes.specs.Network.{column_of}

@@ -1,6 +1,4 @@
-use Rattle.std.proofs.Common.{◌+◌, ◌*◌}
-use Rattle.tv_core.specs.Loops.{sequence}
-use Rattle.tv_core.specs.Sinks.{PutsAll, Grows}
+use Rattle.tv_core.proofs.Common.{◌+◌, ◌*◌, sequence, PutsAll, Grows}
 use Rattle.tv_benes.specs.Network.{switch_of}
 use Rattle.tv_benes.specs.declared.shape.Form.TheVariants.{Bound}
 use Rattle.tv_benes.proofs.columns.bound_column.Given as goal

@@ -1,4 +1,4 @@
-use Rattle.std.proofs.Common.{◌-◌, arith}
+use Rattle.tv_core.proofs.Common.{◌-◌, arith}
 use Rattle.tv_benes.proofs.ThroughLaws.{column_fits}
 use Rattle.tv_benes.proofs.costs.inner_terms.Goals as goal
 

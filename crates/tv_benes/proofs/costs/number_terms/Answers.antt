@@ -1,6 +1,5 @@
-use Rattle.std.proofs.Common.{◌-◌, ap, arith, length}
+use Rattle.tv_core.proofs.Common.{◌-◌, ap, arith, length, scaled}
 use Rattle.tv_core.proofs.Unique.{normal-front}
-use Rattle.tv_core.specs.Combinations.{scaled}
 use Rattle.tv_core.specs.declared.field.TheConstants.{P}
 use Rattle.tv_benes.proofs.costs.number_terms.Goals as goal
 

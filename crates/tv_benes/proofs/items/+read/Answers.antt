@@ -1,4 +1,4 @@
-use Rattle.std.proofs.Common.{◌^◌, arith}
+use Rattle.tv_core.proofs.Common.{◌^◌, arith}
 use Rattle.tv_benes.proofs.Bounds.{nearer}
 use Rattle.tv_benes.specs.Items.{depth_of}
 use Rattle.tv_benes.proofs.items.+read.Goals as goal

@@ -1,4 +1,4 @@
-use Rattle.std.proofs.Common.{◌≡◌, ℕ, Bool, not, if◌then◌else◌, suc, ◌+◌, ◌-◌, ◌*◌, ◌/◌, ◌%◌, ◌^◌, ◌==◌, sym, ◌∙◌, ap, ap₂, arith}
+use Rattle.tv_core.proofs.Common.{◌≡◌, ℕ, Bool, not, if◌then◌else◌, suc, ◌+◌, ◌-◌, ◌*◌, ◌/◌, ◌%◌, ◌^◌, ◌==◌, sym, ◌∙◌, ap, ap₂, arith}
 use Rattle.std.proofs.Math.Bool.{beq}
 use Rattle.tv_benes.proofs.Sources.{source_zero, source_suc, half_place}
 use Rattle.tv_benes.proofs.ThroughLaws.{above}

@@ -1,4 +1,4 @@
-use Rattle.std.proofs.Common.{true, false, ◌+◌, ◌-◌, ◌*◌, ◌^◌, sym, ap, subst, arith}
+use Rattle.tv_core.proofs.Common.{true, false, ◌+◌, ◌-◌, ◌*◌, ◌^◌, sym, ap, subst, arith, refused, some_then, some_first}
 use Rattle.tv_benes.proofs.NetworkChain.{above_wires, bound_fits, bound_innermost, bound_lowest, grows_then, lowest_put, first_column_refused}
 use Rattle.tv_benes.proofs.NetworkChain.{parts_are, some_as, in_as, in_then, put_ends}
 use Rattle.tv_core.proofs.Rooms.{room_here, room_left, both}
@@ -6,7 +6,6 @@ use Rattle.tv_benes.proofs.Sizes.{passed_made, below_later, made_later}
 use Rattle.tv_benes.proofs.ThroughLaws.{above}
 use Rattle.tv_benes.specs.Places.{passed_to, bound_pair, sum_at, ArePairsMade, AreBelow}
 use Rattle.tv_benes.specs.declared.shape.Form.TheVariants.{Bound, Open}
-use Rattle.tv_core.proofs.Chain.{refused, some_then, some_first}
 use Rattle.tv_core.proofs.LoopLaws.{puts_here_as}
 use Rattle.tv_benes.proofs.networks.+network.Goals as goal
 

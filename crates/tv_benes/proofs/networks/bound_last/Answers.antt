@@ -1,8 +1,8 @@
-use Rattle.std.proofs.Common.{◌-◌, ◌^◌, arith, ap₂}
+use Rattle.tv_core.proofs.Common.{◌-◌, ◌^◌, arith, ap₂, refused, all_then, all_pure, some_then, some_first}
 use Rattle.tv_benes.proofs.Sizes.{last_made}
 use Rattle.tv_benes.proofs.ThroughLaws.{missing_small, above}
 use Rattle.tv_benes.specs.Network.{last_column_of}
-use Rattle.tv_core.proofs.Chain.{refused, all_then, all_pure, some_then, some_first, puts_here}
+use Rattle.tv_core.proofs.Chain.{puts_here}
 use Rattle.tv_core.proofs.LoopLaws.{puts_here_as}
 use Rattle.tv_benes.proofs.networks.bound_last.Goals as goal
 

@@ -1,4 +1,4 @@
-use Rattle.std.proofs.Common.{◌≡◌, ℕ, ◌+◌, ◌-◌, ◌*◌, ap₂}
+use Rattle.tv_core.proofs.Common.{◌≡◌, ℕ, ◌+◌, ◌-◌, ◌*◌, ap₂, refused, all_then, all_pure, some_then, some_first}
 use Rattle.tv_benes.proofs.ThroughLaws.{alternating_map}
 use Rattle.tv_benes.specs.Network.{last_column_of}
 use Rattle.tv_benes.specs.Places.{wires_at, output_wire, last_wire, last_pair}
@@ -6,7 +6,7 @@ use Rattle.tv_benes.specs.Through.{missing}
 use Rattle.tv_benes.specs.declared.places.Outputs.{Outputs}
 use Rattle.tv_benes.specs.declared.shape.Form.TheVariants.{Open}
 use Rattle.tv_benes.specs.declared.shape.Net.{Net}
-use Rattle.tv_core.proofs.Chain.{refused, all_then, all_pure, some_then, some_first, puts_here}
+use Rattle.tv_core.proofs.Chain.{puts_here}
 use Rattle.tv_core.proofs.LoopLaws.{puts_here_as}
 use Rattle.tv_core.specs.declared.lines.Pair.{Pair}
 use Rattle.tv_benes.proofs.networks.open_last.Goals as goal

@@ -1,10 +1,9 @@
-use Rattle.std.proofs.Common.{arith}
+use Rattle.tv_core.proofs.Common.{arith, refused}
 use Rattle.tv_benes.proofs.NetworkChain.{two_refused, two_put}
 use Rattle.tv_benes.proofs.NetworkLaws.{one_wires}
 use Rattle.tv_core.proofs.Rooms.{room_here}
 use Rattle.tv_benes.specs.declared.shape.Form.TheVariants.{Open}
 use Rattle.tv_benes.specs.declared.shape.Net.TheVariants.{Benes, Waksman}
-use Rattle.tv_core.proofs.Chain.{refused}
 use Rattle.tv_benes.proofs.networks.open_two.Goals as goal
 
 -- ---- an open switch

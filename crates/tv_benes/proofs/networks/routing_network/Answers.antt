@@ -1,4 +1,4 @@
-use Rattle.std.proofs.Common.{◌≡◌, suc, ◌-◌, ◌^◌, subst, arith}
+use Rattle.tv_core.proofs.Common.{◌≡◌, suc, ◌-◌, ◌^◌, subst, arith}
 use Rattle.std.specs.Prelude.{IfOk}
 use Rattle.tv_benes.proofs.NetworkChain.{ends_below}
 use Rattle.tv_benes.specs.Places.{AreBelow}

@@ -1,5 +1,4 @@
-use Rattle.std.proofs.Common.{arith}
-use Rattle.tv_core.proofs.Chain.{refused, all_then, all_pure, some_then, some_first}
+use Rattle.tv_core.proofs.Common.{arith, refused, all_then, all_pure, some_then, some_first}
 use Rattle.tv_core.proofs.Rooms.{room_left, both}
 use Rattle.tv_benes.specs.Network.{switch_of}
 use Rattle.tv_benes.proofs.open_switches.open_switch.Goals as goal

@@ -1,5 +1,4 @@
-use Rattle.std.proofs.Common.{arith}
-use Rattle.tv_core.proofs.Chain.{refused, all_then, all_pure, some_then, some_first}
+use Rattle.tv_core.proofs.Common.{arith, refused, all_then, all_pure, some_then, some_first}
 use Rattle.tv_bits.specs.Select.{pick_of}
 use Rattle.tv_benes.proofs.open_switches.product.Goals as goal
 

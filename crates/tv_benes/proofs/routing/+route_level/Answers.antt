@@ -1,4 +1,5 @@
-use Rattle.std.proofs.Common.{ℕ, Bool, ◌-◌, ◌^◌, length-append, ap, ◌∙◌, arith, sym}
+use Rattle.tv_core.proofs.Common.{ℕ, Bool, ◌-◌, ◌^◌, ap, ◌∙◌, arith, sym, gives_refused, first_given, in_given}
+use Rattle.std.proofs.Common.{length-append}
 use Rattle.std.proofs.lemmas.Result.{on_ok_weaker}
 use Rattle.tv_benes.proofs.ColumnChain.{all_as, some_as, in_as, level_values-suc}
 use Rattle.tv_benes.proofs.Moved.{does_same, second_bits, third_bits, moved_values, moved_items, level_values-two, through-two}
@@ -6,7 +7,7 @@ use Rattle.tv_benes.proofs.ThroughLaws.{above}
 use Rattle.tv_benes.specs.Items.{bit_at, pair_at}
 use Rattle.tv_benes.specs.Network.{column_values}
 use Rattle.tv_benes.specs.Through.{from, to_upper, to_lower}
-use Rattle.tv_core.proofs.ValuesChain.{gives_refused, some_given, first_given, in_given}
+use Rattle.tv_core.proofs.ValuesChain.{some_given}
 use Rattle.tv_benes.proofs.routing.+route_level.Goals as goal
 
 -- ---- the lowest level

@@ -1,10 +1,9 @@
-use Rattle.std.proofs.Common.{◌≡◌, ◌+◌, ◌*◌, length, ◌∙◌, arith}
+use Rattle.tv_core.proofs.Common.{◌≡◌, ◌+◌, ◌*◌, length, ◌∙◌, arith, gives_refused}
 use Rattle.tv_benes.proofs.ColumnChain.{no_switch, one_switch, switch_refused, values_as, all_as, some_as}
 use Rattle.tv_benes.proofs.Moved.{is_places, place_more, read_item}
 use Rattle.tv_benes.proofs.ThroughLaws.{passed-same}
 use Rattle.tv_benes.specs.Items.{bit_at, pair_at}
 use Rattle.tv_benes.specs.Through.{to_upper, to_lower}
-use Rattle.tv_core.proofs.ValuesChain.{gives_refused}
 use Rattle.tv_benes.proofs.routing.first_column.Goals as goal
 
 pub loop-j-init : goal.loop-j-init

@@ -1,8 +1,7 @@
-use Rattle.std.proofs.Common.{◌≡◌, ℕ, ◌<◌, false}
+use Rattle.tv_core.proofs.Common.{◌≡◌, ℕ, ◌<◌, false, GivesAll}
 use Rattle.tv_benes.specs.Items.{bit_at, pair_at}
 use Rattle.tv_benes.specs.Network.{column_values}
 use Rattle.tv_benes.specs.Through.{to_upper, to_lower}
-use Rattle.tv_core.specs.Values.{GivesAll}
 use Rattle.tv_benes.proofs.routing.first_column.Given as goal
 
 abbrev pub invariant-loop-j : goal.invariant-loop-j

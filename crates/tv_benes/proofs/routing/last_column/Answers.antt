@@ -1,4 +1,4 @@
-use Rattle.std.proofs.Common.{◌≡◌, ℕ, ◌+◌, ◌-◌, ◌*◌, [], if◌then◌else◌, length, ◌∙◌, ap₂, subst, arith}
+use Rattle.tv_core.proofs.Common.{◌≡◌, ℕ, ◌+◌, ◌-◌, ◌*◌, [], if◌then◌else◌, length, ◌∙◌, ap₂, subst, arith, gives_refused, GivesAll}
 use Rattle.std.proofs.lemmas.List.{length-set}
 use Rattle.std.specs.Prelude.{nat_lt}
 use Rattle.tv_benes.proofs.ColumnChain.{no_switch, values_as, all_as, some_as}
@@ -7,8 +7,6 @@ use Rattle.tv_benes.proofs.ThroughLaws.{passed-same}
 use Rattle.tv_benes.specs.Items.{bit_at, pair_at}
 use Rattle.tv_benes.specs.Network.{column_values}
 use Rattle.tv_benes.specs.Through.{missing, alternating, joined, last_bit}
-use Rattle.tv_core.proofs.ValuesChain.{gives_refused}
-use Rattle.tv_core.specs.Values.{GivesAll}
 use Rattle.tv_benes.proofs.routing.last_column.Goals as goal
 
 pub loop-j-init : goal.loop-j-init

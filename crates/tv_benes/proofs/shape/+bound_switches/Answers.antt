@@ -1,4 +1,4 @@
-use Rattle.std.proofs.Common.{◌≡◌, ◌+◌, ◌-◌, ◌*◌, ◌^◌, ◌≤◌, ap, ap₂, sym, ◌∙◌, subst, arith}
+use Rattle.tv_core.proofs.Common.{◌≡◌, ◌+◌, ◌-◌, ◌*◌, ◌^◌, ◌≤◌, ap, ap₂, sym, ◌∙◌, subst, arith}
 use Rattle.tv_benes.proofs.Most.{switches_few, bound_lowest, bound_above, bound_of_few, bound_few}
 use Rattle.tv_benes.proofs.ThroughLaws.{column_fits}
 use Rattle.tv_benes.specs.Levels.{other, bound_of, bound}

@@ -1,4 +1,4 @@
-use Rattle.std.proofs.Common.{◌≡◌, ℕ, Bool, suc, ◌-◌, ◌*◌, ◌^◌, ◌≤◌, ap, ap₂, ◌∙◌, sym, subst, arith}
+use Rattle.tv_core.proofs.Common.{◌≡◌, ℕ, Bool, suc, ◌-◌, ◌*◌, ◌^◌, ◌≤◌, ap, ap₂, ◌∙◌, sym, subst, arith, gives_refused, first_given, in_given}
 use Rattle.tv_benes.proofs.Bounds.{half_near}
 use Rattle.tv_benes.proofs.ColumnChain.{all_as, some_as, in_as, level_values-zero, level_values-suc}
 use Rattle.tv_benes.proofs.Moved.{second_bits}
@@ -6,7 +6,7 @@ use Rattle.tv_benes.proofs.ThroughLaws.{above}
 use Rattle.tv_benes.specs.Items.{bit_at, item_of, depth_of}
 use Rattle.tv_benes.specs.Network.{column_values, level_values}
 use Rattle.tv_benes.specs.Through.{from, to_upper, to_lower}
-use Rattle.tv_core.proofs.ValuesChain.{gives_refused, some_given, first_given, in_given}
+use Rattle.tv_core.proofs.ValuesChain.{some_given}
 use Rattle.tv_benes.proofs.values.+fill_level.Goals as goal
 
 -- ---- the lowest level

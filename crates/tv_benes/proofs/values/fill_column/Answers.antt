@@ -1,7 +1,6 @@
-use Rattle.std.proofs.Common.{◌≡◌, arith}
+use Rattle.tv_core.proofs.Common.{◌≡◌, arith, gives_refused}
 use Rattle.tv_benes.proofs.ColumnChain.{no_switch, one_switch, switch_refused, values_as, all_as, some_as}
 use Rattle.tv_benes.specs.Items.{bit_at, item_of}
-use Rattle.tv_core.proofs.ValuesChain.{gives_refused}
 use Rattle.tv_benes.proofs.values.fill_column.Goals as goal
 
 pub loop-j-init : goal.loop-j-init

@@ -1,7 +1,6 @@
-use Rattle.std.proofs.Common.{◌≡◌, false}
+use Rattle.tv_core.proofs.Common.{◌≡◌, false, GivesAll}
 use Rattle.tv_benes.specs.Items.{bit_at, item_of}
 use Rattle.tv_benes.specs.Network.{column_values}
-use Rattle.tv_core.specs.Values.{GivesAll}
 use Rattle.tv_benes.proofs.values.fill_column.Given as goal
 
 abbrev pub invariant-loop-j : goal.invariant-loop-j

@@ -1,7 +1,6 @@
-use Rattle.std.proofs.Common.{◌≡◌, suc, ◌-◌, ◌^◌, ◌<◌, ap, ap₂, ◌∙◌, arith, add-one}
+use Rattle.tv_core.proofs.Common.{◌≡◌, suc, ◌-◌, ◌^◌, ◌<◌, ap, ap₂, ◌∙◌, arith, add-one, gives_refused}
 use Rattle.tv_benes.proofs.ColumnChain.{no_switch, one_switch, switch_refused}
 use Rattle.tv_benes.specs.Through.{missing}
-use Rattle.tv_core.proofs.ValuesChain.{gives_refused}
 use Rattle.tv_benes.proofs.values.fill_last.Goals as goal
 
 pub loop-j-init : goal.loop-j-init

@@ -1,8 +1,7 @@
-use Rattle.std.proofs.Common.{◌≡◌, suc, ◌+◌, ◌*◌, ◌^◌, false}
+use Rattle.tv_core.proofs.Common.{◌≡◌, suc, ◌+◌, ◌*◌, ◌^◌, false, GivesAll}
 use Rattle.tv_benes.specs.Items.{bit_at, item_of}
 use Rattle.tv_benes.specs.Network.{column_values}
 use Rattle.tv_benes.specs.Through.{switches, from, last_item}
-use Rattle.tv_core.specs.Values.{GivesAll}
 use Rattle.tv_benes.proofs.values.fill_last.Given as goal
 
 abbrev pub invariant-loop-j : goal.invariant-loop-j

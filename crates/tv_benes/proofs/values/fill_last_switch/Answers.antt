@@ -1,4 +1,4 @@
-use Rattle.std.proofs.Common.{◌≡◌, ℕ, Bool, List, suc, ◌+◌, ◌*◌, ◌^◌, ap, ap₂, sym, ◌∙◌, subst, add-one}
+use Rattle.tv_core.proofs.Common.{◌≡◌, ℕ, Bool, List, suc, ◌+◌, ◌*◌, ◌^◌, ap, ap₂, sym, ◌∙◌, subst, add-one}
 use Rattle.tv_benes.proofs.Bounds.{place_near}
 use Rattle.tv_benes.proofs.ColumnChain.{values_as}
 use Rattle.tv_benes.proofs.Sources.{inner_item, last_even, last_odd}

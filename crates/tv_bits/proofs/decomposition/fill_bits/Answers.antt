@@ -1,5 +1,4 @@
-use Rattle.std.specs.Int.{bit_at}
-use Rattle.tv_core.proofs.ValuesChain.{gives_refused}
+use Rattle.tv_core.proofs.Common.{bit_at, gives_refused}
 use Rattle.tv_core.proofs.LoopLaws.{gives_no_turn, gives_turn, gives_turn_refused}
 use Rattle.tv_bits.proofs.decomposition.fill_bits.Goals as goal
 

@@ -1,5 +1,4 @@
-use Rattle.std.proofs.Common.{◌≡◌, false}
-use Rattle.tv_core.specs.Values.{GivesAll}
+use Rattle.tv_core.proofs.Common.{◌≡◌, false, GivesAll}
 use Rattle.tv_bits.specs.Bits.{bits_values}
 use Rattle.tv_bits.proofs.decomposition.fill_bits.Given as goal
 

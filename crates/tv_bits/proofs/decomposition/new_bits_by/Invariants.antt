@@ -1,5 +1,4 @@
-use Rattle.tv_core.specs.Loops.{sequence}
-use Rattle.tv_core.specs.Sinks.{PutsAll, Grows}
+use Rattle.tv_core.proofs.Common.{sequence, PutsAll, Grows}
 use Rattle.tv_bits.specs.Bits.{new_bit}
 use Rattle.tv_bits.proofs.decomposition.new_bits_by.Given as goal
 

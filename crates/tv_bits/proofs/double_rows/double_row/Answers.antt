@@ -1,6 +1,5 @@
-use Rattle.std.proofs.Common.{arith}
+use Rattle.tv_core.proofs.Common.{arith, refused, all_then, all_pure, some_then, some_first}
 use Rattle.tv_bits.proofs.Growing.{less_room, room_after}
-use Rattle.tv_core.proofs.Chain.{refused, all_then, all_pure, some_then, some_first}
 use Rattle.tv_bits.specs.DoubleRow.{double_row_of}
 use Rattle.tv_bits.proofs.double_rows.double_row.Goals as goal
 

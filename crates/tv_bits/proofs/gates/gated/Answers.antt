@@ -1,6 +1,4 @@
-use Rattle.std.proofs.Common.{arith}
-use Rattle.std.proofs.Common.{◌++◌, ◌∙◌, ap, ap₂}
-use Rattle.tv_core.specs.Combinations.{scaled}
+use Rattle.tv_core.proofs.Common.{arith, ◌++◌, ◌∙◌, ap, ap₂, scaled}
 use Rattle.tv_bits.specs.Gate.{gated_of}
 use Rattle.tv_bits.proofs.gates.gated.Goals as goal
 

@@ -1,5 +1,5 @@
-use Rattle.std.proofs.Common.{◌≡◌, ℕ, max, ◌∙◌, ap, arith}
-use Rattle.tv_core.specs.Combinations.{top}
+use Rattle.tv_core.proofs.Common.{◌≡◌, ℕ, ◌∙◌, ap, arith, top}
+use Rattle.std.proofs.Common.{max}
 use Rattle.tv_bits.proofs.pairs.set_side.Goals as goal
 
 max_four : (a b c d : ℕ) → max (max (max (max 1 a) b) c) d ≡ max 1 (max (max a b) (max c d))

@@ -1,5 +1,4 @@
-use Rattle.std.proofs.Common.{◌≡◌, ℕ, ◌*◌, ◌∙◌, ap, ap₂, arith}
-use Rattle.tv_core.specs.Constraints.{Combination}
+use Rattle.tv_core.proofs.Common.{◌≡◌, ℕ, ◌*◌, ◌∙◌, ap, ap₂, arith, Combination}
 use Rattle.tv_bits.specs.Pairs.{plus_times, negative, side, two_ands_of}
 use Rattle.tv_bits.proofs.pairs.two_ands.Goals as goal
 

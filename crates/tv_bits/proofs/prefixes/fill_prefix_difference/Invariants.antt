@@ -1,6 +1,4 @@
-use Rattle.std.proofs.Common.{◌≡◌, ℕ, ◌+◌, ◌*◌, ◌%◌, false}
-use Rattle.tv_core.specs.Below.{each_below}
-use Rattle.tv_core.specs.Values.{GivesAll}
+use Rattle.tv_core.proofs.Common.{◌≡◌, ℕ, ◌+◌, ◌*◌, ◌%◌, false, each_below, GivesAll}
 use Rattle.tv_core.specs.declared.field.TheConstants.{P}
 use Rattle.tv_bits.specs.Prefixes.{prefix_less_in, product_below}
 use Rattle.tv_bits.proofs.prefixes.fill_prefix_difference.Given as goal

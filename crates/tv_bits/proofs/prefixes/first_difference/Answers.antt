@@ -1,4 +1,4 @@
-use Rattle.std.proofs.Common.{sym, ◌∙◌, add-one}
+use Rattle.tv_core.proofs.Common.{sym, ◌∙◌, add-one}
 use Rattle.tv_bits.proofs.OrderLaws.{first_difference-zero, first_difference-same, first_difference-apart}
 use Rattle.tv_bits.proofs.prefixes.first_difference.Goals as goal
 use Rattle.tv_bits.proofs.prefixes.first_difference.Goals.{then-x-y, else-x-y}

@@ -1,4 +1,4 @@
-use Rattle.std.proofs.Common.{◌≡◌}
+use Rattle.tv_core.proofs.Common.{◌≡◌}
 use Rattle.tv_bits.specs.Order.{first_difference}
 use Rattle.tv_bits.proofs.prefixes.first_difference.Given as goal
 

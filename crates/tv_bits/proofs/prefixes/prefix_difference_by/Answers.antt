@@ -1,8 +1,6 @@
-use Rattle.std.proofs.Common.{◌≡◌, ℕ, ◌*◌, ap, arith, mul-zero}
+use Rattle.tv_core.proofs.Common.{◌≡◌, ℕ, ◌*◌, ap, arith, refused, top, Combination}
+use Rattle.std.proofs.Common.{mul-zero}
 use Rattle.tv_bits.proofs.Growing.{both, room_after}
-use Rattle.tv_core.proofs.Chain.{refused}
-use Rattle.tv_core.specs.Combinations.{top}
-use Rattle.tv_core.specs.Constraints.{Combination}
 use Rattle.tv_bits.proofs.ProductChain.{no_product, one_product, product_refused, last_product}
 use Rattle.tv_bits.specs.Prefixes.{prefix_less, prefix_difference_of}
 use Rattle.tv_bits.proofs.prefixes.prefix_difference_by.Goals as goal

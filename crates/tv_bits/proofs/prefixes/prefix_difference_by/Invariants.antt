@@ -1,8 +1,4 @@
-use Rattle.std.proofs.Common.{ℕ, ◌*◌, ◌≤◌}
-use Rattle.tv_core.specs.Circuits.{turns}
-use Rattle.tv_core.specs.Combinations.{top}
-use Rattle.tv_core.specs.Constraints.{Combination}
-use Rattle.tv_core.specs.Sinks.{PutsAll, Grows}
+use Rattle.tv_core.proofs.Common.{ℕ, ◌*◌, ◌≤◌, turns, top, Combination, PutsAll, Grows}
 use Rattle.tv_bits.specs.Prefixes.{prefix_less, next_product}
 use Rattle.tv_bits.proofs.prefixes.prefix_difference_by.Given as goal
 

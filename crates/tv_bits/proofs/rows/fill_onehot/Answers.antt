@@ -1,5 +1,4 @@
-use Rattle.std.proofs.Common.{◌^◌, ◌<◌, arith}
-use Rattle.tv_core.proofs.ValuesChain.{gives_refused}
+use Rattle.tv_core.proofs.Common.{◌^◌, ◌<◌, arith, gives_refused}
 use Rattle.tv_core.proofs.LoopLaws.{gives_no_turn, gives_turn, gives_turn_refused}
 use Rattle.tv_bits.specs.OneHot.{one_at}
 use Rattle.tv_bits.proofs.rows.fill_onehot.Goals as goal

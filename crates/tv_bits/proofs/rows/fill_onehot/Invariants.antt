@@ -1,6 +1,4 @@
-use Rattle.std.proofs.Common.{◌≡◌, false}
-use Rattle.tv_core.specs.Below.{each_below}
-use Rattle.tv_core.specs.Values.{GivesAll}
+use Rattle.tv_core.proofs.Common.{◌≡◌, false, each_below, GivesAll}
 use Rattle.tv_bits.specs.OneHot.{one_at}
 use Rattle.tv_bits.proofs.rows.fill_onehot.Given as goal
 

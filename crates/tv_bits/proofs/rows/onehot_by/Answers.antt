@@ -1,7 +1,5 @@
-use Rattle.std.proofs.lemmas.Grind.{common_steps}
-use Rattle.std.proofs.Common.{◌≡◌, ◌^◌, ◌<◌, arith}
+use Rattle.tv_core.proofs.Common.{common_steps, ◌≡◌, ◌^◌, ◌<◌, arith, puts_no_turn, refused, all_then, all_pure, some_then, some_first}
 use Rattle.tv_bits.proofs.Growing.{both, one_turn, turn_some, grows_as, room_after}
-use Rattle.tv_core.proofs.Chain.{puts_no_turn, refused, all_then, all_pure, some_then, some_first}
 use Rattle.tv_core.proofs.LoopLaws.{puts_here_as}
 use Rattle.tv_bits.specs.OneHot.{onehot_of}
 use Rattle.tv_bits.proofs.rows.onehot_by.Goals as goal

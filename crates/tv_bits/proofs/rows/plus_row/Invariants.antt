@@ -1,4 +1,4 @@
-use Rattle.std.proofs.Common.{◌≡◌, ◌++◌}
+use Rattle.tv_core.proofs.Common.{◌≡◌, ◌++◌}
 use Rattle.tv_bits.specs.OneHot.{row_sum}
 use Rattle.tv_bits.proofs.rows.plus_row.Given as goal
 

@@ -1,4 +1,4 @@
-use Rattle.std.proofs.Common.{arith}
+use Rattle.tv_core.proofs.Common.{arith}
 use Rattle.tv_bits.proofs.selection.select_terms.Goals as goal
 
 pub returns-clause-puts : goal.returns-clause-puts

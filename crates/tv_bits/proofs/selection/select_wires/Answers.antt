@@ -1,4 +1,4 @@
-use Rattle.std.proofs.Common.{arith}
+use Rattle.tv_core.proofs.Common.{arith}
 use Rattle.tv_bits.proofs.selection.select_wires.Goals as goal
 
 pub select_terms-requires : goal.select_terms-requires

@@ -1,5 +1,4 @@
-use Rattle.std.proofs.lemmas.Grind.{common_steps}
-use Rattle.std.proofs.Common.{arith}
+use Rattle.tv_core.proofs.Common.{common_steps, arith}
 use Rattle.tv_core.proofs.Unique.{normal-front}
 use Rattle.tv_bits.proofs.selection.set_terms_less.Goals as goal
 

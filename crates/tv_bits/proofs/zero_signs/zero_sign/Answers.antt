@@ -1,6 +1,4 @@
-use Rattle.std.proofs.Common.{arith}
-use Rattle.tv_core.proofs.Chain.{refused, some_then, some_first}
-use Rattle.tv_core.proofs.TailCalls.{puts_in_then}
+use Rattle.tv_core.proofs.Common.{arith, refused, some_then, some_first, puts_in_then}
 use Rattle.tv_bits.specs.ZeroSign.{zero_sign_of}
 use Rattle.tv_bits.proofs.zero_signs.zero_sign.Goals as goal
 

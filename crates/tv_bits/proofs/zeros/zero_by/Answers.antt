@@ -1,6 +1,5 @@
-use Rattle.std.proofs.Common.{refl, arith}
+use Rattle.tv_core.proofs.Common.{refl, arith, refused, all_then, all_pure, some_then, some_first}
 use Rattle.tv_bits.proofs.Growing.{within, kept, both, put_fits, made_by, top_wire}
-use Rattle.tv_core.proofs.Chain.{refused, all_then, all_pure, some_then, some_first}
 use Rattle.tv_bits.specs.Zero.{zero_of}
 use Rattle.tv_bits.proofs.zeros.zero_by.Goals as goal
 

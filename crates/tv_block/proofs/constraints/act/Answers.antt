@@ -1,5 +1,4 @@
-use Rattle.tv_core.proofs.Chain.{some_then, some_first, refused}
-use Rattle.tv_core.proofs.TailCalls.{puts_in_then}
+use Rattle.tv_core.proofs.Common.{some_then, some_first, refused, puts_in_then}
 use Rattle.tv_block.proofs.Growing.{rises, both, now, after, effects_room, effects_grow, if_ok, one_up, state_under, computed_under, before_under}
 use Rattle.tv_block.proofs.Growing.{tapes_under, store_under}
 use Rattle.tv_block.specs.Block.{effects_of}

@@ -1,4 +1,4 @@
-use Rattle.std.proofs.Common.{◌≡◌, ◌+◌, sym, ◌∙◌, ap, subst, arith}
+use Rattle.tv_core.proofs.Common.{◌≡◌, ◌+◌, sym, ◌∙◌, ap, subst, arith, refused, PutsAll}
 use Rattle.tv_block.proofs.Placed.{block_places}
 use Rattle.tv_block.proofs.StepLaws.{puts_whole, puts_some, next_under}
 use Rattle.tv_block.specs.Block.{block_of}
@@ -6,8 +6,6 @@ use Rattle.tv_block.specs.Complete.{block_made}
 use Rattle.tv_block.specs.Places.{next_state, block_wires}
 use Rattle.tv_block.specs.Under.{BlockUnder}
 use Rattle.tv_inputs.specs.States.{StateUnder}
-use Rattle.tv_core.proofs.Chain.{refused}
-use Rattle.tv_core.specs.Sinks.{PutsAll}
 use Rattle.tv_block.proofs.constraints.block.Goals as goal
 
 pub returns-in_err-step-clause-puts : goal.returns-in_err-step-clause-puts

@@ -1,4 +1,4 @@
-use Rattle.tv_core.proofs.Chain.{all_then, some_then, some_first, all_pure, refused}
+use Rattle.tv_core.proofs.Common.{all_then, some_then, some_first, all_pure, refused}
 use Rattle.tv_block.proofs.Growing.{rises, both, now, after, computed_room, computed_grows, next_fits, made_next, within, up, one_up, state_under, triple_under}
 use Rattle.tv_block.proofs.Growing.{operand_under, instruction_under, tail_under, imm_under}
 use Rattle.tv_block.specs.Block.{computed_of}

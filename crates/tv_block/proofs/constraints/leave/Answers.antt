@@ -1,4 +1,4 @@
-use Rattle.tv_core.proofs.Chain.{all_then, some_then, some_first, all_pure, refused}
+use Rattle.tv_core.proofs.Common.{all_then, some_then, some_first, all_pure, refused}
 use Rattle.tv_block.proofs.Growing.{rises, both, now, after, up, one_up, state_under, computed_under, tapes_under, store_under}
 use Rattle.tv_block.proofs.constraints.leave.Goals as goal
 

@@ -1,4 +1,5 @@
-use Rattle.tv_core.proofs.Chain.{some_then, some_first, refused, puts_then, puts_nothing}
+use Rattle.tv_core.proofs.Common.{some_then, some_first, refused}
+use Rattle.tv_core.proofs.Chain.{puts_then, puts_nothing}
 use Rattle.tv_block.specs.Block.{block_of}
 use Rattle.tv_block.proofs.constraints.step.Goals as goal
 

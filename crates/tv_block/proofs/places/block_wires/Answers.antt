@@ -1,4 +1,4 @@
-use Rattle.std.proofs.Common.{◌∙◌, arith}
+use Rattle.tv_core.proofs.Common.{◌∙◌, arith}
 use Rattle.tv_block.proofs.PlaceLaws.{same_wires}
 use Rattle.tv_block.proofs.places.block_wires.Goals as goal
 

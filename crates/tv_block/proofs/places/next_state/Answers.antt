@@ -1,5 +1,4 @@
-use Rattle.std.proofs.Common.{◌∙◌, ap, arith}
-use Rattle.std.specs.List.{range_with_len}
+use Rattle.tv_core.proofs.Common.{◌∙◌, ap, arith, range_with_len}
 use Rattle.tv_block.proofs.PlaceLaws.{same_state}
 use Rattle.tv_block.proofs.places.next_state.Goals as goal
 

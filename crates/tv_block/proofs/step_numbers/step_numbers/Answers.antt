@@ -1,4 +1,5 @@
-use Rattle.std.proofs.Common.{Bool, ◌||◌, if◌then◌else◌, sym, ◌∙◌, ap}
+use Rattle.tv_core.proofs.Common.{Bool, if◌then◌else◌, sym, ◌∙◌, ap}
+use Rattle.std.proofs.Common.{◌||◌}
 use Rattle.tv_isa.specs.Opcodes.{among, memory_ops}
 use Rattle.tv_arithmetic.proofs.ArithmeticNumbers.{numbers_are_words}
 use Rattle.tv_block.proofs.step_numbers.step_numbers.Goals as goal

@@ -1,4 +1,4 @@
-use Rattle.std.proofs.Common.{refl, List, ℕ, subst}
+use Rattle.tv_core.proofs.Common.{refl, List, ℕ, subst}
 use Rattle.tv_block.proofs.StepFills.{same_values}
 use Rattle.tv_block.specs.Values.{block_values}
 use Rattle.tv_core.specs.Values.{GivesIn}

@@ -1,5 +1,5 @@
-use Rattle.std.proofs.Common.{◌∙◌}
-use Rattle.tv_core.proofs.ValuesChain.{some_given, first_given, in_given, gives_refused}
+use Rattle.tv_core.proofs.Common.{◌∙◌, first_given, in_given, gives_refused}
+use Rattle.tv_core.proofs.ValuesChain.{some_given}
 use Rattle.tv_block.proofs.FilledValues.{all_as, some_as, registers_are}
 use Rattle.tv_block.proofs.values.fill_computed.Goals as goal
 

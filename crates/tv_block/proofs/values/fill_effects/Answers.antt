@@ -1,4 +1,5 @@
-use Rattle.tv_core.proofs.ValuesChain.{some_given, first_given, in_given, gives_refused}
+use Rattle.tv_core.proofs.Common.{first_given, in_given, gives_refused}
+use Rattle.tv_core.proofs.ValuesChain.{some_given}
 use Rattle.tv_block.proofs.FilledValues.{all_as, some_as, memory_is, results_are, signs_are}
 use Rattle.tv_block.proofs.values.fill_effects.Goals as goal
 

@@ -1,5 +1,5 @@
-use Rattle.std.proofs.Common.{ℕ, List, subst}
-use Rattle.tv_core.proofs.ValuesChain.{gives_refused_then, gives_refused, gives_in_then}
+use Rattle.tv_core.proofs.Common.{ℕ, List, subst, gives_refused}
+use Rattle.tv_core.proofs.ValuesChain.{gives_refused_then, gives_in_then}
 use Rattle.tv_core.specs.Values.{GivesIn, GivesSome}
 use Rattle.tv_numbers.specs.Views.{View}
 use Rattle.tv_inputs.specs.Traced.{traced_view}

@@ -1,4 +1,4 @@
-use Rattle.std.proofs.Common.{◌∙◌, [], sym}
+use Rattle.tv_core.proofs.Common.{◌∙◌, [], sym}
 use Rattle.std.proofs.lemmas.Option.{MatchOption-at_none}
 use Rattle.tv_check.proofs.Trials.{answers, judge-failure, judge-stays, read_holds, read_passes, verdict_of-refuses}
 use Rattle.tv_check.proofs.checker.check.Goals.{in-Yes+in-Some, in_default}

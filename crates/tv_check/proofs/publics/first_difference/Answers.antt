@@ -1,4 +1,4 @@
-use Rattle.std.proofs.Common.{sym, ◌∙◌, arith}
+use Rattle.tv_core.proofs.Common.{sym, ◌∙◌, arith}
 use Rattle.tv_check.proofs.Difference.{is_done}
 use Rattle.tv_check.proofs.publics.first_difference.Goals as goal
 

@@ -1,4 +1,4 @@
-use Rattle.std.proofs.Common.{◌≡◌, ◌≤◌, length, drop}
+use Rattle.tv_core.proofs.Common.{◌≡◌, ◌≤◌, length, drop}
 use Rattle.tv_check.specs.Verdict.{first_difference}
 use Rattle.tv_check.proofs.Difference.{behind}
 use Rattle.tv_check.proofs.publics.first_difference.Given as goal

@@ -1,4 +1,4 @@
-use Rattle.tv_core.proofs.Chain.{refused, all_then, all_pure, some_then, some_first}
+use Rattle.tv_core.proofs.Common.{refused, all_then, all_pure, some_then, some_first}
 use Rattle.tv_cmp.specs.Compare.{compare_of}
 use Rattle.tv_bits.proofs.BitNumbers.{bits_sized}
 use Rattle.tv_cmp.proofs.comparison.compare.Goals as goal

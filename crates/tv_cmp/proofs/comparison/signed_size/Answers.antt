@@ -1,5 +1,4 @@
-use Rattle.tv_core.proofs.Chain.{refused, some_first}
-use Rattle.tv_core.proofs.TailCalls.{puts_in_then}
+use Rattle.tv_core.proofs.Common.{refused, some_first, puts_in_then}
 use Rattle.tv_cmp.specs.Compare.{signed_size_of}
 use Rattle.tv_cmp.proofs.comparison.signed_size.Goals as goal
 

@@ -1,5 +1,4 @@
-use Rattle.std.proofs.Common.{◌+◌, ◌≤◌, sym, ◌∙◌, arith}
-use Rattle.std.proofs.lemmas.Bool.Decides.{nat_tests}
+use Rattle.tv_core.proofs.Common.{◌+◌, ◌≤◌, sym, ◌∙◌, arith, nat_tests}
 use Rattle.tv_container.specs.Places.{places}
 use Rattle.tv_container.proofs.Chain.{err_is, reads_as, reads_bad, reads_done, reads_off, reads_on, refuses_any, refuses_wrong}
 use Rattle.tv_container.proofs.SectionLemmas.{fit-within, this_field-other, this_field-prime, this_field-short, this_field-sized}

@@ -1,4 +1,4 @@
-use Rattle.std.proofs.Common.{◌++◌, ◌+◌, ◌-◌, length, take, sym, ap, ◌∙◌, arith}
+use Rattle.tv_core.proofs.Common.{◌++◌, ◌+◌, ◌-◌, length, take, sym, ap, ◌∙◌, arith}
 use Rattle.std.proofs.lemmas.Slice.{take-put_mid}
 use Rattle.tv_container.proofs.place.place.Goals as goal
 

@@ -1,4 +1,4 @@
-use Rattle.std.proofs.Common.{◌≡◌, ℕ, ◌<◌, ◌++◌, get_or, take, append_assoc, sym, ap, ap₂, ◌∙◌, subst, arith}
+use Rattle.tv_core.proofs.Common.{◌≡◌, ℕ, ◌<◌, ◌++◌, get_or, take, append_assoc, sym, ap, ap₂, ◌∙◌, subst, arith}
 use Rattle.std.proofs.lemmas.List.Elements.{All-more}
 use Rattle.tv_core.specs.declared.field.TheConstants.{P}
 use Rattle.tv_container.proofs.Buffers.{each_more}

@@ -1,4 +1,4 @@
-use Rattle.std.proofs.Common.{arith, ap, refl, Ok}
+use Rattle.tv_core.proofs.Common.{arith, ap, refl, Ok}
 use Rattle.tv_container.proofs.Pieces.{read_gives, ends_if_none}
 use Rattle.tv_container.proofs.sections.ends.Goals as goal
 

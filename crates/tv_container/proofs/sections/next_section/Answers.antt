@@ -1,4 +1,4 @@
-use Rattle.std.proofs.Common.{true, false, refl, sym, ◌∙◌}
+use Rattle.tv_core.proofs.Common.{true, false, refl, sym, ◌∙◌}
 use Rattle.tv_container.specs.Places.{places}
 use Rattle.tv_container.specs.Sections.{section_at}
 use Rattle.tv_container.proofs.Chain.{err_is, reads_as, reads_bad, reads_done, reads_off, reads_on, refuses_any, refuses_first, refuses_wrong}

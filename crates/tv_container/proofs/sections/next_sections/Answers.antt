@@ -1,5 +1,4 @@
-use Rattle.std.proofs.Common.{◌≡◌, ◌-◌, ◌+◌, ◌<◌, ◌≤◌, [], ◌∷◌, ◌++◌, length, arith, ◌∙◌, refl}
-use Rattle.std.proofs.lemmas.Bool.Decides.{nat_tests}
+use Rattle.tv_core.proofs.Common.{◌≡◌, ◌-◌, ◌+◌, ◌<◌, ◌≤◌, [], ◌∷◌, ◌++◌, length, arith, ◌∙◌, refl, nat_tests}
 use Rattle.tv_container.proofs.Chain.{err_is, reads_as, reads_off, reads_on, reads_past, refuses_any, refuses_wrong, stopped_bad}
 use Rattle.tv_container.proofs.SectionLemmas.{sections_from-next, sections_from-refuses, sections_from-end, sections_from-trailing, section_at-fits}
 use Rattle.tv_container.proofs.sections.next_sections.Goals as goal

@@ -1,4 +1,4 @@
-use Rattle.std.proofs.Common.{◌≡◌, ◌-◌, ◌≤◌, List, [], Ok}
+use Rattle.tv_core.proofs.Common.{◌≡◌, ◌-◌, ◌≤◌, List, [], Ok}
 use Rattle.tv_container.specs.declared.sections.Section.{Section}
 use Rattle.tv_container.specs.Found.{first_of, AllEnd}
 use Rattle.tv_container.specs.Places.{places}

@@ -1,5 +1,4 @@
-use Rattle.std.proofs.Common.{refl, sym, ◌∙◌, arith}
-use Rattle.std.proofs.lemmas.Bool.Decides.{nat_tests}
+use Rattle.tv_core.proofs.Common.{refl, sym, ◌∙◌, arith, nat_tests}
 use Rattle.tv_container.proofs.Chain.{err_is, not_refused, reads_as, reads_bad, reads_done, reads_off, reads_on, refuses_first, refuses_wrong, same_refusal}
 use Rattle.tv_container.proofs.SectionLemmas.{fit-is, sections_in-magic, sections_in-version}
 use Rattle.tv_container.specs.Sections.{sections_in}

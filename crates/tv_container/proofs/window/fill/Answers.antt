@@ -1,4 +1,4 @@
-use Rattle.std.proofs.Common.{◌≤◌, length, arith, rules, refl}
+use Rattle.tv_core.proofs.Common.{◌≤◌, length, arith, rules, refl}
 use Rattle.std.proofs.lemmas.List.{length-take-le}
 use Rattle.tv_container.proofs.Pieces.{read_gives, read_there, piece_grows}
 use Rattle.tv_container.proofs.window.fill.Goals as goal

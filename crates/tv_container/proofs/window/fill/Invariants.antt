@@ -1,4 +1,4 @@
-use Rattle.std.proofs.Common.{◌≡◌, ◌≤◌, ◌-◌, take, drop}
+use Rattle.tv_core.proofs.Common.{◌≡◌, ◌≤◌, ◌-◌, take, drop}
 use Rattle.tv_container.specs.Reading.{IsMissing, Known}
 use Rattle.tv_container.proofs.window.fill.Given as goal
 

@@ -1,6 +1,5 @@
-use Rattle.std.proofs.Common.{refl, arith}
+use Rattle.tv_core.proofs.Common.{refl, arith, refused, all_then, all_pure, some_then, some_first}
 use Rattle.tv_bits.proofs.Growing.{fewer, within, both, left, bits_within}
-use Rattle.tv_core.proofs.Chain.{refused, all_then, all_pure, some_then, some_first}
 use Rattle.tv_decode.specs.Fields.{fields_of}
 use Rattle.tv_decode.proofs.Rooms.{greatest}
 use Rattle.tv_decode.proofs.decoder.fields.Goals as goal

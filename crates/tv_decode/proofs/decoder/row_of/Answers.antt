@@ -1,4 +1,4 @@
-use Rattle.std.proofs.Common.{arith}
+use Rattle.tv_core.proofs.Common.{arith}
 use Rattle.tv_decode.proofs.decoder.row_of.Goals as goal
 
 pub onehot_by-requires : goal.onehot_by-requires

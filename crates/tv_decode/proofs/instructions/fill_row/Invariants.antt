@@ -1,7 +1,5 @@
-use Rattle.std.proofs.Common.{◌≡◌, false}
+use Rattle.tv_core.proofs.Common.{◌≡◌, false, each_below, GivesAll}
 use Rattle.tv_bits.specs.OneHot.{one_at}
-use Rattle.tv_core.specs.Below.{each_below}
-use Rattle.tv_core.specs.Values.{GivesAll}
 use Rattle.tv_isa.specs.Opcodes.{place_of}
 use Rattle.tv_decode.proofs.instructions.fill_row.Given as goal
 

@@ -1,6 +1,5 @@
-use Rattle.std.proofs.Common.{refl, ◌∙◌}
+use Rattle.tv_core.proofs.Common.{refl, ◌∙◌, refused, all_then, all_pure, some_then, some_first}
 use Rattle.tv_bits.proofs.Growing.{fewer, fits, within, both, left}
-use Rattle.tv_core.proofs.Chain.{refused, all_then, all_pure, some_then, some_first}
 use Rattle.tv_decode.proofs.InstructionLaws.{instruction_answer}
 use Rattle.tv_decode.specs.Instructions.{instruction_of}
 use Rattle.tv_decode.proofs.Rooms.{words_room, instruction_grow, row_made, head_made, through, small, low_short, second_short, low_length}

@@ -1,5 +1,5 @@
-use Rattle.std.proofs.lemmas.Grind.{common_steps}
-use Rattle.std.proofs.Common.{ℕ, ◌+◌, [], ◌∷◌, ◌++◌, length, sym, ◌∙◌, ap, arith, add-one, append_assoc, length-append}
+use Rattle.tv_core.proofs.Common.{common_steps, ℕ, ◌+◌, [], ◌∷◌, ◌++◌, length, sym, ◌∙◌, ap, arith, add-one, append_assoc}
+use Rattle.std.proofs.Common.{length-append}
 use Rattle.std.proofs.lemmas.List.{append-nil}
 use Rattle.tv_core.proofs.BelowLaws.{weighted-zero, weighted-suc, length-weighted, top-weighted}
 use Rattle.tv_core.proofs.CombinationLaws.{top-append}

@@ -1,4 +1,4 @@
-use Rattle.std.proofs.Common.{◌≡◌, ◌+◌, ◌++◌}
+use Rattle.tv_core.proofs.Common.{◌≡◌, ◌+◌, ◌++◌}
 use Rattle.tv_core.specs.Below.{weighted}
 use Rattle.tv_decode.specs.Instructions.{opcode_weight}
 use Rattle.tv_decode.proofs.instructions.plus_opcodes.Given as goal

@@ -1,5 +1,4 @@
-use Rattle.std.proofs.Common.{◌≡◌}
-use Rattle.tv_core.specs.Below.{joined_below}
+use Rattle.tv_core.proofs.Common.{◌≡◌, joined_below}
 use Rattle.tv_draw.specs.Program.{generator_state, word_at, instr_in}
 use Rattle.tv_isa.specs.Instruction.{encode}
 use Rattle.tv_draw.proofs.program.draw_image.Given as goal

@@ -1,4 +1,4 @@
-use Rattle.std.proofs.Common.{◌≡◌}
+use Rattle.tv_core.proofs.Common.{◌≡◌}
 use Rattle.tv_draw.specs.Program.{generator_state, words_drawn}
 use Rattle.tv_draw.proofs.program.draw_words.Given as goal
 

@@ -1,4 +1,4 @@
-use Rattle.std.proofs.Common.{◌≡◌, Ok}
+use Rattle.tv_core.proofs.Common.{◌≡◌, Ok}
 use Rattle.tv_block.specs.Block.{block_of}
 use Rattle.tv_extract.specs.Extraction.{words_at}
 use Rattle.tv_layout.specs.Layout.{taken_wires}

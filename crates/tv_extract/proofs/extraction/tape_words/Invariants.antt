@@ -1,5 +1,4 @@
-use Rattle.std.proofs.Common.{◌≡◌, Ok}
-use Rattle.std.specs.List.{range_with_len}
+use Rattle.tv_core.proofs.Common.{◌≡◌, Ok, range_with_len}
 use Rattle.tv_layout.specs.Places.{tape_at}
 use Rattle.tv_extract.specs.Extraction.{words_at}
 use Rattle.tv_extract.proofs.extraction.tape_words.Given as goal

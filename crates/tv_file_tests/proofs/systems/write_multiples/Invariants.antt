@@ -1,4 +1,4 @@
-use Rattle.std.proofs.Common.{◌≡◌, false}
+use Rattle.tv_core.proofs.Common.{◌≡◌, false}
 use Rattle.std.specs.Prelude.{is_err}
 use Rattle.tv_file_tests.proofs.systems.write_multiples.Given as goal
 

@@ -1,4 +1,4 @@
-use Rattle.std.proofs.Common.{◌≡◌, ℕ, length, ap, ◌∙◌, arith}
+use Rattle.tv_core.proofs.Common.{◌≡◌, ℕ, length, ap, ◌∙◌, arith}
 use Rattle.tv_fill.proofs.PartValues.{parts_of}
 use Rattle.tv_fill.proofs.Prepared.{log_few, lines_fit, lines_in_range, packed_as, items_few, items_placed, routable, parts_fit, values_are}
 use Rattle.tv_fill.specs.Filled.{filled_values}

@@ -1,7 +1,5 @@
-use Rattle.std.proofs.Common.{ℕ, length, ap}
-use Rattle.std.specs.Prelude.{slice_index}
+use Rattle.tv_core.proofs.Common.{ℕ, length, ap, slice_index, gives_refused}
 use Rattle.tv_bits.specs.Bits.{bits_values}
-use Rattle.tv_core.proofs.ValuesChain.{gives_refused}
 use Rattle.tv_core.proofs.JoinedLaws.{gives_no_list, gives_list, gives_list_refused}
 use Rattle.tv_argument.proofs.FillingLaws.{given_all, given_some}
 use Rattle.tv_fill.proofs.front.fill_bits_of_words.Goals as goal

@@ -1,8 +1,5 @@
-use Rattle.std.proofs.Common.{◌≡◌, false}
-use Rattle.std.specs.Prelude.{slice_index}
+use Rattle.tv_core.proofs.Common.{◌≡◌, false, slice_index, joined_below, GivesAll}
 use Rattle.tv_bits.specs.Bits.{bits_values}
-use Rattle.tv_core.specs.Below.{joined_below}
-use Rattle.tv_core.specs.Values.{GivesAll}
 use Rattle.tv_fill.proofs.front.fill_bits_of_words.Given as goal
 
 abbrev pub invariant-loop-word : goal.invariant-loop-word

@@ -1,5 +1,5 @@
-use Rattle.std.proofs.Common.{ℕ, [], ◌∷◌, ap}
-use Rattle.tv_core.proofs.ValuesChain.{some_given, first_given, in_given, gives_refused}
+use Rattle.tv_core.proofs.Common.{ℕ, [], ◌∷◌, ap, first_given, in_given, gives_refused}
+use Rattle.tv_core.proofs.ValuesChain.{some_given}
 use Rattle.tv_argument.proofs.FillingLaws.{given_all, given_some}
 use Rattle.tv_fill.proofs.front.fill_front.Goals as goal
 

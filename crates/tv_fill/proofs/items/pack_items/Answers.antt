@@ -1,4 +1,4 @@
-use Rattle.std.proofs.Common.{arith}
+use Rattle.tv_core.proofs.Common.{arith}
 use Rattle.tv_fill.proofs.Packed.{power_few}
 use Rattle.tv_fill.proofs.items.pack_items.Goals as goal
 

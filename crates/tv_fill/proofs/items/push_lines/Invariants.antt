@@ -1,4 +1,4 @@
-use Rattle.std.proofs.Common.{◌≡◌, ◌++◌, map, take}
+use Rattle.tv_core.proofs.Common.{◌≡◌, ◌++◌, map, take}
 use Rattle.tv_lines.specs.PackedLines.{packed_item}
 use Rattle.tv_fill.proofs.items.push_lines.Given as goal
 

@@ -1,4 +1,4 @@
-use Rattle.std.proofs.Common.{◌≡◌, ◌++◌, map}
+use Rattle.tv_core.proofs.Common.{◌≡◌, ◌++◌, map}
 use Rattle.tv_layout.specs.Sound.{padding}
 use Rattle.tv_lines.specs.PackedLines.{packed_item}
 use Rattle.tv_fill.proofs.items.push_padding.Given as goal

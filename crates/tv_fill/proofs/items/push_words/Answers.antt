@@ -1,6 +1,4 @@
-use Rattle.std.proofs.Common.{◌+◌, List, [], ◌∷◌, ◌++◌, map, take, sym, ap, ◌∙◌, arith}
-use Rattle.std.specs.Prelude.{slice_index}
-use Rattle.tv_core.specs.Lines.{Line}
+use Rattle.tv_core.proofs.Common.{◌+◌, List, [], ◌∷◌, ◌++◌, map, take, sym, ap, ◌∙◌, arith, slice_index, Line}
 use Rattle.tv_core.specs.declared.lines.PairNum.{PairNum}
 use Rattle.tv_fill.proofs.Packed.{item_more}
 use Rattle.tv_layout.proofs.Boot.{boot_more}

@@ -1,4 +1,4 @@
-use Rattle.std.proofs.Common.{◌<◌, ◌^◌, refl, arith}
+use Rattle.tv_core.proofs.Common.{◌<◌, ◌^◌, refl, arith}
 use Rattle.std.proofs.lemmas.List.{take_all}
 use Rattle.std.proofs.lemmas.List.Elements.{All-more}
 use Rattle.tv_gadget_tests.proofs.step_trials.are_words.Goals as goal

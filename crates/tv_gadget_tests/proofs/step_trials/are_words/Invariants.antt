@@ -1,4 +1,4 @@
-use Rattle.std.proofs.Common.{take}
+use Rattle.tv_core.proofs.Common.{take}
 use Rattle.tv_step.specs.Range.{AreWords}
 use Rattle.tv_gadget_tests.proofs.step_trials.are_words.Given as goal
 

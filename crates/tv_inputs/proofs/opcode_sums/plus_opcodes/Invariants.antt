@@ -1,5 +1,5 @@
-use Rattle.std.proofs.Common.{◌≡◌, ◌+◌, ◌≤◌, ◌++◌, length, max, take}
-use Rattle.tv_core.specs.Combinations.{top}
+use Rattle.tv_core.proofs.Common.{◌≡◌, ◌+◌, ◌≤◌, ◌++◌, length, take, top}
+use Rattle.std.proofs.Common.{max}
 use Rattle.tv_inputs.specs.OpcodeSums.{opcode_terms}
 use Rattle.tv_inputs.proofs.opcode_sums.plus_opcodes.Given as goal
 

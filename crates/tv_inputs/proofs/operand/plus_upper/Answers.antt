@@ -1,4 +1,4 @@
-use Rattle.std.proofs.Common.{◌∙◌}
+use Rattle.tv_core.proofs.Common.{◌∙◌}
 use Rattle.tv_inputs.proofs.UpperLaws.{upper_terms}
 use Rattle.tv_inputs.proofs.operand.plus_upper.Goals as goal
 

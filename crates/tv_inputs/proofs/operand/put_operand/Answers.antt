@@ -1,5 +1,5 @@
 use Rattle.tv_bits.specs.Bits.{bits_of}
-use Rattle.tv_core.proofs.Chain.{refused, all_then, all_pure, some_then, some_first}
+use Rattle.tv_core.proofs.Common.{refused, all_then, all_pure, some_then, some_first}
 use Rattle.tv_inputs.specs.Operand.{operand_of}
 use Rattle.tv_inputs.proofs.operand.put_operand.Goals as goal
 

@@ -1,4 +1,4 @@
-use Rattle.tv_core.proofs.Chain.{all_then, some_then, some_first, all_pure, refused}
+use Rattle.tv_core.proofs.Common.{all_then, some_then, some_first, all_pure, refused}
 use Rattle.tv_inputs.specs.Tapes.{auxiliary_of}
 use Rattle.tv_inputs.proofs.tapes.auxiliary.Goals as goal
 

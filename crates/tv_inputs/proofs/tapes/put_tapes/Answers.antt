@@ -1,5 +1,4 @@
-use Rattle.tv_core.proofs.Chain.{some_then, some_first, refused}
-use Rattle.tv_core.proofs.TailCalls.{puts_in_then}
+use Rattle.tv_core.proofs.Common.{some_then, some_first, refused, puts_in_then}
 use Rattle.tv_inputs.specs.Tapes.{tapes_of}
 use Rattle.tv_inputs.proofs.tapes.put_tapes.Goals as goal
 

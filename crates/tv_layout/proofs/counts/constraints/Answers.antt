@@ -1,4 +1,4 @@
-use Rattle.std.proofs.Common.{◌*◌, ap, arith}
+use Rattle.tv_core.proofs.Common.{◌*◌, ap, arith}
 use Rattle.tv_block.specs.declared.costs.StepCosts.{StepCosts}
 use Rattle.tv_layout.proofs.SystemSizes.{system_fits, system_sized}
 use Rattle.tv_layout.proofs.counts.constraints.Goals as goal

@@ -1,4 +1,4 @@
-use Rattle.std.proofs.Common.{◌≡◌, ℕ, ◌+◌, [], ap, ◌∙◌}
+use Rattle.tv_core.proofs.Common.{◌≡◌, ℕ, ◌+◌, [], ap, ◌∙◌}
 use Rattle.tv_core.specs.Meanings.{Counted, IsCounted}
 use Rattle.tv_layout.proofs.counts.count_system.Goals as goal
 

@@ -1,4 +1,4 @@
-use Rattle.std.proofs.Common.{arith}
+use Rattle.tv_core.proofs.Common.{arith}
 use Rattle.tv_layout.proofs.SystemSizes.{memory_fits}
 use Rattle.tv_layout.proofs.counts.memory_constraints.Goals as goal
 

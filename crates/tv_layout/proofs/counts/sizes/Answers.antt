@@ -1,4 +1,4 @@
-use Rattle.std.proofs.Common.{◌≡◌, ℕ}
+use Rattle.tv_core.proofs.Common.{◌≡◌, ℕ}
 use Rattle.tv_core.specs.declared.lines.Counts.{Counts}
 use Rattle.tv_layout.proofs.counts.sizes.Goals as goal
 

@@ -1,4 +1,4 @@
-use Rattle.std.proofs.Common.{◌*◌, ◌^◌, sym, ap, ap₂, ◌∙◌, arith}
+use Rattle.tv_core.proofs.Common.{◌*◌, ◌^◌, sym, ap, ap₂, ◌∙◌, arith}
 use Rattle.tv_argument.specs.Memory.{argument_terms}
 use Rattle.tv_block.specs.Block.{block_of}
 use Rattle.tv_layout.proofs.LinePlaces.{line_number}

@@ -1,4 +1,4 @@
-use Rattle.std.proofs.Common.{sym, ◌∙◌, arith}
+use Rattle.tv_core.proofs.Common.{sym, ◌∙◌, arith}
 use Rattle.tv_layout.proofs.LinePlaces.{in_image, in_tape, in_steps, in_padding}
 use Rattle.tv_layout.proofs.lines.compact_line.Goals as goal
 

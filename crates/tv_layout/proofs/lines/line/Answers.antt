@@ -1,4 +1,4 @@
-use Rattle.std.proofs.Common.{◌∙◌}
+use Rattle.tv_core.proofs.Common.{◌∙◌}
 use Rattle.tv_layout.proofs.SpotPlaces.{line_below}
 use Rattle.tv_layout.proofs.lines.line.Goals as goal
 

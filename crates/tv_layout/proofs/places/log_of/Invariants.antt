@@ -1,4 +1,4 @@
-use Rattle.std.proofs.Common.{◌≡◌, ◌-◌, ◌≤◌}
+use Rattle.tv_core.proofs.Common.{◌≡◌, ◌-◌, ◌≤◌}
 use Rattle.tv_layout.specs.Places.{log_from}
 use Rattle.tv_layout.proofs.places.log_of.Given as goal
 

@@ -1,6 +1,6 @@
-use Rattle.std.proofs.Common.{◌≡◌, ◌+◌, ◌*◌, ◌<◌, arith}
+use Rattle.tv_core.proofs.Common.{◌≡◌, ◌+◌, ◌*◌, ◌<◌, arith, puts_no_turn, refused}
 use Rattle.tv_block.specs.Block.{block_of}
-use Rattle.tv_core.proofs.Chain.{puts_no_turn, puts_turn, turn_refused, refused}
+use Rattle.tv_core.proofs.Chain.{puts_turn, turn_refused}
 use Rattle.tv_layout.proofs.FirstState.{first_under}
 use Rattle.tv_layout.specs.Layout.{before_steps, step_of, steps_of}
 use Rattle.tv_layout.proofs.sequence.steps.Goals as goal

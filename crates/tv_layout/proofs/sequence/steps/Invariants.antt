@@ -1,8 +1,6 @@
-use Rattle.std.proofs.Common.{ℕ, ◌*◌}
+use Rattle.tv_core.proofs.Common.{ℕ, ◌*◌, turns, PutsAll, Grows}
 use Rattle.tv_block.specs.Block.{block_of}
 use Rattle.tv_block.specs.Complete.{block_made}
-use Rattle.tv_core.specs.Circuits.{turns}
-use Rattle.tv_core.specs.Sinks.{PutsAll, Grows}
 use Rattle.tv_layout.specs.Layout.{before_steps, step_of}
 use Rattle.tv_layout.specs.Reached.{ReachedUnder}
 use Rattle.tv_block.specs.Complete.{block_added}

@@ -1,4 +1,4 @@
-use Rattle.std.proofs.Common.{◌+◌, ◌*◌, sym, ap, ◌∙◌}
+use Rattle.tv_core.proofs.Common.{◌+◌, ◌*◌, sym, ap, ◌∙◌}
 use Rattle.tv_block.specs.Places.{block_wires}
 use Rattle.tv_block.specs.declared.records.Block.{Block}
 use Rattle.tv_layout.proofs.LinePlaces.{block_is}

@@ -1,9 +1,7 @@
-use Rattle.std.proofs.Common.{◌≡◌, ◌+◌, ◌*◌, ◌<◌, ◌^◌, All, sym, ap, ◌∙◌, subst, arith}
+use Rattle.tv_core.proofs.Common.{◌≡◌, ◌+◌, ◌*◌, ◌<◌, ◌^◌, All, sym, ap, ◌∙◌, subst, arith, some_then, some_first, refused, puts_in_then}
 use Rattle.tv_block.specs.Block.{block_of}
 use Rattle.tv_block.proofs.Growing.{both, grows_as, if_ok}
 use Rattle.tv_block.specs.Complete.{block_made}
-use Rattle.tv_core.proofs.Chain.{some_then, some_first, refused}
-use Rattle.tv_core.proofs.TailCalls.{puts_in_then}
 use Rattle.tv_layout.proofs.LinePlaces.{line_number, lines_made}
 use Rattle.tv_layout.proofs.MemoryCosts.{wires_are, constraints_are}
 use Rattle.tv_layout.proofs.SystemSizes.{system_fits, checks_short}

@@ -1,8 +1,4 @@
-use Rattle.std.proofs.Common.{◌≡◌, ℕ, ◌+◌, ◌≤◌, ◌<◌, arith}
-use Rattle.tv_core.proofs.Chain.{some_first, refused}
-use Rattle.tv_core.proofs.TailCalls.{puts_in_then}
-use Rattle.tv_core.specs.Combinations.{wire, constant, top}
-use Rattle.tv_core.specs.Constraints.{Combination}
+use Rattle.tv_core.proofs.Common.{◌≡◌, ℕ, ◌+◌, ◌≤◌, ◌<◌, arith, some_first, refused, puts_in_then, wire, constant, top, Combination}
 use Rattle.tv_layout.specs.Layout.{tie_of}
 use Rattle.tv_layout.proofs.system.tie.Goals as goal
 

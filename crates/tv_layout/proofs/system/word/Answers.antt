@@ -1,4 +1,4 @@
-use Rattle.tv_core.proofs.Chain.{all_then, some_first, all_pure, refused}
+use Rattle.tv_core.proofs.Common.{all_then, some_first, all_pure, refused}
 use Rattle.tv_layout.proofs.system.word.Goals as goal
 
 pub returns-in_err-bits-clause-puts : goal.returns-in_err-bits-clause-puts

@@ -1,5 +1,5 @@
-use Rattle.std.proofs.Common.{◌≡◌, ◌<◌, arith}
-use Rattle.tv_core.proofs.Chain.{puts_no_turn, puts_turn, turn_refused, refused}
+use Rattle.tv_core.proofs.Common.{◌≡◌, ◌<◌, arith, puts_no_turn, refused}
+use Rattle.tv_core.proofs.Chain.{puts_turn, turn_refused}
 use Rattle.tv_layout.specs.Layout.{word_of, words_of}
 use Rattle.tv_layout.proofs.system.words.Goals as goal
 

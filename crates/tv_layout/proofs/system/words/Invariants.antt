@@ -1,6 +1,4 @@
-use Rattle.std.proofs.Common.{◌+◌, ◌*◌}
-use Rattle.tv_core.specs.Loops.{sequence}
-use Rattle.tv_core.specs.Sinks.{PutsAll, Grows}
+use Rattle.tv_core.proofs.Common.{◌+◌, ◌*◌, sequence, PutsAll, Grows}
 use Rattle.tv_layout.specs.Layout.{word_of}
 use Rattle.tv_layout.proofs.system.words.Given as goal
 

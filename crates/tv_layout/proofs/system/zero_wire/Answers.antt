@@ -1,5 +1,4 @@
-use Rattle.tv_core.proofs.TailCalls.{puts_in_then}
-use Rattle.tv_core.specs.Circuits.{fresh}
+use Rattle.tv_core.proofs.Common.{puts_in_then, fresh}
 use Rattle.tv_layout.specs.Layout.{zero_wire_of}
 use Rattle.tv_layout.proofs.system.zero_wire.Goals as goal
 

@@ -1,5 +1,5 @@
-use Rattle.std.proofs.Common.{◌≡◌, arith}
-use Rattle.tv_core.proofs.Chain.{all_then, some_then, some_first, all_pure, puts_no_turn, puts_turn, turn_refused, refused}
+use Rattle.tv_core.proofs.Common.{◌≡◌, arith, all_then, some_then, some_first, all_pure, puts_no_turn, refused}
+use Rattle.tv_core.proofs.Chain.{puts_turn, turn_refused}
 use Rattle.tv_core.proofs.LoopLaws.{puts_here_as}
 use Rattle.tv_layout.specs.Layout.{zero_wire_of, zero_wires_of}
 use Rattle.tv_layout.specs.declared.places.TheConstants.{STATE_WIRES}

@@ -1,5 +1,4 @@
-use Rattle.tv_core.specs.Loops.{sequence}
-use Rattle.tv_core.specs.Sinks.{PutsAll, Grows}
+use Rattle.tv_core.proofs.Common.{sequence, PutsAll, Grows}
 use Rattle.tv_layout.specs.Layout.{zero_wire_of}
 use Rattle.tv_layout.proofs.system.zero_wires.Given as goal
 

@@ -1,4 +1,4 @@
-use Rattle.tv_core.proofs.Chain.{refused, all_then, all_pure, some_first}
+use Rattle.tv_core.proofs.Common.{refused, all_then, all_pure, some_first}
 use Rattle.tv_limb.specs.Split.{split_of}
 use Rattle.tv_limb.proofs.splits.split.Goals as goal
 

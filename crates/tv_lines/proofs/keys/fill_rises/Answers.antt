@@ -1,7 +1,7 @@
-use Rattle.std.proofs.Common.{◌≡◌, ℕ, ◌+◌, ◌-◌, ◌%◌, ◌<◌, ◌∙◌, ap, ap₂, sym, arith, mod-lt, mod-eq_of_lt, one-mul}
+use Rattle.tv_core.proofs.Common.{◌≡◌, ℕ, ◌+◌, ◌-◌, ◌%◌, ◌<◌, ◌∙◌, ap, ap₂, sym, arith, mod-lt, mod-eq_of_lt, gives_refused}
+use Rattle.std.proofs.Common.{one-mul}
 use Rattle.tv_bits.proofs.PrefixLaws.{next_factor}
 use Rattle.tv_bits.specs.Prefixes.{product_below}
-use Rattle.tv_core.proofs.ValuesChain.{gives_refused}
 use Rattle.tv_core.proofs.LoopLaws.{gives_no_turn, gives_turn, gives_turn_refused}
 use Rattle.tv_core.specs.declared.field.TheConstants.{P}
 use Rattle.tv_lines.specs.PackedLines.{line_of_numbers}

@@ -1,7 +1,5 @@
-use Rattle.std.proofs.Common.{◌≡◌, ℕ, ◌+◌, ◌%◌, false}
+use Rattle.tv_core.proofs.Common.{◌≡◌, ℕ, ◌+◌, ◌%◌, false, each_below, GivesAll}
 use Rattle.tv_bits.specs.Prefixes.{product_below}
-use Rattle.tv_core.specs.Below.{each_below}
-use Rattle.tv_core.specs.Values.{GivesAll}
 use Rattle.tv_core.specs.declared.field.TheConstants.{P}
 use Rattle.tv_lines.specs.PackedLines.{line_of_numbers}
 use Rattle.tv_lines.specs.SortedPair.{factor_in}

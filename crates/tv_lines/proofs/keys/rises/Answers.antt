@@ -1,8 +1,5 @@
-use Rattle.std.proofs.Common.{ℕ, ap, arith}
+use Rattle.tv_core.proofs.Common.{ℕ, ap, arith, refused, less, top, wire, Combination}
 use Rattle.tv_bits.proofs.ProductChain.{no_product, one_product, product_refused, last_product}
-use Rattle.tv_core.proofs.Chain.{refused}
-use Rattle.tv_core.specs.Combinations.{less, top, wire}
-use Rattle.tv_core.specs.Constraints.{Combination}
 use Rattle.tv_core.proofs.Rooms.{room_left}
 use Rattle.tv_lines.specs.SortedPair.{prefix_less, rises_of}
 use Rattle.tv_lines.proofs.keys.rises.Goals as goal

@@ -1,9 +1,5 @@
-use Rattle.std.proofs.Common.{ℕ, ◌≤◌}
+use Rattle.tv_core.proofs.Common.{ℕ, ◌≤◌, turns, less, top, wire, Combination, PutsAll, Grows}
 use Rattle.tv_bits.specs.Prefixes.{next_product}
-use Rattle.tv_core.specs.Circuits.{turns}
-use Rattle.tv_core.specs.Combinations.{less, top, wire}
-use Rattle.tv_core.specs.Constraints.{Combination}
-use Rattle.tv_core.specs.Sinks.{PutsAll, Grows}
 use Rattle.tv_lines.specs.SortedPair.{prefix_less}
 use Rattle.tv_lines.proofs.keys.rises.Given as goal
 

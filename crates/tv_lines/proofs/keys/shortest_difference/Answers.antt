@@ -1,4 +1,4 @@
-use Rattle.std.proofs.Common.{◌<◌, arith, mod-eq_of_lt}
+use Rattle.tv_core.proofs.Common.{◌<◌, arith, mod-eq_of_lt}
 use Rattle.tv_bits.proofs.OrderLaws.{first_difference-le}
 use Rattle.tv_bits.specs.Order.{first_difference}
 use Rattle.tv_core.specs.declared.field.TheConstants.{P}

@@ -1,6 +1,4 @@
-use Rattle.std.proofs.Common.{arith}
-use Rattle.tv_core.proofs.Chain.{refused, some_first}
-use Rattle.tv_core.proofs.TailCalls.{puts_in_then}
+use Rattle.tv_core.proofs.Common.{arith, refused, some_first, puts_in_then}
 use Rattle.tv_lines.specs.Predecessor.{either_of}
 use Rattle.tv_lines.proofs.predecessor.either.Goals as goal
 

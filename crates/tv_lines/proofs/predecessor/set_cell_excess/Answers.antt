@@ -1,8 +1,5 @@
-use Rattle.std.proofs.Common.{◌≡◌, ◌-◌, ◌^◌, [], ◌∷◌, ◌++◌, ◌∙◌, ap}
+use Rattle.tv_core.proofs.Common.{◌≡◌, ◌-◌, ◌^◌, [], ◌∷◌, ◌++◌, ◌∙◌, ap, constant, scaled, Combination, normal}
 use Rattle.tv_core.proofs.Unique.{normal-front}
-use Rattle.tv_core.specs.Combinations.{constant, scaled}
-use Rattle.tv_core.specs.Constraints.{Combination}
-use Rattle.tv_core.specs.Normal.{normal}
 use Rattle.tv_core.specs.declared.field.TheConstants.{P}
 use Rattle.tv_lines.proofs.CompactLaws.{less_front}
 use Rattle.tv_lines.specs.Compact.{cell_lc, word_lc}

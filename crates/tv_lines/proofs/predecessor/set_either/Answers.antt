@@ -1,5 +1,4 @@
-use Rattle.std.proofs.Common.{◌≡◌}
-use Rattle.tv_core.specs.Normal.{normal}
+use Rattle.tv_core.proofs.Common.{◌≡◌, normal}
 use Rattle.tv_lines.proofs.CompactLaws.{less_front}
 use Rattle.tv_lines.specs.Compact.{cell_lc}
 use Rattle.tv_lines.proofs.predecessor.set_either.Goals as goal

@@ -1,6 +1,4 @@
-use Rattle.std.proofs.Common.{◌≡◌, ◌++◌, ◌∙◌, ap}
-use Rattle.tv_core.specs.Combinations.{constant, wire}
-use Rattle.tv_core.specs.Normal.{normal}
+use Rattle.tv_core.proofs.Common.{◌≡◌, ◌++◌, ◌∙◌, ap, constant, wire, normal}
 use Rattle.tv_lines.proofs.CompactLaws.{less_front}
 use Rattle.tv_lines.proofs.predecessor.set_times.Goals as goal
 

@@ -1,5 +1,4 @@
-use Rattle.std.proofs.Common.{◌≡◌, ◌-◌, arith}
-use Rattle.tv_core.proofs.ValuesChain.{first_given, in_given, gives_refused}
+use Rattle.tv_core.proofs.Common.{◌≡◌, ◌-◌, arith, first_given, in_given, gives_refused}
 use Rattle.tv_lines.proofs.sorted_pairs.fill_size.Goals as goal
 
 pub returns-in_err-fill_bits-clause-gives : goal.returns-in_err-fill_bits-clause-gives

@@ -1,6 +1,4 @@
-use Rattle.std.proofs.Common.{arith}
-use Rattle.tv_core.proofs.Chain.{refused, some_first}
-use Rattle.tv_core.proofs.TailCalls.{puts_in_then}
+use Rattle.tv_core.proofs.Common.{arith, refused, some_first, puts_in_then}
 use Rattle.tv_core.proofs.Rooms.{room_here, room_left}
 use Rattle.tv_lines.specs.SortedPair.{size_of}
 use Rattle.tv_lines.proofs.sorted_pairs.new_size.Goals as goal

@@ -1,5 +1,4 @@
-use Rattle.tv_core.proofs.Chain.{refused, some_then, some_first}
-use Rattle.tv_core.proofs.TailCalls.{puts_in_then}
+use Rattle.tv_core.proofs.Common.{refused, some_then, some_first, puts_in_then}
 use Rattle.tv_lines.specs.SortedPair.{sorted_pair_of}
 use Rattle.tv_lines.proofs.sorted_pairs.sorted_pair.Goals as goal
 

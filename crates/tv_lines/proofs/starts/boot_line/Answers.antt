@@ -1,4 +1,4 @@
-use Rattle.std.proofs.Common.{arith}
+use Rattle.tv_core.proofs.Common.{arith}
 use Rattle.tv_lines.specs.Starts.{boot_line_of}
 use Rattle.tv_lines.proofs.starts.boot_line.Goals as goal
 

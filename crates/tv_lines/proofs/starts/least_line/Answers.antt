@@ -1,4 +1,4 @@
-use Rattle.std.proofs.Common.{arith}
+use Rattle.tv_core.proofs.Common.{arith}
 use Rattle.tv_lines.specs.Starts.{least_line_of}
 use Rattle.tv_lines.proofs.starts.least_line.Goals as goal
 

@@ -1,6 +1,4 @@
-use Rattle.std.proofs.Common.{◌≡◌}
-use Rattle.tv_core.specs.Combinations.{constant}
-use Rattle.tv_core.specs.Normal.{normal}
+use Rattle.tv_core.proofs.Common.{◌≡◌, constant, normal}
 use Rattle.tv_lines.proofs.CompactLaws.{less_front}
 use Rattle.tv_lines.proofs.starts.set_cells.Goals as goal
 

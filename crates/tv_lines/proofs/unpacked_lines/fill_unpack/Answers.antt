@@ -1,4 +1,4 @@
-use Rattle.tv_core.proofs.ValuesChain.{in_given}
+use Rattle.tv_core.proofs.Common.{in_given}
 use Rattle.tv_lines.proofs.unpacked_lines.fill_unpack.Goals as goal
 
 pub returns-clause-gives : goal.returns-clause-gives

@@ -1,5 +1,4 @@
-use Rattle.std.proofs.Common.{arith}
-use Rattle.tv_core.proofs.Chain.{refused, all_then, all_pure, some_then, some_first}
+use Rattle.tv_core.proofs.Common.{arith, refused, all_then, all_pure, some_then, some_first}
 use Rattle.tv_core.proofs.Rooms.{room_here, room_left}
 use Rattle.tv_lines.specs.UnpackedLines.{unpack_of}
 use Rattle.tv_lines.proofs.unpacked_lines.unpack.Goals as goal

@@ -1,4 +1,4 @@
-use Rattle.std.proofs.Common.{arith}
+use Rattle.tv_core.proofs.Common.{arith}
 use Rattle.tv_listing.proofs.Rows.{placed, rows_more}
 use Rattle.tv_listing.proofs.assignment.rows.Goals as goal
 

@@ -1,4 +1,5 @@
-use Rattle.std.proofs.Common.{◌≡◌, map, IfOk, ap, ◌∙◌, subst, refl}
+use Rattle.tv_core.proofs.Common.{◌≡◌, map, ap, ◌∙◌, subst, refl}
+use Rattle.std.proofs.Common.{IfOk}
 use Rattle.tv_listing.specs.Listing.{text_of, ordered}
 use Rattle.tv_listing.specs.Row.{row_line}
 use Rattle.tv_listing.proofs.text.text_by.Goals as goal

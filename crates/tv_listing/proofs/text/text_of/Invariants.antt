@@ -1,4 +1,4 @@
-use Rattle.std.proofs.Common.{◌≡◌, map, take}
+use Rattle.tv_core.proofs.Common.{◌≡◌, map, take}
 use Rattle.tv_listing.specs.Listing.{text_of}
 use Rattle.tv_listing.specs.Row.{row_line}
 use Rattle.tv_listing.proofs.text.text_of.Given as goal

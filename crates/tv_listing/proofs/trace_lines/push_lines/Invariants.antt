@@ -1,4 +1,4 @@
-use Rattle.std.proofs.Common.{◌≡◌, ◌++◌, map, take}
+use Rattle.tv_core.proofs.Common.{◌≡◌, ◌++◌, map, take}
 use Rattle.tv_listing.specs.Row.{row_line}
 use Rattle.tv_listing.proofs.trace_lines.push_lines.Given as goal
 

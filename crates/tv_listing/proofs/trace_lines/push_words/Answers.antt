@@ -1,4 +1,4 @@
-use Rattle.std.proofs.Common.{refl}
+use Rattle.tv_core.proofs.Common.{refl}
 use Rattle.tv_listing.proofs.Rows.{words_pushed}
 use Rattle.tv_listing.proofs.trace_lines.push_words.Goals as goal
 

@@ -1,8 +1,6 @@
-use Rattle.std.proofs.lemmas.Grind.{common_steps}
-use Rattle.std.proofs.Common.{◌≡◌, ℕ, ◌-◌, ◌/◌, ◌<◌, arith}
-use Rattle.tv_core.proofs.Chain.{puts_no_turn, puts_turn, turn_refused, refused, all_then, all_pure, some_then, some_first}
+use Rattle.tv_core.proofs.Common.{common_steps, ◌≡◌, ℕ, ◌-◌, ◌/◌, ◌<◌, arith, puts_no_turn, refused, all_then, all_pure, some_then, some_first, Circuit}
+use Rattle.tv_core.proofs.Chain.{puts_turn, turn_refused}
 use Rattle.tv_core.proofs.LoopLaws.{puts_here_as}
-use Rattle.tv_core.specs.Circuits.{Circuit}
 use Rattle.tv_logic.specs.Ands.{new_and_pair_of, and_of}
 use Rattle.tv_logic.proofs.ands.and_word.Goals as goal
 

@@ -1,5 +1,4 @@
-use Rattle.tv_core.specs.Loops.{sequence}
-use Rattle.tv_core.specs.Sinks.{PutsAll, Grows}
+use Rattle.tv_core.proofs.Common.{sequence, PutsAll, Grows}
 use Rattle.tv_logic.specs.Ands.{new_and_pair_of}
 use Rattle.tv_logic.proofs.ands.and_word.Given as goal
 

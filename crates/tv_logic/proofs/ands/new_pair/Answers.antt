@@ -1,4 +1,4 @@
-use Rattle.tv_core.proofs.TailCalls.{puts_in_then}
+use Rattle.tv_core.proofs.Common.{puts_in_then}
 use Rattle.tv_logic.specs.Ands.{new_and_pair_of}
 use Rattle.tv_logic.proofs.ands.new_pair.Goals as goal
 

@@ -1,4 +1,4 @@
-use Rattle.tv_core.proofs.ValuesChain.{first_given, in_given, gives_refused}
+use Rattle.tv_core.proofs.Common.{first_given, in_given, gives_refused}
 use Rattle.tv_logic.proofs.gadget.fill_logic.Goals as goal
 
 pub returns-in_err-fill_words-clause-gives : goal.returns-in_err-fill_words-clause-gives

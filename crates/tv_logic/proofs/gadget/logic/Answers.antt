@@ -1,4 +1,4 @@
-use Rattle.tv_core.proofs.Chain.{refused, all_then, all_pure, some_then, some_first}
+use Rattle.tv_core.proofs.Common.{refused, all_then, all_pure, some_then, some_first}
 use Rattle.tv_logic.specs.Logic.{logic_of}
 use Rattle.tv_logic.proofs.gadget.logic.Goals as goal
 

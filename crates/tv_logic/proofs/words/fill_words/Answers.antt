@@ -1,4 +1,4 @@
-use Rattle.tv_core.proofs.ValuesChain.{first_given, in_given, gives_refused}
+use Rattle.tv_core.proofs.Common.{first_given, in_given, gives_refused}
 use Rattle.tv_logic.proofs.words.fill_words.Goals as goal
 
 pub returns-in_err-fill_and-clause-gives : goal.returns-in_err-fill_and-clause-gives

@@ -1,6 +1,5 @@
-use Rattle.std.proofs.Common.{◌≡◌, ◌*◌, ◌/◌, ◌%◌, ◌^◌, arith}
+use Rattle.tv_core.proofs.Common.{◌≡◌, ◌*◌, ◌/◌, ◌%◌, ◌^◌, arith, first_given, in_given, gives_refused}
 use Rattle.tv_core.specs.declared.field.TheConstants.{P}
-use Rattle.tv_core.proofs.ValuesChain.{first_given, in_given, gives_refused}
 use Rattle.tv_muldiv.proofs.numbers.fill_halves.Goals as goal
 
 pub returns-in_err-fill_bits-clause-gives : goal.returns-in_err-fill_bits-clause-gives

@@ -1,4 +1,4 @@
-use Rattle.std.proofs.Common.{◌≡◌, suc, ◌-◌, ◌*◌, ◌%◌, ◌^◌, ◌∙◌, sym, ap, arith}
+use Rattle.tv_core.proofs.Common.{◌≡◌, suc, ◌-◌, ◌*◌, ◌%◌, ◌^◌, ◌∙◌, sym, ap, arith}
 use Rattle.tv_core.proofs.BelowLaws.{weighted-suc}
 use Rattle.tv_bits.specs.Bits.{bits_combination}
 use Rattle.tv_core.specs.declared.field.TheConstants.{P}

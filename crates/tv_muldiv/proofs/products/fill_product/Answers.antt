@@ -1,5 +1,4 @@
-use Rattle.std.proofs.Common.{◌≡◌, ◌*◌, ◌/◌, ◌%◌, ◌^◌, arith}
-use Rattle.tv_core.proofs.ValuesChain.{first_given, in_given, gives_refused}
+use Rattle.tv_core.proofs.Common.{◌≡◌, ◌*◌, ◌/◌, ◌%◌, ◌^◌, arith, first_given, in_given, gives_refused}
 use Rattle.tv_muldiv.proofs.ProductLaws.{product_small}
 use Rattle.tv_core.specs.declared.field.TheConstants.{P}
 use Rattle.tv_muldiv.proofs.products.fill_product.Goals as goal

@@ -1,4 +1,4 @@
-use Rattle.tv_core.proofs.Chain.{refused, all_then, all_pure, some_then, some_first}
+use Rattle.tv_core.proofs.Common.{refused, all_then, all_pure, some_then, some_first}
 use Rattle.tv_muldiv.specs.Product.{product_of}
 use Rattle.tv_muldiv.proofs.products.product.Goals as goal
 

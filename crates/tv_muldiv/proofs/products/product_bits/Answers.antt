@@ -1,5 +1,4 @@
-use Rattle.std.proofs.Common.{arith}
-use Rattle.tv_core.proofs.Chain.{refused, all_then, all_pure, some_then, some_first}
+use Rattle.tv_core.proofs.Common.{arith, refused, all_then, all_pure, some_then, some_first}
 use Rattle.tv_muldiv.specs.Product.{product_bits_of}
 use Rattle.tv_muldiv.proofs.products.product_bits.Goals as goal
 

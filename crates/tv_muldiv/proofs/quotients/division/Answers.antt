@@ -1,6 +1,4 @@
-use Rattle.std.proofs.Common.{arith}
-use Rattle.tv_core.proofs.Chain.{refused, some_first}
-use Rattle.tv_core.proofs.TailCalls.{puts_in_then}
+use Rattle.tv_core.proofs.Common.{arith, refused, some_first, puts_in_then}
 use Rattle.tv_muldiv.specs.Quotient.{division_of}
 use Rattle.tv_muldiv.proofs.quotients.division.Goals as goal
 

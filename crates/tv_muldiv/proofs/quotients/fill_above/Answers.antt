@@ -1,5 +1,4 @@
-use Rattle.std.proofs.Common.{◌≡◌, ◌-◌, ◌/◌, ◌^◌, ◌<◌, ◌∙◌, ap₂, arith}
-use Rattle.tv_core.proofs.ValuesChain.{first_given, in_given, gives_refused}
+use Rattle.tv_core.proofs.Common.{◌≡◌, ◌-◌, ◌/◌, ◌^◌, ◌<◌, ◌∙◌, ap₂, arith, first_given, in_given, gives_refused}
 use Rattle.tv_bits.specs.Order.{first_difference}
 use Rattle.tv_muldiv.proofs.QuotientNumbers.{above-below}
 use Rattle.tv_muldiv.specs.Quotient.{above_in}

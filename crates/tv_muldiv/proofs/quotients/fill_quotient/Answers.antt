@@ -1,4 +1,5 @@
-use Rattle.tv_core.proofs.ValuesChain.{some_given, first_given, in_given, gives_refused}
+use Rattle.tv_core.proofs.Common.{first_given, in_given, gives_refused}
+use Rattle.tv_core.proofs.ValuesChain.{some_given}
 use Rattle.tv_muldiv.proofs.quotients.fill_quotient.Goals as goal
 
 pub returns-in_err-fill_words-clause-gives : goal.returns-in_err-fill_words-clause-gives

@@ -1,4 +1,4 @@
-use Rattle.tv_core.proofs.ValuesChain.{in_given}
+use Rattle.tv_core.proofs.Common.{in_given}
 use Rattle.tv_muldiv.proofs.quotients.fill_words.Goals as goal
 
 pub returns-clause-gives : goal.returns-clause-gives

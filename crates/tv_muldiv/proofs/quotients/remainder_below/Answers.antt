@@ -1,5 +1,4 @@
-use Rattle.tv_core.proofs.Chain.{refused, some_first}
-use Rattle.tv_core.proofs.TailCalls.{puts_in_then}
+use Rattle.tv_core.proofs.Common.{refused, some_first, puts_in_then}
 use Rattle.tv_bits.proofs.BitNumbers.{bits_sized}
 use Rattle.tv_muldiv.specs.Quotient.{remainder_below_of}
 use Rattle.tv_muldiv.proofs.quotients.remainder_below.Goals as goal

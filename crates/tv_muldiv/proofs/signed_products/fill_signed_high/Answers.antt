@@ -1,4 +1,4 @@
-use Rattle.tv_core.proofs.ValuesChain.{first_given, in_given, gives_refused}
+use Rattle.tv_core.proofs.Common.{first_given, in_given, gives_refused}
 use Rattle.tv_muldiv.proofs.signed_products.fill_signed_high.Goals as goal
 
 pub returns-in_err-fill_halves-clause-gives : goal.returns-in_err-fill_halves-clause-gives

@@ -1,4 +1,4 @@
-use Rattle.tv_core.proofs.Chain.{refused, all_then, all_pure, some_then, some_first}
+use Rattle.tv_core.proofs.Common.{refused, all_then, all_pure, some_then, some_first}
 use Rattle.tv_muldiv.specs.SignedHigh.{signed_bits_of}
 use Rattle.tv_muldiv.proofs.signed_products.signed_bits.Goals as goal
 

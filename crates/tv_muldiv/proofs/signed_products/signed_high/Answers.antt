@@ -1,5 +1,4 @@
-use Rattle.std.proofs.Common.{◌≡◌, ℕ, ap₂, arith}
-use Rattle.tv_core.proofs.Chain.{refused, all_then, all_pure, some_then, some_first}
+use Rattle.tv_core.proofs.Common.{◌≡◌, ℕ, ap₂, arith, refused, all_then, all_pure, some_then, some_first}
 use Rattle.tv_bits.specs.declared.bit_wires.Bits.{Bits}
 use Rattle.tv_muldiv.specs.SignedHigh.{signed_high_of}
 use Rattle.tv_muldiv.proofs.signed_products.signed_high.Goals as goal

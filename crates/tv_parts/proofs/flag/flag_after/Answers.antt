@@ -1,8 +1,6 @@
-use Rattle.std.proofs.Common.{◌≡◌, ℕ, ◌≤◌, Bool, refl, sym, subst, arith, inl, inr}
-use Rattle.std.proofs.lemmas.Bool.{cases_eq}
+use Rattle.tv_core.proofs.Common.{◌≡◌, ℕ, ◌≤◌, Bool, refl, sym, subst, arith, inl, inr, cases_eq, flag_of}
 use Rattle.tv_isa.specs.Opcodes.{chosen}
 use Rattle.tv_numbers.specs.Tables.{flags}
-use Rattle.tv_word.specs.Word.{flag_of}
 use Rattle.tv_parts.proofs.flag.flag_after.Goals as goal
 
 -- moves and jumps leave the flag

@@ -1,5 +1,4 @@
-use Rattle.tv_core.proofs.Chain.{some_then, some_first, refused}
-use Rattle.tv_core.proofs.TailCalls.{puts_in_then}
+use Rattle.tv_core.proofs.Common.{some_then, some_first, refused, puts_in_then}
 use Rattle.tv_parts.specs.Flag.{next_flag_of}
 use Rattle.tv_parts.proofs.flag.put_flag.Goals as goal
 

@@ -1,4 +1,4 @@
-use Rattle.std.proofs.Common.{◌+◌}
+use Rattle.tv_core.proofs.Common.{◌+◌}
 use Rattle.tv_bits.proofs.BitNumbers.{scaled-bits-once}
 use Rattle.tv_parts.specs.Memory.{byte_of_pair}
 use Rattle.tv_parts.proofs.memory.byte_of_pair.Goals as goal

@@ -1,4 +1,5 @@
-use Rattle.tv_core.proofs.ValuesChain.{some_given, first_given, in_given, gives_refused}
+use Rattle.tv_core.proofs.Common.{first_given, in_given, gives_refused}
+use Rattle.tv_core.proofs.ValuesChain.{some_given}
 use Rattle.tv_parts.proofs.memory.fill_memory.Goals as goal
 
 pub returns-in_err-give_values-clause-gives : goal.returns-in_err-give_values-clause-gives

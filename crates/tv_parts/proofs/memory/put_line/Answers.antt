@@ -1,4 +1,4 @@
-use Rattle.tv_core.proofs.Chain.{all_then, some_then, some_first, all_pure, refused}
+use Rattle.tv_core.proofs.Common.{all_then, some_then, some_first, all_pure, refused}
 use Rattle.tv_parts.specs.Memory.{located_line}
 use Rattle.tv_parts.proofs.memory.put_line.Goals as goal
 

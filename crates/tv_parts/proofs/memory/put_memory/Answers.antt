@@ -1,4 +1,4 @@
-use Rattle.tv_core.proofs.Chain.{all_then, some_then, some_first, all_pure, refused}
+use Rattle.tv_core.proofs.Common.{all_then, some_then, some_first, all_pure, refused}
 use Rattle.tv_parts.specs.Memory.{memory_of}
 use Rattle.tv_parts.proofs.memory.put_memory.Goals as goal
 

@@ -1,5 +1,4 @@
-use Rattle.std.proofs.Common.{◌≡◌, ◌+◌, ◌-◌, ◌*◌, ◌^◌, ◌≤◌, refl, arith}
-use Rattle.std.proofs.lemmas.Bool.Decides.{nat_tests}
+use Rattle.tv_core.proofs.Common.{◌≡◌, ◌+◌, ◌-◌, ◌*◌, ◌^◌, ◌≤◌, refl, arith, nat_tests}
 use Rattle.tv_numbers.proofs.RangeLaws.{with_byte_small}
 use Rattle.tv_numbers.specs.Numbers.{with_byte_in}
 use Rattle.tv_parts.proofs.memory.with_byte.Goals as goal

@@ -1,5 +1,4 @@
-use Rattle.tv_core.proofs.Chain.{some_first, refused}
-use Rattle.tv_core.proofs.TailCalls.{puts_in_then}
+use Rattle.tv_core.proofs.Common.{some_first, refused, puts_in_then}
 use Rattle.tv_parts.specs.Written.{written_of}
 use Rattle.tv_parts.proofs.written.put_written.Goals as goal
 

@@ -1,4 +1,4 @@
-use Rattle.std.proofs.Common.{◌≡◌, take}
+use Rattle.tv_core.proofs.Common.{◌≡◌, take}
 use Rattle.std.specs.List.{flat_map}
 use Rattle.tv_word.specs.Word.{word_bytes}
 use Rattle.tv_plan.specs.Programs.{bits}

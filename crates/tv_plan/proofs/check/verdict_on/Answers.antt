@@ -1,4 +1,4 @@
-use Rattle.std.proofs.Common.{refl}
+use Rattle.tv_core.proofs.Common.{refl}
 use Rattle.tv_plan.proofs.CheckClaim.{check_twice, finds_once, finds_verdict, finds_wires}
 use Rattle.tv_plan.proofs.LookLaws.{finds_on, finds_short, finds_still}
 use Rattle.tv_plan.proofs.check.verdict_on.Goals as goal

@@ -1,4 +1,4 @@
-use Rattle.std.proofs.Common.{rules}
+use Rattle.tv_core.proofs.Common.{rules}
 use Rattle.tv_wtns.specs.Wtns.{assignment_of, firsts, firsts_in}
 use Rattle.tv_plan.specs.Containers.{witness_bad}
 use Rattle.tv_plan.specs.Plan.{named}

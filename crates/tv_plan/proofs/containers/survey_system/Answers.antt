@@ -1,4 +1,4 @@
-use Rattle.std.proofs.Common.{rules}
+use Rattle.tv_core.proofs.Common.{rules}
 use Rattle.tv_r1cs_read.specs.Survey.{survey_of}
 use Rattle.tv_plan.specs.Containers.{system_bad}
 use Rattle.tv_plan.specs.Plan.{named}

@@ -1,4 +1,4 @@
-use Rattle.std.proofs.Common.{refl}
+use Rattle.tv_core.proofs.Common.{refl}
 use Rattle.tv_plan.specs.Inputs.{inputs_of}
 use Rattle.tv_plan.proofs.LookLaws.{finds_on, finds_short, finds_still}
 use Rattle.tv_plan.proofs.inputs.read_inputs.Goals as goal

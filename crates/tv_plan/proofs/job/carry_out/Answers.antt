@@ -1,4 +1,4 @@
-use Rattle.std.proofs.Common.{◌≡◌, false, rules}
+use Rattle.tv_core.proofs.Common.{◌≡◌, false, rules}
 use Rattle.tv_plan.specs.Answers.{is_shared}
 use Rattle.tv_plan.proofs.AnswerLaws.{answers_done, answers_refused}
 use Rattle.tv_plan.proofs.job.carry_out.Goals as goal

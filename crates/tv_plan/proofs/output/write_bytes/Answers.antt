@@ -1,4 +1,5 @@
-use Rattle.std.proofs.Common.{◌≡◌, ℕ, List, Result, Ok, Err, OnOk, OnErr, inl, refl, rules}
+use Rattle.tv_core.proofs.Common.{◌≡◌, ℕ, List, Result, Ok, Err, inl, refl, rules}
+use Rattle.std.proofs.Common.{OnOk, OnErr}
 use Rattle.tv_files.specs.Whole.{HasBytes, HasPart}
 use Rattle.tv_files.specs.declared.calls.FileRefusal.{FileRefusal}
 use Rattle.tv_files.specs.declared.calls.FileRefusal.TheVariants as refusal

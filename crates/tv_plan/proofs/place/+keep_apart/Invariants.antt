@@ -1,4 +1,4 @@
-use Rattle.std.proofs.Common.{length, ◌+◌}
+use Rattle.tv_core.proofs.Common.{length, ◌+◌}
 use Rattle.tv_plan.proofs.place.+keep_apart.Given as goal
 
 abbrev pub decreases-keep_apart : goal.decreases-keep_apart

@@ -1,4 +1,5 @@
-use Rattle.std.proofs.Common.{◌≡◌, List, [], ◌∷◌, map, Option, Some, option_map, Bool, true, false, cond, refl, rules, tests}
+use Rattle.tv_core.proofs.Common.{◌≡◌, List, [], ◌∷◌, map, Option, Some, Bool, true, false, cond, refl, rules}
+use Rattle.std.proofs.Common.{option_map, tests}
 use Rattle.std.proofs.lemmas.Iterator.{YieldsList-from_slice}
 use Rattle.std.proofs.lemmas.Iterator.Search.{find_from_yields_List}
 use Rattle.std.specs.List.{find}

@@ -1,4 +1,5 @@
-use Rattle.std.proofs.Common.{◌≡◌, ℕ, List, ◌++◌, codes, decimal, ap, ◌∙◌, append_assoc}
+use Rattle.tv_core.proofs.Common.{◌≡◌, ℕ, List, ◌++◌, ap, ◌∙◌, append_assoc}
+use Rattle.std.proofs.Common.{codes, decimal}
 use Rattle.tv_plan.proofs.reasons.push_asm.Goals as goal
 
 -- parts that are added one after another

@@ -1,4 +1,5 @@
-use Rattle.std.proofs.Common.{◌≡◌, ℕ, List, ◌++◌, decimal, ap, ap₂, ◌∙◌, append_assoc}
+use Rattle.tv_core.proofs.Common.{◌≡◌, ℕ, List, ◌++◌, ap, ap₂, ◌∙◌, append_assoc}
+use Rattle.std.proofs.Common.{decimal}
 use Rattle.tv_plan.proofs.reasons.push_between.Goals as goal
 
 -- parts that are added one after another

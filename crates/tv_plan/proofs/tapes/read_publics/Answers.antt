@@ -1,4 +1,4 @@
-use Rattle.std.proofs.Common.{sym, ◌∙◌, arith}
+use Rattle.tv_core.proofs.Common.{sym, ◌∙◌, arith}
 use Rattle.tv_core.specs.declared.field.TheConstants.{P}
 use Rattle.tv_core.specs.declared.limits.TheConstants.{CHECK_WORDS}
 use Rattle.tv_tape.proofs.Narrow.{residues_same}

@@ -1,4 +1,4 @@
-use Rattle.std.proofs.Common.{◌^◌, sym}
+use Rattle.tv_core.proofs.Common.{◌^◌, sym}
 use Rattle.tv_tape.proofs.Narrow.{numbers_below, numbers_few, residues_same}
 use Rattle.tv_plan.proofs.LookLaws.{finds_passed, finds_view, finds_without_memory}
 use Rattle.tv_plan.proofs.tapes.read_words.Goals as goal

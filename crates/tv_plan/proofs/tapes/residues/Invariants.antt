@@ -1,4 +1,4 @@
-use Rattle.std.proofs.Common.{◌≡◌, ◌%◌, map, take}
+use Rattle.tv_core.proofs.Common.{◌≡◌, ◌%◌, map, take}
 use Rattle.tv_core.specs.declared.field.TheConstants.{P}
 use Rattle.tv_plan.proofs.tapes.residues.Given as goal
 

@@ -1,4 +1,4 @@
-use Rattle.std.proofs.Common.{◌≡◌, ◌%◌, ◌^◌, map, take}
+use Rattle.tv_core.proofs.Common.{◌≡◌, ◌%◌, ◌^◌, map, take}
 use Rattle.tv_plan.proofs.tapes.words_from.Given as goal
 
 abbrev pub invariant-loop-number : goal.invariant-loop-number

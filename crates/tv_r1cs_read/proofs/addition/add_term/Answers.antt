@@ -1,4 +1,5 @@
-use Rattle.std.proofs.Common.{◌≡◌, ◌+◌, ◌*◌, arith, rules, slice_index}
+use Rattle.tv_core.proofs.Common.{◌≡◌, ◌+◌, ◌*◌, arith, rules}
+use Rattle.std.proofs.Common.{slice_index}
 use Rattle.tv_r1cs_read.proofs.Sums.{adds_one}
 use Rattle.tv_r1cs_read.proofs.addition.add_term.Goals as goal
 

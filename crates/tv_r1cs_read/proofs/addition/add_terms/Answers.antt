@@ -1,4 +1,4 @@
-use Rattle.std.proofs.Common.{arith}
+use Rattle.tv_core.proofs.Common.{arith}
 use Rattle.tv_r1cs_read.proofs.Sums.{adds_more}
 use Rattle.tv_r1cs_read.proofs.addition.add_terms.Goals as goal
 

@@ -1,4 +1,4 @@
-use Rattle.std.proofs.Common.{◌≡◌, ◌+◌, ◌*◌, ◌^◌, ◌≤◌}
+use Rattle.tv_core.proofs.Common.{◌≡◌, ◌+◌, ◌*◌, ◌^◌, ◌≤◌}
 use Rattle.tv_r1cs_read.specs.Sums.{Adds}
 use Rattle.tv_r1cs_read.proofs.addition.add_terms.Given as goal
 

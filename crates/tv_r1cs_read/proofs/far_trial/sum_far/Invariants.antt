@@ -1,4 +1,4 @@
-use Rattle.std.proofs.Common.{◌≡◌, ◌+◌, ◌-◌, ◌*◌, ◌^◌, ◌≤◌, Ok}
+use Rattle.tv_core.proofs.Common.{◌≡◌, ◌+◌, ◌-◌, ◌*◌, ◌^◌, ◌≤◌, Ok}
 use Rattle.tv_container.specs.Places.{places}
 use Rattle.tv_container.specs.Reading.{ReadsIn}
 use Rattle.tv_r1cs_read.specs.R1cs.{terms_at}

@@ -1,4 +1,4 @@
-use Rattle.std.proofs.Common.{refl}
+use Rattle.tv_core.proofs.Common.{refl}
 use Rattle.tv_container.proofs.Chain.{err_is, reads_as, reads_done, reads_off, reads_on, refuses_any}
 use Rattle.tv_container.proofs.SectionLemmas.{fit-within}
 use Rattle.tv_container.specs.Places.{places}

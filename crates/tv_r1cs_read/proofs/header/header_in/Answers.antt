@@ -1,4 +1,4 @@
-use Rattle.std.proofs.Common.{◌+◌, ◌≤◌, ◌<◌, ◌^◌, ap, sym, ◌∙◌, arith}
+use Rattle.tv_core.proofs.Common.{◌+◌, ◌≤◌, ◌<◌, ◌^◌, ap, sym, ◌∙◌, arith}
 use Rattle.tv_container.specs.Places.{places}
 use Rattle.tv_container.proofs.Chain.{err_is, reads_as, reads_off, reads_on, refuses_any, refuses_first, stopped_here}
 use Rattle.tv_r1cs_read.specs.R1cs.{header_in}

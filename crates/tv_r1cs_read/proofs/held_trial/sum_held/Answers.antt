@@ -1,4 +1,4 @@
-use Rattle.std.proofs.Common.{◌≡◌, ◌≤◌, arith}
+use Rattle.tv_core.proofs.Common.{◌≡◌, ◌≤◌, arith}
 use Rattle.tv_r1cs_read.proofs.HeldLemmas.{held_part, held_rest}
 use Rattle.tv_r1cs_read.proofs.Sums.{held}
 use Rattle.tv_r1cs_read.proofs.held_trial.sum_held.Goals as goal

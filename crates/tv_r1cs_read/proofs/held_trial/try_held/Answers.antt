@@ -1,4 +1,4 @@
-use Rattle.std.proofs.Common.{◌≡◌, ◌-◌, ◌%◌, ◌==◌, ◌^◌, ◌∙◌, ap₂, arith, rules}
+use Rattle.tv_core.proofs.Common.{◌≡◌, ◌-◌, ◌%◌, ◌==◌, ◌^◌, ◌∙◌, ap₂, arith, rules}
 use Rattle.tv_core.specs.declared.field.TheConstants.{P}
 use Rattle.tv_r1cs_read.proofs.Sums.{three_added}
 use Rattle.tv_r1cs_read.proofs.held_trial.try_held.Goals as goal

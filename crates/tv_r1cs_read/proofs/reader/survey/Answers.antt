@@ -1,4 +1,4 @@
-use Rattle.std.proofs.Common.{◌∙◌, [], sym}
+use Rattle.tv_core.proofs.Common.{◌∙◌, [], sym}
 use Rattle.std.proofs.lemmas.Option.{MatchOption-at_none, MatchOption-at_some}
 use Rattle.tv_container.proofs.Chain.{refuses_first}
 use Rattle.tv_r1cs_read.specs.Survey.{survey_of}

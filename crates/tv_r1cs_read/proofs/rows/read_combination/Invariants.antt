@@ -1,4 +1,4 @@
-use Rattle.std.proofs.Common.{◌≡◌, ◌+◌, ◌-◌, ◌*◌, ◌<◌, ◌≤◌, length, Ok}
+use Rattle.tv_core.proofs.Common.{◌≡◌, ◌+◌, ◌-◌, ◌*◌, ◌<◌, ◌≤◌, length, Ok}
 use Rattle.std.specs.List.{All}
 use Rattle.tv_container.specs.Places.{places}
 use Rattle.tv_container.specs.Reading.{ReadsIn}

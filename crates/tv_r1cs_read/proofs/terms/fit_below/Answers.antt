@@ -1,4 +1,4 @@
-use Rattle.std.proofs.Common.{◌+◌, ◌≤◌, arith}
+use Rattle.tv_core.proofs.Common.{◌+◌, ◌≤◌, arith}
 use Rattle.std.proofs.lemmas.Result.{IfOk-weaker}
 use Rattle.tv_container.proofs.Chain.{reads_as, reads_bad, reads_done, refuses_wrong}
 use Rattle.tv_container.proofs.SectionLemmas.{fit-within}

@@ -1,5 +1,5 @@
-use Rattle.std.proofs.Common.{◌<◌, sym, ⊎_elim}
-use Rattle.std.proofs.lemmas.Bool.{cases_lt}
+use Rattle.tv_core.proofs.Common.{◌<◌, sym, cases_lt}
+use Rattle.std.proofs.Common.{⊎_elim}
 use Rattle.tv_core.specs.declared.field.TheConstants.{P}
 use Rattle.tv_r1cs_read.proofs.Ahead.{term_at-good}
 use Rattle.tv_r1cs_read.proofs.terms.held_term.Goals as goal

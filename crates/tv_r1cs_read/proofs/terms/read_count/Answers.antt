@@ -1,4 +1,4 @@
-use Rattle.std.proofs.Common.{sym}
+use Rattle.tv_core.proofs.Common.{sym}
 use Rattle.tv_container.proofs.Chain.{err_is, reads_as, reads_bad, reads_done, reads_off, reads_on, refuses_first, refuses_wrong}
 use Rattle.tv_r1cs_read.specs.R1cs.{count_at}
 use Rattle.tv_r1cs_read.proofs.Ahead.{count_at-good, count_at-wide}

@@ -1,5 +1,5 @@
-use Rattle.std.proofs.Common.{◌<◌, sym, ⊎_elim}
-use Rattle.std.proofs.lemmas.Bool.{cases_lt}
+use Rattle.tv_core.proofs.Common.{◌<◌, sym, cases_lt}
+use Rattle.std.proofs.Common.{⊎_elim}
 use Rattle.tv_core.specs.declared.field.TheConstants.{P}
 use Rattle.tv_container.proofs.Chain.{err_is, reads_as, reads_bad, reads_done, reads_off, reads_on, refuses_first, refuses_wrong}
 use Rattle.tv_r1cs_read.specs.R1cs.{term_at}

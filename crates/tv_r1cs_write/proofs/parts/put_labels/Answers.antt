@@ -1,4 +1,4 @@
-use Rattle.std.proofs.Common.{◌≡◌, ◌≢◌, ◌∙◌, ◌<◌, ap, arith, get_or, length, not}
+use Rattle.tv_core.proofs.Common.{◌≡◌, ◌≢◌, ◌∙◌, ◌<◌, ap, arith, get_or, length, not}
 use Rattle.tv_container.proofs.Buffers.{lost_more, took_none, took_then}
 use Rattle.tv_r1cs_write.specs.Bytes.{others}
 use Rattle.tv_r1cs_write.proofs.Others.{absent, all_ahead, bytes_begin, bytes_more, bytes_stay, passed, there, waiting}

@@ -1,7 +1,6 @@
-use Rattle.std.proofs.Common.{◌≡◌, ◌<◌, length, arith}
+use Rattle.tv_core.proofs.Common.{◌≡◌, ◌<◌, length, arith, puts_no_turn, refused, all_then, all_pure, some_then, some_first}
 use Rattle.std.proofs.lemmas.Grind.{get_or_default_zero}
 use Rattle.tv_bits.proofs.Growing.{both, one_turn, turn_some}
-use Rattle.tv_core.proofs.Chain.{puts_no_turn, refused, all_then, all_pure, some_then, some_first}
 use Rattle.tv_regs.proofs.Gates.{wires_top-at}
 use Rattle.tv_regs.specs.Reads.{read_turn, read_reg_of}
 use Rattle.tv_regs.proofs.reads.read_reg.Goals as goal

@@ -1,5 +1,5 @@
-use Rattle.std.proofs.Common.{ℕ, List, ap, subst}
-use Rattle.tv_core.proofs.ValuesChain.{some_given, first_given, in_given, gives_refused}
+use Rattle.tv_core.proofs.Common.{ℕ, List, ap, subst, first_given, in_given, gives_refused}
+use Rattle.tv_core.proofs.ValuesChain.{some_given}
 use Rattle.tv_core.specs.Values.{GivesIn}
 use Rattle.tv_regs.specs.declared.triple.Curve.{Curve}
 use Rattle.tv_regs.proofs.Alike.{some_as, values_by}

@@ -1,4 +1,4 @@
-use Rattle.std.proofs.Common.{◌-◌, ◌%◌, ◌∙◌, ap, arith}
+use Rattle.tv_core.proofs.Common.{◌-◌, ◌%◌, ◌∙◌, ap, arith}
 use Rattle.tv_core.specs.declared.field.TheConstants.{P}
 use Rattle.tv_regs.proofs.Inverses.{negated_inverse, inverse_itself}
 use Rattle.tv_regs.proofs.triple.inverse_difference.Goals as goal

@@ -1,4 +1,4 @@
-use Rattle.std.proofs.Common.{◌∙◌}
+use Rattle.tv_core.proofs.Common.{◌∙◌}
 use Rattle.tv_regs.proofs.Inverses.{small_inverse}
 use Rattle.tv_regs.proofs.triple.inverse_of_small.Goals as goal
 

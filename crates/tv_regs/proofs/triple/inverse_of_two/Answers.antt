@@ -1,4 +1,4 @@
-use Rattle.std.proofs.Common.{◌*◌, ◌%◌, ◌∙◌, ap₂}
+use Rattle.tv_core.proofs.Common.{◌*◌, ◌%◌, ◌∙◌, ap₂}
 use Rattle.tv_core.specs.declared.field.TheConstants.{P}
 use Rattle.tv_regs.proofs.Inverses.{inverse_product}
 use Rattle.tv_regs.specs.Triple.{minus}

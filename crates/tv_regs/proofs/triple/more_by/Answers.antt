@@ -1,6 +1,5 @@
-use Rattle.std.proofs.Common.{refl}
+use Rattle.tv_core.proofs.Common.{refl, refused, all_then, all_pure, some_then, some_first}
 use Rattle.tv_bits.proofs.Growing.{fresh_fits, within, kept, both, put_fits, made_by}
-use Rattle.tv_core.proofs.Chain.{refused, all_then, all_pure, some_then, some_first}
 use Rattle.tv_regs.specs.More.{more_of}
 use Rattle.tv_regs.proofs.Rooms.{top_more, top_none}
 use Rattle.tv_regs.proofs.triple.more_by.Goals as goal

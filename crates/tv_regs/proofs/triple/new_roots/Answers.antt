@@ -1,7 +1,5 @@
-use Rattle.std.proofs.Common.{refl}
+use Rattle.tv_core.proofs.Common.{refl, refused, some_then, some_first, puts_in_then}
 use Rattle.tv_bits.proofs.Growing.{fewer, within, kept, both, both_in, left}
-use Rattle.tv_core.proofs.Chain.{refused, some_then, some_first}
-use Rattle.tv_core.proofs.TailCalls.{puts_in_then}
 use Rattle.tv_regs.specs.Triple.{roots_of}
 use Rattle.tv_regs.proofs.Rooms.{top_number}
 use Rattle.tv_regs.proofs.triple.new_roots.Goals as goal

@@ -1,4 +1,4 @@
-use Rattle.tv_core.proofs.Chain.{refused, all_then, all_pure, some_first}
+use Rattle.tv_core.proofs.Common.{refused, all_then, all_pure, some_first}
 use Rattle.tv_regs.specs.Triple.{passes_of}
 use Rattle.tv_regs.proofs.triple.passes.Goals as goal
 

@@ -1,7 +1,5 @@
-use Rattle.std.proofs.Common.{refl}
+use Rattle.tv_core.proofs.Common.{refl, refused, some_first, puts_in_then}
 use Rattle.tv_bits.proofs.Growing.{fewer, within, both_in, left}
-use Rattle.tv_core.proofs.Chain.{refused, some_first}
-use Rattle.tv_core.proofs.TailCalls.{puts_in_then}
 use Rattle.tv_regs.specs.More.{more_of}
 use Rattle.tv_regs.specs.Triple.{point_of}
 use Rattle.tv_regs.proofs.Rooms.{top_more, top_second, top_third, begins}

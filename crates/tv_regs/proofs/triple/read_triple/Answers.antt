@@ -1,7 +1,6 @@
-use Rattle.std.proofs.Common.{refl, ◌∙◌}
+use Rattle.tv_core.proofs.Common.{refl, ◌∙◌, refused, all_then, all_pure, some_then, some_first}
 use Rattle.tv_bits.proofs.Growing.{fewer, within, kept, both, left, top_wire}
 use Rattle.tv_bits.specs.Number.{number_of}
-use Rattle.tv_core.proofs.Chain.{refused, all_then, all_pure, some_then, some_first}
 use Rattle.tv_regs.proofs.Rooms.{top_number}
 use Rattle.tv_regs.proofs.TripleLaws.{triple_answer}
 use Rattle.tv_regs.specs.Triple.{triple_of}

@@ -1,6 +1,5 @@
-use Rattle.std.proofs.Common.{refl}
+use Rattle.tv_core.proofs.Common.{refl, refused, all_then, all_pure, some_then, some_first}
 use Rattle.tv_bits.proofs.Growing.{fewer, within, kept, both, left, top_wire}
-use Rattle.tv_core.proofs.Chain.{refused, all_then, all_pure, some_then, some_first}
 use Rattle.tv_regs.specs.More.{more_of}
 use Rattle.tv_regs.specs.Triple.{pairs_of, sums_of}
 use Rattle.tv_regs.proofs.Rooms.{top_number, top_more, short_number, short_more}

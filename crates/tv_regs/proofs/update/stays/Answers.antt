@@ -1,4 +1,4 @@
-use Rattle.tv_core.proofs.TailCalls.{puts_in_then}
+use Rattle.tv_core.proofs.Common.{puts_in_then}
 use Rattle.tv_regs.specs.Update.{stays_of}
 use Rattle.tv_regs.proofs.update.stays.Goals as goal
 

@@ -1,5 +1,4 @@
-use Rattle.tv_core.specs.Loops.{sequence}
-use Rattle.tv_core.specs.Sinks.{PutsAll, Grows}
+use Rattle.tv_core.proofs.Common.{sequence, PutsAll, Grows}
 use Rattle.tv_regs.specs.Update.{stays_turn}
 use Rattle.tv_regs.proofs.update.update_register.Given as goal
 

@@ -1,4 +1,4 @@
-use Rattle.tv_core.proofs.ValuesChain.{first_given, in_given, gives_refused}
+use Rattle.tv_core.proofs.Common.{first_given, in_given, gives_refused}
 use Rattle.tv_regs.proofs.writes.fill_write_reg.Goals as goal
 
 pub returns-in_err-give-clause-gives : goal.returns-in_err-give-clause-gives

@@ -1,7 +1,6 @@
-use Rattle.std.proofs.Common.{◌<◌, [], ◌∷◌, ◌++◌, ℕ, length, get_or, sym, ◌∙◌, ap, arith, add-one}
+use Rattle.tv_core.proofs.Common.{◌<◌, [], ◌∷◌, ◌++◌, ℕ, length, get_or, sym, ◌∙◌, ap, arith, add-one, length-each_below, top}
 use Rattle.std.proofs.lemmas.Grind.{get_or_default_zero}
-use Rattle.tv_core.proofs.BelowLaws.{each_below-zero, length-each_below}
-use Rattle.tv_core.specs.Combinations.{top}
+use Rattle.tv_core.proofs.BelowLaws.{each_below-zero}
 use Rattle.tv_regs.proofs.WriteLaws.{sum_of-suc, top-sum_of}
 use Rattle.tv_regs.proofs.writes.set_sum.Goals as goal
 

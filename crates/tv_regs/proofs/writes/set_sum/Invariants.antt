@@ -1,5 +1,4 @@
-use Rattle.std.proofs.Common.{◌≡◌, get_or}
-use Rattle.tv_core.specs.Below.{each_below}
+use Rattle.tv_core.proofs.Common.{◌≡◌, get_or, each_below}
 use Rattle.tv_regs.proofs.writes.set_sum.Given as goal
 
 abbrev pub invariant-loop-i : goal.invariant-loop-i

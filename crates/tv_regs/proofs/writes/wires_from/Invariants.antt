@@ -1,4 +1,4 @@
-use Rattle.std.proofs.Common.{◌≡◌, ℕ, ◌+◌, ◌<◌, get_or, length}
+use Rattle.tv_core.proofs.Common.{◌≡◌, ℕ, ◌+◌, ◌<◌, get_or, length}
 use Rattle.tv_regs.proofs.writes.wires_from.Given as goal
 
 abbrev pub invariant-loop-i : goal.invariant-loop-i

@@ -1,4 +1,4 @@
-use Rattle.std.proofs.Common.{◌≡◌, ◌-◌, ◌++◌, ◌∙◌, ap₂}
+use Rattle.tv_core.proofs.Common.{◌≡◌, ◌-◌, ◌++◌, ◌∙◌, ap₂}
 use Rattle.tv_core.specs.declared.field.TheConstants.{P}
 use Rattle.tv_inputs.specs.Operand.{upper_of}
 use Rattle.tv_inputs.specs.TestNumbers.{place_bits}

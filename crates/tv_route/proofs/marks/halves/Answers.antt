@@ -1,7 +1,7 @@
-use Rattle.std.proofs.Common.{◌≡◌, ℕ, ◌*◌, ◌<◌, Bool, List, length, replicate, refl, sym, ◌∙◌, ap, ap₂, subst, arith, take, drop, ◌++◌, None, Some}
+use Rattle.tv_core.proofs.Common.{◌≡◌, ℕ, ◌*◌, ◌<◌, Bool, List, length, refl, sym, ◌∙◌, ap, ap₂, subst, arith, take, drop, ◌++◌, None, Some, slice_index}
+use Rattle.std.proofs.Common.{replicate}
 use Rattle.std.proofs.Math.Seq.{take-append_seam}
 use Rattle.std.proofs.lemmas.List.{length-replicate}
-use Rattle.std.specs.Prelude.{slice_index}
 use Rattle.tv_route.proofs.Halves.{halves-long}
 use Rattle.tv_route.proofs.PairLaws.{partners-long, partners_pair}
 use Rattle.tv_route.specs.Route.{Mark, walk, walks, halves}

@@ -1,5 +1,4 @@
-use Rattle.std.proofs.Common.{ℕ, ◌+◌, ◌*◌, List, set, sym, ◌∙◌, ap}
-use Rattle.std.specs.Prelude.{slice_index}
+use Rattle.tv_core.proofs.Common.{ℕ, ◌+◌, ◌*◌, List, set, sym, ◌∙◌, ap, slice_index}
 use Rattle.tv_route.proofs.Steps.{partners_more, partners_none}
 use Rattle.tv_route.proofs.marks.partners.Goals as goal
 

@@ -1,4 +1,4 @@
-use Rattle.std.proofs.Common.{◌≡◌}
+use Rattle.tv_core.proofs.Common.{◌≡◌}
 use Rattle.tv_route.specs.Route.{partners}
 use Rattle.tv_route.proofs.marks.partners.Given as goal
 

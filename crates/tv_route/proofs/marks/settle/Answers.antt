@@ -1,4 +1,4 @@
-use Rattle.std.proofs.Common.{◌≡◌, true, false, not, sym, ◌∙◌, ap, arith}
+use Rattle.tv_core.proofs.Common.{◌≡◌, true, false, not, sym, ◌∙◌, ap, arith}
 use Rattle.tv_route.proofs.Steps.{walks_none, walks_more}
 use Rattle.tv_route.proofs.marks.settle.Goals as goal
 use Rattle.tv_route.proofs.marks.settle.Goals.{then-is_none, else-is_none}

@@ -1,4 +1,4 @@
-use Rattle.std.proofs.Common.{◌≡◌}
+use Rattle.tv_core.proofs.Common.{◌≡◌}
 use Rattle.tv_route.specs.Route.{walks}
 use Rattle.tv_route.proofs.marks.settle.Given as goal
 

@@ -1,5 +1,4 @@
-use Rattle.std.proofs.Common.{◌≡◌, suc, ◌-◌, ◌+◌, ◌*◌, ◌<◌, sym, ◌∙◌, subst, arith}
-use Rattle.std.specs.Prelude.{slice_index}
+use Rattle.tv_core.proofs.Common.{◌≡◌, suc, ◌-◌, ◌+◌, ◌*◌, ◌<◌, sym, ◌∙◌, subst, arith, slice_index}
 use Rattle.tv_route.proofs.PairLaws.{other_below}
 use Rattle.tv_route.proofs.Steps.{walk_none, walk_round, walk_on}
 use Rattle.tv_route.proofs.marks.walk.Goals as goal

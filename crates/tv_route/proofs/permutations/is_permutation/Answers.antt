@@ -1,5 +1,4 @@
-use Rattle.std.proofs.Common.{◌≡◌, ◌<◌, length, false, refl, subst, sym, ◌∙◌, arith}
-use Rattle.std.specs.Prelude.{slice_index}
+use Rattle.tv_core.proofs.Common.{◌≡◌, ◌<◌, length, false, refl, subst, sym, ◌∙◌, arith, slice_index}
 use Rattle.std.proofs.lemmas.List.{get_or_default}
 use Rattle.tv_route.proofs.Seen.{IsSeen, seen_none, seen_more, all_permute}
 use Rattle.tv_route.proofs.permutations.is_permutation.Goals as goal

@@ -1,4 +1,4 @@
-use Rattle.std.proofs.Common.{ℕ, ◌*◌, ◌/◌, if◌then◌else◌, sym, ◌∙◌, ap, arith}
+use Rattle.tv_core.proofs.Common.{ℕ, ◌*◌, ◌/◌, if◌then◌else◌, sym, ◌∙◌, ap, arith}
 use Rattle.tv_benes.proofs.Permutations.{places-zero}
 use Rattle.tv_route.proofs.Steps.{push_one}
 use Rattle.tv_route.specs.Route.{down_input, up_input}

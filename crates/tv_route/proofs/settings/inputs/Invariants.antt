@@ -1,4 +1,4 @@
-use Rattle.std.proofs.Common.{◌≡◌, ◌/◌, if◌then◌else◌}
+use Rattle.tv_core.proofs.Common.{◌≡◌, ◌/◌, if◌then◌else◌}
 use Rattle.tv_benes.specs.Through.{places}
 use Rattle.tv_route.specs.Route.{down_input, up_input}
 use Rattle.tv_route.proofs.settings.inputs.Given as goal

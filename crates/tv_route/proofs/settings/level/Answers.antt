@@ -1,4 +1,4 @@
-use Rattle.std.proofs.Common.{◌≡◌, suc, ◌-◌, ◌^◌, length, ap, sym, ◌∙◌, arith}
+use Rattle.tv_core.proofs.Common.{◌≡◌, suc, ◌-◌, ◌^◌, length, ap, sym, ◌∙◌, arith}
 use Rattle.tv_route.proofs.RouteLaws.{level_is, exponent_is}
 use Rattle.tv_route.proofs.settings.level.Goals as goal
 

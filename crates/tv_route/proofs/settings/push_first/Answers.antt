@@ -1,4 +1,4 @@
-use Rattle.std.proofs.Common.{◌*◌}
+use Rattle.tv_core.proofs.Common.{◌*◌}
 use Rattle.tv_route.proofs.Steps.{push_place, push_none}
 use Rattle.tv_route.specs.Route.{down}
 use Rattle.tv_route.proofs.settings.push_first.Goals as goal

@@ -1,4 +1,4 @@
-use Rattle.std.proofs.Common.{◌≡◌, ◌*◌, ◌++◌}
+use Rattle.tv_core.proofs.Common.{◌≡◌, ◌*◌, ◌++◌}
 use Rattle.tv_benes.specs.Through.{places}
 use Rattle.tv_route.specs.Route.{down}
 use Rattle.tv_route.proofs.settings.push_first.Given as goal

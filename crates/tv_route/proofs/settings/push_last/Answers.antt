@@ -1,5 +1,4 @@
-use Rattle.std.proofs.Common.{◌≡◌, ◌+◌, ◌-◌, ◌*◌, ap, ◌∙◌, arith}
-use Rattle.std.specs.Prelude.{slice_index}
+use Rattle.tv_core.proofs.Common.{◌≡◌, ◌+◌, ◌-◌, ◌*◌, ap, ◌∙◌, arith, slice_index}
 use Rattle.tv_benes.proofs.ThroughLaws.{missing_small}
 use Rattle.tv_benes.specs.Through.{missing}
 use Rattle.tv_route.proofs.Steps.{push_place, push_none}

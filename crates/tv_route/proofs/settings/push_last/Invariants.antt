@@ -1,6 +1,5 @@
-use Rattle.std.proofs.Common.{◌≡◌, ◌+◌, ◌*◌, ◌++◌}
+use Rattle.tv_core.proofs.Common.{◌≡◌, ◌+◌, ◌*◌, ◌++◌, slice_index}
 use Rattle.tv_benes.specs.Through.{missing, places}
-use Rattle.std.specs.Prelude.{slice_index}
 use Rattle.tv_route.specs.Route.{down}
 use Rattle.tv_route.proofs.settings.push_last.Given as goal
 

@@ -1,4 +1,4 @@
-use Rattle.tv_core.proofs.Chain.{refused, all_then, all_pure, some_then, some_first}
+use Rattle.tv_core.proofs.Common.{refused, all_then, all_pure, some_then, some_first}
 use Rattle.tv_row_products.specs.RowDivision.{row_division_of}
 use Rattle.tv_row_products.proofs.row_divisions.row_division.Goals as goal
 

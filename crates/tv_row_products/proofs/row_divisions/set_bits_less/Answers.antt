@@ -1,5 +1,4 @@
-use Rattle.std.proofs.lemmas.Grind.{common_steps}
-use Rattle.std.proofs.Common.{arith}
+use Rattle.tv_core.proofs.Common.{common_steps, arith}
 use Rattle.tv_bits.proofs.BitNumbers.{scaled-bits-once}
 use Rattle.tv_row_products.proofs.row_divisions.set_bits_less.Goals as goal
 

@@ -1,9 +1,7 @@
 use Rattle.tv_bits.specs.DoubleRow.{row_number}
 use Rattle.tv_bits.specs.Gate.{gated_of}
 use Rattle.tv_bits.specs.Times.{times_of}
-use Rattle.tv_core.proofs.Chain.{refused, some_first}
-use Rattle.tv_core.proofs.TailCalls.{puts_in_then}
-use Rattle.tv_core.specs.Combinations.{wire}
+use Rattle.tv_core.proofs.Common.{refused, some_first, puts_in_then, wire}
 use Rattle.tv_row_products.specs.RowProduct.{row_product_of}
 use Rattle.tv_row_products.proofs.row_products.row_product.Goals as goal
 

@@ -1,4 +1,4 @@
-use Rattle.std.proofs.Common.{arith, rules}
+use Rattle.tv_core.proofs.Common.{arith, rules}
 use Rattle.tv_row_products.proofs.SignedNumbers.{product_low, product_all}
 use Rattle.tv_row_products.proofs.row_signed_products.product_twos.Goals as goal
 

@@ -1,8 +1,6 @@
 use Rattle.tv_bits.specs.Gate.{gated_of}
 use Rattle.tv_bits.specs.Times.{times_of}
-use Rattle.tv_core.proofs.Chain.{refused, some_first}
-use Rattle.tv_core.proofs.TailCalls.{puts_in_then}
-use Rattle.tv_core.specs.Combinations.{wire}
+use Rattle.tv_core.proofs.Common.{refused, some_first, puts_in_then, wire}
 use Rattle.tv_row_products.specs.RowSignedProduct.{signed_word, signed_row, row_signed_product_of}
 use Rattle.tv_row_products.proofs.row_signed_products.row_signed_product.Goals as goal
 

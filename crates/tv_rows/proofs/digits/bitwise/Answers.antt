@@ -1,5 +1,4 @@
-use Rattle.tv_core.proofs.Chain.{refused, some_first}
-use Rattle.tv_core.proofs.TailCalls.{puts_in_then}
+use Rattle.tv_core.proofs.Common.{refused, some_first, puts_in_then}
 use Rattle.tv_rows.specs.Digits.{bitwise_of}
 use Rattle.tv_rows.proofs.digits.bitwise.Goals as goal
 

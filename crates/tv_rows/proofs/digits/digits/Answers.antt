@@ -1,5 +1,4 @@
-use Rattle.std.proofs.Common.{◌≡◌, ◌+◌, ◌-◌, ◌++◌, ◌∙◌, append_assoc}
-use Rattle.tv_core.specs.Constraints.{Combination}
+use Rattle.tv_core.proofs.Common.{◌≡◌, ◌+◌, ◌-◌, ◌++◌, ◌∙◌, append_assoc, Combination}
 use Rattle.tv_core.specs.declared.field.TheConstants.{P}
 use Rattle.tv_rows.specs.Digits.{digits_combination, digit_sum, digits_of}
 use Rattle.tv_rows.proofs.digits.digits.Goals as goal

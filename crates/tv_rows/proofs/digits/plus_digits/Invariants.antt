@@ -1,5 +1,5 @@
-use Rattle.std.proofs.Common.{◌≡◌, ◌+◌, ◌*◌, ◌%◌, ◌^◌, ◌≤◌, ◌++◌, length, max}
-use Rattle.tv_core.specs.Combinations.{top}
+use Rattle.tv_core.proofs.Common.{◌≡◌, ◌+◌, ◌*◌, ◌%◌, ◌^◌, ◌≤◌, ◌++◌, length, top}
+use Rattle.std.proofs.Common.{max}
 use Rattle.tv_core.specs.declared.field.TheConstants.{P}
 use Rattle.tv_rows.specs.Digits.{digits_combination}
 use Rattle.tv_rows.specs.declared.digits.TheConstants.{BASE}

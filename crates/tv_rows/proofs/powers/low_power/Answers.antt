@@ -1,4 +1,4 @@
-use Rattle.tv_core.proofs.Chain.{refused, all_then, all_pure, some_then, some_first}
+use Rattle.tv_core.proofs.Common.{refused, all_then, all_pure, some_then, some_first}
 use Rattle.tv_rows.specs.Power.{low_power_of}
 use Rattle.tv_rows.proofs.powers.low_power.Goals as goal
 

@@ -1,4 +1,4 @@
-use Rattle.std.proofs.Common.{◌≡◌, arith}
+use Rattle.tv_core.proofs.Common.{◌≡◌, arith}
 use Rattle.tv_rows.specs.Power.{shift_power_of}
 use Rattle.tv_rows.proofs.powers.shift_power.Goals as goal
 

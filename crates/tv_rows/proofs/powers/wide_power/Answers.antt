@@ -1,4 +1,4 @@
-use Rattle.tv_core.proofs.Chain.{refused, all_then, all_pure, some_then, some_first}
+use Rattle.tv_core.proofs.Common.{refused, all_then, all_pure, some_then, some_first}
 use Rattle.tv_rows.specs.Power.{wide_power_of}
 use Rattle.tv_rows.proofs.powers.wide_power.Goals as goal
 

@@ -1,7 +1,6 @@
 use Rattle.tv_bits.specs.Gate.{gated_of}
 use Rattle.tv_bits.specs.Times.{times_of}
-use Rattle.tv_core.proofs.Chain.{refused, some_first}
-use Rattle.tv_core.proofs.TailCalls.{puts_in_then}
+use Rattle.tv_core.proofs.Common.{refused, some_first, puts_in_then}
 use Rattle.tv_rows.specs.RowDifference.{sign_difference, minuend, subtrahend, row_difference_of}
 use Rattle.tv_rows.proofs.row_differences.row_difference.Goals as goal
 

@@ -1,15 +1,9 @@
-use Rattle.std.proofs.Common.{◌≡◌, ℕ, ◌*◌, ◌%◌, ◌^◌, ◌∙◌, refl}
+use Rattle.tv_core.proofs.Common.{◌≡◌, ℕ, ◌*◌, ◌%◌, ◌^◌, ◌∙◌, refl, refused, some_first, puts_in_then, Circuit, wire, for_widths, IsWidth}
 use Rattle.tv_bits.specs.DoubleRow.{row_number}
 use Rattle.tv_bits.specs.Gate.{gated_of}
 use Rattle.tv_bits.specs.Times.{times_of}
-use Rattle.tv_core.proofs.Chain.{refused, some_first}
-use Rattle.tv_core.proofs.TailCalls.{puts_in_then}
-use Rattle.tv_core.specs.Circuits.{Circuit}
-use Rattle.tv_core.specs.Combinations.{wire}
 use Rattle.tv_core.specs.declared.field.TheConstants.{P}
 use Rattle.tv_rows.specs.RowShift.{raised, right_shift_of}
-use Rattle.tv_word.proofs.WidthLaws.{for_widths}
-use Rattle.tv_word.specs.Widths.{IsWidth}
 use Rattle.tv_rows.proofs.row_shifts.right_shift.Goals as goal
 
 power_of : (w : ℕ) → IsWidth w → (r : ℕ) → r ≡ 1 * 2 ^ w % 2 ^ 64 % P → r ≡ 2 ^ w % P

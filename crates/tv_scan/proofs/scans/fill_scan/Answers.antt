@@ -1,8 +1,5 @@
-use Rattle.std.proofs.Common.{◌≡◌, ◌<◌, length, map, get_or, refl, sym, ◌∙◌, ap, subst, arith}
-use Rattle.std.proofs.lemmas.List.{length-map}
-use Rattle.tv_core.proofs.ValuesChain.{gives_refused}
+use Rattle.tv_core.proofs.Common.{◌≡◌, ◌<◌, length, map, get_or, refl, sym, ◌∙◌, ap, subst, arith, length-map, gives_refused, GivesAll}
 use Rattle.tv_core.proofs.JoinedLaws.{gives_no_list, gives_list, gives_list_refused}
-use Rattle.tv_core.specs.Values.{GivesAll}
 use Rattle.tv_lines.specs.PackedLines.{line_of_numbers}
 use Rattle.tv_scan.proofs.ScanChain.{given_as, number_at, next_word, values_of_turn}
 use Rattle.tv_lines.specs.Placed.{zero_line}

@@ -1,6 +1,4 @@
-use Rattle.std.proofs.Common.{◌≡◌, false, map}
-use Rattle.tv_core.specs.Below.{joined_below}
-use Rattle.tv_core.specs.Values.{GivesAll}
+use Rattle.tv_core.proofs.Common.{◌≡◌, false, map, joined_below, GivesAll}
 use Rattle.tv_lines.specs.PackedLines.{line_of_numbers}
 use Rattle.tv_scan.specs.Scan.{look_values, word_after}
 use Rattle.tv_scan.proofs.scans.fill_scan.Given as goal

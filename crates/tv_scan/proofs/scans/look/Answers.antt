@@ -1,5 +1,5 @@
-use Rattle.tv_core.proofs.Chain.{chain, refused}
-use Rattle.tv_core.proofs.TailCalls.{puts_in_then}
+use Rattle.tv_core.proofs.Common.{refused, puts_in_then}
+use Rattle.tv_core.proofs.Chain.{chain}
 use Rattle.tv_scan.specs.Scan.{look_of}
 use Rattle.tv_scan.proofs.scans.look.Goals as goal
 

@@ -1,7 +1,5 @@
-use Rattle.std.proofs.Common.{◌≡◌, [], length, get_or, sym, ◌∙◌, ap, arith}
+use Rattle.tv_core.proofs.Common.{◌≡◌, [], length, get_or, sym, ◌∙◌, ap, arith, puts_no_turn, refused, top}
 use Rattle.std.proofs.lemmas.List.{get_or_default}
-use Rattle.tv_core.proofs.Chain.{puts_no_turn, refused}
-use Rattle.tv_core.specs.Combinations.{top}
 use Rattle.tv_scan.proofs.ScanChain.{one_turn, look_refused, last_put}
 use Rattle.tv_lines.specs.Placed.{no_line}
 use Rattle.tv_scan.specs.Scan.{turn_of}

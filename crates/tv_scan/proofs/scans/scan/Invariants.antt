@@ -1,7 +1,4 @@
-use Rattle.std.proofs.Common.{◌*◌, ◌≤◌, [], length}
-use Rattle.tv_core.specs.Circuits.{turns}
-use Rattle.tv_core.specs.Combinations.{top}
-use Rattle.tv_core.specs.Sinks.{PutsAll, Grows}
+use Rattle.tv_core.proofs.Common.{◌*◌, ◌≤◌, [], length, turns, top, PutsAll, Grows}
 use Rattle.tv_scan.specs.Scan.{turn_of}
 use Rattle.tv_scan.proofs.scans.scan.Given as goal
 

@@ -1,7 +1,5 @@
-use Rattle.std.proofs.lemmas.Grind.{common_steps}
-use Rattle.std.proofs.Common.{◌≡◌, arith}
+use Rattle.tv_core.proofs.Common.{common_steps, ◌≡◌, arith, puts_no_turn, refused, all_then, all_pure, some_then, some_first}
 use Rattle.tv_bits.proofs.Growing.{both, one_turn, turn_some}
-use Rattle.tv_core.proofs.Chain.{puts_no_turn, refused, all_then, all_pure, some_then, some_first}
 use Rattle.tv_core.proofs.LoopLaws.{puts_here_as}
 use Rattle.tv_shift.specs.Halves.{half_bit_of, halves_of}
 use Rattle.tv_shift.proofs.halves.halves.Goals as goal

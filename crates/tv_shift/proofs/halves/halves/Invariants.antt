@@ -1,5 +1,4 @@
-use Rattle.tv_core.specs.Loops.{sequence}
-use Rattle.tv_core.specs.Sinks.{PutsAll, Grows}
+use Rattle.tv_core.proofs.Common.{sequence, PutsAll, Grows}
 use Rattle.tv_shift.specs.Halves.{half_bit_of}
 use Rattle.tv_shift.proofs.halves.halves.Given as goal
 

@@ -1,6 +1,4 @@
-use Rattle.std.proofs.Common.{◌≡◌, ◌/◌, false}
-use Rattle.tv_core.specs.Values.{GivesAll}
-use Rattle.tv_core.specs.Below.{each_below}
+use Rattle.tv_core.proofs.Common.{◌≡◌, ◌/◌, false, GivesAll, each_below}
 use Rattle.tv_shift.specs.Masks.{mask_value, masked_value}
 use Rattle.tv_shift.proofs.masks.fill_masked.Given as goal
 

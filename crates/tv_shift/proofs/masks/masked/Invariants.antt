@@ -1,6 +1,4 @@
-use Rattle.std.proofs.Common.{◌/◌}
-use Rattle.tv_core.specs.Loops.{sequence}
-use Rattle.tv_core.specs.Sinks.{PutsAll, Grows}
+use Rattle.tv_core.proofs.Common.{◌/◌, sequence, PutsAll, Grows}
 use Rattle.tv_shift.specs.Masks.{mask_at, digit_at, masked_pair_of}
 use Rattle.tv_shift.proofs.masks.masked.Given as goal
 

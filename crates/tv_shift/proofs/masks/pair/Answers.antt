@@ -1,4 +1,4 @@
-use Rattle.tv_core.proofs.TailCalls.{puts_in_then}
+use Rattle.tv_core.proofs.Common.{puts_in_then}
 use Rattle.tv_shift.specs.Masks.{masked_pair_of}
 use Rattle.tv_shift.proofs.masks.pair.Goals as goal
 

@@ -1,6 +1,4 @@
-use Rattle.std.proofs.Common.{◌≡◌, false}
-use Rattle.tv_core.specs.Values.{GivesAll}
-use Rattle.tv_core.specs.Below.{each_below}
+use Rattle.tv_core.proofs.Common.{◌≡◌, false, GivesAll, each_below}
 use Rattle.tv_shift.specs.Thermometer.{level_value}
 use Rattle.tv_shift.proofs.thermometer.fill_level.Given as goal
 

@@ -1,4 +1,4 @@
-use Rattle.tv_core.proofs.ValuesChain.{gives_refused}
+use Rattle.tv_core.proofs.Common.{gives_refused}
 use Rattle.tv_shift.proofs.LevelValues.{gives_no_level, gives_level, gives_level_refused}
 use Rattle.tv_shift.proofs.thermometer.fill_thermometer.Goals as goal
 

@@ -1,5 +1,4 @@
-use Rattle.std.proofs.Common.{◌≡◌, false}
-use Rattle.tv_core.specs.Values.{GivesAll}
+use Rattle.tv_core.proofs.Common.{◌≡◌, false, GivesAll}
 use Rattle.tv_shift.specs.Thermometer.{thermometer_values}
 use Rattle.tv_shift.proofs.thermometer.fill_thermometer.Given as goal
 

@@ -1,7 +1,5 @@
-use Rattle.std.proofs.lemmas.Grind.{common_steps}
-use Rattle.std.proofs.Common.{◌≡◌, ◌+◌, ◌%◌, ◌^◌, ◌≤◌, ◌++◌, length, sym, ◌∙◌, ap, ap₂, arith, add-one}
-use Rattle.std.proofs.Math.Nat.{pow-suc, add-mod, pow-le-pow_right}
-use Rattle.tv_core.specs.Combinations.{scaled, top}
+use Rattle.tv_core.proofs.Common.{common_steps, ◌≡◌, ◌+◌, ◌%◌, ◌^◌, ◌≤◌, ◌++◌, length, sym, ◌∙◌, ap, ap₂, arith, add-one, pow-le-pow_right, scaled, top}
+use Rattle.std.proofs.Math.Nat.{pow-suc, add-mod}
 use Rattle.tv_core.specs.declared.field.TheConstants.{P}
 use Rattle.tv_shift.specs.Thermometer.{mark, power_of}
 use Rattle.tv_shift.proofs.thermometer.set_mark_power.Goals as goal

@@ -1,5 +1,5 @@
-use Rattle.std.proofs.Common.{◌≡◌, ◌+◌, ◌*◌, ◌%◌, ◌^◌, ◌≤◌, length, max}
-use Rattle.tv_core.specs.Combinations.{top}
+use Rattle.tv_core.proofs.Common.{◌≡◌, ◌+◌, ◌*◌, ◌%◌, ◌^◌, ◌≤◌, length, top}
+use Rattle.std.proofs.Common.{max}
 use Rattle.tv_core.specs.declared.field.TheConstants.{P}
 use Rattle.tv_shift.specs.Thermometer.{products_below, mark, power_of}
 use Rattle.tv_shift.proofs.thermometer.set_mark_power.Given as goal

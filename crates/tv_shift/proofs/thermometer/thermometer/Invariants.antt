@@ -1,5 +1,4 @@
-use Rattle.tv_core.specs.Loops.{sequence}
-use Rattle.tv_core.specs.Sinks.{PutsAll, Grows}
+use Rattle.tv_core.proofs.Common.{sequence, PutsAll, Grows}
 use Rattle.tv_shift.specs.Thermometer.{products_below, bit_level_of}
 use Rattle.tv_shift.proofs.thermometer.thermometer.Given as goal
 

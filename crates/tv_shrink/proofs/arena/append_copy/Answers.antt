@@ -1,4 +1,4 @@
-use Rattle.std.proofs.Common.{◌∙◌, ap, length}
+use Rattle.tv_core.proofs.Common.{◌∙◌, ap, length}
 use Rattle.tv_shrink.proofs.Spans.{span_copied}
 use Rattle.tv_shrink.proofs.arena.append_copy.Goals as goal
 

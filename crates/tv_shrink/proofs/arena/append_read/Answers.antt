@@ -1,4 +1,4 @@
-use Rattle.std.proofs.Common.{◌∙◌, ap, length}
+use Rattle.tv_core.proofs.Common.{◌∙◌, ap, length}
 use Rattle.tv_container.proofs.Chain.{err_is}
 use Rattle.tv_core.specs.Normal.{normal_constraint}
 use Rattle.tv_r1cs_read.specs.Rows.{constraint_of}

@@ -1,4 +1,4 @@
-use Rattle.std.proofs.Common.{◌∙◌, ap, arith, inl, inr, length, refl}
+use Rattle.tv_core.proofs.Common.{◌∙◌, ap, arith, inl, inr, length, refl}
 use Rattle.tv_shrink.proofs.LayLaws.{laid_behind}
 use Rattle.tv_shrink.proofs.arena.lay.Goals as goal
 

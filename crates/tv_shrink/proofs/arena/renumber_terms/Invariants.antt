@@ -1,4 +1,4 @@
-use Rattle.std.proofs.Common.{◌≡◌, ◌++◌, ℕ, map, take, drop, length}
+use Rattle.tv_core.proofs.Common.{◌≡◌, ◌++◌, ℕ, map, take, drop, length}
 use Rattle.tv_r1cs_write.specs.Bytes.{others}
 use Rattle.tv_shrink.proofs.arena.renumber_terms.Given as goal
 

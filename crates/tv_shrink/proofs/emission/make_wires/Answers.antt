@@ -1,6 +1,5 @@
-use Rattle.std.proofs.Common.{ℕ, arith}
-use Rattle.tv_core.proofs.Chain.{puts_no_turn, puts_nothing, puts_then, puts_turn}
-use Rattle.tv_core.specs.Circuits.{Circuit, fresh, pure}
+use Rattle.tv_core.proofs.Common.{ℕ, arith, puts_no_turn, Circuit, fresh, pure}
+use Rattle.tv_core.proofs.Chain.{puts_nothing, puts_then, puts_turn}
 use Rattle.tv_shrink.specs.Emission.{one_wire}
 use Rattle.tv_shrink.proofs.emission.make_wires.Goals as goal
 

@@ -1,4 +1,4 @@
-use Rattle.tv_core.specs.Sinks.{PutsAll, Grows}
+use Rattle.tv_core.proofs.Common.{PutsAll, Grows}
 use Rattle.tv_shrink.specs.Emission.{wires_circuit}
 use Rattle.tv_shrink.proofs.emission.make_wires.Given as goal
 

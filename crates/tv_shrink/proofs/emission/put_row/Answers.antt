@@ -1,6 +1,5 @@
-use Rattle.std.proofs.Common.{ap, arith, subst, sym}
+use Rattle.tv_core.proofs.Common.{ap, arith, subst, sym, PutsAll}
 use Rattle.tv_core.proofs.Chain.{puts_nothing}
-use Rattle.tv_core.specs.Sinks.{PutsAll}
 use Rattle.tv_shrink.specs.Emission.{row_circuit}
 use Rattle.tv_shrink.specs.Tidy.{IsWithin, RowIsWithin}
 use Rattle.tv_shrink.proofs.Read.{top_put}

@@ -1,7 +1,6 @@
-use Rattle.std.proofs.Common.{ℕ, None, arith, subst, length, get_or}
-use Rattle.tv_core.proofs.Chain.{puts_no_turn, puts_turn, turn_refused, refused}
-use Rattle.tv_core.specs.Circuits.{Circuit}
-use Rattle.tv_core.specs.Sinks.{PutsAll, PutsSome}
+use Rattle.tv_core.proofs.Common.{ℕ, None, arith, subst, length, get_or, puts_no_turn, refused, Circuit, PutsAll}
+use Rattle.tv_core.proofs.Chain.{puts_turn, turn_refused}
+use Rattle.tv_core.specs.Sinks.{PutsSome}
 use Rattle.tv_shrink.specs.Emission.{row_circuit, rows_circuit}
 use Rattle.tv_shrink.proofs.Puts.{row_count_few}
 use Rattle.tv_shrink.proofs.emission.put_rows.Goals as goal

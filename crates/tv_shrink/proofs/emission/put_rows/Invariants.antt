@@ -1,5 +1,4 @@
-use Rattle.std.proofs.Common.{◌≡◌, ◌≤◌, ◌+◌, false}
-use Rattle.tv_core.specs.Sinks.{PutsAll}
+use Rattle.tv_core.proofs.Common.{◌≡◌, ◌≤◌, ◌+◌, false, PutsAll}
 use Rattle.tv_shrink.specs.Emission.{rows_circuit}
 use Rattle.tv_shrink.proofs.emission.put_rows.Given as goal
 

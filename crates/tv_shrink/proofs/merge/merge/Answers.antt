@@ -1,8 +1,8 @@
-use Rattle.std.proofs.Common.{◌≡◌, ◌+◌, ◌-◌, ◌%◌, ◌^◌, ◌<◌, ◌≤◌, ap, arith, length, min, sym, ◌∙◌, ap₂, subst}
+use Rattle.tv_core.proofs.Common.{◌≡◌, ◌+◌, ◌-◌, ◌%◌, ◌^◌, ◌<◌, ◌≤◌, ap, arith, length, sym, ◌∙◌, ap₂, subst, IsNormalFrom}
+use Rattle.std.proofs.Common.{min}
 use Rattle.std.proofs.lemmas.List.{nil_from_length}
 use Rattle.tv_core.specs.declared.field.TheConstants.{P}
 use Rattle.tv_shrink.specs.Merge.{first_wire}
-use Rattle.tv_core.specs.Normal.{IsNormalFrom}
 use Rattle.tv_shrink.proofs.Merges.{merge-turn, normal-rest, nothing_left, shorter}
 use Rattle.tv_shrink.proofs.merge.merge.Goals.{then-not-is_empty, else-not-is_empty+then-not-is_empty-2}
 use Rattle.tv_shrink.proofs.merge.merge.Goals as goal

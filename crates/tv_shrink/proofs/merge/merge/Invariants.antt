@@ -1,6 +1,4 @@
-use Rattle.std.proofs.Common.{◌≡◌, ◌+◌, ◌++◌, length}
-use Rattle.tv_core.specs.Combinations.{scaled}
-use Rattle.tv_core.specs.Normal.{normal, IsNormalFrom}
+use Rattle.tv_core.proofs.Common.{◌≡◌, ◌+◌, ◌++◌, length, scaled, normal, IsNormalFrom}
 use Rattle.tv_shrink.proofs.merge.merge.Given as goal
 
 abbrev pub invariant-loop-left : goal.invariant-loop-left

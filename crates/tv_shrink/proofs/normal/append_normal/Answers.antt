@@ -1,11 +1,11 @@
-use Rattle.std.proofs.Common.{◌≡◌, ◌∙◌, ◌++◌, ℕ, ap, arith, leb, leb-true, rules, sym, subst}
+use Rattle.tv_core.proofs.Common.{◌≡◌, ◌∙◌, ◌++◌, ℕ, ap, arith, rules, sym, subst, normal}
+use Rattle.std.proofs.Common.{leb, leb-true}
 use Rattle.std.specs.List.Sorted.{IsNonDecreasingBy}
 use Rattle.std.specs.Prelude.{IsPermutation}
 use Rattle.std.proofs.lemmas.List.Sorted.{IsNonDecreasingBy-from_all_adjacent, IsNonDecreasingBy-from_sort_by_key, IsPermutation-map}
 use Rattle.std.proofs.lemmas.Fn.{always_returns_same}
 use Rattle.std.proofs.lemmas.Result.{on_ok_weaker}
 use Rattle.tv_r1cs_read.specs.Rows.{combination_of}
-use Rattle.tv_core.specs.Normal.{normal}
 use Rattle.tv_shrink.proofs.SortLaws.{normal-permuted, normal_single}
 use Rattle.tv_shrink.proofs.normal.append_normal.Goals as goal
 

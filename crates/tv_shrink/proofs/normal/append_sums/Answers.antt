@@ -1,7 +1,7 @@
-use Rattle.std.proofs.Common.{◌≡◌, ◌∙◌, ◌++◌, ◌+◌, ◌<◌, ◌%◌, ℕ, append-nil, append_assoc, ap, ap₂, arith, drop, get_or, length, sym, []}
-use Rattle.tv_core.specs.Normal.{normal, with_term}
+use Rattle.tv_core.proofs.Common.{◌≡◌, ◌∙◌, ◌++◌, ◌+◌, ◌<◌, ◌%◌, ℕ, append-nil, append_assoc, ap, ap₂, arith, drop, get_or, length, sym, [], normal, length-map}
+use Rattle.tv_core.specs.Normal.{with_term}
 use Rattle.tv_core.specs.declared.field.TheConstants.{P}
-use Rattle.std.proofs.lemmas.List.{get_or_default, length-map}
+use Rattle.std.proofs.lemmas.List.{get_or_default}
 use Rattle.tv_r1cs_read.specs.Rows.{combination_of}
 use Rattle.tv_shrink.proofs.SortLaws.{no_sum, read_at, read_rises, sum_ends, sum_goes_on, sum_past, with_sum}
 use Rattle.tv_shrink.proofs.normal.append_sums.Goals as goal

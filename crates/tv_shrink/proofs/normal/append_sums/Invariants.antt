@@ -1,5 +1,4 @@
-use Rattle.std.proofs.Common.{◌≡◌, ◌≤◌, ◌++◌, drop, length}
-use Rattle.tv_core.specs.Normal.{normal}
+use Rattle.tv_core.proofs.Common.{◌≡◌, ◌≤◌, ◌++◌, drop, length, normal}
 use Rattle.tv_r1cs_read.specs.Rows.{combination_of}
 use Rattle.tv_shrink.proofs.SortLaws.{with_sum}
 use Rattle.tv_shrink.proofs.normal.append_sums.Given as goal

@@ -1,4 +1,4 @@
-use Rattle.std.proofs.Common.{◌≡◌, ◌++◌, ◌∷◌, Some, Ok, arith, sym, ap, subst, ◌∙◌, refl, rules, length, []}
+use Rattle.tv_core.proofs.Common.{◌≡◌, ◌++◌, ◌∷◌, Some, Ok, arith, sym, ap, subst, ◌∙◌, refl, rules, length, []}
 use Rattle.std.proofs.lemmas.List.{length_push}
 use Rattle.std.proofs.lemmas.Option.{MatchOption-at_none, MatchOption-at_some}
 use Rattle.tv_core.specs.declared.lines.Counts.{Counts}

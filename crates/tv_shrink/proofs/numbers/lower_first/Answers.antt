@@ -1,4 +1,4 @@
-use Rattle.std.proofs.Common.{◌≡◌, ◌≢◌, ◌∙◌, ◌+◌, ◌<◌, ℕ, ap, arith, get_or, length}
+use Rattle.tv_core.proofs.Common.{◌≡◌, ◌≢◌, ◌∙◌, ◌+◌, ◌<◌, ℕ, ap, arith, get_or, length}
 use Rattle.tv_r1cs_write.proofs.Others.{all_ahead, passed, waiting}
 use Rattle.tv_r1cs_write.specs.Bytes.{others}
 use Rattle.tv_shrink.proofs.Gone.{lowered_by, values_more}

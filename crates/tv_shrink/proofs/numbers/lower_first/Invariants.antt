@@ -1,5 +1,4 @@
-use Rattle.std.proofs.Common.{◌≡◌, ◌+◌, ◌<◌, ℕ, length}
-use Rattle.std.specs.Prelude.{slice_index}
+use Rattle.tv_core.proofs.Common.{◌≡◌, ◌+◌, ◌<◌, ℕ, length, slice_index}
 use Rattle.tv_r1cs_write.proofs.Others.{AreAhead}
 use Rattle.tv_r1cs_write.specs.Bytes.{others}
 use Rattle.tv_shrink.proofs.numbers.lower_first.Given as goal

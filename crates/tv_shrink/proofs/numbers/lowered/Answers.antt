@@ -1,4 +1,5 @@
-use Rattle.std.proofs.Common.{◌≡◌, ◌+◌, ℕ, arith, length, ltb, rules}
+use Rattle.tv_core.proofs.Common.{◌≡◌, ◌+◌, ℕ, arith, length, rules}
+use Rattle.std.proofs.Common.{ltb}
 use Rattle.std.proofs.lemmas.List.Sorted.{IsPartitionPoint-from_clause, IsPartitionedBy-ltb}
 use Rattle.tv_r1cs_write.specs.Bytes.{others}
 use Rattle.tv_shrink.proofs.Gone.{at_point, lowered_by, non-decreasing}

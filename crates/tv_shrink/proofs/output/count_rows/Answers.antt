@@ -1,7 +1,6 @@
-use Rattle.std.proofs.Common.{◌+◌, ◌∙◌, ap, sym, arith, length, take}
+use Rattle.tv_core.proofs.Common.{◌+◌, ◌∙◌, ap, sym, arith, length, take, terms_in}
 use Rattle.std.specs.List.{filter_map}
 use Rattle.std.proofs.lemmas.List.{length_push}
-use Rattle.tv_core.specs.Meanings.{terms_in}
 use Rattle.tv_shrink.proofs.Puts.{none_taken, short_at, some_taken, terms_more}
 use Rattle.tv_shrink.proofs.output.count_rows.Goals as goal
 use Rattle.tv_shrink.proofs.output.count_rows.Goals.{in-Some, in_default}

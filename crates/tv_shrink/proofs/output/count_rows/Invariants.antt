@@ -1,6 +1,5 @@
-use Rattle.std.proofs.Common.{◌≡◌, ◌≤◌, ◌*◌, length, take}
+use Rattle.tv_core.proofs.Common.{◌≡◌, ◌≤◌, ◌*◌, length, take, terms_in}
 use Rattle.std.specs.List.{filter_map}
-use Rattle.tv_core.specs.Meanings.{terms_in}
 use Rattle.tv_shrink.proofs.output.count_rows.Given as goal
 
 abbrev pub invariant-loop-at : goal.invariant-loop-at

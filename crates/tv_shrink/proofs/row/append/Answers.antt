@@ -1,4 +1,4 @@
-use Rattle.std.proofs.Common.{ℕ, ◌++◌, ◌∷◌, ◌∙◌, ap, ap₂, append_assoc, get_or, sym, take, []}
+use Rattle.tv_core.proofs.Common.{ℕ, ◌++◌, ◌∷◌, ◌∙◌, ap, ap₂, append_assoc, get_or, sym, take, []}
 use Rattle.std.proofs.lemmas.List.{take_more}
 use Rattle.tv_shrink.proofs.row.append.Goals as goal
 

@@ -1,4 +1,4 @@
-use Rattle.std.proofs.Common.{◌≡◌, ◌++◌, take}
+use Rattle.tv_core.proofs.Common.{◌≡◌, ◌++◌, take}
 use Rattle.tv_shrink.proofs.row.append.Given as goal
 
 abbrev pub invariant-loop-term : goal.invariant-loop-term

@@ -1,6 +1,6 @@
-use Rattle.std.proofs.Common.{◌++◌, is_some, sym, ◌∙◌, ap, append_assoc, subst}
+use Rattle.tv_core.proofs.Common.{◌++◌, sym, ◌∙◌, ap, append_assoc, subst, IsNormalFrom}
+use Rattle.std.proofs.Common.{is_some}
 use Rattle.std.proofs.lemmas.Result.{on_ok_weaker}
-use Rattle.tv_core.specs.Normal.{IsNormalFrom}
 use Rattle.tv_shrink.specs.Substitution.{replaced}
 use Rattle.tv_shrink.proofs.Constants.{parted}
 use Rattle.tv_shrink.proofs.Linear.{replaced-made, replaced-lacking}

@@ -1,4 +1,4 @@
-use Rattle.std.proofs.Common.{arith}
+use Rattle.tv_core.proofs.Common.{arith}
 use Rattle.tv_shrink.proofs.Constants.{constant_in-empty, constant_in-single, constant_in-several, constant_in-wired}
 use Rattle.tv_shrink.proofs.row.constant_in.Goals as goal
 use Rattle.tv_shrink.proofs.row.constant_in.Goals.{else-terms-eq1-via-then-terms-eq1+else-wire-eq0, else-terms-eq1-via-else-terms-eq1}

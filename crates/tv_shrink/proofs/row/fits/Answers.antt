@@ -1,4 +1,5 @@
-use Rattle.std.proofs.Common.{◌≡◌, ◌++◌, arith, ap, sym, ◌∙◌, leb, length}
+use Rattle.tv_core.proofs.Common.{◌≡◌, ◌++◌, arith, ap, sym, ◌∙◌, length}
+use Rattle.std.proofs.Common.{leb}
 use Rattle.tv_shrink.specs.Substitution.{replaced}
 use Rattle.tv_shrink.proofs.Linear.{fits-few, fits-lacking, fits-having}
 use Rattle.tv_shrink.proofs.row.fits.Goals as goal

@@ -1,4 +1,4 @@
-use Rattle.std.proofs.Common.{◌∙◌}
+use Rattle.tv_core.proofs.Common.{◌∙◌}
 use Rattle.tv_shrink.proofs.Constants.{has_from}
 use Rattle.tv_shrink.proofs.row.has_wire.Goals as goal
 

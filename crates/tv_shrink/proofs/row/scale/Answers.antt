@@ -1,4 +1,4 @@
-use Rattle.std.proofs.Common.{◌∙◌, ◌*◌, ◌%◌, ℕ, arith, ap, get_or, set}
+use Rattle.tv_core.proofs.Common.{◌∙◌, ◌*◌, ◌%◌, ℕ, arith, ap, get_or, set}
 use Rattle.std.proofs.lemmas.List.{get_or_default}
 use Rattle.std.proofs.lemmas.List.Edits.{map_over_more}
 use Rattle.tv_core.specs.declared.field.TheConstants.{P}

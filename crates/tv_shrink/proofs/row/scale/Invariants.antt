@@ -1,5 +1,4 @@
-use Rattle.std.proofs.Common.{◌≡◌, ◌++◌, take, drop}
-use Rattle.tv_core.specs.Combinations.{scaled}
+use Rattle.tv_core.proofs.Common.{◌≡◌, ◌++◌, take, drop, scaled}
 use Rattle.tv_shrink.proofs.row.scale.Given as goal
 
 abbrev pub invariant-loop-term : goal.invariant-loop-term

@@ -1,11 +1,8 @@
-use Rattle.std.proofs.Common.{◌≡◌, ℕ, ◌-◌, ◌*◌, ◌%◌, ◌∙◌, ap, arith, length, refl, sym}
-use Rattle.std.proofs.lemmas.List.{length-map}
+use Rattle.tv_core.proofs.Common.{◌≡◌, ℕ, ◌-◌, ◌*◌, ◌%◌, ◌∙◌, ap, arith, length, refl, sym, length-map, scaled, normal}
 use Rattle.tv_core.proofs.InverseLaws.{inverse_of-below, inverse_of_is, mul-inverse_of}
 use Rattle.tv_core.proofs.Unique.{normal-same}
-use Rattle.tv_core.specs.Combinations.{scaled}
 use Rattle.tv_core.specs.Inverse.{inverse_of}
 use Rattle.tv_core.specs.declared.field.TheConstants.{P}
-use Rattle.tv_core.specs.Normal.{normal}
 use Rattle.tv_shrink.proofs.Constants.{scaled_once}
 use Rattle.tv_shrink.proofs.Linear.{negative, scaled-same}
 use Rattle.tv_shrink.proofs.row.solve.Goals as goal

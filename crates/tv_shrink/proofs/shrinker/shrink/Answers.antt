@@ -1,4 +1,4 @@
-use Rattle.std.proofs.Common.{◌∙◌, Err, ap, inl, refl}
+use Rattle.tv_core.proofs.Common.{◌∙◌, Err, ap, inl, refl}
 use Rattle.tv_container.proofs.Chain.{err_is, not_refused}
 use Rattle.tv_container.specs.declared.why.ReadRefusal.TheVariants as refusal
 use Rattle.tv_shrink.specs.Answers.{counted_system, read_fault}

@@ -1,7 +1,6 @@
-use Rattle.std.proofs.Common.{◌≡◌, ◌+◌, ◌∙◌, ℕ, ap, ap₂, arith, length, refl, subst, sym, []}
-use Rattle.std.specs.List.{filter_map, fold, range_with_len}
+use Rattle.tv_core.proofs.Common.{◌≡◌, ◌+◌, ◌∙◌, ℕ, ap, ap₂, arith, length, refl, subst, sym, [], range_with_len, length-map}
+use Rattle.std.specs.List.{filter_map, fold}
 use Rattle.std.specs.Option.{option_map}
-use Rattle.std.proofs.lemmas.List.{length-map}
 use Rattle.tv_r1cs_write.specs.Bytes.{others}
 use Rattle.tv_shrink.specs.Renumbering.{moved_in}
 use Rattle.tv_shrink.specs.Pass.{turn}

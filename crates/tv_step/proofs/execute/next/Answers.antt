@@ -1,4 +1,4 @@
-use Rattle.std.proofs.Common.{◌<◌, ◌^◌}
+use Rattle.tv_core.proofs.Common.{◌<◌, ◌^◌}
 use Rattle.tv_step.proofs.TapeLaws.{all_left}
 use Rattle.tv_step.proofs.execute.next.Goals as goal
 

@@ -1,5 +1,4 @@
-use Rattle.std.proofs.Common.{◌≡◌, ◌*◌, ◌/◌, ap, ◌∙◌, arith}
-use Rattle.std.specs.Prelude.{slice_index}
+use Rattle.tv_core.proofs.Common.{◌≡◌, ◌*◌, ◌/◌, ap, ◌∙◌, arith, slice_index}
 use Rattle.tv_mem.specs.Pages.{bytes_in}
 use Rattle.tv_mem.specs.Bytes.{with_word}
 use Rattle.tv_step.proofs.ImageLaws.{image_begins, image_grows, image_whole}

@@ -1,4 +1,4 @@
-use Rattle.std.proofs.Common.{◌≡◌, take}
+use Rattle.tv_core.proofs.Common.{◌≡◌, take}
 use Rattle.tv_mem.specs.Pages.{bytes_in}
 use Rattle.tv_step.specs.Machine.{image_bytes}
 use Rattle.tv_step.proofs.image.memory_with.Given as goal

@@ -1,4 +1,5 @@
-use Rattle.std.proofs.Common.{◌≡◌, ℕ, IfOk, subst}
+use Rattle.tv_core.proofs.Common.{◌≡◌, ℕ, subst}
+use Rattle.std.proofs.Common.{IfOk}
 use Rattle.tv_step.specs.Machine.{start, end_of}
 use Rattle.tv_step.specs.State.{State}
 use Rattle.tv_step.proofs.run_trace.end_of_run.Goals as goal

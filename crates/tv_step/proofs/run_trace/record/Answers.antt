@@ -1,4 +1,4 @@
-use Rattle.std.proofs.Common.{◌≡◌, ◌+◌, ◌*◌, refl, ap, ap₂, sym, ◌∙◌, ◌++◌, ◌∷◌, [], ℕ, suc, arith}
+use Rattle.tv_core.proofs.Common.{◌≡◌, ◌+◌, ◌*◌, refl, ap, ap₂, sym, ◌∙◌, ◌++◌, ◌∷◌, [], ℕ, suc, arith}
 use Rattle.std.specs.Prelude.{◌||◌}
 use Rattle.tv_step.specs.Machine.{state_after}
 use Rattle.tv_step.specs.Reads.{ended_after, finds_end}

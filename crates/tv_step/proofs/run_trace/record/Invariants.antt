@@ -1,4 +1,4 @@
-use Rattle.std.proofs.Common.{◌≡◌}
+use Rattle.tv_core.proofs.Common.{◌≡◌}
 use Rattle.tv_step.specs.Machine.{state_after}
 use Rattle.tv_step.specs.Reads.{ended_after}
 use Rattle.tv_step.specs.Trace.{lines_of, states_of}

@@ -1,4 +1,5 @@
-use Rattle.std.proofs.Common.{◌≡◌, ℕ, ◌+◌, length, IfOk, subst}
+use Rattle.tv_core.proofs.Common.{◌≡◌, ℕ, ◌+◌, length, subst}
+use Rattle.std.proofs.Common.{IfOk}
 use Rattle.tv_step.specs.Trace.{lines_of, states_of}
 use Rattle.tv_step.proofs.run_trace.record_run.Goals as goal
 

@@ -1,4 +1,4 @@
-use Rattle.std.proofs.Common.{◌≡◌, ℕ, sym, ◌∙◌}
+use Rattle.tv_core.proofs.Common.{◌≡◌, ℕ, sym, ◌∙◌}
 use Rattle.tv_step.proofs.EndLaws.{answer_is_within}
 use Rattle.tv_step.specs.Machine.{start, end_of}
 use Rattle.tv_step.specs.State.{State}

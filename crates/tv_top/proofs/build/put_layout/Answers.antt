@@ -1,7 +1,6 @@
-use Rattle.std.proofs.Common.{refl, ap, ◌∙◌, rules}
+use Rattle.tv_core.proofs.Common.{refl, ap, ◌∙◌, rules, range_with_len}
 use Rattle.std.proofs.lemmas.List.FromFn.{length-range_with_len}
 use Rattle.std.proofs.lemmas.Result.{err_from_is_err_and}
-use Rattle.std.specs.List.{range_with_len}
 use Rattle.tv_core.specs.declared.lines.Counts.{Counts}
 use Rattle.tv_block.specs.Block.{block_of}
 use Rattle.tv_layout.specs.Layout.{layout_of}

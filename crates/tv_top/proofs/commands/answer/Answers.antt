@@ -1,5 +1,5 @@
-use Rattle.std.proofs.Common.{◌≡◌, ℕ, ◌<◌, List, [], ◌∷◌, length, map, string_bytes, Err, refl, arith, rules}
-use Rattle.std.proofs.lemmas.Grind.{common_steps}
+use Rattle.tv_core.proofs.Common.{◌≡◌, ℕ, ◌<◌, List, [], ◌∷◌, length, map, Err, refl, arith, rules, common_steps}
+use Rattle.std.proofs.Common.{string_bytes}
 use Rattle.tv_top.specs.Form.{form}
 use Rattle.tv_plan.specs.Plan.{request_of}
 use Rattle.tv_plan.specs.declared.refusal.Refusal.TheVariants.{Usage}

@@ -8,7 +8,7 @@ use Rattle.tv_plan.proofs.RunClaim.{runs}
 use Rattle.tv_top.proofs.ShrinkClaim.{shrinks}
 use Rattle.tv_top.proofs.TrialClaim.{trials}
 use Rattle.tv_top.proofs.WitnessClaim.{witnesses}
-use Rattle.std.proofs.Common.{ℕ, List, refl}
+use Rattle.tv_core.proofs.Common.{ℕ, List, refl}
 use Rattle.tv_plan.proofs.Common.{Answers, Call, request_of}
 use Rattle.tv_top.specs.Commands.{Commands}
 use Rattle.tv_top.specs.Form.{form}

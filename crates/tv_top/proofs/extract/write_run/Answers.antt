@@ -1,4 +1,4 @@
-use Rattle.std.proofs.Common.{◌≡◌, ℕ, List, Result, refl, ap, ◌∙◌}
+use Rattle.tv_core.proofs.Common.{◌≡◌, ℕ, List, Result, refl, ap, ◌∙◌}
 use Rattle.tv_tape.specs.Tape.{text_of}
 use Rattle.tv_plan.specs.Contents.{Content.{Bytes}}
 use Rattle.tv_plan.proofs.Common.{Named, Outside, Writes}

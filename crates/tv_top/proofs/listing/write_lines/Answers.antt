@@ -1,4 +1,4 @@
-use Rattle.std.proofs.Common.{refl}
+use Rattle.tv_core.proofs.Common.{refl}
 use Rattle.tv_plan.proofs.AnswerLaws.{completes_whole, completes_cut, completes_without_memory}
 use Rattle.tv_top.proofs.listing.write_lines.Goals as goal
 

@@ -1,4 +1,4 @@
-use Rattle.std.proofs.Common.{rules}
+use Rattle.tv_core.proofs.Common.{rules}
 use Rattle.tv_plan.specs.Plan.{named}
 use Rattle.tv_top.proofs.ShrunkReads.{finds_shrunk}
 use Rattle.tv_top.proofs.shrink.read_shrunk.Goals as goal

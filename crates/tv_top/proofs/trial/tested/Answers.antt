@@ -1,4 +1,4 @@
-use Rattle.std.proofs.Common.{◌≡◌, ◌+◌, [], refl, ap, ◌∙◌}
+use Rattle.tv_core.proofs.Common.{◌≡◌, ◌+◌, [], refl, ap, ◌∙◌}
 use Rattle.tv_core.specs.Meanings.{Tested, IsTested}
 use Rattle.tv_top.proofs.trial.tested.Goals as goal
 

@@ -1,4 +1,4 @@
-use Rattle.std.proofs.Common.{ap, ◌∙◌, rules}
+use Rattle.tv_core.proofs.Common.{ap, ◌∙◌, rules}
 use Rattle.std.proofs.lemmas.Result.{err_from_is_err_and}
 use Rattle.tv_wtns.proofs.StreamLaws.{IsBegun, streamed_some, streamed_all}
 use Rattle.tv_wtns.specs.Takers.{ValuesProgress, taker_of}

@@ -1,4 +1,4 @@
-use Rattle.std.proofs.Common.{Err, refl}
+use Rattle.tv_core.proofs.Common.{Err, refl}
 use Rattle.tv_plan.proofs.AnswerLaws.{completes_as, completes_whole, completes_cut, completes_nothing}
 use Rattle.tv_plan.specs.declared.refusal.Stop.TheVariants.{Memory}
 use Rattle.tv_top.proofs.WitnessClaim.{filled, unfilled}

@@ -1,4 +1,4 @@
-use Rattle.std.proofs.Common.{◌≤◌, arith}
+use Rattle.tv_core.proofs.Common.{◌≤◌, arith}
 use Rattle.tv_wtns.specs.Wtns.{assignment_of}
 use Rattle.tv_wtns.proofs.Firsts.{are_all}
 use Rattle.tv_wtns.proofs.assignment.read_values.Goals as goal

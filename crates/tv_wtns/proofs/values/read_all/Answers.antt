@@ -1,4 +1,4 @@
-use Rattle.std.proofs.Common.{◌≡◌, ◌/◌, ◌≤◌, length, take, arith, ◌∙◌}
+use Rattle.tv_core.proofs.Common.{◌≡◌, ◌/◌, ◌≤◌, length, take, arith, ◌∙◌}
 use Rattle.std.proofs.lemmas.List.{length-take-le}
 use Rattle.tv_container.proofs.Chain.{err_is, refuses_first}
 use Rattle.tv_wtns.specs.Values.{AreWords}

@@ -1,4 +1,4 @@
-use Rattle.std.proofs.Common.{◌≡◌, ℕ, ◌+◌, ◌*◌, ◌<◌, ◌≤◌, List, [], Result}
+use Rattle.tv_core.proofs.Common.{◌≡◌, ℕ, ◌+◌, ◌*◌, ◌<◌, ◌≤◌, List, [], Result}
 use Rattle.std.specs.List.{All}
 use Rattle.tv_core.specs.declared.field.TheConstants.{P}
 use Rattle.tv_container.specs.Places.{Fault, places}

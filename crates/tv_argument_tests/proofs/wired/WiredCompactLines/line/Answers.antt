@@ -1,4 +1,4 @@
-use Rattle.std.proofs.Common.{◌<◌, sym, ◌∙◌, arith}
+use Rattle.tv_core.proofs.Common.{◌<◌, sym, ◌∙◌, arith}
 use Rattle.tv_argument_tests.proofs.Made.{eight, line_made, line_is}
 use Rattle.tv_argument_tests.proofs.wired.WiredCompactLines.line.Goals as goal
 

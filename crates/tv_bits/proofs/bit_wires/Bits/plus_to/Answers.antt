@@ -1,8 +1,6 @@
-use Rattle.std.proofs.lemmas.Grind.{common_steps}
-use Rattle.std.proofs.Common.{◌≡◌, ◌+◌, ◌*◌, ◌%◌, ◌^◌, [], ◌∷◌, ◌++◌, sym, ◌∙◌, ap, ap₂, arith, add-one, append_assoc}
+use Rattle.tv_core.proofs.Common.{common_steps, ◌≡◌, ◌+◌, ◌*◌, ◌%◌, ◌^◌, [], ◌∷◌, ◌++◌, sym, ◌∙◌, ap, ap₂, arith, add-one, append_assoc, scaled}
 use Rattle.std.proofs.Math.Nat.{pow-suc, add-mod}
 use Rattle.std.proofs.lemmas.List.{append-nil}
-use Rattle.tv_core.specs.Combinations.{scaled}
 use Rattle.tv_core.specs.declared.field.TheConstants.{P}
 use Rattle.tv_bits.proofs.BitNumbers.{scaled-bits-zero, scaled-bits-suc}
 use Rattle.tv_bits.specs.Bits.{bits_combination}

@@ -1,5 +1,5 @@
-use Rattle.std.proofs.Common.{◌≡◌, ◌+◌, ◌*◌, ◌%◌, ◌^◌, ◌≤◌, ◌++◌, length, max}
-use Rattle.tv_core.specs.Combinations.{scaled, top}
+use Rattle.tv_core.proofs.Common.{◌≡◌, ◌+◌, ◌*◌, ◌%◌, ◌^◌, ◌≤◌, ◌++◌, length, scaled, top}
+use Rattle.std.proofs.Common.{max}
 use Rattle.tv_core.specs.declared.field.TheConstants.{P}
 use Rattle.tv_bits.specs.Bits.{bits_combination}
 use Rattle.tv_bits.proofs.bit_wires.Bits.plus_to.Given as goal

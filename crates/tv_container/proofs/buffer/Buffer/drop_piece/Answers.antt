@@ -1,4 +1,4 @@
-use Rattle.std.proofs.Common.{arith, ap, drop, take, ◌-◌, ◌∙◌}
+use Rattle.tv_core.proofs.Common.{arith, ap, drop, take, ◌-◌, ◌∙◌}
 use Rattle.tv_container.proofs.Buffers.{others_held}
 use Rattle.tv_container.proofs.buffer.Buffer.drop_piece.Goals as goal
 

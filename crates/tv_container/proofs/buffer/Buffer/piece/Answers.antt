@@ -1,4 +1,4 @@
-use Rattle.std.proofs.Common.{arith, ap, take, ◌∙◌}
+use Rattle.tv_core.proofs.Common.{arith, ap, take, ◌∙◌}
 use Rattle.tv_container.proofs.Buffers.{first_held}
 use Rattle.tv_container.proofs.buffer.Buffer.piece.Goals as goal
 

@@ -1,4 +1,5 @@
-use Rattle.std.proofs.Common.{of_calls, sym, ◌∙◌}
+use Rattle.tv_core.proofs.Common.{sym, ◌∙◌}
+use Rattle.std.proofs.Common.{of_calls}
 use Rattle.tv_container.proofs.Buffers.{called, lost_more}
 use Rattle.tv_container.proofs.pending.Pending.append_piece.Goals as goal
 use Rattle.tv_container.proofs.pending.Pending.append_piece.Goals.{then-is_ok, else-is_ok}

@@ -1,4 +1,4 @@
-use Rattle.std.proofs.Common.{◌∙◌}
+use Rattle.tv_core.proofs.Common.{◌∙◌}
 use Rattle.std.proofs.lemmas.List.{drop_all}
 use Rattle.tv_container.proofs.Buffers.{took_then}
 use Rattle.tv_container.proofs.pending.Pending.flush.Goals as goal

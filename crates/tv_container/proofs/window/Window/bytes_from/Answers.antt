@@ -1,4 +1,4 @@
-use Rattle.std.proofs.Common.{arith, refl}
+use Rattle.tv_core.proofs.Common.{arith, refl}
 use Rattle.tv_container.proofs.Pieces.{rest_held}
 use Rattle.tv_container.proofs.window.Window.bytes_from.Goals as goal
 

@@ -1,4 +1,4 @@
-use Rattle.std.proofs.Common.{arith}
+use Rattle.tv_core.proofs.Common.{arith}
 use Rattle.tv_container.proofs.Pieces.{moved}
 use Rattle.tv_container.proofs.window.Window.go.Goals as goal
 

@@ -1,4 +1,4 @@
-use Rattle.std.proofs.Common.{arith, ap, Ok, rules}
+use Rattle.tv_core.proofs.Common.{arith, ap, Ok, rules}
 use Rattle.tv_container.proofs.Pieces.{there_if_read, front_of, is_piece}
 use Rattle.tv_container.proofs.window.Window.reach.Goals as goal
 

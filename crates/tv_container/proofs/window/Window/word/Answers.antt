@@ -1,4 +1,4 @@
-use Rattle.std.proofs.Common.{arith}
+use Rattle.tv_core.proofs.Common.{arith}
 use Rattle.tv_container.proofs.Pieces.{number_held}
 use Rattle.tv_container.proofs.window.Window.word.Goals as goal
 

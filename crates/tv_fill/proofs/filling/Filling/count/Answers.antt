@@ -1,4 +1,4 @@
-use Rattle.std.proofs.Common.{length, ap, ◌∙◌}
+use Rattle.tv_core.proofs.Common.{length, ap, ◌∙◌}
 use Rattle.tv_fill.specs.Filled.{Filled}
 use Rattle.tv_fill.proofs.filling.Filling.count.Goals as goal
 

@@ -1,7 +1,5 @@
-use Rattle.std.proofs.Common.{List, length, ap, ap₂, refl, sym, ◌∙◌}
+use Rattle.tv_core.proofs.Common.{List, length, ap, ap₂, refl, sym, ◌∙◌, gives_refused, Line}
 use Rattle.tv_benes.specs.Items.{bit_at}
-use Rattle.tv_core.proofs.ValuesChain.{gives_refused}
-use Rattle.tv_core.specs.Lines.{Line}
 use Rattle.tv_core.specs.declared.lines.PairNum.{PairNum}
 use Rattle.tv_fill.proofs.PartValues.{same_filled, front_refused, steps_refused, all_given}
 use Rattle.tv_fill.specs.Filled.{Filled, filled_lines, filled_checks}

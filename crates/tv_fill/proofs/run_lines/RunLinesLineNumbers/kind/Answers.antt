@@ -1,4 +1,4 @@
-use Rattle.std.proofs.Common.{arith}
+use Rattle.tv_core.proofs.Common.{arith}
 use Rattle.tv_fill.proofs.RunPlaces.{few_places}
 use Rattle.tv_fill.proofs.run_lines.RunLinesLineNumbers.kind.Goals as goal
 

@@ -1,5 +1,4 @@
-use Rattle.std.proofs.Common.{◌≡◌, sym, ap, ◌∙◌, arith}
-use Rattle.tv_core.specs.Lines.{Line}
+use Rattle.tv_core.proofs.Common.{◌≡◌, sym, ap, ◌∙◌, arith, Line}
 use Rattle.tv_layout.proofs.NumberPlaces.{word_of_image}
 use Rattle.tv_fill.proofs.RunPlaces.{tape_line, step_line}
 use Rattle.tv_fill.proofs.run_lines.RunLinesLineNumbers.line.Goals as goal

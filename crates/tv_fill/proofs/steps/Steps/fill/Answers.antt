@@ -1,4 +1,4 @@
-use Rattle.tv_core.proofs.ValuesChain.{gives_refused}
+use Rattle.tv_core.proofs.Common.{gives_refused}
 use Rattle.tv_core.proofs.JoinedLaws.{gives_no_list, gives_list, gives_list_refused}
 use Rattle.tv_fill.specs.TraceValues.{traced_values}
 use Rattle.tv_fill.proofs.steps.Steps.fill.Goals as goal

@@ -1,6 +1,4 @@
-use Rattle.std.proofs.Common.{◌≡◌, false}
-use Rattle.tv_core.specs.Below.{joined_below}
-use Rattle.tv_core.specs.Values.{GivesAll}
+use Rattle.tv_core.proofs.Common.{◌≡◌, false, joined_below, GivesAll}
 use Rattle.tv_fill.specs.TraceValues.{traced_values}
 use Rattle.tv_fill.proofs.steps.Steps.fill.Given as goal
 

@@ -1,4 +1,4 @@
-use Rattle.std.proofs.Common.{refl, List, ℕ, Option, subst, ap, ap₂, ◌∙◌}
+use Rattle.tv_core.proofs.Common.{refl, List, ℕ, Option, subst, ap, ap₂, ◌∙◌}
 use Rattle.std.specs.Prelude.{is_some, unwrap_or}
 use Rattle.tv_block.proofs.StepFills.{same_values}
 use Rattle.tv_block.specs.Values.{block_values}

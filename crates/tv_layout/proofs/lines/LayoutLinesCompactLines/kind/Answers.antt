@@ -1,4 +1,4 @@
-use Rattle.std.proofs.Common.{◌≤◌, sym, subst, arith}
+use Rattle.tv_core.proofs.Common.{◌≤◌, sym, subst, arith}
 use Rattle.tv_layout.proofs.Limits.{within}
 use Rattle.tv_layout.proofs.Positions.{log_within}
 use Rattle.tv_layout.proofs.Whole.{few}

@@ -1,4 +1,4 @@
-use Rattle.std.proofs.Common.{arith}
+use Rattle.tv_core.proofs.Common.{arith}
 use Rattle.tv_layout.proofs.Limits.{within}
 use Rattle.tv_layout.proofs.LinePlaces.{line_number}
 use Rattle.tv_layout.proofs.lines.LayoutLinesCompactLines.line.Goals as goal

@@ -1,5 +1,4 @@
-use Rattle.std.proofs.Common.{◌≡◌, ◌*◌, ◌%◌, ◌^◌, [], ◌∷◌, ◌++◌, ◌∙◌, ap}
-use Rattle.tv_core.specs.Normal.{normal}
+use Rattle.tv_core.proofs.Common.{◌≡◌, ◌*◌, ◌%◌, ◌^◌, [], ◌∷◌, ◌++◌, ◌∙◌, ap, normal}
 use Rattle.tv_core.specs.declared.field.TheConstants.{P}
 use Rattle.tv_lines.proofs.CompactLaws.{two_terms}
 use Rattle.tv_lines.proofs.compact.Cell.add_above.Goals as goal

@@ -1,8 +1,5 @@
-use Rattle.std.proofs.Common.{◌≡◌, ◌*◌, ◌%◌, ◌^◌, [], ◌∷◌, ◌++◌, ◌∙◌, ap, ap₂}
+use Rattle.tv_core.proofs.Common.{◌≡◌, ◌*◌, ◌%◌, ◌^◌, [], ◌∷◌, ◌++◌, ◌∙◌, ap, ap₂, constant, scaled, Combination, normal}
 use Rattle.tv_core.proofs.Unique.{normal-front}
-use Rattle.tv_core.specs.Combinations.{constant, scaled}
-use Rattle.tv_core.specs.Constraints.{Combination}
-use Rattle.tv_core.specs.Normal.{normal}
 use Rattle.tv_core.specs.declared.field.TheConstants.{P}
 use Rattle.tv_lines.specs.Compact.{word_lc}
 use Rattle.tv_lines.specs.PackedLines.{packed_terms}

@@ -1,4 +1,4 @@
-use Rattle.tv_core.specs.Normal.{normal}
+use Rattle.tv_core.proofs.Common.{normal}
 use Rattle.tv_lines.proofs.compact.Word.add_to.Goals as goal
 
 pub returns-in-Nothing-clause-terms : goal.returns-in-Nothing-clause-terms

@@ -1,4 +1,4 @@
-use Rattle.std.proofs.Common.{Ok, refl}
+use Rattle.tv_core.proofs.Common.{Ok, refl}
 use Rattle.tv_plan.specs.Check.{check_asks}
 use Rattle.tv_plan.proofs.AnswerLaws.{does_stopped, does_found, completes_nothing}
 use Rattle.tv_plan.proofs.check.CheckArgsJob.perform.Goals as goal

@@ -1,4 +1,4 @@
-use Rattle.std.proofs.Common.{refl}
+use Rattle.tv_core.proofs.Common.{refl}
 use Rattle.tv_plan.specs.Disasm.{disasm_asks}
 use Rattle.tv_plan.proofs.AnswerLaws.{does_stopped, does_found, completes_whole, completes_cut}
 use Rattle.tv_plan.proofs.disasm.DisasmArgsJob.perform.Goals as goal

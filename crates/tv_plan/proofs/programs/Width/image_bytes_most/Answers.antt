@@ -1,4 +1,4 @@
-use Rattle.std.proofs.Common.{refl}
+use Rattle.tv_core.proofs.Common.{refl}
 use Rattle.tv_plan.proofs.programs.Width.image_bytes_most.Goals as goal
 
 pub returns-in-Bits16 : goal.returns-in-Bits16

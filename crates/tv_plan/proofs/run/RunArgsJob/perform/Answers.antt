@@ -1,4 +1,4 @@
-use Rattle.std.proofs.Common.{Ok, refl}
+use Rattle.tv_core.proofs.Common.{Ok, refl}
 use Rattle.tv_plan.specs.Run.{run_asks}
 use Rattle.tv_plan.proofs.AnswerLaws.{does_stopped, does_found, completes_nothing, completes_without_memory}
 use Rattle.tv_plan.proofs.run.RunArgsJob.perform.Goals as goal

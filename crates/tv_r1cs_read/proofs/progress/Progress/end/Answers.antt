@@ -1,4 +1,4 @@
-use Rattle.std.proofs.Common.{◌≡◌, ◌+◌, arith, refl, rules}
+use Rattle.tv_core.proofs.Common.{◌≡◌, ◌+◌, arith, refl, rules}
 use Rattle.tv_container.proofs.Chain.{refuses_wrong, stopped_here}
 use Rattle.tv_r1cs_read.proofs.Constraints.{constraints_from-end, constraints_from-surplus}
 use Rattle.tv_r1cs_read.proofs.Done.{all_at, is_on, refuses_ahead}

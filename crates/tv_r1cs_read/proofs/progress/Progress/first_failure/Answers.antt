@@ -1,4 +1,5 @@
-use Rattle.std.proofs.Common.{[], ◌+◌, ◌++◌, ◌∙◌, append_assoc, append-nil, length, length-append, arith, refl, rules}
+use Rattle.tv_core.proofs.Common.{[], ◌+◌, ◌++◌, ◌∙◌, append_assoc, append-nil, length, arith, refl, rules}
+use Rattle.std.proofs.Common.{length-append}
 use Rattle.std.proofs.lemmas.Option.{MatchOption-at_none}
 use Rattle.tv_r1cs_read.proofs.Done.{is_on}
 use Rattle.tv_r1cs_read.proofs.Failures.{after_all, failed, none_failed}

@@ -1,5 +1,4 @@
-use Rattle.std.proofs.Common.{◌≡◌, ◌+◌, ◌≤◌, ◌++◌, List, None, length}
-use Rattle.tv_core.specs.Constraints.{Constraint}
+use Rattle.tv_core.proofs.Common.{◌≡◌, ◌+◌, ◌≤◌, ◌++◌, List, None, length, Constraint}
 use Rattle.tv_core.specs.Meanings.{first_failure}
 use Rattle.tv_container.specs.Reading.{Known}
 use Rattle.tv_r1cs_read.specs.Places.{IsAt}

@@ -1,4 +1,4 @@
-use Rattle.std.proofs.Common.{◌≡◌, ◌<◌, ◌∙◌, None, sym, arith, rules}
+use Rattle.tv_core.proofs.Common.{◌≡◌, ◌<◌, ◌∙◌, None, sym, arith, rules}
 use Rattle.tv_r1cs_read.proofs.StepLemmas.{read_steps, refused_steps}
 use Rattle.tv_r1cs_read.proofs.progress.Progress.next.Goals as goal
 

@@ -1,4 +1,4 @@
-use Rattle.std.proofs.Common.{◌<◌}
+use Rattle.tv_core.proofs.Common.{◌<◌}
 use Rattle.tv_r1cs_read.proofs.StepLemmas.{refused_steps, tried_steps}
 use Rattle.tv_r1cs_read.proofs.progress.Progress.try_far.Goals as goal
 

@@ -1,4 +1,4 @@
-use Rattle.std.proofs.Common.{◌≡◌, ◌+◌, ◌-◌, ◌<◌, ◌++◌, arith, rules}
+use Rattle.tv_core.proofs.Common.{◌≡◌, ◌+◌, ◌-◌, ◌<◌, ◌++◌, arith, rules}
 use Rattle.tv_r1cs_read.proofs.Failures.{fewer, over_more}
 use Rattle.tv_r1cs_read.proofs.StepLemmas.{one_tried}
 use Rattle.tv_r1cs_read.proofs.progress.Progress.try_rows.Goals as goal

@@ -1,5 +1,4 @@
-use Rattle.std.proofs.Common.{ℕ, List}
-use Rattle.tv_core.specs.Constraints.{Constraint}
+use Rattle.tv_core.proofs.Common.{ℕ, List, Constraint}
 use Rattle.tv_r1cs_read.specs.Held.{IsHeld}
 use Rattle.tv_r1cs_read.specs.Places.{IsAt}
 use Rattle.tv_r1cs_read.specs.Progress.{IsWithin, Reached, terms_given}

@@ -1,4 +1,4 @@
-use Rattle.std.proofs.Common.{◌++◌, ◌∙◌, rules}
+use Rattle.tv_core.proofs.Common.{◌++◌, ◌∙◌, rules}
 use Rattle.std.proofs.lemmas.Option.{MatchOption-at_none}
 use Rattle.tv_r1cs_read.proofs.Done.{is_on}
 use Rattle.tv_r1cs_read.proofs.Failures.{over_over}

@@ -1,4 +1,4 @@
-use Rattle.std.proofs.Common.{[], ◌++◌, ◌∙◌, append_assoc, append-nil, sym, rules, refl}
+use Rattle.tv_core.proofs.Common.{[], ◌++◌, ◌∙◌, append_assoc, append-nil, sym, rules, refl}
 use Rattle.std.proofs.lemmas.Option.{MatchOption-at_none}
 use Rattle.tv_r1cs_read.proofs.Done.{passed_all}
 use Rattle.tv_r1cs_read.proofs.reader.SystemReader.pass_rest.Goals as goal

@@ -1,5 +1,4 @@
-use Rattle.std.proofs.Common.{◌≡◌, List, ◌++◌, None}
-use Rattle.tv_core.specs.Constraints.{Constraint}
+use Rattle.tv_core.proofs.Common.{◌≡◌, List, ◌++◌, None, Constraint}
 use Rattle.tv_container.specs.Reading.{Known}
 use Rattle.tv_r1cs_read.specs.Places.{IsAt}
 use Rattle.tv_r1cs_read.proofs.reader.SystemReader.pass_rest.Given as goal

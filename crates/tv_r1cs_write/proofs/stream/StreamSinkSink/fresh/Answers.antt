@@ -1,6 +1,5 @@
-use Rattle.std.proofs.Common.{refl, append-nil, arith}
+use Rattle.tv_core.proofs.Common.{refl, append-nil, arith, fresh}
 use Rattle.tv_container.proofs.Buffers.{cause_here, nothing_appended}
-use Rattle.tv_core.specs.Circuits.{fresh}
 use Rattle.tv_r1cs_write.proofs.Constraints.{narrow_more}
 use Rattle.tv_r1cs_write.proofs.stream.StreamSinkSink.fresh.Goals as goal
 

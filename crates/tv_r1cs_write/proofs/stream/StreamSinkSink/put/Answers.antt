@@ -1,5 +1,4 @@
-use Rattle.std.proofs.Common.{refl}
-use Rattle.tv_core.specs.Constraints.{Constraint}
+use Rattle.tv_core.proofs.Common.{refl, Constraint}
 use Rattle.tv_container.proofs.Buffers.{unrefused}
 use Rattle.tv_r1cs_write.proofs.Constraints.{put_by}
 use Rattle.tv_r1cs_write.proofs.stream.StreamSinkSink.put.Goals as goal

@@ -1,4 +1,4 @@
-use Rattle.std.proofs.Common.{refl}
+use Rattle.tv_core.proofs.Common.{refl}
 use Rattle.tv_shift.specs.Masks.{digit_at}
 use Rattle.tv_shift.proofs.masks.Places.other_bit.Goals as goal
 

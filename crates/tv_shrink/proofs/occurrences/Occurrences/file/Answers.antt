@@ -1,4 +1,5 @@
-use Rattle.std.proofs.Common.{◌≡◌, true, take_all, sym, subst, arith}
+use Rattle.tv_core.proofs.Common.{◌≡◌, true, sym, subst, arith}
+use Rattle.std.proofs.Common.{take_all}
 use Rattle.tv_shrink.specs.Occurrences.{has_row}
 use Rattle.tv_shrink.specs.Substitution.{has_wire}
 use Rattle.tv_shrink.proofs.Passes.{filed-more, filed-none}

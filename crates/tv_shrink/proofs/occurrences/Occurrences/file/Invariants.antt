@@ -1,4 +1,4 @@
-use Rattle.std.proofs.Common.{◌≡◌, ◌≤◌, ℕ, true, take}
+use Rattle.tv_core.proofs.Common.{◌≡◌, ◌≤◌, ℕ, true, take}
 use Rattle.tv_shrink.specs.Occurrences.{has_row}
 use Rattle.tv_shrink.specs.Substitution.{has_wire}
 use Rattle.tv_shrink.proofs.occurrences.Occurrences.file.Given as goal

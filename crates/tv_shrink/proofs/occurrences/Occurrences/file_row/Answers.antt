@@ -1,4 +1,5 @@
-use Rattle.std.proofs.Common.{◌≡◌, ◌∙◌, ◌||◌, Some, true, ap, inl, inr, subst, sym}
+use Rattle.tv_core.proofs.Common.{◌≡◌, ◌∙◌, Some, true, ap, inl, inr, subst, sym}
+use Rattle.std.proofs.Common.{◌||◌}
 use Rattle.std.proofs.lemmas.Bool.{or_cases}
 use Rattle.tv_shrink.specs.Occurrences.{has_row}
 use Rattle.tv_shrink.specs.Substitution.{has_wire}

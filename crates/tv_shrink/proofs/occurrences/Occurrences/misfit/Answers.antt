@@ -1,4 +1,5 @@
-use Rattle.std.proofs.Common.{ℕ, ◌≡◌, ◌≤◌, ◌∙◌, None, true, inl, inr, sym, ap, subst, arith, eqb, eqb-true, get_or, length, set, reverse}
+use Rattle.tv_core.proofs.Common.{ℕ, ◌≡◌, ◌≤◌, ◌∙◌, None, true, inl, inr, sym, ap, subst, arith, get_or, length, set}
+use Rattle.std.proofs.Common.{eqb, eqb-true, reverse}
 use Rattle.std.specs.List.{list_any}
 use Rattle.std.proofs.lemmas.Bool.{or_cases}
 use Rattle.tv_shrink.specs.Pass.{row_fits}

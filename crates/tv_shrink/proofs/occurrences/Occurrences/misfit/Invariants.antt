@@ -1,4 +1,5 @@
-use Rattle.std.proofs.Common.{◌≡◌, ◌⊎◌, ◌≤◌, ℕ, true, None, eqb, get_or, set, length, reverse}
+use Rattle.tv_core.proofs.Common.{◌≡◌, ◌⊎◌, ◌≤◌, ℕ, true, None, get_or, set, length}
+use Rattle.std.proofs.Common.{eqb, reverse}
 use Rattle.std.specs.List.{list_any}
 use Rattle.tv_shrink.specs.Pass.{row_fits}
 use Rattle.tv_shrink.specs.Occurrences.{rows_from}

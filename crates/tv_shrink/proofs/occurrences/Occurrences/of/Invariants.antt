@@ -1,4 +1,4 @@
-use Rattle.std.proofs.Common.{◌≡◌, ◌<◌, ◌≤◌, ℕ, None, true, get_or}
+use Rattle.tv_core.proofs.Common.{◌≡◌, ◌<◌, ◌≤◌, ℕ, None, true, get_or}
 use Rattle.tv_shrink.specs.Occurrences.{has_row}
 use Rattle.tv_shrink.specs.Tidy.{row_has}
 use Rattle.tv_shrink.proofs.occurrences.Occurrences.of.Given as goal

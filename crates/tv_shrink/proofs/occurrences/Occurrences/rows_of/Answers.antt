@@ -1,4 +1,5 @@
-use Rattle.std.proofs.Common.{◌≡◌, ◌∙◌, sym, ap, arith, append-nil, eqb}
+use Rattle.tv_core.proofs.Common.{◌≡◌, ◌∙◌, sym, ap, arith, append-nil}
+use Rattle.std.proofs.Common.{eqb}
 use Rattle.std.specs.List.{list_any}
 use Rattle.std.proofs.lemmas.List.{append_assoc}
 use Rattle.tv_shrink.proofs.OccurrenceLaws.{listed, rows_from-at, rows_from-none}

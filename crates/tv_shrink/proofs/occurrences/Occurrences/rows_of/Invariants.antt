@@ -1,4 +1,5 @@
-use Rattle.std.proofs.Common.{◌≡◌, ◌≤◌, ◌++◌, length, reverse}
+use Rattle.tv_core.proofs.Common.{◌≡◌, ◌≤◌, ◌++◌, length}
+use Rattle.std.proofs.Common.{reverse}
 use Rattle.tv_shrink.specs.Occurrences.{rows_from}
 use Rattle.tv_shrink.proofs.occurrences.Occurrences.rows_of.Given as goal
 

@@ -1,4 +1,4 @@
-use Rattle.std.proofs.Common.{◌≡◌, ◌∙◌, None, true, false, refl, set, sym}
+use Rattle.tv_core.proofs.Common.{◌≡◌, ◌∙◌, None, true, false, refl, set, sym}
 use Rattle.std.specs.List.{list_all}
 use Rattle.tv_shrink.specs.Pass.{attempted, dropped, row_fits}
 use Rattle.tv_shrink.proofs.pass.Pass.eliminate.Goals as goal

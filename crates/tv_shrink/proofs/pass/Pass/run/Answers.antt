@@ -1,5 +1,4 @@
-use Rattle.std.proofs.Common.{◌∙◌, ap, arith, length, sym}
-use Rattle.std.specs.List.{range_with_len}
+use Rattle.tv_core.proofs.Common.{◌∙◌, ap, arith, length, sym, range_with_len}
 use Rattle.tv_shrink.specs.Pass.{turn}
 use Rattle.tv_shrink.specs.Tidy.{State}
 use Rattle.tv_shrink.proofs.Passes.{passed-more}

@@ -1,5 +1,5 @@
-use Rattle.std.proofs.Common.{◌≡◌}
-use Rattle.std.specs.List.{fold, range_with_len}
+use Rattle.tv_core.proofs.Common.{◌≡◌, range_with_len}
+use Rattle.std.specs.List.{fold}
 use Rattle.tv_shrink.specs.Pass.{turn}
 use Rattle.tv_shrink.proofs.pass.Pass.run.Given as goal
 

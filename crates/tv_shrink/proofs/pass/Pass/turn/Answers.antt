@@ -1,11 +1,10 @@
-use Rattle.std.proofs.Common.{◌≡◌, ◌<◌, ◌≤◌, ◌-◌, ◌∙◌, ◌++◌, ◌∷◌, Some, None, true, false, ℕ, ap, arith, drop, get_or, length, subst, sym, take, []}
+use Rattle.tv_core.proofs.Common.{◌≡◌, ◌<◌, ◌≤◌, ◌-◌, ◌∙◌, ◌++◌, ◌∷◌, Some, None, true, false, ℕ, ap, arith, drop, get_or, length, subst, sym, take, [], scaled}
+use Rattle.tv_core.proofs.Common.{normal, IsNormalFrom}
 use Rattle.std.proofs.lemmas.List.{nil_from_length, with_items_is}
 use Rattle.std.proofs.lemmas.Result.{on_ok_weaker}
 use Rattle.tv_core.proofs.NormalLaws.{Over, Over-normal, Over-scaled, IsNormalFrom-normal}
-use Rattle.tv_core.specs.Combinations.{scaled}
 use Rattle.tv_core.specs.Inverse.{inverse_of}
 use Rattle.tv_core.specs.declared.field.TheConstants.{P}
-use Rattle.tv_core.specs.Normal.{normal, IsNormalFrom}
 use Rattle.std.specs.Prelude.{option_to_list}
 use Rattle.tv_shrink.specs.Pass.{attempted, dropped, linear_row}
 use Rattle.tv_shrink.proofs.Constants.{parted, Parted}

@@ -1,4 +1,4 @@
-use Rattle.std.proofs.Common.{sym, ◌∙◌}
+use Rattle.tv_core.proofs.Common.{sym, ◌∙◌}
 use Rattle.tv_shrink.proofs.Linear.{linear-first, linear-second, linear-none}
 use Rattle.tv_shrink.proofs.row.Row.linear_form.Goals as goal
 

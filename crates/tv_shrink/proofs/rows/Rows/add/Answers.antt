@@ -1,4 +1,4 @@
-use Rattle.std.proofs.Common.{◌≡◌, ◌∷◌, ◌++◌, ◌∙◌, Some, ap, length, map, subst, sym, []}
+use Rattle.tv_core.proofs.Common.{◌≡◌, ◌∷◌, ◌++◌, ◌∙◌, Some, ap, length, map, subst, sym, []}
 use Rattle.std.specs.Option.{option_map}
 use Rattle.tv_r1cs_read.specs.Rows.{constraint_of}
 use Rattle.tv_core.specs.Normal.{normal_constraint}

@@ -1,4 +1,5 @@
-use Rattle.std.proofs.Common.{◌<◌, ◌≤◌, ◌∙◌, None, ap, arith, length, map, sym, take_all}
+use Rattle.tv_core.proofs.Common.{◌<◌, ◌≤◌, ◌∙◌, None, ap, arith, length, map, sym}
+use Rattle.std.proofs.Common.{take_all}
 use Rattle.std.specs.Option.{option_map}
 use Rattle.std.proofs.lemmas.List.{map_more}
 use Rattle.tv_shrink.specs.Spans.{row_at, IsInside}

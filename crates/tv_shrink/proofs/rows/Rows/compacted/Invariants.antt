@@ -1,4 +1,4 @@
-use Rattle.std.proofs.Common.{◌≡◌, length, map, take}
+use Rattle.tv_core.proofs.Common.{◌≡◌, length, map, take}
 use Rattle.std.specs.Option.{option_map}
 use Rattle.tv_shrink.specs.Spans.{row_at, AreLaid}
 use Rattle.tv_shrink.proofs.rows.Rows.compacted.Given as goal

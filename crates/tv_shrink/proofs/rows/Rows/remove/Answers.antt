@@ -1,4 +1,4 @@
-use Rattle.std.proofs.Common.{◌∙◌, None, ap, length, set}
+use Rattle.tv_core.proofs.Common.{◌∙◌, None, ap, length, set}
 use Rattle.std.specs.Option.{option_map}
 use Rattle.std.proofs.lemmas.List.{map-set}
 use Rattle.tv_shrink.specs.Spans.{row_at}

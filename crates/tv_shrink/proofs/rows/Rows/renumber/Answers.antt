@@ -1,6 +1,6 @@
-use Rattle.std.proofs.Common.{◌≡◌, ◌∙◌, ℕ, ap, length, map, subst, sym}
+use Rattle.tv_core.proofs.Common.{◌≡◌, ◌∙◌, ℕ, ap, length, map, subst, sym, length-map}
 use Rattle.std.specs.Option.{option_map}
-use Rattle.std.proofs.lemmas.List.{length-map, with_items_is}
+use Rattle.std.proofs.lemmas.List.{with_items_is}
 use Rattle.tv_r1cs_write.specs.Bytes.{others}
 use Rattle.tv_shrink.specs.Renumbering.{moved, moved_rows}
 use Rattle.tv_shrink.specs.Spans.{row_at, AreLaid}

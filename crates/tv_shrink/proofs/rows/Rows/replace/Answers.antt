@@ -1,4 +1,4 @@
-use Rattle.std.proofs.Common.{◌≡◌, None, Some, sym, ◌∙◌, ap, arith, get_or, length, map, refl, set, subst}
+use Rattle.tv_core.proofs.Common.{◌≡◌, None, Some, sym, ◌∙◌, ap, arith, get_or, length, map, refl, set, subst}
 use Rattle.std.specs.Option.{option_map}
 use Rattle.tv_container.proofs.Chain.{err_is}
 use Rattle.tv_shrink.specs.Pass.{row_fits}

@@ -1,11 +1,11 @@
-use Rattle.std.proofs.Common.{◌≡◌, ◌+◌, ◌-◌, ◌∙◌, ℕ, refl, sym, rules, arith, ap, ap₂, length, subst}
+use Rattle.tv_core.proofs.Common.{◌≡◌, ◌+◌, ◌-◌, ◌∙◌, ℕ, refl, sym, rules, arith, ap, ap₂, length, subst, PutsAll}
 use Rattle.std.specs.List.{filter_map}
 use Rattle.std.specs.List.Sorted.{IsStrictlyIncreasing}
 use Rattle.std.specs.Prelude.{is_err}
 use Rattle.tv_container.proofs.Streamed.{not_created}
 use Rattle.tv_core.proofs.Chain.{puts_then, puts_then_refused}
 use Rattle.tv_core.specs.Constraints.{System}
-use Rattle.tv_core.specs.Sinks.{PutsAll, PutsSome}
+use Rattle.tv_core.specs.Sinks.{PutsSome}
 use Rattle.tv_core.specs.declared.lines.Counts.{Counts}
 use Rattle.tv_r1cs_write.specs.Bytes.{others}
 use Rattle.tv_r1cs_write.proofs.StreamLaws.{IsBegun, streamed_all, streamed_some}

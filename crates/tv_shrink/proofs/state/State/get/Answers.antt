@@ -1,4 +1,4 @@
-use Rattle.std.proofs.Common.{None, subst, sym}
+use Rattle.tv_core.proofs.Common.{None, subst, sym}
 use Rattle.tv_shrink.specs.Tidy.{RowIsNormal}
 use Rattle.tv_shrink.proofs.Elements.{each_at}
 use Rattle.tv_shrink.proofs.state.State.get.Goals as goal

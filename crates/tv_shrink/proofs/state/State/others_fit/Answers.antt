@@ -1,4 +1,4 @@
-use Rattle.std.proofs.Common.{Ok, ap, None, set, sym}
+use Rattle.tv_core.proofs.Common.{Ok, ap, None, set, sym}
 use Rattle.tv_shrink.specs.Occurrences.{has_row}
 use Rattle.tv_shrink.proofs.Passes.{all-fit-there, not-all_fit}
 use Rattle.tv_shrink.proofs.States.{kept_more}

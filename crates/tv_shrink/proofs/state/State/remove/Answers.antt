@@ -1,4 +1,4 @@
-use Rattle.std.proofs.Common.{refl}
+use Rattle.tv_core.proofs.Common.{refl}
 use Rattle.tv_shrink.specs.Pass.{dropped}
 use Rattle.tv_shrink.proofs.state.State.remove.Goals as goal
 

@@ -1,4 +1,4 @@
-use Rattle.std.proofs.Common.{◌≤◌, ◌∙◌, None, ap, arith, get_or, length, refl, subst, sym}
+use Rattle.tv_core.proofs.Common.{◌≤◌, ◌∙◌, None, ap, arith, get_or, length, refl, subst, sym}
 use Rattle.std.proofs.lemmas.List.{set-get_or, set_past}
 use Rattle.tv_shrink.specs.Pass.{row_fits}
 use Rattle.tv_shrink.specs.Occurrences.{has_row}

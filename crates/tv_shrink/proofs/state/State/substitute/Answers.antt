@@ -1,7 +1,7 @@
-use Rattle.std.proofs.Common.{◌≡◌, ◌≤◌, ◌∙◌, ◌++◌, ◌∷◌, ℕ, None, true, ap, ap₂, arith, false, eqb, get_or, length, length-set, refl, sym, take, []}
+use Rattle.tv_core.proofs.Common.{◌≡◌, ◌≤◌, ◌∙◌, ◌++◌, ◌∷◌, ℕ, None, true, ap, ap₂, arith, false, get_or, length, refl, sym, take, [], Combination}
+use Rattle.std.proofs.Common.{eqb, length-set}
 use Rattle.std.specs.List.{list_any}
 use Rattle.std.specs.Option.{option_map}
-use Rattle.tv_core.specs.Constraints.{Combination}
 use Rattle.tv_shrink.specs.Occurrences.{has_row}
 use Rattle.tv_shrink.specs.Pass.{substituted}
 use Rattle.tv_shrink.specs.Substitution.{has_wire, replaced_in, IsReplacement, Replacement}

@@ -1,4 +1,5 @@
-use Rattle.std.proofs.Common.{◌≡◌, ℕ, None, cond, eqb, get_or, length, take}
+use Rattle.tv_core.proofs.Common.{◌≡◌, ℕ, None, cond, get_or, length, take}
+use Rattle.std.proofs.Common.{eqb}
 use Rattle.std.specs.List.{list_any}
 use Rattle.std.specs.Option.{option_map}
 use Rattle.tv_shrink.specs.Substitution.{replaced_in}

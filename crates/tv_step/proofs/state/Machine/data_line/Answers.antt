@@ -1,6 +1,5 @@
-use Rattle.std.proofs.Common.{◌≡◌, ℕ, ◌<◌, ◌^◌, nat_lt, ap, ap₂, sym, subst, ◌∙◌}
+use Rattle.tv_core.proofs.Common.{◌≡◌, ℕ, ◌<◌, ◌^◌, nat_lt, ap, ap₂, sym, subst, ◌∙◌, Line}
 use Rattle.std.specs.Prelude.{if◌then◌else◌}
-use Rattle.tv_core.specs.Lines.{Line}
 use Rattle.tv_core.specs.declared.limits.TheConstants.{TAPE_CELLS}
 use Rattle.tv_isa.specs.declared.instr.Instr.{Instr}
 use Rattle.tv_mem.specs.Bytes.{word_in}

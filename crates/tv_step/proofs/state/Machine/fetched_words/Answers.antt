@@ -1,4 +1,4 @@
-use Rattle.std.proofs.Common.{◌+◌, ℕ, ap, ◌∙◌}
+use Rattle.tv_core.proofs.Common.{◌+◌, ℕ, ap, ◌∙◌}
 use Rattle.tv_mem.specs.Bytes.{word_in}
 use Rattle.tv_mem.specs.Pages.{bytes_in}
 use Rattle.tv_step.proofs.LineLaws.{first_word}

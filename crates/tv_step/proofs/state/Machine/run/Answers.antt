@@ -1,4 +1,4 @@
-use Rattle.std.proofs.Common.{◌≡◌, ◌<◌, ℕ, rules, sym, ap, subst, ◌∙◌, arith}
+use Rattle.tv_core.proofs.Common.{◌≡◌, ◌<◌, ℕ, rules, sym, ap, subst, ◌∙◌, arith}
 use Rattle.tv_step.proofs.RunLaws.{ran_none, ran_on, end_silent, end_stopped, state_reached, state_stopped}
 use Rattle.tv_step.specs.Machine.{end_of, state_after}
 use Rattle.tv_step.specs.Views.{state_of}

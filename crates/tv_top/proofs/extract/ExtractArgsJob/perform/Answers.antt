@@ -1,4 +1,4 @@
-use Rattle.std.proofs.Common.{refl, ap}
+use Rattle.tv_core.proofs.Common.{refl, ap}
 use Rattle.tv_top.specs.Assignment.{run_ends}
 use Rattle.tv_top.specs.Extract.{extract_asks, run_written}
 use Rattle.tv_plan.specs.Kinds.{is_extract}

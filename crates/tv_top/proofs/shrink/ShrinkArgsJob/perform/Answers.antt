@@ -1,4 +1,4 @@
-use Rattle.std.proofs.Common.{refl}
+use Rattle.tv_core.proofs.Common.{refl}
 use Rattle.tv_plan.specs.Contents.{Content.{Rest}}
 use Rattle.tv_top.specs.Shrink.{shrink_asks}
 use Rattle.tv_plan.proofs.AnswerLaws.{does_stopped, does_found, completes_whole, completes_cut}

@@ -1,4 +1,4 @@
-use Rattle.std.proofs.Common.{Ok, refl}
+use Rattle.tv_core.proofs.Common.{Ok, refl}
 use Rattle.tv_top.specs.Trial.{trial_asks, no_look, trial_ends}
 use Rattle.tv_plan.proofs.AnswerLaws.{does_found, completes_nothing, completes_without_memory}
 use Rattle.tv_plan.proofs.LookLaws.{finds_still}

@@ -1,4 +1,4 @@
-use Rattle.std.proofs.Common.{refl}
+use Rattle.tv_core.proofs.Common.{refl}
 use Rattle.tv_plan.specs.Inputs.{run_end}
 use Rattle.tv_top.specs.Witness.{witness_asks}
 use Rattle.tv_plan.proofs.AnswerLaws.{does_stopped, does_found}

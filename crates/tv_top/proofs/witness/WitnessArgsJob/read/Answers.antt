@@ -1,5 +1,4 @@
-use Rattle.std.proofs.Common.{arith}
-use Rattle.std.proofs.lemmas.Grind.{common_steps}
+use Rattle.tv_core.proofs.Common.{arith, common_steps}
 use Rattle.tv_top.proofs.witness.WitnessArgsJob.read.Goals as goal
 
 pub returns-in_default-2 : goal.returns-in_default-2

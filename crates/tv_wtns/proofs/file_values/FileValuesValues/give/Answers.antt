@@ -1,4 +1,4 @@
-use Rattle.std.proofs.Common.{refl}
+use Rattle.tv_core.proofs.Common.{refl}
 use Rattle.tv_container.proofs.Buffers.{unrefused}
 use Rattle.tv_wtns.proofs.Takers.{given}
 use Rattle.tv_wtns.proofs.file_values.FileValuesValues.give.Goals as goal
