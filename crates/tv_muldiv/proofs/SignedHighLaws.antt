@@ -12,7 +12,8 @@ use Rattle.tv_bits.specs.Bits.{HasBits, binary_value, bits_combination, new_bits
 use Rattle.tv_bits.specs.declared.bit_wires.Bits.{Bits}
 use Rattle.tv_muldiv.proofs.HalvesLaws.{length-halves, halves_are, halves_in_field}
 use Rattle.tv_bits.proofs.NonzeroLaws.{nonzero_sound, nonzero_complete, nonzero_sizes}
-use Rattle.tv_row_products.proofs.SignedNumbers.{signed_value, most_product, Stands, Stands-product, Stands-signed, Stands-exact, Stands-meets, twos-below, over_flag}
+use Rattle.tv_row_products.proofs.SignedNumbers.{signed_value, most_product, Stands, Stands-product, Stands-signed, Stands-exact, Stands-meets, twos-below}
+use Rattle.tv_row_products.proofs.SignedNumbers.{over_flag}
 use Rattle.tv_bits.specs.Nonzero.{nonzero_of, nonzero_flag, nonzero_values}
 use Rattle.tv_row_products.specs.RowSignedProduct.{excess_in}
 use Rattle.tv_muldiv.specs.SignedHigh.{signed_bits_of, excess, signed_high_of, SignedHighIsSound}

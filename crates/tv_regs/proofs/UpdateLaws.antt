@@ -129,7 +129,8 @@ update_complete z next on dest word result regs i assigns is has =
       ap₂ (λ a b. a * b % P) (value-number_less z assigns dest i is.number is.within j h) (value-rise z reg new assigns
           ∙ ap (λ k. minus (slice_index z k) (slice_index z reg)) (turn_at dest regs next j)) ∙ elim (cases_eq j i) [
             | inl same ↦ times_zero (minus i j) _ (minus_itself i j (let w = is.within in omega arith) (sym same))
-            | inr apart ↦ times_none (minus i j) _ (minus_itself (slice_index z (next + j)) (slice_index z reg) (wire-below assigns (next + j)) (others j h apart))
+            | inr apart ↦
+                times_none (minus i j) _ (minus_itself (slice_index z (next + j)) (slice_index z reg) (wire-below assigns (next + j)) (others j h apart))
           ],
       tt,
     )) in

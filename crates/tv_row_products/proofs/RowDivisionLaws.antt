@@ -20,7 +20,8 @@ use Rattle.tv_core.proofs.FieldLaws.{word-below}
 use Rattle.tv_core.proofs.NormalLaws.{residue_first}
 use Rattle.tv_core.specs.declared.field.TheConstants.{P}
 use Rattle.tv_row_products.proofs.RowDivisionNumbers.{Divides, Divides-sound, division_row, below_word, division_met}
-use Rattle.tv_row_products.specs.RowDivision.{dividing, IsRowDivision, below_divisor, room_below, bits_less, row_division_of, row_division_values, RowDivisionIsSound}
+use Rattle.tv_row_products.specs.RowDivision.{dividing, IsRowDivision, below_divisor, room_below, bits_less, row_division_of, row_division_values}
+use Rattle.tv_row_products.specs.RowDivision.{RowDivisionIsSound}
 use Rattle.tv_row_products.specs.RowDivision.{RowDivisionIsComplete, RowDivisionSizes, RowDivisionCosts}
 
 -- ---- the combinations

@@ -15,7 +15,8 @@ use Rattle.tv_bits.specs.declared.double_rows.DoubleRow.{DoubleRow}
 use Rattle.tv_bits.specs.declared.signed_words.SignedWord.{SignedWord}
 use Rattle.tv_core.proofs.CombinationLaws.{value-empty}
 use Rattle.tv_core.specs.declared.field.TheConstants.{P}
-use Rattle.tv_row_products.proofs.SignedNumbers.{Stands, Stands-product, Stands-signed, Stands-exact, Stands-meets, signed_value, most_product, twos-below, over_flag}
+use Rattle.tv_row_products.proofs.SignedNumbers.{Stands, Stands-product, Stands-signed, Stands-exact, Stands-meets, signed_value, most_product, twos-below}
+use Rattle.tv_row_products.proofs.SignedNumbers.{over_flag}
 use Rattle.tv_row_products.specs.RowSignedProduct.{IsRowSignedProduct, sign_weight, signed_word, signed_in, signed_row, row_signed_product_of}
 use Rattle.tv_row_products.specs.RowSignedProduct.{row_signed_product_values, RowSignedProductIsSound, RowSignedProductFits, RowSignedProductIsComplete}
 use Rattle.tv_row_products.specs.RowSignedProduct.{RowSignedProductSizes, RowSignedProductCosts}

@@ -15,7 +15,8 @@ builds form named words count call answers text first second system last net n t
     leads_to (build_plan (record { net = net; text = name_at 1 text; n = n; t = t; system = name_at 4 system })) (build_ends net n t)
     (input (name_at 1 text) program_in)
     (HasSystem net n t (files text)) (form words) count files call
-    (rw (are, named (text ∷ first ∷ second ∷ system ∷ last), is_net, is_n, is_t) refl) ((differ, tt), (tt, tt)) (omega arith, few, (omega arith, most, tt)) refl known answers
+    (rw (are, named (text ∷ first ∷ second ∷ system ∷ last), is_net, is_n, is_t) refl) ((differ, tt), (tt, tt))
+    (omega arith, few, (omega arith, most, tt)) refl known answers
     (shows_more _ _ _ (shows_input (name_at 1 text) program_in files) (λ held holds. record {
       holds = holds;
       reduces = if_ok held _ (λ program is. system_reduces net (program_runs n t program)

@@ -14,5 +14,6 @@ extracts form named words count call answers text first second witness tape aux 
     (record { net = net; text = name_at 1 text; n = n; t = t; witness = name_at 4 witness; tape = name_at 5 tape; aux = name_at 6 aux }))
     (extract_ends net n t)
     (assigned_of (name_at 1 text) (name_at 4 witness)) (HasAssigned net n t (files text) (files witness)) (form words) count files call
-    (rw (are, named (text ∷ first ∷ second ∷ witness ∷ tape ∷ aux ∷ last), is_net, is_n, is_t) refl) ((a, (b, tt)), ((c, (d, tt)), ((e, tt), (tt, tt)))) (omega arith, few, (omega arith, most, tt)) refl known answers
+    (rw (are, named (text ∷ first ∷ second ∷ witness ∷ tape ∷ aux ∷ last), is_net, is_n, is_t) refl) ((a, (b, tt)), ((c, (d, tt)), ((e, tt), (tt, tt))))
+    (omega arith, few, (omega arith, most, tt)) refl known answers
     (assigned_shown net files text n t witness few some most)

@@ -32,7 +32,8 @@ pub shrinks : (form : Form) → FormOf form (codes "shrink") shrink_form → Pro
 unfolding shrunk_look
 shrinks form named words count call answers system out are differ files known =
     leads_to (shrink_plan (name_at 1 system) (name_at 2 out)) shrink_ends (shrunk_look (name_at 1 system))
-    (Then (Holds system_in (files system)) IsShrunk) (form words) count files call (rw (are, named (system ∷ out ∷ [])) refl) ((differ, tt), (tt, tt)) tt refl known answers
+    (Then (Holds system_in (files system)) IsShrunk) (form words) count files call
+    (rw (are, named (system ∷ out ∷ [])) refl) ((differ, tt), (tt, tt)) tt refl known answers
     (shows_then (input (name_at 1 system) system_in files) (λ s. settled (shrunk_of s)) _ _ (shows_input (name_at 1 system) system_in files) (λ s holds.
     shows_more _ _ _ (shows_made (shrunk_of s))
     (λ held is. record { is = sym is; keeps = kept_by s held (ltb most (all_terms s)) (first_wide s.constraints) (whole s (files system) holds) (sym is) })))

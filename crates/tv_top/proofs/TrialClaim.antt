@@ -63,7 +63,8 @@ stopped words seed k call answers (inr memory) = inr (inr memory)
 pub trials : (form : Form) → FormOf form (codes "trial") trial_form → (words : List (List ℕ)) (count : ℕ) (call : Call) →
     Answers (request_of (form words)) count call.before call.after call.status → OnTrial words count call
 trials form named words count call asked first second seed k are is_seed is_k some most files known =
-    let answers = granted (trial_plan seed k) (form words) count call (rw (are, named (first ∷ second ∷ []), is_seed, is_k) refl) tt (omega arith, most, tt) asked in
+    let answers =
+    granted (trial_plan seed k) (form words) count call (rw (are, named (first ∷ second ∷ []), is_seed, is_k) refl) tt (omega arith, most, tt) asked in
     record {
       ended = elim (due_or_stopped (trial_plan seed k) count files call answers (answers.ends files known)) [
         | inl answered ↦ inl (answered.status, answered.said)

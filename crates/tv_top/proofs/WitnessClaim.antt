@@ -61,7 +61,8 @@ witnesses form named words count call answers text tape aux number name last net
     record { net = net; text = name_at 1 text; tape = name_at 2 tape; aux = name_at 3 aux; t = t; witness = name_at 5 name } in
     leads_to (witness_plan given) (witness_ends net t) (inputs_of (name_at 1 text) (name_at 2 tape) (name_at 3 aux)) (HasWitness given files)
     (form words) count files call
-    (rw (are, named (text ∷ tape ∷ aux ∷ number ∷ name ∷ last), is_net, is) refl) ((first, tt), ((second, tt), ((third, tt), (tt, tt)))) (omega arith, most, tt) refl known answers
+    (rw (are, named (text ∷ tape ∷ aux ∷ number ∷ name ∷ last), is_net, is) refl) ((first, tt), ((second, tt), ((third, tt), (tt, tt))))
+    (omega arith, most, tt) refl known answers
     (shows_more _ _ _ (inputs_shown text tape aux files) (λ held has. record {
       inputs = has;
       witness = if_ok held _ (λ inputs is v step end. witness_is net t inputs v (inputs_are text tape aux files inputs (rw is at has)) (omega arith) most

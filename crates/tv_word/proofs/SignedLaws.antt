@@ -1,5 +1,6 @@
 -- The order of signed numbers.
-use Rattle.std.proofs.Common.{◌≡◌, ◌⊎◌, ℕ, ◌^◌, ◌<◌, ◌≤◌, FitsSigned, unsigned_abs, to_z, of_z, w64, ℤ, pos, negsuc, ◌*ℤ◌, ◌<ℤ◌, ◌≤ℤ◌, Bool, true, false, inl, inr, refl, sym, ap, ap₂, ◌∙◌, subst, arith, int_lt}
+use Rattle.std.proofs.Common.{◌≡◌, ◌⊎◌, ℕ, ◌^◌, ◌<◌, ◌≤◌, FitsSigned, unsigned_abs, to_z, of_z, w64, ℤ, pos, negsuc, ◌*ℤ◌, ◌<ℤ◌, ◌≤ℤ◌, Bool, true, false, inl}
+use Rattle.std.proofs.Common.{inr, refl, sym, ap, ap₂, ◌∙◌, subst, arith, int_lt}
 use Rattle.std.proofs.lemmas.Int.{ints, to_z-of_z, fits_signed_mul}
 use Rattle.tv_word.specs.Operations.{signed_product}
 use Rattle.tv_word.specs.Widths.{IsWidth}

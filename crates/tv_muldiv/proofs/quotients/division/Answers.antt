@@ -34,5 +34,6 @@ put-requires g c =
       room = omega (arith, c.requires.room.constraints, grown.constraints);
       a_made = omega (arith, c.set_number.ensures.top, c.requires.made.quot, grown.wires);
       b_made = omega (arith, c.set_number-2.ensures.top, c.requires.y_word, grown.wires);
-      c_made = omega (arith, c.plus.ensures.top, c.plus_to.ensures.top, c.set_number-3.ensures.top, c.requires.x_word, c.requires.made.rem, gate.below, grown.wires);
+      c_made =
+          omega (arith, c.plus.ensures.top, c.plus_to.ensures.top, c.set_number-3.ensures.top, c.requires.x_word, c.requires.made.rem, gate.below, grown.wires);
     }
