@@ -82,7 +82,7 @@ fn put_rows<const W: u32, S: Sink>(s: &mut S, scratch: &mut Scratch, op: Wire) -
     ensures grows { IfOk result (λ _. Grows S.meaning s.old s.new (3 * W + 3) (3 * W + 3)) }
     ensures below { IfOk result (λ made. RowUnder W (S.meaning.wires s.new) made) }
 {
-    let x = new_bits_by(s, &mut scratch.a, W)?;
+    let x = new_bits_by(s, scratch, W)?;
     let signed = [(F::ONE, opcode_wire(op, SMULH))];
     let row = double_row::<W, S>(s, scratch, &signed)?;
     Ok(RowWires { x, row })

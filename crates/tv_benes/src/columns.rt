@@ -44,7 +44,7 @@ pub(crate) fn bound_switch<S: Sink>(s: &mut S, scratch: &mut Scratch, x: &Pair, 
     ensures grows { IfOk result (λ _. Grows S.meaning s.old s.new 5 5) }
 {
     let b = s.fresh();
-    bit_by(s, &mut scratch.a, b)?;
+    bit_by(s, scratch, b)?;
     let first = select_terms(s, scratch, b, y.first.terms(), x.first.terms())?;
     let second = select_terms(s, scratch, b, y.second.terms(), x.second.terms())?;
     remainder(s, scratch, &x.first, &y.first, first)?;

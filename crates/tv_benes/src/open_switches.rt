@@ -38,7 +38,7 @@ pub(crate) fn open_switch<S: Sink>(s: &mut S, scratch: &mut Scratch, x: Wire, y:
     ensures grows { IfOk result (λ _. Grows S.meaning s.old s.new 3 3) }
 {
     let b = s.fresh();
-    bit_by(s, &mut scratch.a, b)?;
+    bit_by(s, scratch, b)?;
     product(s, scratch, b, x, y)?;
     product(s, scratch, b, x.offset(1), y.offset(1))?;
     Ok(())

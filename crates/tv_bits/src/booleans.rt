@@ -4,7 +4,7 @@ ghost use Rattle.tv_bits.specs.Bit.{bit_of, BitIsSound, BitIsComplete, BitSizes}
 ghost use Rattle.tv_core.specs.Values.{GivesIn};
 ghost use Rattle.tv_core.specs.Sinks.{PutsIn, Grows, Room};
 
-use tv_core::{F, Lc, Put, Sink, Values, Wire};
+use tv_core::{F, Put, Scratch, Sink, Values, Wire};
 
 /// Constrains a wire to 0 or 1. It makes no wire and 1 constraint.
 pub fn bit<S: Sink>(s: &mut S, w: Wire) -> Put<()>
@@ -13,18 +13,18 @@ pub fn bit<S: Sink>(s: &mut S, w: Wire) -> Put<()>
     ensures puts { PutsIn S.meaning s.old s.new (bit_of w) result }
     ensures grows { IfOk result (λ _. Grows S.meaning s.old s.new 0 1) }
 {
-    bit_by(s, &mut Lc::empty(), w)
+    bit_by(s, &mut Scratch::new(), w)
 }
 
-/// Like `bit`, but reuses a combination of the caller: to make one costs more than to put it.
-pub fn bit_by<S: Sink>(s: &mut S, lc: &mut Lc, w: Wire) -> Put<()>
+/// Like `bit`, but reuses the caller's scratch combinations: to make one costs more than to put it.
+pub fn bit_by<S: Sink>(s: &mut S, scratch: &mut Scratch, w: Wire) -> Put<()>
     requires room { Room S.meaning s.old 0 1 }
     requires made { w < S.meaning.wires s.old }
     ensures puts { PutsIn S.meaning s.old s.new (bit_of w) result }
     ensures grows { IfOk result (λ _. Grows S.meaning s.old s.new 0 1) }
 {
-    lc.set_wire(w);
-    s.put(lc, lc, lc)
+    scratch.a.set_wire(w);
+    s.put(&scratch.a, &scratch.a, &scratch.a)
 }
 
 /// Assigns nothing, since `bit` makes no wire.

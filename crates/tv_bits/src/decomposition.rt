@@ -20,11 +20,11 @@ pub fn new_bits<S: Sink>(s: &mut S, n: u32) -> Put<Bits>
     ensures size { IfOk result (λ bits. bits.n ≡ n) }
     ensures below { IfOk result (λ bits. bits.first + bits.n ≤ S.meaning.wires s.new) }
 {
-    new_bits_by(s, &mut Lc::empty(), n)
+    new_bits_by(s, &mut Scratch::new(), n)
 }
 
-/// Like `new_bits`, but reuses a combination of the caller.
-pub fn new_bits_by<S: Sink>(s: &mut S, lc: &mut Lc, n: u32) -> Put<Bits>
+/// Like `new_bits`, but reuses the caller's scratch combinations.
+pub fn new_bits_by<S: Sink>(s: &mut S, scratch: &mut Scratch, n: u32) -> Put<Bits>
     requires room { Room S.meaning s.old n n }
     ensures puts { PutsIn S.meaning s.old s.new (new_bits_of n) result }
     ensures grows { IfOk result (λ _. Grows S.meaning s.old s.new n n) }
@@ -37,7 +37,7 @@ pub fn new_bits_by<S: Sink>(s: &mut S, lc: &mut Lc, n: u32) -> Put<Bits>
     };
     for _turn in 0..n {
         let w = s.fresh();
-        bit_by(s, lc, w)?;
+        bit_by(s, scratch, w)?;
     }
     Ok(bits)
 }
@@ -66,7 +66,7 @@ pub fn bits_by<S: Sink>(s: &mut S, scratch: &mut Scratch, x: &Lc, n: u32) -> Put
     ensures size { IfOk result (λ bits. bits.n ≡ n) }
     ensures below { IfOk result (λ bits. bits.first + bits.n ≤ S.meaning.wires s.new) }
 {
-    let made = new_bits_by(s, &mut scratch.a, n)?;
+    let made = new_bits_by(s, scratch, n)?;
     made.set_number(&mut scratch.a);
     scratch.b.set_wire(Wire(0));
     s.put(&scratch.a, &scratch.b, x)?;

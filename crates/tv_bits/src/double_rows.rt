@@ -60,7 +60,7 @@ pub fn double_row<const W: u32, S: Sink>(
     let row = row_wires::<W, S>(s, scratch)?;
     set_above_edge::<W>(&mut scratch.a, signed, row.high);
     scratch.b.set_wire(row.low);
-    ratio_by(s, &mut scratch.c, &scratch.a, &scratch.b)?;
+    ratio_by(s, scratch)?;
     Ok(row)
 }
 
@@ -73,7 +73,7 @@ fn row_wires<const W: u32, S: Sink>(s: &mut S, scratch: &mut Scratch) -> Put<Dou
     ensures bits_below { IfOk result (λ row. row.first + 2 * W ≤ S.meaning.wires s.new) }
     ensures words_below { IfOk result (λ row. max row.low row.high < S.meaning.wires s.new) }
 {
-    let first = new_bits_by(s, &mut scratch.a, 2 * W)?.first;
+    let first = new_bits_by(s, scratch, 2 * W)?.first;
     let low = word::<W, S>(s, scratch, first)?;
     let high = word::<W, S>(s, scratch, first.offset(W))?;
     Ok(DoubleRow { first, low, high })
@@ -89,7 +89,7 @@ fn word<const W: u32, S: Sink>(s: &mut S, scratch: &mut Scratch, first: Wire) ->
     ensures below { IfOk result (λ w. w < S.meaning.wires s.new) }
 {
     Bits { first, n: W }.set_number(&mut scratch.a);
-    kept_by(s, &mut scratch.b, &mut scratch.c, &scratch.a)
+    kept_by(s, scratch)
 }
 
 // Makes `lc` the high word less 2^`W` - 1, and less 1 more where the row is signed.

@@ -6,25 +6,25 @@ ghost use Rattle.tv_core.specs.Combinations.{top};
 ghost use Rattle.tv_core.specs.Values.{GivesIn};
 ghost use Rattle.tv_core.specs.Sinks.{PutsIn, Grows, Room};
 
-use tv_core::{F, Lc, Put, Sink, Values, Wire, give_values};
+use tv_core::{F, Put, Scratch, Sink, Values, Wire, give_values};
 
-/// Makes a wire that is 0 exactly where `x` is 0, and else 1, and fills `factor` and `product` for
-/// it. It makes 2 wires and 2 constraints.
-pub fn nonzero_by<S: Sink>(s: &mut S, factor: &mut Lc, product: &mut Lc, x: &Lc) -> Put<Wire>
+/// Makes a wire that is 0 exactly where `scratch.a` is 0, and else 1. It makes 2 wires and 2
+/// constraints.
+pub fn nonzero_by<S: Sink>(s: &mut S, scratch: &mut Scratch) -> Put<Wire>
     requires room { Room S.meaning s.old 2 2 }
-    requires x_made { top x.now ≤ S.meaning.wires s.old }
-    ensures puts { PutsIn S.meaning s.old s.new (nonzero_of x.now) result }
+    requires x_made { top scratch.old.a ≤ S.meaning.wires s.old }
+    ensures puts { PutsIn S.meaning s.old s.new (nonzero_of scratch.old.a) result }
     ensures grows { IfOk result (λ _. Grows S.meaning s.old s.new 2 2) }
     ensures below { IfOk result (λ flag. flag < S.meaning.wires s.new) }
 {
     let flag = s.fresh();
     let hint = s.fresh();
-    factor.set_wire(hint);
-    product.set_wire(flag);
-    s.put(x, factor, product)?;
-    factor.set_difference(Wire(0), flag);
-    product.clear();
-    s.put(x, factor, product)?;
+    scratch.b.set_wire(hint);
+    scratch.c.set_wire(flag);
+    s.put(&scratch.a, &scratch.b, &scratch.c)?;
+    scratch.b.set_difference(Wire(0), flag);
+    scratch.c.clear();
+    s.put(&scratch.a, &scratch.b, &scratch.c)?;
     Ok(flag)
 }
 

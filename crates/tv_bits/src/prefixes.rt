@@ -42,7 +42,7 @@ pub fn prefix_difference_by<S: Sink>(
     set_prefix_less(&mut scratch.a, x, y, d, 0);
     for i in 0..count - 2 {
         set_prefix_less(&mut scratch.b, x, y, d, chunk * (i + 1));
-        let w = times_by(s, &mut scratch.c, &scratch.a, &scratch.b)?;
+        let w = times_by(s, scratch)?;
         scratch.a.set_wire(w);
     }
     set_prefix_less(&mut scratch.b, x, y, d, chunk * (count - 1));

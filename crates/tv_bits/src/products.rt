@@ -1,5 +1,5 @@
 //! A product, a ratio, or a combination's value as a new wire.
-ghost use Rattle.std.specs.Prelude.{◌≤◌, ◌<◌, IfOk};
+ghost use Rattle.std.specs.Prelude.{◌≡◌, ◌≤◌, ◌<◌, IfOk};
 ghost use Rattle.tv_bits.specs.Ratio.{ratio_of, RatioIsSound, RatioIsComplete, RatioDivides};
 ghost use Rattle.tv_bits.specs.Ratio.{RatioSizes};
 ghost use Rattle.tv_bits.specs.Times.{times_of, TimesIsSound, TimesIsComplete, TimesSizes};
@@ -7,50 +7,52 @@ ghost use Rattle.tv_bits.specs.Times.{kept_of, KeptIsSound, KeptIsComplete, Kept
 ghost use Rattle.tv_core.specs.Combinations.{top};
 ghost use Rattle.tv_core.specs.Sinks.{PutsIn, Grows, Room};
 
-use tv_core::{Lc, Put, Sink, Wire};
+use tv_core::{Put, Scratch, Sink, Wire};
 
-/// Makes a wire that is `x` times `y`, and fills `product` with it. It makes 1 wire and 1
-/// constraint.
-pub fn times_by<S: Sink>(s: &mut S, product: &mut Lc, x: &Lc, y: &Lc) -> Put<Wire>
+/// Makes a wire that is the product of the factors in `scratch`, which stay there. It makes 1 wire
+/// and 1 constraint.
+pub fn times_by<S: Sink>(s: &mut S, scratch: &mut Scratch) -> Put<Wire>
     requires room { Room S.meaning s.old 1 1 }
-    requires x_made { top x.now ≤ S.meaning.wires s.old }
-    requires y_made { top y.now ≤ S.meaning.wires s.old }
-    ensures puts { PutsIn S.meaning s.old s.new (times_of x.now y.now) result }
+    requires x_made { top scratch.old.a ≤ S.meaning.wires s.old }
+    requires y_made { top scratch.old.b ≤ S.meaning.wires s.old }
+    ensures puts { PutsIn S.meaning s.old s.new (times_of scratch.old.a scratch.old.b) result }
     ensures grows { IfOk result (λ _. Grows S.meaning s.old s.new 1 1) }
     ensures below { IfOk result (λ product. product < S.meaning.wires s.new) }
+    ensures a { scratch.new.a ≡ scratch.old.a }
+    ensures b { scratch.new.b ≡ scratch.old.b }
 {
     let w = s.fresh();
-    product.set_wire(w);
-    s.put(x, y, product)?;
+    scratch.c.set_wire(w);
+    s.put(&scratch.a, &scratch.b, &scratch.c)?;
     Ok(w)
 }
 
-/// Makes a wire that holds the value of `x`, and fills `one` and `product` for it. It makes 1 wire
-/// and 1 constraint, of 2 terms and those of `x`.
-pub fn kept_by<S: Sink>(s: &mut S, one: &mut Lc, product: &mut Lc, x: &Lc) -> Put<Wire>
+/// Makes a wire that holds the value of `scratch.a`. It makes 1 wire and 1 constraint, of 2 terms
+/// and those of `scratch.a`.
+pub fn kept_by<S: Sink>(s: &mut S, scratch: &mut Scratch) -> Put<Wire>
     requires room { Room S.meaning s.old 1 1 }
-    requires x_made { top x.now ≤ S.meaning.wires s.old }
-    ensures puts { PutsIn S.meaning s.old s.new (kept_of x.now) result }
+    requires x_made { top scratch.old.a ≤ S.meaning.wires s.old }
+    ensures puts { PutsIn S.meaning s.old s.new (kept_of scratch.old.a) result }
     ensures grows { IfOk result (λ _. Grows S.meaning s.old s.new 1 1) }
     ensures below { IfOk result (λ w. w < S.meaning.wires s.new) }
 {
-    one.set_wire(Wire(0));
-    times_by(s, product, x, one)
+    scratch.b.set_wire(Wire(0));
+    times_by(s, scratch)
 }
 
-/// Makes a wire that times `x` is `y`, and fills `ratio` with it. Where `x` is 0 the wire may hold
-/// anything, and `y` is constrained to 0. It makes 1 wire and 1 constraint.
-pub fn ratio_by<S: Sink>(s: &mut S, ratio: &mut Lc, x: &Lc, y: &Lc) -> Put<Wire>
+/// Makes a wire that times `scratch.a` is `scratch.b`. Where `scratch.a` is 0 the wire may hold
+/// anything, and `scratch.b` is constrained to 0. It makes 1 wire and 1 constraint.
+pub fn ratio_by<S: Sink>(s: &mut S, scratch: &mut Scratch) -> Put<Wire>
     requires room { Room S.meaning s.old 1 1 }
-    requires x_made { top x.now ≤ S.meaning.wires s.old }
-    requires y_made { top y.now ≤ S.meaning.wires s.old }
-    ensures puts { PutsIn S.meaning s.old s.new (ratio_of x.now y.now) result }
+    requires x_made { top scratch.old.a ≤ S.meaning.wires s.old }
+    requires y_made { top scratch.old.b ≤ S.meaning.wires s.old }
+    ensures puts { PutsIn S.meaning s.old s.new (ratio_of scratch.old.a scratch.old.b) result }
     ensures grows { IfOk result (λ _. Grows S.meaning s.old s.new 1 1) }
     ensures below { IfOk result (λ ratio. ratio < S.meaning.wires s.new) }
 {
     let w = s.fresh();
-    ratio.set_wire(w);
-    s.put(x, ratio, y)?;
+    scratch.c.set_wire(w);
+    s.put(&scratch.a, &scratch.c, &scratch.b)?;
     Ok(w)
 }
 

@@ -41,7 +41,7 @@ pub fn select_terms<S: Sink>(
     ensures below { IfOk result (λ chosen. chosen < S.meaning.wires s.new) }
 {
     scratch.a.set_wire(b);
-    pick_by(s, &scratch.a, &mut scratch.b, &mut scratch.c, x, y)
+    pick_by(s, scratch, x, y)
 }
 
 /// Like `select`, of two wires, but reuses the caller's scratch combinations.
@@ -63,29 +63,26 @@ pub fn select_wires<S: Sink>(
     select_terms(s, scratch, b, &[(F::ONE, x)], &[(F::ONE, y)])
 }
 
-/// Makes a wire that is `x` where the combination `b`, a bit, is 1, and `y` where it is 0; `x` and
-/// `y` have at most 64 terms. It makes 1 wire and 1 constraint, whose factor and product it fills.
-/// Its generator is `fill_select`.
+/// Makes a wire that is `x` where `scratch.a`, a bit, is 1, and `y` where it is 0; `x` and `y` have
+/// at most 64 terms. It makes 1 wire and 1 constraint. Its generator is `fill_select`.
 pub fn pick_by<S: Sink>(
     s: &mut S,
-    b: &Lc,
-    factor: &mut Lc,
-    product: &mut Lc,
+    scratch: &mut Scratch,
     x: &[(F, Wire)],
     y: &[(F, Wire)],
 ) -> Put<Wire>
     requires room { Room S.meaning s.old 1 1 }
-    requires b_made { top b.now ≤ S.meaning.wires s.old }
+    requires b_made { top scratch.old.a ≤ S.meaning.wires s.old }
     requires made { max (top x.now) (top y.now) ≤ S.meaning.wires s.old }
     requires short { max (length x.now) (length y.now) ≤ 64 }
-    ensures puts { PutsIn S.meaning s.old s.new (pick_of b.now x.now y.now) result }
+    ensures puts { PutsIn S.meaning s.old s.new (pick_of scratch.old.a x.now y.now) result }
     ensures grows { IfOk result (λ _. Grows S.meaning s.old s.new 1 1) }
     ensures below { IfOk result (λ w. w < S.meaning.wires s.new) }
 {
     let w = s.fresh();
-    set_terms_less(factor, x, y);
-    set_wire_less(product, w, y);
-    s.put(b, factor, product)?;
+    set_terms_less(&mut scratch.b, x, y);
+    set_wire_less(&mut scratch.c, w, y);
+    s.put(&scratch.a, &scratch.b, &scratch.c)?;
     Ok(w)
 }
 

@@ -5,7 +5,7 @@ ghost use Rattle.tv_core.specs.Sinks.{PutsIn, Grows, Room};
 ghost use Rattle.tv_core.specs.Values.{GivesIn};
 ghost use Rattle.tv_bits.specs.Zero.{zero_of, zero_values, ZeroIsSound, ZeroIsComplete, ZeroSizes};
 
-use tv_core::{F, Lc, Put, Sink, Values, Wire, give_values};
+use tv_core::{F, Lc, Put, Scratch, Sink, Values, Wire, give_values};
 
 /// Makes a wire that is 1 exactly where `x` is 0, and else 0. It makes 2 wires and 2 constraints.
 pub fn zero<S: Sink>(s: &mut S, x: &Lc) -> Put<Wire>
@@ -15,25 +15,27 @@ pub fn zero<S: Sink>(s: &mut S, x: &Lc) -> Put<Wire>
     ensures grows { IfOk result (λ _. Grows S.meaning s.old s.new 2 2) }
     ensures below { IfOk result (λ flag. flag < S.meaning.wires s.new) }
 {
-    zero_by(s, &mut Lc::empty(), &mut Lc::empty(), x)
+    let mut scratch = Scratch::new();
+    scratch.a.plus_terms(x.terms());
+    zero_by(s, &mut scratch)
 }
 
-/// Like `zero`, but reuses two combinations of the caller.
-pub fn zero_by<S: Sink>(s: &mut S, factor: &mut Lc, product: &mut Lc, x: &Lc) -> Put<Wire>
+/// Like `zero`, of `scratch.a`, and reuses the caller's other scratch combinations.
+pub fn zero_by<S: Sink>(s: &mut S, scratch: &mut Scratch) -> Put<Wire>
     requires room { Room S.meaning s.old 2 2 }
-    requires x_made { top x.now ≤ S.meaning.wires s.old }
-    ensures puts { PutsIn S.meaning s.old s.new (zero_of x.now) result }
+    requires x_made { top scratch.old.a ≤ S.meaning.wires s.old }
+    ensures puts { PutsIn S.meaning s.old s.new (zero_of scratch.old.a) result }
     ensures grows { IfOk result (λ _. Grows S.meaning s.old s.new 2 2) }
     ensures below { IfOk result (λ flag. flag < S.meaning.wires s.new) }
 {
     let flag = s.fresh();
     let hint = s.fresh();
-    factor.set_wire(hint);
-    product.set_difference(Wire(0), flag);
-    s.put(x, factor, product)?;
-    factor.set_wire(flag);
-    product.clear();
-    s.put(x, factor, product)?;
+    scratch.b.set_wire(hint);
+    scratch.c.set_difference(Wire(0), flag);
+    s.put(&scratch.a, &scratch.b, &scratch.c)?;
+    scratch.b.set_wire(flag);
+    scratch.c.clear();
+    s.put(&scratch.a, &scratch.b, &scratch.c)?;
     Ok(flag)
 }
 

@@ -76,7 +76,7 @@ fn order_flags<const W: u32, S: Sink>(
     ensures puts { PutsIn S.meaning s.old s.new (order_flags_of W equal above x.now y.now) result }
     ensures grows { IfOk result (λ _. Grows S.meaning s.old s.new 0 3) }
 {
-    bit_by(s, &mut scratch.a, above)?;
+    bit_by(s, scratch, above)?;
     scratch.a.set_wire(equal);
     x.set_number(&mut scratch.b);
     y.plus_to(&mut scratch.b, -F::ONE);
@@ -102,11 +102,11 @@ fn signed_size<const W: u32, S: Sink>(
     ensures grows { IfOk result (λ _. Grows S.meaning s.old s.new (W / 4 + 1) (W / 4 + 1)) }
     ensures below { IfOk result (λ difference. difference < S.meaning.wires s.new) }
 {
-    let size = new_bits_by(s, &mut scratch.a, W / CHUNKS)?;
+    let size = new_bits_by(s, scratch, W / CHUNKS)?;
     set_sign(&mut scratch.a, equal, above);
     size.set_number(&mut scratch.b);
     scratch.b.plus(F::ONE, Wire(0));
-    times_by(s, &mut scratch.c, &scratch.a, &scratch.b)
+    times_by(s, scratch)
 }
 
 // Makes `lc` 1 where `above` is 1, 0 where `equal` is 1, and -1 where both are 0.
@@ -139,7 +139,7 @@ fn greater<const W: u32, S: Sink>(
 {
     let (x, y) = (x.first.offset(W - 1), y.first.offset(W - 1));
     set_but_for_signs(&mut scratch.a, above, x, y);
-    kept_by(s, &mut scratch.b, &mut scratch.c, &scratch.a)
+    kept_by(s, scratch)
 }
 
 // Makes `lc` the sum of `above` and `y`, less `x`.

@@ -41,15 +41,15 @@ pub fn instruction<const W: u32, S: Sink>(s: &mut S, scratch: &mut Scratch) -> P
     ensures grows { IfOk result (λ _. Grows S.meaning s.old s.new (2 * W + 26) (2 * W + 27)) }
     ensures places { IfOk result (λ made. made ≡ instruction_wires W (S.meaning.wires s.old)) }
 {
-    let low = new_bits_by(s, &mut scratch.a, W - 5)?;
-    let row = new_bits_by(s, &mut scratch.a, OPCODES)?;
-    let second = new_bits_by(s, &mut scratch.a, W)?;
+    let low = new_bits_by(s, scratch, W - 5)?;
+    let row = new_bits_by(s, scratch, OPCODES)?;
+    let second = new_bits_by(s, scratch, W)?;
     one_opcode(s, scratch, row.first)?;
     low.set_number(&mut scratch.a);
     plus_opcodes::<W>(&mut scratch.a, row.first);
-    let head = kept_by(s, &mut scratch.b, &mut scratch.c, &scratch.a)?;
+    let head = kept_by(s, scratch)?;
     second.set_number(&mut scratch.a);
-    let tail = kept_by(s, &mut scratch.b, &mut scratch.c, &scratch.a)?;
+    let tail = kept_by(s, scratch)?;
     Ok(InstructionWires {
         low,
         op: row.first,

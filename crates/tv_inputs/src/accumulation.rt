@@ -5,23 +5,24 @@ ghost use Rattle.tv_core.specs.Sinks.{PutsIn, Grows, Room};
 ghost use Rattle.tv_inputs.specs.Accumulation.{closed_of, AccumulatedIsSound};
 ghost use Rattle.tv_inputs.specs.Accumulation.{AccumulatedIsComplete, AccumulatedSizes};
 
-use tv_core::{F, Lc, Put, Sink, Wire};
+use tv_core::{F, Put, Scratch, Sink, Wire};
 
-/// Returns a wire that is `f` times `g` plus a sum, of which `product` has the terms with their
-/// coefficients negated; the wire is appended to `product`. It makes 1 wire and 1 constraint.
-pub fn accumulated<S: Sink>(s: &mut S, product: &mut Lc, f: &Lc, g: &Lc) -> Put<Wire>
+/// Returns a wire that is the product of the factors in `scratch` plus a sum, of which `scratch.c`
+/// has the terms with their coefficients negated. It makes 1 wire and 1 constraint.
+pub fn accumulated<S: Sink>(s: &mut S, scratch: &mut Scratch) -> Put<Wire>
     requires room { Room S.meaning s.old 1 1 }
-    requires f_made { top f.now ≤ S.meaning.wires s.old }
-    requires g_made { top g.now ≤ S.meaning.wires s.old }
-    requires sum_made { top product.old ≤ S.meaning.wires s.old }
-    requires short { length product.old ≤ 64 }
-    ensures puts { PutsIn S.meaning s.old s.new (closed_of product.old f.now g.now) result }
+    requires f_made { top scratch.old.a ≤ S.meaning.wires s.old }
+    requires g_made { top scratch.old.b ≤ S.meaning.wires s.old }
+    requires sum_made { top scratch.old.c ≤ S.meaning.wires s.old }
+    requires short { length scratch.old.c ≤ 64 }
+    ensures puts { PutsIn S.meaning s.old s.new
+        (closed_of scratch.old.c scratch.old.a scratch.old.b) result }
     ensures grows { IfOk result (λ _. Grows S.meaning s.old s.new 1 1) }
     ensures below { IfOk result (λ sum. sum < S.meaning.wires s.new) }
 {
     let sum = s.fresh();
-    product.plus(F::ONE, sum);
-    s.put(f, g, product)?;
+    scratch.c.plus(F::ONE, sum);
+    s.put(&scratch.a, &scratch.b, &scratch.c)?;
     Ok(sum)
 }
 

@@ -40,7 +40,7 @@ pub fn put_operand<const W: u32, S: Sink>(
     ensures below { IfOk result (λ made. OperandUnder W (S.meaning.wires s.new) made) }
 {
     let word = put_word(s, scratch, imm, tail, register)?;
-    let bits = new_bits_by(s, &mut scratch.a, W)?;
+    let bits = new_bits_by(s, scratch, W)?;
     put_number(s, scratch, &bits, word)?;
     Ok(OperandWires { word, bits })
 }
@@ -80,7 +80,7 @@ fn put_word<S: Sink>(
     scratch.a.set_wire(imm);
     scratch.b.set_difference(tail, register);
     set_minus(&mut scratch.c, register);
-    accumulated(s, &mut scratch.c, &scratch.a, &scratch.b)
+    accumulated(s, scratch)
 }
 
 /// Appends `factor` times the number of the operand's bits from number `k` on, `k` being at most

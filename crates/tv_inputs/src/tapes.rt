@@ -52,7 +52,7 @@ pub fn put_tapes<const W: u32, S: Sink>(
     let reads = put_reads::<W, S>(s, scratch, op, a)?;
     scratch.a.set_wire(reads);
     scratch.b.set_wire(a.bits.first);
-    let aux = times_by(s, &mut scratch.c, &scratch.a, &scratch.b)?;
+    let aux = times_by(s, scratch)?;
     let taken = primary(s, scratch, n, state.taken_of_primary, reads, aux)?;
     auxiliary(s, scratch, taken, aux, state.aux_ended)
 }
@@ -76,36 +76,30 @@ fn put_reads<const W: u32, S: Sink>(
     scratch.a.clear();
     plus_upper(&mut scratch.a, F::ONE, a, 1);
     let read = [(F::ONE, opcode_wire(op, READ))];
-    if_zero(s, &mut scratch.b, &mut scratch.c, &read, &scratch.a)
+    if_zero(s, scratch, &read)
 }
 
-/// Returns a wire that is `g` where `x` is 0, and 0 where it isn't. It makes 2 wires and 2
+/// Returns a wire that is `g` where `scratch.a` is 0, and 0 where it isn't. It makes 2 wires and 2
 /// constraints.
-pub fn if_zero<S: Sink>(
-    s: &mut S,
-    factor: &mut Lc,
-    product: &mut Lc,
-    g: &[(F, Wire)],
-    x: &Lc,
-) -> Put<Wire>
+pub fn if_zero<S: Sink>(s: &mut S, scratch: &mut Scratch, g: &[(F, Wire)]) -> Put<Wire>
     requires room { Room S.meaning s.old 2 2 }
     requires g_made { top g.now ≤ S.meaning.wires s.old }
     requires g_short { length g.now ≤ 64 }
-    requires x_made { top x.now ≤ S.meaning.wires s.old }
-    ensures puts { PutsIn S.meaning s.old s.new (if_zero_of g.now x.now) result }
+    requires x_made { top scratch.old.a ≤ S.meaning.wires s.old }
+    ensures puts { PutsIn S.meaning s.old s.new (if_zero_of g.now scratch.old.a) result }
     ensures grows { IfOk result (λ _. Grows S.meaning s.old s.new 2 2) }
     ensures below { IfOk result (λ w. w < S.meaning.wires s.new) }
 {
     let w = s.fresh();
     let hint = s.fresh();
-    factor.set_wire(hint);
-    product.clear();
-    product.plus_terms(g);
-    product.plus(-F::ONE, w);
-    s.put(x, factor, product)?;
-    factor.set_wire(w);
-    product.clear();
-    s.put(x, factor, product)?;
+    scratch.b.set_wire(hint);
+    scratch.c.clear();
+    scratch.c.plus_terms(g);
+    scratch.c.plus(-F::ONE, w);
+    s.put(&scratch.a, &scratch.b, &scratch.c)?;
+    scratch.b.set_wire(w);
+    scratch.c.clear();
+    s.put(&scratch.a, &scratch.b, &scratch.c)?;
     Ok(w)
 }
 

@@ -48,7 +48,7 @@ pub(crate) fn rises<S: Sink>(
     set_key_factor(&mut scratch.a, 0, apart, size, before, after);
     for i in 0..PREFIXES - 2 {
         set_key_factor(&mut scratch.b, i + 1, apart, size, before, after);
-        let w = times_by(s, &mut scratch.c, &scratch.a, &scratch.b)?;
+        let w = times_by(s, scratch)?;
         scratch.a.set_wire(w);
     }
     set_key_factor(&mut scratch.b, PREFIXES - 1, apart, size, before, after);

@@ -43,9 +43,9 @@ pub fn follows<S: Sink>(
         result }
     ensures grows { IfOk result (λ _. Grows S.meaning s.old s.new (m + 1) (m + 3)) }
 {
-    let reach = new_bits_by(s, &mut scratch.a, m)?;
+    let reach = new_bits_by(s, scratch, m)?;
     set_excess(&mut scratch.a, &reach, line, item);
-    let e = kept_by(s, &mut scratch.b, &mut scratch.c, &scratch.a)?;
+    let e = kept_by(s, scratch)?;
     either(s, scratch, e, line, item)
 }
 

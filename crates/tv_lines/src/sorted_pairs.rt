@@ -48,7 +48,7 @@ fn cells_apart<S: Sink>(
 {
     after.cell.set_number(&mut scratch.a);
     before.cell.plus_to(&mut scratch.a, -F::ONE);
-    kept_by(s, &mut scratch.b, &mut scratch.c, &scratch.a)
+    kept_by(s, scratch)
 }
 
 // The second line's old word is the first's new one where the cells are not apart, and else 0.
@@ -67,7 +67,7 @@ fn carried<S: Sink>(
     ensures grows { IfOk result (λ _. Grows S.meaning s.old s.new 2 3) }
 {
     scratch.a.set_wire(apart);
-    let same = zero_by(s, &mut scratch.b, &mut scratch.c, &scratch.a)?;
+    let same = zero_by(s, scratch)?;
     scratch.a.set_wire(same);
     before.new.set_number(&mut scratch.b);
     after.old.set_number(&mut scratch.c);
@@ -81,10 +81,10 @@ fn new_size<S: Sink>(s: &mut S, scratch: &mut Scratch) -> Put<Wire>
     ensures grows { IfOk result (λ _. Grows S.meaning s.old s.new 12 12) }
     ensures below { IfOk result (λ size. size < S.meaning.wires s.new) }
 {
-    let bits = new_bits_by(s, &mut scratch.a, CHUNK)?;
+    let bits = new_bits_by(s, scratch, CHUNK)?;
     bits.set_number(&mut scratch.a);
     scratch.a.plus(F::ONE, Wire(0));
-    kept_by(s, &mut scratch.b, &mut scratch.c, &scratch.a)
+    kept_by(s, scratch)
 }
 
 /// Constrains the old word of the first line in address order to 0. It makes no wire and 1

@@ -27,7 +27,7 @@ pub(crate) fn flags<S: Sink>(s: &mut S, words: &LogicWords) -> Put<LogicFlags>
     let not_zero = zero_flag(s, &mut scratch, words.not_word)?;
     scratch.a.set_wire(and_zero);
     scratch.b.set_wire(xor_zero);
-    let or_zero = times_by(s, &mut scratch.c, &scratch.a, &scratch.b)?;
+    let or_zero = times_by(s, &mut scratch)?;
     Ok(LogicFlags {
         and_zero,
         or_zero,
@@ -45,7 +45,7 @@ fn zero_flag<S: Sink>(s: &mut S, scratch: &mut Scratch, word: Wire) -> Put<Wire>
     ensures below { IfOk result (λ flag. flag < S.meaning.wires s.new) }
 {
     scratch.a.set_wire(word);
-    zero_by(s, &mut scratch.b, &mut scratch.c, &scratch.a)
+    zero_by(s, scratch)
 }
 
 /// Assigns the values of the wires that `flags` makes, the arguments being the four words' numbers.

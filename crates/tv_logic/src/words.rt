@@ -29,11 +29,11 @@ pub(crate) fn words<const W: u32, S: Sink>(s: &mut S, x: &Bits, y: &Bits) -> Put
     let mut scratch = Scratch::new();
     let and_word = and_word::<W, S>(s, &mut scratch, x, y)?;
     set_sum_less::<W>(&mut scratch.a, x, y, F::ONE, and_word);
-    let or_word = kept_by(s, &mut scratch.b, &mut scratch.c, &scratch.a)?;
+    let or_word = kept_by(s, &mut scratch)?;
     set_sum_less::<W>(&mut scratch.a, x, y, F::of(2), and_word);
-    let xor_word = kept_by(s, &mut scratch.b, &mut scratch.c, &scratch.a)?;
+    let xor_word = kept_by(s, &mut scratch)?;
     set_complement::<W>(&mut scratch.a, y);
-    let not_word = kept_by(s, &mut scratch.b, &mut scratch.c, &scratch.a)?;
+    let not_word = kept_by(s, &mut scratch)?;
     Ok(LogicWords {
         and_word,
         or_word,

@@ -34,7 +34,7 @@ pub fn product<const W: u32, S: Sink>(s: &mut S, x: &Bits, y: &Bits) -> Put<Prod
         n: W,
     };
     high.set_number(&mut scratch.a);
-    let over = nonzero_by(s, &mut scratch.b, &mut scratch.c, &scratch.a)?;
+    let over = nonzero_by(s, &mut scratch)?;
     Ok(Product { low, high, over })
 }
 
@@ -55,7 +55,7 @@ fn product_bits<const W: u32, S: Sink>(
     ensures below { IfOk result (λ first. first + 2 * W ≤ S.meaning.wires s.new) }
 {
     let first = s.fresh();
-    new_bits_by(s, &mut scratch.a, 2 * W - 1)?;
+    new_bits_by(s, scratch, 2 * W - 1)?;
     scratch.a.set_wire(x.first);
     scratch.b.set_wire(y.first);
     scratch.c.set_wire(first);

@@ -52,7 +52,7 @@ fn quotient_wires<const W: u32, S: Sink>(s: &mut S, scratch: &mut Scratch, y: &B
     ensures grows { IfOk result (λ _. Grows S.meaning s.old s.new (2 * W + 1) (2 * W + 2)) }
     ensures below { IfOk result (IsQuotientBelow (S.meaning.wires s.new) W) }
 {
-    let first = new_bits_by(s, &mut scratch.a, 2 * W + 1)?.first;
+    let first = new_bits_by(s, scratch, 2 * W + 1)?.first;
     let (rem, by_zero) = (first.offset(W), first.offset(2 * W));
     scratch.a.set_wire(by_zero);
     y.set_number(&mut scratch.b);
@@ -103,7 +103,7 @@ fn gate<const W: u32, S: Sink>(s: &mut S, scratch: &mut Scratch, x: &Bits, made:
     scratch.a.set_wire(made.by_zero);
     x.set_number(&mut scratch.b);
     made.quot.plus_to(&mut scratch.b, F::ONE);
-    times_by(s, &mut scratch.c, &scratch.a, &scratch.b)
+    times_by(s, scratch)
 }
 
 // Holds the remainder below `y`, unless the divisor is 0.
@@ -120,7 +120,7 @@ fn remainder_below<const W: u32, S: Sink>(
     ensures puts { PutsIn S.meaning s.old s.new (remainder_below_of W y.now made.now) result }
     ensures grows { IfOk result (λ _. Grows S.meaning s.old s.new (W / 4 + 2) (W / 4 + 3)) }
 {
-    let above = new_bits_by(s, &mut scratch.a, W / CHUNKS)?;
+    let above = new_bits_by(s, scratch, W / CHUNKS)?;
     let mut difference = above.plus_one();
     difference.plus(-F::ONE, made.by_zero);
     prefix_difference_by(s, scratch, y, &made.rem, &difference, W / CHUNKS, CHUNKS)

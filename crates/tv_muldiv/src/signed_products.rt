@@ -35,7 +35,7 @@ pub fn signed_high<const W: u32, S: Sink>(s: &mut S, x: &Bits, y: &Bits) -> Put<
     let mut scratch = Scratch::new();
     let made = signed_bits::<W, S>(s, &mut scratch, x, y)?;
     set_high_excess::<W>(&mut scratch.a, made.first);
-    let over = nonzero_by(s, &mut scratch.b, &mut scratch.c, &scratch.a)?;
+    let over = nonzero_by(s, &mut scratch)?;
     let high = made.above(W);
     Ok(High { high, over })
 }
@@ -55,7 +55,7 @@ fn signed_bits<const W: u32, S: Sink>(
     ensures grows { IfOk result (λ _. Grows S.meaning s.old s.new (2 * W) (2 * W + 1)) }
     ensures below { IfOk result (AreBitsBelow (S.meaning.wires s.new) (2 * W)) }
 {
-    let made = new_bits_by(s, &mut scratch.a, 2 * W)?;
+    let made = new_bits_by(s, scratch, 2 * W)?;
     set_signed_number(&mut scratch.a, x.first, W);
     set_signed_number(&mut scratch.b, y.first, W);
     set_signed_number(&mut scratch.c, made.first, 2 * W);

@@ -76,7 +76,7 @@ pub fn put_flag<const W: u32, S: Sink>(
         left,
         right,
     );
-    accumulated(s, &mut scratch.c, &scratch.a, &scratch.b)
+    accumulated(s, scratch)
 }
 
 // Constrains a bit less the test where the opcode's wire is 1.
@@ -96,7 +96,7 @@ fn put_shifted<S: Sink>(
 {
     scratch.a.set_wire(opcode);
     set_rise(&mut scratch.b, f, bit);
-    times_by(s, &mut scratch.c, &scratch.a, &scratch.b)
+    times_by(s, scratch)
 }
 
 // Sets `lc` to the flag where it isn't kept, with its coefficients negated.

@@ -117,7 +117,7 @@ fn put_old<S: Sink>(
     plus_opcodes(&mut scratch.a, F::ONE, op, &MEMORY_OPS);
     scratch.a.plus(F::ONE, taken);
     scratch.b.set_wire(word);
-    times_by(s, &mut scratch.c, &scratch.a, &scratch.b)
+    times_by(s, scratch)
 }
 
 // Constrains the cell of a load or store.
@@ -143,7 +143,7 @@ fn put_located<const W: u32, S: Sink>(
     plus_upper(&mut scratch.b, F::ONE, a, W / 16);
     scratch.c.clear();
     scratch.c.plus(null, Wire(0));
-    accumulated(s, &mut scratch.c, &scratch.a, &scratch.b)
+    accumulated(s, scratch)
 }
 
 // Constrains the cell, which is that of the next word of tape 0 where one is taken.
@@ -168,7 +168,7 @@ fn put_cell<S: Sink>(
     scratch.b.plus(F::ONE, before);
     scratch.b.plus(-F::ONE, located);
     set_minus(&mut scratch.c, located);
-    accumulated(s, &mut scratch.c, &scratch.a, &scratch.b)
+    accumulated(s, scratch)
 }
 
 // Constrains the byte of a word that the lowest bits of an address choose.
@@ -214,7 +214,7 @@ fn byte_of_pair<S: Sink>(s: &mut S, scratch: &mut Scratch, bits: Wire, bit: Wire
     high.plus_to(&mut scratch.b, F::ONE);
     scratch.c.clear();
     low.plus_to(&mut scratch.c, minus);
-    accumulated(s, &mut scratch.c, &scratch.a, &scratch.b)
+    accumulated(s, scratch)
 }
 
 // Of four bytes the one that two bits choose.
@@ -231,7 +231,7 @@ fn byte_of_four<S: Sink>(s: &mut S, scratch: &mut Scratch, bits: Wire, a: Wire) 
     scratch.a.set_wire(a.offset(1));
     set_rise(&mut scratch.b, low, high);
     set_minus(&mut scratch.c, low);
-    accumulated(s, &mut scratch.c, &scratch.a, &scratch.b)
+    accumulated(s, scratch)
 }
 
 // Constrains the word in the cell after the step.
@@ -271,7 +271,7 @@ fn put_changed<S: Sink>(s: &mut S, scratch: &mut Scratch, op: Wire, change: Wire
 {
     scratch.a.set_wire(opcode_wire(op, STORE_B));
     scratch.b.set_wire(change);
-    times_by(s, &mut scratch.c, &scratch.a, &scratch.b)
+    times_by(s, scratch)
 }
 
 // Constrains the word after the step: the other word at store.w, else what it was and gains.
@@ -297,7 +297,7 @@ fn put_after<S: Sink>(
     scratch.b.set_difference(d.other, d.word);
     set_minus(&mut scratch.c, old);
     scratch.c.plus(-F::ONE, changed);
-    accumulated(s, &mut scratch.c, &scratch.a, &scratch.b)
+    accumulated(s, scratch)
 }
 
 // Constrains what the word gains by the lowest byte of `d.x` in place of its byte.
@@ -325,7 +325,7 @@ fn put_change<const W: u32, S: Sink>(
     };
     lowest.set_number(&mut scratch.b);
     scratch.b.plus(-F::ONE, byte);
-    times_by(s, &mut scratch.c, &scratch.a, &scratch.b)
+    times_by(s, scratch)
 }
 
 // Sets `lc` to 256 to the power of the number that the lowest bits of an address represent.

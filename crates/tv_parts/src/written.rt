@@ -86,7 +86,7 @@ fn put_on<S: Sink>(s: &mut S, scratch: &mut Scratch, op: Wire, flag: Wire) -> Pu
             LOAD_W, READ,
         ],
     );
-    accumulated(s, &mut scratch.c, &scratch.a, &scratch.b)
+    accumulated(s, scratch)
 }
 
 /// Assigns the 17 values of the wires that `put_written` makes.

@@ -113,11 +113,11 @@ pub fn read_triple<S: Sink>(
     let roots = new_roots(s, scratch, stores, names)?;
     let curve = new_curve(s, scratch, &roots, regs)?;
     scratch.a.set_wire(roots.other);
-    let other_word = point(s, &scratch.a, &mut scratch.b, &mut scratch.c, curve)?;
+    let other_word = point(s, scratch, curve)?;
     names.named.set_number(&mut scratch.a);
-    let named_word = point(s, &scratch.a, &mut scratch.b, &mut scratch.c, curve)?;
+    let named_word = point(s, scratch, curve)?;
     scratch.a.set_wire(roots.dest);
-    let dest_word = point(s, &scratch.a, &mut scratch.b, &mut scratch.c, curve)?;
+    let dest_word = point(s, scratch, curve)?;
     Ok(Triple {
         dest: roots.dest,
         other: roots.other,
@@ -139,17 +139,28 @@ fn new_roots<S: Sink>(s: &mut S, scratch: &mut Scratch, stores: &Lc, names: &Nam
     ensures below { IfOk result (λ made. AreRoots (S.meaning.wires s.new) made) }
 {
     names.dest.set_number(&mut scratch.a);
-    let dest = kept_by(s, &mut scratch.b, &mut scratch.c, &scratch.a)?;
-    names.source.set_number(&mut scratch.a);
-    let other = pick_by(
-        s,
-        stores,
-        &mut scratch.b,
-        &mut scratch.c,
-        &[(F::ONE, dest)],
-        scratch.a.terms(),
-    )?;
+    let dest = kept_by(s, scratch)?;
+    scratch.a.clear();
+    scratch.a.plus_terms(stores.terms());
+    let source = number_terms(&names.source);
+    let other = pick_by(s, scratch, &[(F::ONE, dest)], &source)?;
     sums(s, scratch, &names.named, dest, other)
+}
+
+// The terms of the number that four bits represent.
+fn number_terms(bits: &Bits) -> [(F, Wire); 4]
+    requires short { bits.now.n ≡ 4 }
+    requires within { bits.now.first + 4 < 2 ^ 32 }
+    ensures terms { result ≡ number_of bits.now }
+    ensures top { top result ≤ bits.now.first + 4 }
+{
+    let w = bits.first;
+    [
+        (F::ONE, w),
+        (F::of(2), w.offset(1)),
+        (F::of(4), w.offset(2)),
+        (F::of(8), w.offset(3)),
+    ]
 }
 
 // The sums of the products of three numbers by one, two and three.
@@ -172,15 +183,16 @@ fn sums<S: Sink>(
     named.set_number(&mut scratch.a);
     scratch.a.plus(F::ONE, dest);
     scratch.a.plus(F::ONE, other);
-    let sum = kept_by(s, &mut scratch.b, &mut scratch.c, &scratch.a)?;
-    named.set_number(&mut scratch.a);
-    scratch.b.set_wire(other);
-    let pair = times_by(s, &mut scratch.c, &scratch.b, &scratch.a)?;
-    scratch.a.plus(F::ONE, other);
-    scratch.b.set_wire(dest);
-    let pairs = more_by(s, &mut scratch.c, &scratch.b, &scratch.a, pair)?;
+    let sum = kept_by(s, scratch)?;
+    scratch.a.set_wire(other);
+    named.set_number(&mut scratch.b);
+    let pair = times_by(s, scratch)?;
+    scratch.a.set_wire(dest);
+    scratch.b.plus(F::ONE, other);
+    let pairs = more_by(s, scratch, pair)?;
     scratch.a.set_wire(pair);
-    let product = times_by(s, &mut scratch.c, &scratch.a, &scratch.b)?;
+    scratch.b.set_wire(dest);
+    let product = times_by(s, scratch)?;
     Ok(Roots {
         dest,
         other,
@@ -190,21 +202,21 @@ fn sums<S: Sink>(
     })
 }
 
-// A wire that is `x` times `y`, and `old`.
-fn more_by<S: Sink>(s: &mut S, product: &mut Lc, x: &Lc, y: &Lc, old: Wire) -> Put<Wire>
+// A wire that is the product of the factors in `scratch`, and `old`.
+fn more_by<S: Sink>(s: &mut S, scratch: &mut Scratch, old: Wire) -> Put<Wire>
     requires room { Room S.meaning s.old 1 1 }
-    requires x_made { top x.now ≤ S.meaning.wires s.old }
-    requires y_made { top y.now ≤ S.meaning.wires s.old }
+    requires x_made { top scratch.old.a ≤ S.meaning.wires s.old }
+    requires y_made { top scratch.old.b ≤ S.meaning.wires s.old }
     requires old_made { old < S.meaning.wires s.old }
-    ensures puts { PutsIn S.meaning s.old s.new (more_of x.now y.now old) result }
+    ensures puts { PutsIn S.meaning s.old s.new (more_of scratch.old.a scratch.old.b old) result }
     ensures grows { IfOk result (λ _. Grows S.meaning s.old s.new 1 1) }
     ensures below { IfOk result (λ new. new < S.meaning.wires s.new) }
 {
     let new = s.fresh();
-    product.clear();
-    product.plus(-F::ONE, old);
-    product.plus(F::ONE, new);
-    s.put(x, y, product)?;
+    scratch.c.clear();
+    scratch.c.plus(-F::ONE, old);
+    scratch.c.plus(F::ONE, new);
+    s.put(&scratch.a, &scratch.b, &scratch.c)?;
     Ok(new)
 }
 
@@ -251,7 +263,7 @@ fn passes<S: Sink>(
 {
     set_cubic(&mut scratch.a, roots, i);
     set_departure(&mut scratch.b, reg, curve, i);
-    ratio_by(s, &mut scratch.c, &scratch.a, &scratch.b)?;
+    ratio_by(s, scratch)?;
     Ok(())
 }
 
@@ -284,20 +296,20 @@ fn set_departure(lc: &mut Lc, reg: Wire, curve: Wire, i: u32)
     }
 }
 
-// A wire that is the curve at the number `n`.
-fn point<S: Sink>(s: &mut S, n: &Lc, factor: &mut Lc, product: &mut Lc, curve: Wire) -> Put<Wire>
+// A wire that is the curve at the number `scratch.a`.
+fn point<S: Sink>(s: &mut S, scratch: &mut Scratch, curve: Wire) -> Put<Wire>
     requires room { Room S.meaning s.old 2 2 }
-    requires n_made { top n.now ≤ S.meaning.wires s.old }
+    requires n_made { top scratch.old.a ≤ S.meaning.wires s.old }
     requires curve_made { curve + 3 ≤ S.meaning.wires s.old }
-    ensures puts { PutsIn S.meaning s.old s.new (point_of n.now curve) result }
+    ensures puts { PutsIn S.meaning s.old s.new (point_of scratch.old.a curve) result }
     ensures grows { IfOk result (λ _. Grows S.meaning s.old s.new 2 2) }
     ensures below { IfOk result (λ word. word < S.meaning.wires s.new) }
 {
-    factor.set_wire(curve.offset(2));
-    let bend = times_by(s, product, n, factor)?;
-    factor.set_wire(curve.offset(1));
-    factor.plus(F::ONE, bend);
-    more_by(s, product, n, factor, curve)
+    scratch.b.set_wire(curve.offset(2));
+    let bend = times_by(s, scratch)?;
+    scratch.b.set_wire(curve.offset(1));
+    scratch.b.plus(F::ONE, bend);
+    more_by(s, scratch, curve)
 }
 
 /// Assigns the 31 values of the wires that `read_triple` makes, for the numbers of the three

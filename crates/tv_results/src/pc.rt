@@ -51,7 +51,7 @@ pub fn put_pc<const W: u32, S: Sink>(
     set_taken(&mut scratch.a, op, by_flag);
     set_jump::<W>(&mut scratch.b, state.pc, answers, a, wraps);
     set_after::<W>(&mut scratch.c, state.pc, answers, wraps);
-    accumulated(s, &mut scratch.c, &scratch.a, &scratch.b)
+    accumulated(s, scratch)
 }
 
 // Constrains whether the program counter wraps.
@@ -71,7 +71,7 @@ fn put_wraps<const W: u32, S: Sink>(
 {
     let goes = [(F::ONE, Wire(0)), (-F::ONE, answers)];
     set_from_last::<W>(&mut scratch.a, pc);
-    if_zero(s, &mut scratch.b, &mut scratch.c, &goes, &scratch.a)
+    if_zero(s, scratch, &goes)
 }
 
 // Constrains whether a jump is taken by the flag, less whether it is one where the flag is clear.
@@ -88,7 +88,7 @@ fn put_by_flag<S: Sink>(s: &mut S, scratch: &mut Scratch, op: Wire, flag: Wire) 
     scratch
         .b
         .set_difference(opcode_wire(op, CJMP), opcode_wire(op, CNJMP));
-    times_by(s, &mut scratch.c, &scratch.a, &scratch.b)
+    times_by(s, scratch)
 }
 
 // Sets `lc` to whether a jump is taken.

@@ -87,17 +87,17 @@ fn put_result<const W: u32, S: Sink>(
     let not = opcode_wire(op, NOT);
     set_low_gate(&mut scratch.a, op, state.taken_of_primary, tapes);
     scratch.b.set_wire(from.low);
-    let low = times_by(s, &mut scratch.c, &scratch.a, &scratch.b)?;
+    let low = times_by(s, scratch)?;
     set_opcodes(&mut scratch.a, op, &[OR, XOR, UMULH, SMULH, UDIV, SHR]);
     scratch.b.set_wire(from.high);
-    let high = times_by(s, &mut scratch.c, &scratch.a, &scratch.b)?;
+    let high = times_by(s, scratch)?;
     set_moved_gate(&mut scratch.a, op);
     scratch.b.set_wire(a.word);
-    let moved = times_by(s, &mut scratch.c, &scratch.a, &scratch.b)?;
+    let moved = times_by(s, scratch)?;
     scratch.a.set_wire(opcode_wire(op, LOAD_B));
     scratch.b.set_wire(from.byte);
     set_parts::<W>(&mut scratch.c, not, low, high, moved);
-    accumulated(s, &mut scratch.c, &scratch.a, &scratch.b)
+    accumulated(s, scratch)
 }
 
 // Sets `lc` to the opcodes of which the low half is a part of the result, and what is taken of a

@@ -72,7 +72,7 @@ fn product_of_quotient<S: Sink>(
     scratch.a.set_wire(high);
     scratch.b.set_wire(y);
     scratch.b.plus(F::ONE, by_zero);
-    times_by(s, &mut scratch.c, &scratch.a, &scratch.b)
+    times_by(s, scratch)
 }
 
 // Makes `lc` the room below the divisor, less `x`.

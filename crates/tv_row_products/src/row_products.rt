@@ -53,7 +53,7 @@ pub(crate) fn product_of_wires<S: Sink>(
 {
     scratch.a.set_wire(x);
     scratch.b.set_wire(y);
-    times_by(s, &mut scratch.c, &scratch.a, &scratch.b)
+    times_by(s, scratch)
 }
 
 /// Assigns the value of the wire that `row_product` makes for two words.

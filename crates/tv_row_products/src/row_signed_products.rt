@@ -69,7 +69,7 @@ fn product_of_words<const W: u32, S: Sink>(
 {
     set_signed_word::<W>(&mut scratch.a, x);
     set_signed_word::<W>(&mut scratch.b, y);
-    times_by(s, &mut scratch.c, &scratch.a, &scratch.b)
+    times_by(s, scratch)
 }
 
 // Makes `lc` a word less 2^`W` times its sign.

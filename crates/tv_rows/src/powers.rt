@@ -57,13 +57,13 @@ fn low_power<S: Sink>(s: &mut S, scratch: &mut Scratch, y: Wire) -> Put<ShiftPow
 {
     scratch.a.set_wire(y);
     scratch.b.set_wire(y.offset(1));
-    let both = times_by(s, &mut scratch.c, &scratch.a, &scratch.b)?;
+    let both = times_by(s, scratch)?;
     set_factor(&mut scratch.a, 16, y.offset(2));
     set_factor(&mut scratch.b, 256, y.offset(3));
-    let middle = times_by(s, &mut scratch.c, &scratch.a, &scratch.b)?;
+    let middle = times_by(s, scratch)?;
     set_pair_power(&mut scratch.a, y, both);
     scratch.b.set_wire(middle);
-    let power = times_by(s, &mut scratch.c, &scratch.a, &scratch.b)?;
+    let power = times_by(s, scratch)?;
     Ok(ShiftPower { both, power })
 }
 
@@ -79,7 +79,7 @@ fn wide_power<S: Sink>(s: &mut S, scratch: &mut Scratch, y: Wire) -> Put<ShiftPo
     let low = low_power(s, scratch, y)?;
     scratch.a.set_wire(low.power);
     set_factor(&mut scratch.b, 65536, y.offset(4));
-    let power = times_by(s, &mut scratch.c, &scratch.a, &scratch.b)?;
+    let power = times_by(s, scratch)?;
     Ok(ShiftPower {
         both: low.both,
         power,

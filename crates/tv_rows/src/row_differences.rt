@@ -15,7 +15,7 @@ ghost use Rattle.tv_rows.specs.RowDifference.{RowDifferenceIsComplete, RowDiffer
 ghost use Rattle.tv_rows.specs.RowDifference.{RowDifferenceCosts};
 ghost use Rattle.tv_word.specs.Widths.{IsWidth};
 
-use tv_bits::{DoubleRow, SignedWord, sign_of, times_by};
+use tv_bits::{DoubleRow, SignedWord, sign_of};
 use tv_core::{F, Lc, Put, Scratch, Sink, Values, Wire};
 use tv_word::arithmetic;
 
@@ -73,7 +73,10 @@ fn sign_difference<S: Sink>(
     scratch.b.clear();
     scratch.b.plus(-F::ONE, y.sign);
     scratch.b.plus(F::ONE, x.sign);
-    times_by(s, &mut scratch.c, by_sign, &scratch.b)
+    let signs = s.fresh();
+    scratch.c.set_wire(signs);
+    s.put(by_sign, &scratch.b, &scratch.c)?;
+    Ok(signs)
 }
 
 // Makes `lc` 2^`W` + x, less 1 where `strict` is 1, less `y`, the row's number and 2^`W` times the

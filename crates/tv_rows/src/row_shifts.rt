@@ -66,7 +66,7 @@ fn row_times<const W: u32, S: Sink>(
     scratch.a.clear();
     scratch.a.plus_terms(&row.number::<W>());
     scratch.b.set_wire(power);
-    times_by(s, &mut scratch.c, &scratch.a, &scratch.b)
+    times_by(s, scratch)
 }
 
 /// Assigns the value of the wire that `right_shift` makes for a row's halves and a power.

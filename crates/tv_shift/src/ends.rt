@@ -84,14 +84,14 @@ pub(crate) fn by_rest<const W: u32, S: Sink>(
     set_times_half::<W>(&mut scratch.c, parts.high, W / 4);
     scratch.b.set_wire(half.left);
     scratch.b.minus(&scratch.c);
-    let left = times_by(s, &mut scratch.c, &scratch.a, &scratch.b)?;
+    let left = times_by(s, scratch)?;
     let low = Bits {
         first: parts.low,
         n: W / 4,
     };
     scratch.b.set_wire(half.right);
     low.plus_to(&mut scratch.b, -F::ONE);
-    let right = ratio_by(s, &mut scratch.c, &scratch.a, &scratch.b)?;
+    let right = ratio_by(s, scratch)?;
     Ok(Shift { left, right })
 }
 
@@ -111,8 +111,8 @@ pub(crate) fn ends<S: Sink>(
 {
     scratch.a.set_wire(in_range);
     scratch.b.set_wire(near.left);
-    let left = times_by(s, &mut scratch.c, &scratch.a, &scratch.b)?;
+    let left = times_by(s, scratch)?;
     scratch.b.set_wire(near.right);
-    let right = times_by(s, &mut scratch.c, &scratch.a, &scratch.b)?;
+    let right = times_by(s, scratch)?;
     Ok(Shift { left, right })
 }

@@ -32,7 +32,7 @@ pub fn shift<const W: u32, S: Sink>(s: &mut S, x: &Bits, y: &Bits) -> Put<Shift>
     let half = by_half::<W, S>(s, &mut scratch, y.first.offset(k), x.first)?;
     let near = by_rest::<W, S>(s, &mut scratch, &parts, half)?;
     y.above(k + 1).set_number(&mut scratch.a);
-    let in_range = zero_by(s, &mut scratch.b, &mut scratch.c, &scratch.a)?;
+    let in_range = zero_by(s, &mut scratch)?;
     ends(s, &mut scratch, in_range, near)
 }
 

@@ -134,7 +134,7 @@ fn level<S: Sink>(s: &mut S, scratch: &mut Scratch, marks: &Marks, k: u32) -> Pu
     for j in 0..power(k) - 1 {
         scratch.a.set_wire(marks.bits.offset(k));
         marks.set_mark(&mut scratch.b, k, j);
-        times_by(s, &mut scratch.c, &scratch.a, &scratch.b)?;
+        times_by(s, scratch)?;
     }
     Ok(())
 }

@@ -1,4 +1,4 @@
-use Rattle.tv_core.proofs.Common.{refl, refused, some_then, some_first, puts_in_then}
+use Rattle.tv_core.proofs.Common.{refl, arith, refused, some_then, some_first, puts_in_then}
 use Rattle.tv_bits.proofs.Growing.{fewer, within, kept, both, both_in, left}
 use Rattle.tv_regs.specs.Triple.{roots_of}
 use Rattle.tv_regs.proofs.Rooms.{top_number}
@@ -14,14 +14,14 @@ pub returns-in_err-other-clause-puts : goal.returns-in_err-other-clause-puts
 unfolding roots_of
 returns-in_err-other-clause-puts g c =
     let dest = rw (c.set_number.ensures.terms) at c.in_ok-dest.ensures.puts in
-    let other = rw (c.terms.ensures.terms, c.set_number-2.ensures.terms) at c.in_err-other.ensures.puts in
+    let other = rw (c.plus_terms.ensures.terms, c.clear.ensures, c.terms.ensures.terms, c.number_terms-source.ensures.terms) at c.in_err-other.ensures.puts in
     refused _ _ _ _ _ c.from_residual-in_err-other.ensures.1 (some_then _ dest (some_first _ other))
 
 pub returns-clause-puts : goal.returns-clause-puts
 unfolding roots_of
 returns-clause-puts g c =
     let dest = rw (c.set_number.ensures.terms) at c.in_ok-dest.ensures.puts in
-    let other = rw (c.terms.ensures.terms, c.set_number-2.ensures.terms) at c.in_ok-other.ensures.puts in
+    let other = rw (c.plus_terms.ensures.terms, c.clear.ensures, c.terms.ensures.terms, c.number_terms-source.ensures.terms) at c.in_ok-other.ensures.puts in
     puts_in_then g.S.Sink.meaning _ _ _ _ _ _ _ dest (puts_in_then g.S.Sink.meaning _ _ _ _ _ _ _ other c.sums.ensures.puts)
 
 pub kept_by-requires : goal.kept_by-requires
@@ -33,7 +33,12 @@ pub pick_by-requires-clause-room : goal.pick_by-requires-clause-room
 pick_by-requires-clause-room g c = left c.in_ok-dest.ensures.grows c.requires.room refl refl
 
 pub pick_by-requires-clause-b_made : goal.pick_by-requires-clause-b_made
-pick_by-requires-clause-b_made g c = within c.in_ok-dest.ensures.grows c.requires.stores_made
+pick_by-requires-clause-b_made g c = rw (c.plus_terms.ensures.terms, c.clear.ensures, c.terms.ensures.terms) (within c.in_ok-dest.ensures.grows c.requires.stores_made)
+
+pub pick_by-requires-clause-made : goal.pick_by-requires-clause-made
+pick_by-requires-clause-made g c =
+    let dest = c.in_ok-dest.ensures in
+    omega (arith, dest.below, c.number_terms-source.ensures.top, within dest.grows c.requires.names_made.source_made)
 
 pub sums-requires : goal.sums-requires
 sums-requires g c =

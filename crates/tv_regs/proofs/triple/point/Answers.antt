@@ -15,7 +15,7 @@ pub returns-clause-puts : goal.returns-clause-puts
 unfolding more_of point_of
 returns-clause-puts g c =
     let bend = rw (c.set_wire.ensures.terms, c.offset.ensures) at c.in_ok-bend.ensures.puts in
-    let word = rw (c.plus.ensures.terms, c.set_wire-2.ensures.terms, c.offset-2.ensures) at c.more_by.ensures.puts in
+    let word = rw (c.plus.ensures.terms, c.set_wire-2.ensures.terms, c.offset-2.ensures, c.in_ok-bend.ensures.a) at c.more_by.ensures.puts in
     puts_in_then _ _ _ _ _ _ _ _ bend word
 
 pub times_by-requires : goal.times_by-requires
@@ -30,7 +30,7 @@ more_by-requires g c =
     let made = within bend.grows r.curve_made in
     record {
       room = left bend.grows r.room refl refl;
-      x_made = within bend.grows r.n_made;
+      x_made = rw bend.a (within bend.grows r.n_made);
       y_made = top_more c.plus.ensures.top (top_second _ c.set_wire-2.ensures.top c.offset-2.ensures made) bend.below;
       old_made = begins _ made;
     }

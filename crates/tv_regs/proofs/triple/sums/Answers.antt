@@ -23,7 +23,7 @@ unfolding sums_of pairs_of more_of
 returns-in_err-pairs-clause-puts g c =
     let sum = rw (c.plus-2.ensures.terms, c.plus.ensures.terms, c.set_number.ensures.terms) at c.in_ok-sum.ensures.puts in
     let pair = rw (c.set_wire.ensures.terms, c.set_number-2.ensures.terms) at c.in_ok-pair.ensures.puts in
-    let pairs = rw (c.set_wire-2.ensures.terms, c.plus-3.ensures.terms, c.set_number-2.ensures.terms) at c.in_err-pairs.ensures.puts in
+    let pairs = rw (c.set_wire-2.ensures.terms, c.plus-3.ensures.terms, c.in_ok-pair.ensures.b, c.set_number-2.ensures.terms) at c.in_err-pairs.ensures.puts in
     refused _ _ _ _ _ c.from_residual-in_err-pairs.ensures.1 (some_then _ sum (some_then _ pair (some_first _ pairs)))
 
 pub returns-in_err-product-clause-puts : goal.returns-in_err-product-clause-puts
@@ -31,8 +31,8 @@ unfolding sums_of pairs_of more_of
 returns-in_err-product-clause-puts g c =
     let sum = rw (c.plus-2.ensures.terms, c.plus.ensures.terms, c.set_number.ensures.terms) at c.in_ok-sum.ensures.puts in
     let pair = rw (c.set_wire.ensures.terms, c.set_number-2.ensures.terms) at c.in_ok-pair.ensures.puts in
-    let pairs = rw (c.set_wire-2.ensures.terms, c.plus-3.ensures.terms, c.set_number-2.ensures.terms) at c.in_ok-pairs.ensures.puts in
-    let product = rw (c.set_wire-2.ensures.terms, c.set_wire-3.ensures.terms) at c.in_err-product.ensures.puts in
+    let pairs = rw (c.set_wire-2.ensures.terms, c.plus-3.ensures.terms, c.in_ok-pair.ensures.b, c.set_number-2.ensures.terms) at c.in_ok-pairs.ensures.puts in
+    let product = rw (c.set_wire-3.ensures.terms, c.set_wire-4.ensures.terms) at c.in_err-product.ensures.puts in
     refused _ _ _ _ _ c.from_residual-in_err-product.ensures.1 (some_then _ sum (some_then _ pair (some_then _ pairs (some_first _ product))))
 
 pub returns-clause-puts : goal.returns-clause-puts
@@ -40,8 +40,8 @@ unfolding sums_of pairs_of more_of
 returns-clause-puts g c =
     let sum = rw (c.plus-2.ensures.terms, c.plus.ensures.terms, c.set_number.ensures.terms) at c.in_ok-sum.ensures.puts in
     let pair = rw (c.set_wire.ensures.terms, c.set_number-2.ensures.terms) at c.in_ok-pair.ensures.puts in
-    let pairs = rw (c.set_wire-2.ensures.terms, c.plus-3.ensures.terms, c.set_number-2.ensures.terms) at c.in_ok-pairs.ensures.puts in
-    let product = rw (c.set_wire-2.ensures.terms, c.set_wire-3.ensures.terms) at c.in_ok-product.ensures.puts in
+    let pairs = rw (c.set_wire-2.ensures.terms, c.plus-3.ensures.terms, c.in_ok-pair.ensures.b, c.set_number-2.ensures.terms) at c.in_ok-pairs.ensures.puts in
+    let product = rw (c.set_wire-3.ensures.terms, c.set_wire-4.ensures.terms) at c.in_ok-product.ensures.puts in
     all_then _ sum (all_then _ pair (all_then _ pairs (all_then _ product all_pure)))
 
 pub plus-requires : goal.plus-requires
@@ -70,7 +70,7 @@ times_by-requires g c =
     }
 
 pub plus-requires-3 : goal.plus-requires-3
-plus-requires-3 g c = short_number c.set_number-2.ensures.len c.requires.named_short
+plus-requires-3 g c = rw c.in_ok-pair.ensures.b (short_number c.set_number-2.ensures.len c.requires.named_short)
 
 pub more_by-requires : goal.more_by-requires
 more_by-requires g c =
@@ -80,7 +80,7 @@ more_by-requires g c =
     record {
       room = left g2 r.room refl refl;
       x_made = top_wire c.set_wire-2.ensures.top (kept g2 r.dest_made);
-      y_made = top_more c.plus-3.ensures.top number (kept g2 r.other_made);
+      y_made = top_more c.plus-3.ensures.top (rw c.in_ok-pair.ensures.b number) (kept g2 r.other_made);
       old_made = c.in_ok-pair.ensures.below;
     }
 
@@ -91,7 +91,7 @@ times_by-requires-2 g c =
     record {
       room = left g3 c.requires.room refl refl;
       x_made = top_wire c.set_wire-3.ensures.top (kept pairs c.in_ok-pair.ensures.below);
-      y_made = top_wire c.set_wire-2.ensures.top (kept g3 c.requires.dest_made);
+      y_made = top_wire c.set_wire-4.ensures.top (kept g3 c.requires.dest_made);
     }
 
 pub returns-clause-grows : goal.returns-clause-grows

@@ -1,4 +1,16 @@
+use Rattle.tv_core.proofs.Common.{arith, refused, all_then, all_pure, some_then, some_first}
+use Rattle.tv_bits.proofs.Growing.{within, made_by, top_wire}
+use Rattle.tv_bits.specs.Times.{times_of}
 use Rattle.tv_rows.proofs.row_differences.sign_difference.Goals as goal
 
+pub returns-in_err-put-clause-puts : goal.returns-in_err-put-clause-puts
+unfolding times_of
+returns-in_err-put-clause-puts g c =
+    let product = rw (c.set_wire.ensures.terms, c.plus-2.ensures.terms, c.plus.ensures.terms, c.clear.ensures, c.neg.ensures) at c.in_err-put.ensures.puts in
+    refused _ _ _ _ _ c.from_residual.ensures.1 (some_then _ c.fresh-signs.ensures.puts (some_first _ product))
+
 pub returns-clause-puts : goal.returns-clause-puts
-returns-clause-puts g c = rw (c.plus-2.ensures.terms, c.plus.ensures.terms, c.clear.ensures, c.neg.ensures) at c.times_by.ensures.puts
+unfolding times_of
+returns-clause-puts g c =
+    let product = rw (c.set_wire.ensures.terms, c.plus-2.ensures.terms, c.plus.ensures.terms, c.clear.ensures, c.neg.ensures) at c.in_ok-put.ensures.puts in
+    all_then _ c.fresh-signs.ensures.puts (all_then _ product all_pure)

@@ -32,6 +32,7 @@ returns-in_err-right-clause-puts g c =
       c.set_times_half.ensures.terms,
     ) at c.in_ok-left.ensures.puts in
     let right = rw (
+      c.in_ok-left.ensures.a,
       c.set_mark_power.ensures.terms,
       c.half_log.ensures,
       half_power g.row.W c.requires.width,
@@ -57,6 +58,7 @@ returns-clause-puts g c =
       c.set_times_half.ensures.terms,
     ) at c.in_ok-left.ensures.puts in
     let right = rw (
+      c.in_ok-left.ensures.a,
       c.set_mark_power.ensures.terms,
       c.half_log.ensures,
       half_power g.row.W c.requires.width,

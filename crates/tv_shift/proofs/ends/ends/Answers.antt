@@ -12,12 +12,12 @@ pub returns-in_err-right-clause-puts : goal.returns-in_err-right-clause-puts
 unfolding ends_of
 returns-in_err-right-clause-puts g c =
     let left = rw (c.set_wire.ensures.terms, c.set_wire-2.ensures.terms) at c.in_ok-left.ensures.puts in
-    let right = rw (c.set_wire.ensures.terms, c.set_wire-3.ensures.terms) at c.in_err-right.ensures.puts in
+    let right = rw (c.in_ok-left.ensures.a, c.set_wire.ensures.terms, c.set_wire-3.ensures.terms) at c.in_err-right.ensures.puts in
     refused _ _ _ _ _ c.from_residual-in_err-right.ensures.1 (some_then _ left (some_first _ right))
 
 pub returns-clause-puts : goal.returns-clause-puts
 unfolding ends_of
 returns-clause-puts g c =
     let left = rw (c.set_wire.ensures.terms, c.set_wire-2.ensures.terms) at c.in_ok-left.ensures.puts in
-    let right = rw (c.set_wire.ensures.terms, c.set_wire-3.ensures.terms) at c.in_ok-right.ensures.puts in
+    let right = rw (c.in_ok-left.ensures.a, c.set_wire.ensures.terms, c.set_wire-3.ensures.terms) at c.in_ok-right.ensures.puts in
     all_then _ left (all_then _ right all_pure)
