@@ -33,7 +33,8 @@ pub pick_by-requires-clause-room : goal.pick_by-requires-clause-room
 pick_by-requires-clause-room g c = left c.in_ok-dest.ensures.grows c.requires.room refl refl
 
 pub pick_by-requires-clause-b_made : goal.pick_by-requires-clause-b_made
-pick_by-requires-clause-b_made g c = rw (c.plus_terms.ensures.terms, c.clear.ensures, c.terms.ensures.terms) (within c.in_ok-dest.ensures.grows c.requires.stores_made)
+pick_by-requires-clause-b_made g c =
+    rw (c.plus_terms.ensures.terms, c.clear.ensures, c.terms.ensures.terms) (within c.in_ok-dest.ensures.grows c.requires.stores_made)
 
 pub pick_by-requires-clause-made : goal.pick_by-requires-clause-made
 pick_by-requires-clause-made g c =
