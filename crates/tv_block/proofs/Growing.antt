@@ -1,6 +1,7 @@
 -- What stands below the next wire, and the room that is left, call by call of a step.
 use Rattle.tv_core.proofs.Common.{◌≡◌, ℕ, ◌+◌, ◌-◌, ◌*◌, ◌/◌, ◌^◌, ◌≤◌, ◌<◌, Result, Ok, Err, ap, subst, sym, arith, Grows, IsWidth}
 use Rattle.std.proofs.Common.{IfOk}
+pub use Rattle.tv_bits.proofs.Growing.{grows_as, made_by}
 pub use Rattle.tv_core.proofs.Rooms.{both}
 use Rattle.tv_core.proofs.Rooms.{room_here, room_left}
 use Rattle.tv_core.specs.Sinks.{Meaning, Room}
@@ -30,12 +31,6 @@ module _ {S : Type 0} {m : Meaning S} where
   pub after : {a b : S} {k l x y : ℕ} → Grows m a b k l → Room m a (k + x) (l + y) → Room m b x y
   after g r = room_left r g (omega arith)
 
-  pub room_as : {a : S} {k l x y : ℕ} → k ≡ x → l ≡ y → Room m a k l → Room m a x y
-  room_as {a} {k} {l} {x} {y} e f r = subst (λ n. Room m a n y) e (subst (λ n. Room m a k n) f r)
-
-  pub grows_as : {a b : S} {k l x y : ℕ} → k ≡ x → l ≡ y → Grows m a b k l → Grows m a b x y
-  grows_as {a} {b} {k} {l} {x} {y} e f g = subst (λ n. Grows m a b n y) e (subst (λ n. Grows m a b k n) f g)
-
   -- where the last call succeeds
   pub if_ok : {T E : Type 0} {old mid new : S} (result : Result T E) {k l made added : ℕ}
       → (Grows m mid new k l → Grows m old new made added) → IfOk result (λ _. Grows m mid new k l) → IfOk result (λ _. Grows m old new made added)
@@ -45,26 +40,23 @@ module _ {S : Type 0} {m : Meaning S} where
   -- what the calls of a step's two parts need
   pub computed_room : (w : ℕ) {a : S} → Room m a (computed_made w) (computed_added w)
       → Room m a (2 * w + 26 + (31 + (w + 1 + (1 + (3 * w + w / 16 + 12))))) (2 * w + 27 + (28 + (w + 2 + (0 + (3 * w + w / 16 + 22)))))
-  computed_room w r = room_as (omega arith) (omega arith) r
+  computed_room w r = room_here r (omega arith)
 
   pub effects_room : (w : ℕ) {a : S} → Room m a (effects_made w) (effects_added w)
       → Room m a (7 + (w / 8 + 5 + (5 + (1 + 24)))) (7 + (w / 8 + 5 + (8 + (2 + 25))))
-  effects_room w r = room_as (omega arith) (omega arith) r
+  effects_room w r = room_here r (omega arith)
 
   pub computed_grows : (w : ℕ) {a b : S} → Grows m a b (2 * w + 26 + (31 + (w + 1 + (1 + (3 * w + w / 16 + 12))))) (2 * w + 27
       + (28 + (w + 2 + (0 + (3 * w + w / 16 + 22))))) → Grows m a b (computed_made w) (computed_added w)
-  computed_grows w g = grows_as (omega arith) (omega arith) g
+  computed_grows w g = grows_as g (omega arith) (omega arith)
 
   pub effects_grow : (w : ℕ) {a b : S} → Grows m a b (7 + (w / 8 + 5 + (5 + (1 + 24)))) (7 + (w / 8 + 5 + (8 + (2 + 25))))
       → Grows m a b (effects_made w) (effects_added w)
-  effects_grow w g = grows_as (omega arith) (omega arith) g
+  effects_grow w g = grows_as g (omega arith) (omega arith)
 
   -- the next wire, and one below the next, have numbers of 32 bits
   pub next_fits : {a : S} (x : ℕ) {y : ℕ} → Room m a (1 + x) y → m.wires a < 2 ^ 32 - 1
   next_fits x r = omega (arith, r.wires)
-
-  pub made_next : {a b : S} {n : ℕ} → Grows m a b 1 0 → n ≡ m.wires a → n < m.wires b
-  made_next g e = omega (arith, g.wires, e)
 
   pub within : {a : S} {k l n : ℕ} → Room m a k l → n ≤ m.wires a → n < 2 ^ 32
   within r h = omega (arith, r.wires, h)

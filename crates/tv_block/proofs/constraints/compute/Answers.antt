@@ -1,5 +1,5 @@
 use Rattle.tv_core.proofs.Common.{all_then, some_then, some_first, all_pure, refused}
-use Rattle.tv_block.proofs.Growing.{rises, both, now, after, computed_room, computed_grows, next_fits, made_next, within, up, one_up, state_under, triple_under}
+use Rattle.tv_block.proofs.Growing.{rises, both, now, after, computed_room, computed_grows, next_fits, made_by, within, up, one_up, state_under, triple_under}
 use Rattle.tv_block.proofs.Growing.{operand_under, instruction_under, tail_under, imm_under}
 use Rattle.tv_block.specs.Block.{computed_of}
 use Rattle.tv_block.proofs.constraints.compute.Goals as goal
@@ -87,7 +87,7 @@ put_arithmetic-requires g c =
         operand = operand_under (rises e4.grows) e3.below;
       };
       other_made = one_up (rises g34) e2.below.other;
-      f_made = made_next e4.grows e4.next;
+      f_made = made_by e4.grows e4.next;
     }
 
 pub returns-clause-grows : goal.returns-clause-grows
@@ -108,6 +108,6 @@ returns-clause-below g c =
       op = up (rises (both e2.grows g345)) (instruction_under _ c.requires.width e1.grows e1.places).op;
       regs = triple_under (rises g345) e2.below;
       operand = operand_under (rises g45) e3.below;
-      test = one_up (rises e5.grows) (made_next e4.grows e4.next);
+      test = one_up (rises e5.grows) (made_by e4.grows e4.next);
       made = e5.below;
     }

@@ -93,6 +93,6 @@ returns-clause-grows g c =
     let constraints = constraints_are c.args.net (runs_of g.row.W c.args.image.now c.args.n c.args.t) in
     let made = ap (argument_made c.args.net checks) c.log_of-k.ensures.is in
     let added = ap (argument_added c.args.net checks) c.log_of-k.ensures.is in
-    if_ok c.memory.result (λ last. grows_as (omega (arith, made, wires)) (omega (arith, added, constraints))
-    (both c.in_ok-words.ensures.grows (both c.in_ok-zero_wires.ensures.grows (both c.in_ok-last.ensures.grows (both c.in_ok-tie.ensures.grows last)))))
-    c.memory.ensures.grows
+    if_ok c.memory.result (λ last. grows_as
+    (both c.in_ok-words.ensures.grows (both c.in_ok-zero_wires.ensures.grows (both c.in_ok-last.ensures.grows (both c.in_ok-tie.ensures.grows last))))
+    (omega (arith, made, wires)) (omega (arith, added, constraints))) c.memory.ensures.grows
