@@ -1,5 +1,4 @@
-use Rattle.tv_core.proofs.Common.{arith, refused, all_then, all_pure, some_then, some_first}
-use Rattle.tv_bits.proofs.Growing.{within, made_by, top_wire}
+use Rattle.tv_core.proofs.Common.{refused, all_then, all_pure, some_then, some_first}
 use Rattle.tv_bits.specs.Times.{times_of}
 use Rattle.tv_rows.proofs.row_differences.sign_difference.Goals as goal
 
