@@ -1,4 +1,4 @@
-pub mod More
+pub mod ProductPlus
 pub mod Reads
 pub mod Writes
 pub mod Triple

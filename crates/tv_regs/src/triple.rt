@@ -14,7 +14,7 @@ ghost use Rattle.tv_core.specs.Inverse.{inverse_of};
 ghost use Rattle.tv_core.specs.Sinks.{PutsIn, Grows, Room};
 ghost use Rattle.tv_core.specs.declared.field.TheConstants.{P};
 ghost use Rattle.tv_bits.specs.Wires.{wires_top};
-ghost use Rattle.tv_regs.specs.More.{more_of};
+ghost use Rattle.tv_regs.specs.ProductPlus.{product_plus_of};
 ghost use Rattle.tv_regs.specs.Triple.{roots_of, sums_of, cubic, departure};
 ghost use Rattle.tv_regs.specs.Triple.{passes_of, curve_of, point_of, triple_of, triple_wires};
 ghost use Rattle.tv_regs.specs.Triple.{AreNames};
@@ -189,7 +189,7 @@ fn sums<S: Sink>(
     let pair = times_by(s, scratch)?;
     scratch.a.set_wire(dest);
     scratch.b.plus(F::ONE, other);
-    let pairs = more_by(s, scratch, pair)?;
+    let pairs = product_plus(s, scratch, pair)?;
     scratch.a.set_wire(pair);
     scratch.b.set_wire(dest);
     let product = times_by(s, scratch)?;
@@ -202,13 +202,14 @@ fn sums<S: Sink>(
     })
 }
 
-// A wire that is the product of the factors in `scratch`, and `old`.
-fn more_by<S: Sink>(s: &mut S, scratch: &mut Scratch, old: Wire) -> Put<Wire>
+// A wire that is the product of the factors in `scratch` plus `old`.
+fn product_plus<S: Sink>(s: &mut S, scratch: &mut Scratch, old: Wire) -> Put<Wire>
     requires room { Room S.meaning s.old 1 1 }
     requires x_made { top scratch.old.a ≤ S.meaning.wires s.old }
     requires y_made { top scratch.old.b ≤ S.meaning.wires s.old }
     requires old_made { old < S.meaning.wires s.old }
-    ensures puts { PutsIn S.meaning s.old s.new (more_of scratch.old.a scratch.old.b old) result }
+    ensures puts { PutsIn S.meaning s.old s.new
+        (product_plus_of scratch.old.a scratch.old.b old) result }
     ensures grows { IfOk result (λ _. Grows S.meaning s.old s.new 1 1) }
     ensures below { IfOk result (λ new. new < S.meaning.wires s.new) }
 {
@@ -309,7 +310,7 @@ fn point<S: Sink>(s: &mut S, scratch: &mut Scratch, curve: Wire) -> Put<Wire>
     let bend = times_by(s, scratch)?;
     scratch.b.set_wire(curve.offset(1));
     scratch.b.plus(F::ONE, bend);
-    more_by(s, scratch, curve)
+    product_plus(s, scratch, curve)
 }
 
 /// Assigns the 31 values of the wires that `read_triple` makes, for the numbers of the three

@@ -1,6 +1,6 @@
 use Rattle.tv_core.proofs.Common.{refl, refused, some_first, puts_in_then}
 use Rattle.tv_bits.proofs.Growing.{fewer, within, both_in, left}
-use Rattle.tv_regs.specs.More.{more_of}
+use Rattle.tv_regs.specs.ProductPlus.{product_plus_of}
 use Rattle.tv_regs.specs.Triple.{point_of}
 use Rattle.tv_regs.proofs.Rooms.{top_more, top_second, top_third, begins}
 use Rattle.tv_regs.proofs.triple.point.Goals as goal
@@ -12,10 +12,10 @@ returns-in_err-bend-clause-puts g c =
     refused _ _ _ _ _ c.from_residual.ensures.1 (some_first _ bend)
 
 pub returns-clause-puts : goal.returns-clause-puts
-unfolding more_of point_of
+unfolding product_plus_of point_of
 returns-clause-puts g c =
     let bend = rw (c.set_wire.ensures.terms, c.offset.ensures) at c.in_ok-bend.ensures.puts in
-    let word = rw (c.plus.ensures.terms, c.set_wire-2.ensures.terms, c.offset-2.ensures, c.in_ok-bend.ensures.a) at c.more_by.ensures.puts in
+    let word = rw (c.plus.ensures.terms, c.set_wire-2.ensures.terms, c.offset-2.ensures, c.in_ok-bend.ensures.a) at c.product_plus.ensures.puts in
     puts_in_then _ _ _ _ _ _ _ _ bend word
 
 pub times_by-requires : goal.times_by-requires
@@ -23,8 +23,8 @@ times_by-requires g c =
     let r = c.requires in
     record { room = fewer r.room refl refl; x_made = r.n_made; y_made = top_third _ c.set_wire.ensures.top c.offset.ensures r.curve_made }
 
-pub more_by-requires : goal.more_by-requires
-more_by-requires g c =
+pub product_plus-requires : goal.product_plus-requires
+product_plus-requires g c =
     let r = c.requires in
     let bend = c.in_ok-bend.ensures in
     let made = within bend.grows r.curve_made in
@@ -36,4 +36,4 @@ more_by-requires g c =
     }
 
 pub returns-clause-grows : goal.returns-clause-grows
-returns-clause-grows g c = both_in c.in_ok-bend.ensures.grows _ _ _ c.more_by.result c.more_by.ensures.grows
+returns-clause-grows g c = both_in c.in_ok-bend.ensures.grows _ _ _ c.product_plus.result c.product_plus.ensures.grows

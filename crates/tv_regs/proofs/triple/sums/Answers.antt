@@ -1,25 +1,25 @@
 use Rattle.tv_core.proofs.Common.{refl, refused, all_then, all_pure, some_then, some_first}
 use Rattle.tv_bits.proofs.Growing.{fewer, within, kept, both, left, top_wire}
-use Rattle.tv_regs.specs.More.{more_of}
+use Rattle.tv_regs.specs.ProductPlus.{product_plus_of}
 use Rattle.tv_regs.specs.Triple.{pairs_of, sums_of}
 use Rattle.tv_regs.proofs.Rooms.{top_number, top_more, short_number, short_more}
 use Rattle.tv_regs.proofs.triple.sums.Goals as goal
 
 pub returns-in_err-sum-clause-puts : goal.returns-in_err-sum-clause-puts
-unfolding sums_of pairs_of more_of
+unfolding sums_of pairs_of product_plus_of
 returns-in_err-sum-clause-puts g c =
     let sum = rw (c.plus-2.ensures.terms, c.plus.ensures.terms, c.set_number.ensures.terms) at c.in_err-sum.ensures.puts in
     refused _ _ _ _ _ c.from_residual.ensures.1 (some_first _ sum)
 
 pub returns-in_err-pair-clause-puts : goal.returns-in_err-pair-clause-puts
-unfolding sums_of pairs_of more_of
+unfolding sums_of pairs_of product_plus_of
 returns-in_err-pair-clause-puts g c =
     let sum = rw (c.plus-2.ensures.terms, c.plus.ensures.terms, c.set_number.ensures.terms) at c.in_ok-sum.ensures.puts in
     let pair = rw (c.set_wire.ensures.terms, c.set_number-2.ensures.terms) at c.in_err-pair.ensures.puts in
     refused _ _ _ _ _ c.from_residual-in_err-pair.ensures.1 (some_then _ sum (some_first _ pair))
 
 pub returns-in_err-pairs-clause-puts : goal.returns-in_err-pairs-clause-puts
-unfolding sums_of pairs_of more_of
+unfolding sums_of pairs_of product_plus_of
 returns-in_err-pairs-clause-puts g c =
     let sum = rw (c.plus-2.ensures.terms, c.plus.ensures.terms, c.set_number.ensures.terms) at c.in_ok-sum.ensures.puts in
     let pair = rw (c.set_wire.ensures.terms, c.set_number-2.ensures.terms) at c.in_ok-pair.ensures.puts in
@@ -27,7 +27,7 @@ returns-in_err-pairs-clause-puts g c =
     refused _ _ _ _ _ c.from_residual-in_err-pairs.ensures.1 (some_then _ sum (some_then _ pair (some_first _ pairs)))
 
 pub returns-in_err-product-clause-puts : goal.returns-in_err-product-clause-puts
-unfolding sums_of pairs_of more_of
+unfolding sums_of pairs_of product_plus_of
 returns-in_err-product-clause-puts g c =
     let sum = rw (c.plus-2.ensures.terms, c.plus.ensures.terms, c.set_number.ensures.terms) at c.in_ok-sum.ensures.puts in
     let pair = rw (c.set_wire.ensures.terms, c.set_number-2.ensures.terms) at c.in_ok-pair.ensures.puts in
@@ -36,7 +36,7 @@ returns-in_err-product-clause-puts g c =
     refused _ _ _ _ _ c.from_residual-in_err-product.ensures.1 (some_then _ sum (some_then _ pair (some_then _ pairs (some_first _ product))))
 
 pub returns-clause-puts : goal.returns-clause-puts
-unfolding sums_of pairs_of more_of
+unfolding sums_of pairs_of product_plus_of
 returns-clause-puts g c =
     let sum = rw (c.plus-2.ensures.terms, c.plus.ensures.terms, c.set_number.ensures.terms) at c.in_ok-sum.ensures.puts in
     let pair = rw (c.set_wire.ensures.terms, c.set_number-2.ensures.terms) at c.in_ok-pair.ensures.puts in
@@ -72,8 +72,8 @@ times_by-requires g c =
 pub plus-requires-3 : goal.plus-requires-3
 plus-requires-3 g c = rw c.in_ok-pair.ensures.b (short_number c.set_number-2.ensures.len c.requires.named_short)
 
-pub more_by-requires : goal.more_by-requires
-more_by-requires g c =
+pub product_plus-requires : goal.product_plus-requires
+product_plus-requires g c =
     let r = c.requires in
     let g2 = both c.in_ok-sum.ensures.grows c.in_ok-pair.ensures.grows in
     let number = top_number _ c.set_number-2.ensures.top r.named_short (within g2 r.named_made) in

@@ -1,17 +1,17 @@
 use Rattle.tv_core.proofs.Common.{refl, refused, all_then, all_pure, some_then, some_first}
 use Rattle.tv_bits.proofs.Growing.{fresh_fits, within, kept, both, put_fits, made_by}
-use Rattle.tv_regs.specs.More.{more_of}
+use Rattle.tv_regs.specs.ProductPlus.{product_plus_of}
 use Rattle.tv_regs.proofs.Rooms.{top_more, top_none}
-use Rattle.tv_regs.proofs.triple.more_by.Goals as goal
+use Rattle.tv_regs.proofs.triple.product_plus.Goals as goal
 
 pub returns-in_err-put-clause-puts : goal.returns-in_err-put-clause-puts
-unfolding more_of
+unfolding product_plus_of
 returns-in_err-put-clause-puts g c =
     let sides = rw (c.plus-2.ensures.terms, c.plus.ensures.terms, c.clear.ensures, c.neg.ensures) at c.in_err-put.ensures.puts in
     refused _ _ _ _ _ c.from_residual.ensures.1 (some_then _ c.fresh-new.ensures.puts (some_first _ sides))
 
 pub returns-clause-puts : goal.returns-clause-puts
-unfolding more_of
+unfolding product_plus_of
 returns-clause-puts g c =
     let sides = rw (c.plus-2.ensures.terms, c.plus.ensures.terms, c.clear.ensures, c.neg.ensures) at c.in_ok-put.ensures.puts in
     all_then _ c.fresh-new.ensures.puts (all_then _ sides all_pure)
