@@ -1,6 +1,6 @@
 -- From what reading a container came to, by what its file holds, to what a look at the file found.
-use Rattle.tv_core.proofs.Common.{◌≡◌, ℕ, ◌≤◌, List, [], ◌∷◌, Option, Some, None, Result, Ok, Err, inl, inr, refl, arith}
-use Rattle.std.specs.Prelude.{MatchResult}
+use Rattle.tv_core.proofs.Common.{◌≡◌, ℕ, ◌≤◌, List, [], ◌∷◌, Option, Some, None, Result, Ok, Err, inl, inr, refl, ap, arith}
+use Rattle.std.specs.Prelude.{MatchResult, IsErrAnd}
 use Rattle.tv_plan.proofs.Common.{Names, Outside, OnlyReads, MissesOnly, Rose, Bad, What, Stop, MayStop, IsFound, Finds, Spares, Named, Look, input, held_at}
 use Rattle.tv_plan.proofs.Common.{made_of, map_ok}
 use Rattle.tv_container.specs.Places.{Fault, ◌>>=◌}
@@ -24,6 +24,13 @@ StopsBy word sizes Faulty (stop.Contents bad) = MayStop sizes (stop.Contents bad
 abbrev pub came : {Y E : Type 0} → (E → Stop) → Result Y E → Result Y Stop
 came stop (Ok y) = Ok y
 came stop (Err why) = Err (stop why)
+
+-- where each refusal was mapped to what it stops
+pub came_by : {Y E : Type 0} (stop : E → Stop) (Maps : E → Stop → Type 0) (result : Result Y E) (found : Result Y Stop) →
+    MatchResult result (λ y. found ≡ Ok y) (λ why. IsErrAnd found (Maps why)) → ((why : E) (s : Stop) → Maps why s → s ≡ stop why) → found ≡ came stop result
+came_by stop Maps (Ok y) found is maps = is
+came_by stop Maps (Err why) (Err s) is maps = ap Err (maps why s is)
+came_by stop Maps (Err why) (Ok y) is maps = absurd is
 
 module _ {Y E A : Type 0} (view : Y → A) (of : E → Stop) (fault : E) (word : ℕ) (sizes : List What) (name : List ℕ) (due : Option (List ℕ) → Look A)
     (old new : Outside) (Stands : E → Type 0) where

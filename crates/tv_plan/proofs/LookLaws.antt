@@ -161,6 +161,38 @@ made_found view of_read place what sizes most f read text made old new finds is 
   limits = λ size has most e. inr (limits_made view (f text) made sizes makes limited size has most e);
 }
 
+-- nothing is made of a file that couldn't be read
+unread : {A : Type 0} (word : ℕ) (what : What) (most : ℕ) (f : List ℕ → Result A Bad) (file : Option (List ℕ)) (stop : Stop) →
+    held_at word (within what most (λ bytes. Ok bytes)) file ≡ Err stop → held_at word (within what most f) file ≡ Err stop
+unread word what most f None stop e = let same : Fault word ≡ stop = cc in ap Err same
+unread word what most f (Some held) stop e =
+    cond_both (nat_le (length held) most) (Ok held) (Err (bad.Limit what (most + 1) most))
+    (λ read. made_of read ≡ Err stop → held_at word (within what most f) (Some held) ≡ Err stop) (λ _ e. cc)
+    (λ over e. let same : Contents (bad.Limit what (most + 1) most) ≡ stop = cc in rw over (ap Err same)) e
+
+unfound : {X Y A : Type 0} (view : X → A) (read : Y → List ℕ) (place : Named) (what : What) (most : ℕ) (f : List ℕ → Result A Bad) (files : Names) (stop : Stop)
+    → IsFound read (input place (within what most (λ bytes. Ok bytes)) files) (Err stop) → IsFound view (input place (within what most f) files) (Err stop)
+unfolding input
+unfound view read place what most f files (Contents why) is = unread place.word what most f (files place.name) _ is
+unfound view read place what most f files (Fault at) is = is
+unfound view read place what most f files Memory is = tt
+
+pub finds_unread : {X Y A : Type 0} {view : X → A} {of_read : Y → List ℕ} (place : Named) (what : What) (sizes : List What) (most : ℕ)
+    (f : List ℕ → Result A Bad) (old new : Outside) (stop : Stop) (found : Result X Stop) → IsErrAnd found (λ e. e ≡ stop) →
+    Finds of_read (reading_of place (what ∷ []) (within what most (λ bytes. Ok bytes))) old new (Err stop)
+    → Finds view (reading_of place (what ∷ sizes) (within what most f)) old new found
+unfolding input
+finds_unread place what sizes most f old new stop (Ok x) same finds = absurd same
+finds_unread {view} {of_read} place what sizes most f old new stop (Err other) same finds = rw same (record {
+  known = λ files known. unfound view of_read place what most f files stop (finds.known files known);
+  absent = λ files known. elim (finds.absent files known) [ inl is ↦ inl is | inr gone ↦ inr (gone.0, unread place.word what most f _ _ gone.1) ];
+  only = finds.only;
+  leaves = finds.leaves;
+  caused = λ word e. let same : stop ≡ Fault word = cc in finds.caused word (ap Err same);
+  limits = λ size has limit e. let same : stop ≡ Contents (bad.Limit size has limit) = cc in
+      left_at size (what ∷ []) sizes (finds.limits size has limit (ap Err same));
+})
+
 -- ---- how a command ends by what was found
 
 found_leads : {X A : Type 0} (view : X → A) (f : A → Outcome) (due : Look A) (found : Result X Stop) → IsFound view due found

@@ -16,6 +16,9 @@ use Rattle.tv_r1cs_write.specs.Streams.{IsSystemStreamed, labelled}
 use Rattle.tv_wtns.proofs.StreamLaws.{IsAssignmentStreamed}
 use Rattle.tv_plan.specs.Contents.{Content, Content.{Constraints, Values}}
 
+pub writes_at : {X : Type 0} {ws : List Write} {old mid new : Outside} {found : Result X Stop} → Writes ws old mid found → new ≡ mid → Writes ws old new found
+writes_at is same = rw same is
+
 pub writes_streamed : (w : Write) (old new : Outside) (result : Result (Unit {0}) SinkFault) → IsStreamed old new w.name (bytes_in w.content) result
     → OnOk result (IsRead w.content) → Writes (w ∷ []) old new (streamed w.word result)
 writes_streamed w old new (Ok done) is read = record { ended = (is.whole, (read, tt)); quiet = is.cause; only = is.only }

@@ -26,3 +26,12 @@ returns-clause-found g c =
     let tape = rw c.word_bound-below.ensures at c.in_ok-tape.ensures.found in
     let aux = rw c.word_bound-below.ensures at c.in_ok-aux.ensures.found in
     finds_on _ c.in_ok-program.ensures.found (finds_on _ tape (finds_on _ aux (finds_still (λ files known. refl))))
+
+pub returns-clause-fit : goal.returns-clause-fit
+returns-clause-fit g c = record {
+  image = c.in_ok-program.ensures.fits;
+  tape = rw c.word_bound-below.ensures at c.in_ok-tape.ensures.below;
+  tape_fits = c.in_ok-tape.ensures.few;
+  aux = rw c.word_bound-below.ensures at c.in_ok-aux.ensures.below;
+  aux_fits = c.in_ok-aux.ensures.few;
+}

@@ -7,7 +7,7 @@ use Rattle.tv_plan.specs.Tapes.{numbers_of, tape_stop}
 use Rattle.tv_plan.proofs.Common.{Makes, What}
 use Rattle.tv_plan.proofs.ContainerReads.{came}
 use Rattle.tv_plan.proofs.Sizes.{numbers_limited}
-use Rattle.tv_plan.proofs.LookLaws.{made_found}
+use Rattle.tv_plan.proofs.LookLaws.{finds_unread, made_found}
 use Rattle.tv_plan.proofs.tapes.read_numbers.Goals as goal
 
 -- what reading a tape makes of a text
@@ -24,6 +24,9 @@ made view word what below most text (Err (tape.TooBig at)) is (inl due) = rw due
 made view word what below most text (Err (tape.TooBig at)) is (inr memory) = cc
 made view word what below most text (Err (tape.TooMany many)) is (inl due) = rw due refl
 made view word what below most text (Err (tape.TooMany many)) is (inr memory) = cc
+
+pub returns-in_err-text-clause-found : goal.returns-in_err-text-clause-found
+returns-in_err-text-clause-found g c = finds_unread _ _ _ _ _ _ _ _ _ c.from_residual.ensures.1 c.in_err-text.ensures
 
 pub returns-clause-found : goal.returns-clause-found
 returns-clause-found g c =
