@@ -1,5 +1,5 @@
 -- The system of a program's runs is within the limits.
-use Rattle.tv_core.proofs.Common.{◌≤◌, ℕ, arith}
+use Rattle.tv_core.proofs.Common.{◌≤◌, ℕ, length, arith}
 use Rattle.tv_core.specs.declared.limits.TheConstants.{IMAGE_WORDS, TAPE_WORDS, STEPS}
 use Rattle.tv_layout.specs.Places.{WithinLimits}
 use Rattle.tv_plan.proofs.Common.{HasImage, image_words}
@@ -9,19 +9,17 @@ use Rattle.tv_plan.specs.declared.programs.Width.TheVariants.{Bits16, Bits32}
 use Rattle.tv_plan.proofs.ProgramLaws.{is_width}
 use Rattle.tv_top.specs.Build.{program_runs}
 
-few_words : (width : Width) → image_words width ≤ IMAGE_WORDS
-few_words Bits16 = omega arith
-few_words Bits32 = omega arith
+few_words : (width : Width) (n : ℕ) → n ≤ image_words width → n ≤ IMAGE_WORDS
+few_words Bits16 n few = omega arith
+few_words Bits32 n few = few
 
 -- the system of a program's runs has a size
 pub within_limits : (program : Program) (n t : ℕ) → HasImage program → n ≤ TAPE_WORDS → 1 ≤ t → t ≤ STEPS → WithinLimits (program_runs n t program)
-within_limits program n t image few some most =
-    let fits = few_words program.width in
-    record {
-      width = is_width program.width;
-      words = image.words;
-      image_fits = omega (arith, image.short, fits);
-      tape_fits = few;
-      some = some;
-      steps_fit = most;
-    }
+within_limits program n t image few some most = record {
+  width = is_width program.width;
+  words = image.words;
+  image_fits = few_words program.width (length program.words) image.short;
+  tape_fits = few;
+  some = some;
+  steps_fit = most;
+}

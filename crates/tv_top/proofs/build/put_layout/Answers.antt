@@ -11,7 +11,7 @@ use Rattle.tv_r1cs_write.specs.Streams as streams
 use Rattle.tv_r1cs_write.specs.Streams.{stream}
 use Rattle.tv_r1cs_write.specs.declared.stream.StreamSink.{StreamSink}
 use Rattle.tv_plan.specs.Contents.{Content.{Constraints}}
-use Rattle.tv_plan.proofs.StreamLaws.{writes_nothing, writes_system}
+use Rattle.tv_plan.proofs.StreamLaws.{writes_at, writes_nothing, writes_system}
 use Rattle.tv_top.proofs.build.put_layout.Given as given
 use Rattle.tv_top.proofs.build.put_layout.Goals as goal
 use Rattle.tv_top.proofs.build.put_layout.Goals.{In-Ok}
@@ -36,22 +36,19 @@ begun g c = record {
 
 pub returns-in-Err : goal.returns-in-Err
 returns-in-Err g c =
-    search (
-      rules,
-      writes_nothing c.args.place.word c.args.place.name.now
-          (Constraints (system_of c.args.net (runs_of g.row.W c.args.image.now c.args.n c.args.t))) _ _ c.in-Err.refused.why c.in-Err.ensures.err_creates,
-    )
+    writes_at (writes_nothing c.args.place.word c.args.place.name.now (Constraints (system_of c.args.net
+    (runs_of g.row.W c.args.image.now c.args.n c.args.t))) _ _ c.in-Err.refused.why c.in-Err.ensures.err_creates) (search rules)
 
 pub returns-in_err-emit_system : goal.returns-in_err-emit_system
 returns-in_err-emit_system g c =
     let is = streamed_some _ _ _ _ _ _ _ _ (range_with_len 0)
     (begun g (goal.at.returns-in_err-emit_system g c).In-Ok) c.emit_system.new.s c.in_err-emit_system.field-0.0 c.in_err-emit_system.ensures.puts in
     let p = err_from_is_err_and c.from_residual.result c.from_residual.ensures.1 in
-    rw (p.1, p.2) (search (rules, writes_system c.args.place.word _ _ _ _ _ is))
+    rw (p.1, p.2) (writes_at (writes_system c.args.place.word _ _ _ _ _ is) (search rules))
 
 pub returns : goal.returns
 returns g c =
     let is = streamed_all _ _ _ _ _ _ _ _ (range_with_len 0)
     (begun g (goal.at.returns g c).In-Ok) c.emit_system.new.s _ c.in_ok-emit_system.field-0 c.finish.result
     (length-range_with_len 0 _) c.in_ok-emit_system.ensures.puts c.finish.ensures in
-    search (rules, writes_system c.args.place.word _ _ _ _ c.finish.result is)
+    writes_at (writes_system c.args.place.word _ _ _ _ c.finish.result is) (search rules)
