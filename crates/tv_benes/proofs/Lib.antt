@@ -8,6 +8,7 @@ pub mod Moved
 pub mod NetworkChain
 pub mod NetworkComplete
 pub mod NetworkLaws
+pub mod NetworkRooms
 pub mod NormalLaws
 pub mod Permutations
 pub mod Placed

@@ -6,7 +6,7 @@ use Rattle.std.proofs.lemmas.Nat.{pow_pos}
 use Rattle.tv_benes.proofs.NetworkLaws.{bound-suc, less_missing, one_wires}
 use Rattle.tv_core.proofs.Rooms.{both}
 use Rattle.tv_benes.proofs.Sizes.{HasItems, HasEnds, level_below}
-use Rattle.tv_benes.proofs.ThroughLaws.{missing_small}
+use Rattle.tv_benes.proofs.ThroughLaws.{missing_small, above}
 use Rattle.tv_benes.specs.Levels.{width, other, innermost, level_wires}
 use Rattle.tv_benes.specs.Network.{column_of, last_column_of, level_of}
 use Rattle.tv_benes.specs.Places.{ItemsOf, item_in, to_upper_of, to_lower_of, EndsOf, two_ends, AreBelow}
@@ -96,20 +96,20 @@ module _ {S : Type 0} (m : Meaning S) (net : Net) (form : Form) where
       (level_below net form h (m.wires old) items has))
 
 -- what a call put, where a circuit is another
-module _ {S : Type 0} (m : Meaning S) {A : Type 0} {a b : Circuit A} (same : a ≡ b) (old new : S) where
-  pub some_as : (fault : SinkFault) → PutsSome m old new a fault → PutsSome m old new b fault
-  some_as fault p = subst (λ c. PutsSome m old new c fault) same p
+module _ {S : Type 0} {m : Meaning S} {A : Type 0} {a b : Circuit A} (same : a ≡ b) {old new : S} where
+  pub all_at : {r : A} → PutsAll m old new a r → PutsAll m old new b r
+  all_at {r} p = subst (λ c. PutsAll m old new c r) same p
 
-  pub in_as : (result : Result A SinkFault) → PutsIn m old new a result → PutsIn m old new b result
-  in_as result p = subst (λ c. PutsIn m old new c result) same p
+  pub some_at : {fault : SinkFault} → PutsSome m old new a fault → PutsSome m old new b fault
+  some_at {fault} p = subst (λ c. PutsSome m old new c fault) same p
 
 -- a last call, whose result is the whole's
-pub in_then : {S : Type 0} {m : Meaning S} {A B : Type 0} {first : Circuit A} (second : A → Circuit B) {old mid : S} {a : A} (new : S)
+in_then : {S : Type 0} {m : Meaning S} {A B : Type 0} {first : Circuit A} (second : A → Circuit B) {old mid : S} {a : A} (new : S)
     (result : Result B SinkFault) → PutsAll m old mid first a → PutsIn m mid new (second a) result → PutsIn m old new (first >>= second) result
 in_then second new result p q = puts_in_then _ _ second _ _ _ _ _ p q
 
 -- above the lowest level: the first column, of n switches, the two networks within and the last column
-abbrev pub parts_of : (net : Net) (form : Form) → ℕ → ℕ → ℕ → ItemsOf form → Circuit (EndsOf form)
+abbrev parts_of : (net : Net) (form : Form) → ℕ → ℕ → ℕ → ItemsOf form → Circuit (EndsOf form)
 parts_of net form h k n items = do
   first ← here
   _ ← column_of form n (item_in form items)
@@ -117,10 +117,32 @@ parts_of net form h k n items = do
   lower ← level_of net (other form) k (to_lower_of form first items)
   last_column_of net form h upper lower
 
-pub parts_are : (net : Net) (form : Form) (h k n : ℕ) (items : ItemsOf form) → h ≡ suc k → n ≡ 2 ^ h → parts_of net form h k n items ≡ level_of net form h items
+parts_are : (net : Net) (form : Form) (h k n : ℕ) (items : ItemsOf form) → h ≡ suc k → n ≡ 2 ^ h → parts_of net form h k n items ≡ level_of net form h items
 unfolding level_of
 parts_are net form h k n items level same =
     ap (λ m. parts_of net form h k m items) same ∙ ap (λ l. parts_of net form l k (2 ^ l) items) level ∙ ap (λ l. level_of net form l items) (sym level)
+
+-- above the lowest level: the first column of n switches was put, and the networks within at places from `first` on
+module _ {S : Type 0} (m : Meaning S) (net : Net) (form : Form) {h n : ℕ} (items : ItemsOf form) {old mid : S} {first : ℕ} (same : n ≡ 2 ^ h)
+    (some : h ≡ 0 → ⊥) (at : first ≡ m.wires old) (column : PutsAll m old mid (column_of form n (item_in form items)) tt) where
+  is : parts_of net form h (h - 1) n items ≡ level_of net form h items
+  is = parts_are net form h (h - 1) n items (above net h some).level same
+
+  module _ {u : S} where
+    pub upper_refused : {fault : SinkFault} → PutsSome m mid u (level_of net (other form) (h - 1) (to_upper_of form first items)) fault
+        → PutsSome m old u (level_of net form h items) fault
+    upper_refused p = some_at is (some_then _ (puts_here_as m old first at) (some_then _ column (some_first _ p)))
+
+    module _ {upper : EndsOf (other form)} (p : PutsAll m mid u (level_of net (other form) (h - 1) (to_upper_of form first items)) upper) {l : S} where
+      pub lower_refused : {fault : SinkFault} → PutsSome m u l (level_of net (other form) (h - 1) (to_lower_of form first items)) fault
+          → PutsSome m old l (level_of net form h items) fault
+      lower_refused q = some_at is (some_then _ (puts_here_as m old first at) (some_then _ column (some_then _ p (some_first _ q))))
+
+      pub level_put : {lower : EndsOf (other form)} → PutsAll m u l (level_of net (other form) (h - 1) (to_lower_of form first items)) lower → (new : S)
+          (result : Result (EndsOf form) SinkFault) → PutsIn m l new (last_column_of net form h upper lower) result
+          → PutsIn m old new (level_of net form h items) result
+      level_put q new result r = subst (λ c. PutsIn m old new c result) is (in_then _ _ _ (puts_here_as m old first at) (in_then _ _ _ column
+          (in_then _ _ _ p (in_then _ _ _ q r))))
 
 pub ends_below : {S : Type 0} (m : Meaning S) (net : Net) (item : ℕ → Pair) (h : ℕ) (old new : S) (result : Result Outputs SinkFault)
     → PutsIn m old new (level_of net Bound h item) result

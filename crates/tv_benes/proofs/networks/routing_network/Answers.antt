@@ -1,8 +1,12 @@
 use Rattle.tv_core.proofs.Common.{◌≡◌, suc, ◌-◌, ◌^◌, subst, arith}
 use Rattle.std.specs.Prelude.{IfOk}
+use Rattle.tv_benes.proofs.Bounds.{power_is}
 use Rattle.tv_benes.proofs.NetworkChain.{ends_below}
 use Rattle.tv_benes.specs.Places.{AreBelow}
 use Rattle.tv_benes.proofs.networks.routing_network.Goals as goal
+
+pub bound_network-requires-clause-made : goal.bound_network-requires-clause-made
+bound_network-requires-clause-made g c = rw (← power_is c.args.k c.requires.some) c.requires.made
 
 pub returns-clause-below : goal.returns-clause-below
 returns-clause-below g c =

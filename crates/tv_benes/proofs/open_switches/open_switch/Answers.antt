@@ -1,6 +1,9 @@
-use Rattle.tv_core.proofs.Common.{arith, refused, all_then, all_pure, some_then, some_first}
-use Rattle.tv_core.proofs.Rooms.{room_left, both}
-use Rattle.tv_benes.specs.Network.{switch_of}
+use Rattle.tv_core.proofs.Common.{◌<◌, refl, sym, ap₂, subst, refused, all_then, all_pure, some_then, some_first}
+use Rattle.tv_bits.proofs.Growing.{both, kept, left, made_by}
+use Rattle.tv_benes.proofs.Bounds.{less_one}
+use Rattle.tv_benes.proofs.NetworkChain.{all_at, some_at}
+use Rattle.tv_core.specs.Combinations.{wire}
+use Rattle.tv_benes.specs.Network.{product_of, switch_of}
 use Rattle.tv_benes.proofs.open_switches.open_switch.Goals as goal
 
 pub returns-in_err-bit_by-clause-puts : goal.returns-in_err-bit_by-clause-puts
@@ -18,29 +21,41 @@ pub returns-in_err-product-2-clause-puts : goal.returns-in_err-product-2-clause-
 unfolding switch_of
 returns-in_err-product-2-clause-puts g c =
     refused _ _ _ _ _ c.from_residual-in_err-product-2.ensures.1 (some_then _ c.fresh-b.ensures.puts (some_then _ c.in_ok-bit_by.ensures.puts
-    (some_then _ c.in_ok-product.ensures.puts (some_first _ (rw (c.offset.ensures, c.offset-2.ensures) at c.in_err-product-2.ensures.puts)))))
+    (some_then _ c.in_ok-product.ensures.puts (some_first _ (some_at
+    (ap₂ (λ x y. product_of c.fresh-b.result (wire x) (wire y)) c.offset.ensures c.offset-2.ensures) c.in_err-product-2.ensures.puts)))))
 
 pub returns-clause-puts : goal.returns-clause-puts
 unfolding switch_of
 returns-clause-puts g c =
     all_then _ c.fresh-b.ensures.puts (all_then _ c.in_ok-bit_by.ensures.puts (all_then _ c.in_ok-product.ensures.puts
-    (all_then _ (rw (c.offset.ensures, c.offset-2.ensures) at c.in_ok-product-2.ensures.puts) all_pure)))
+    (all_then _ (all_at (ap₂ (λ x y. product_of c.fresh-b.result (wire x) (wire y)) c.offset.ensures c.offset-2.ensures)
+    c.in_ok-product-2.ensures.puts) all_pure)))
 
 pub bit_by-requires : goal.bit_by-requires
 bit_by-requires g c =
     let made = c.fresh-b.ensures.grows in
-    record {
-      room = room_left c.requires.room made (omega arith);
-      made = omega (arith, c.fresh-b.ensures.next, made.wires);
-    }
+    record { room = left made c.requires.room refl refl; made = made_by made c.fresh-b.ensures.next }
 
 pub product-requires : goal.product-requires
 product-requires g c =
     let made = c.fresh-b.ensures.grows in
     let bit = c.in_ok-bit_by.ensures.grows in
+    let grown = both made bit in
     record {
-      room = room_left c.requires.room (both made bit) (omega arith);
-      b_made = omega (arith, c.fresh-b.ensures.next, made.wires, bit.wires);
-      x_made = omega (arith, c.requires.x_made, made.wires, bit.wires);
-      y_made = omega (arith, c.requires.y_made, made.wires, bit.wires);
+      room = left grown c.requires.room refl refl;
+      b_made = kept bit (made_by made c.fresh-b.ensures.next);
+      x_made = kept grown (less_one c.requires.x_made);
+      y_made = kept grown (less_one c.requires.y_made);
+    }
+
+pub product-requires-2 : goal.product-requires-2
+product-requires-2 g c =
+    let made = c.fresh-b.ensures.grows in
+    let more = both c.in_ok-bit_by.ensures.grows c.in_ok-product.ensures.grows in
+    let grown = both made more in
+    record {
+      room = left grown c.requires.room refl refl;
+      b_made = kept more (made_by made c.fresh-b.ensures.next);
+      x_made = subst (λ w. w < g.S.Sink.meaning.wires c.product.new.s) (sym c.offset.ensures) (kept grown c.requires.x_made);
+      y_made = subst (λ w. w < g.S.Sink.meaning.wires c.product.new.s) (sym c.offset-2.ensures) (kept grown c.requires.y_made);
     }

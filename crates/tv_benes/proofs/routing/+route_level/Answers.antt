@@ -1,8 +1,9 @@
-use Rattle.tv_core.proofs.Common.{ℕ, Bool, ◌-◌, ◌^◌, ap, ◌∙◌, arith, sym, gives_refused, first_given, in_given}
+use Rattle.tv_core.proofs.Common.{ℕ, Bool, ◌-◌, ◌^◌, ap, ◌∙◌, sym, gives_refused, first_given, in_given}
 use Rattle.std.proofs.Common.{length-append}
 use Rattle.std.proofs.lemmas.Result.{on_ok_weaker}
 use Rattle.tv_benes.proofs.ColumnChain.{all_as, some_as, in_as, level_values-suc}
 use Rattle.tv_benes.proofs.Moved.{does_same, second_bits, third_bits, moved_values, moved_items, level_values-two, through-two}
+use Rattle.tv_benes.proofs.Bounds.{less_by, level_less, front_fits, whole_is, back_is, both_halves}
 use Rattle.tv_benes.proofs.ThroughLaws.{above}
 use Rattle.tv_benes.specs.Items.{bit_at, pair_at}
 use Rattle.tv_benes.specs.Network.{column_values}
@@ -38,34 +39,16 @@ route_level-requires g t c κs within =
     let size = c.long_power-n.ensures.is ∙ ap (λ k. 2 ^ k) below.level in
     let items = c.first_column.auto.upper ∙ c.split_at_mut-upper.ensures.front_len ∙ size in
     let spare = c.split_at_mut-upper_spare.ensures.front_len ∙ size in
-    (omega (arith, below.level), (within, (c.in_ok-first_column.ensures.whole, (omega (arith, c.requires.level), (items, spare)))))
+    (less_by below.level c.decreases, (within, (c.in_ok-first_column.ensures.whole, (level_less below.level c.requires.level, (items, spare)))))
 
 pub route_level-requires-2 : goal.route_level-requires-2
 route_level-requires-2 g t c κs within =
     let below = above c.args.net c.args.h c.if-h-eq0.false in
     let n = c.long_power-n.ensures.is in
-    let size = ap (λ k. 2 ^ k) below.level in (
-      omega (arith, below.level),
-      (
-        within,
-        (
-          c.in_ok-route_level.ensures.whole,
-          (
-            omega (arith, c.requires.level),
-            omega (
-              arith,
-              c.first_column.auto.lower,
-              c.split_at_mut-upper.ensures.back_len,
-              c.split_at_mut-upper_spare.ensures.back_len,
-              c.requires.spare,
-              c.requires.items,
-              n,
-              size,
-            ),
-          ),
-        ),
-      ),
-    )
+    let size = ap (λ k. 2 ^ k) below.level in
+    let items = c.first_column.auto.lower ∙ back_is c.args.h c.requires.spare n c.split_at_mut-upper.ensures.back_len ∙ size in
+    let spare = back_is c.args.h c.requires.items n c.split_at_mut-upper_spare.ensures.back_len ∙ size in
+    (less_by below.level c.decreases, (within, (c.in_ok-route_level.ensures.whole, (level_less below.level c.requires.level, (items, spare)))))
 
 pub returns-in_err-route_level-clause-gives : goal.returns-in_err-route_level-clause-gives
 returns-in_err-route_level-clause-gives g t c =
@@ -145,34 +128,22 @@ returns-clause-moved g t c =
 pub first_column-requires : goal.first_column-requires
 first_column-requires g t c =
     let n = c.long_power-n.ensures.is in
-    let upper = c.split_at_mut-upper.ensures.front_len in
+    let upper = c.split_at_mut-upper.ensures.front_len ∙ n in
     record {
       whole = c.requires.whole;
-      items = omega (arith, c.requires.items, upper, n);
-      lower = omega (arith, c.requires.spare, upper, c.split_at_mut-upper.ensures.back_len, n);
+      items = whole_is c.args.h c.requires.items upper;
+      lower = back_is c.args.h c.requires.spare n c.split_at_mut-upper.ensures.back_len ∙ sym upper;
     }
 
 pub split_at_mut-upper-requires : goal.split_at_mut-upper-requires
-split_at_mut-upper-requires g t c = omega (arith, c.requires.spare, c.long_power-n.ensures.is)
+split_at_mut-upper-requires g t c = front_fits c.args.h c.requires.spare c.long_power-n.ensures.is
 
 pub last_column-requires : goal.last_column-requires
 last_column-requires g t c =
     let n = c.long_power-n.ensures.is in
-    let upper = c.route_level.auto.items ∙ c.first_column.auto.upper ∙ c.split_at_mut-upper.ensures.front_len in
-    let lower = c.route_level-2.auto.items ∙ c.first_column.auto.lower in
-    let front = c.route_level.auto.spare ∙ c.split_at_mut-upper_spare.ensures.front_len in
-    let back = c.route_level-2.auto.spare in
-    record {
-      whole = c.in_ok-route_level-2.ensures.whole;
-      items = omega (
-        arith,
-        length-append c.route_level.new.spare c.route_level-2.new.spare,
-        upper,
-        front,
-        back,
-        c.split_at_mut-upper_spare.ensures.back_len,
-        c.requires.items,
-        n,
-      );
-      lower = omega (arith, upper, lower, c.split_at_mut-upper.ensures.back_len, c.requires.spare, n);
-    }
+    let upper = c.route_level.auto.items ∙ c.first_column.auto.upper ∙ c.split_at_mut-upper.ensures.front_len ∙ n in
+    let lower = c.route_level-2.auto.items ∙ c.first_column.auto.lower ∙ back_is c.args.h c.requires.spare n c.split_at_mut-upper.ensures.back_len in
+    let front = c.route_level.auto.spare ∙ c.split_at_mut-upper_spare.ensures.front_len ∙ n in
+    let back = c.route_level-2.auto.spare ∙ back_is c.args.h c.requires.items n c.split_at_mut-upper_spare.ensures.back_len in
+    let all = length-append c.route_level.new.spare c.route_level-2.new.spare in
+    record { whole = c.in_ok-route_level-2.ensures.whole; items = both_halves all front back upper; lower = lower ∙ sym upper }

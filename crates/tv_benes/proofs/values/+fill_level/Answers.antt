@@ -1,5 +1,5 @@
-use Rattle.tv_core.proofs.Common.{◌≡◌, ℕ, Bool, suc, ◌-◌, ◌*◌, ◌^◌, ◌≤◌, ap, ap₂, ◌∙◌, sym, subst, arith, gives_refused, first_given, in_given}
-use Rattle.tv_benes.proofs.Bounds.{half_near}
+use Rattle.tv_core.proofs.Common.{◌≡◌, ℕ, Bool, suc, ◌-◌, ◌*◌, ◌^◌, ◌≤◌, ap, ap₂, ◌∙◌, sym, subst, gives_refused, first_given, in_given}
+use Rattle.tv_benes.proofs.Bounds.{less_by, level_less, half_near, near_at}
 use Rattle.tv_benes.proofs.ColumnChain.{all_as, some_as, in_as, level_values-zero, level_values-suc}
 use Rattle.tv_benes.proofs.Moved.{second_bits}
 use Rattle.tv_benes.proofs.ThroughLaws.{above}
@@ -34,7 +34,10 @@ fill_level-requires g t c κs within =
     let below = above c.args.net c.args.h c.if-h-eq0.false in
     let near = half_near c.args.h (depth_of c.args.items.now) (2 ^ 62) c.requires.near in
     let inner = subst (λ j. 2 ^ j * 2 ^ suc (depth_of c.args.items.now) ≤ 2 ^ 62) below.level near in
-    (omega (arith, below.level), (within, (c.in_ok-fill_column.ensures.whole, (omega (arith, c.requires.level), inner))))
+    (less_by below.level c.decreases, (within, (c.in_ok-fill_column.ensures.whole, (level_less below.level c.requires.level, inner))))
+
+pub fill_column-requires-2-clause-near : goal.fill_column-requires-2-clause-near
+fill_column-requires-2-clause-near g t c = near_at c.args.h _ _ c.long_power-n.ensures.is c.requires.near
 
 pub returns-in_err-fill_level-clause-gives : goal.returns-in_err-fill_level-clause-gives
 returns-in_err-fill_level-clause-gives g t c =
@@ -53,7 +56,7 @@ fill_level-requires-2 g t c κs within =
     let below = above c.args.net c.args.h c.if-h-eq0.false in
     let near = half_near c.args.h (depth_of c.args.items.now) (2 ^ 62) c.requires.near in
     let inner = subst (λ j. 2 ^ j * 2 ^ suc (depth_of c.args.items.now) ≤ 2 ^ 62) below.level near in
-    (omega (arith, below.level), (within, (c.in_ok-fill_level.ensures.whole, (omega (arith, c.requires.level), inner))))
+    (less_by below.level c.decreases, (within, (c.in_ok-fill_level.ensures.whole, (level_less below.level c.requires.level, inner))))
 
 pub returns-in_err-fill_level-2-clause-gives : goal.returns-in_err-fill_level-2-clause-gives
 returns-in_err-fill_level-2-clause-gives g t c =
