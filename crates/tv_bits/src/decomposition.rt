@@ -13,17 +13,6 @@ use crate::booleans::bit_by;
 use tv_core::{F, Lc, Put, Scratch, Sink, Values, Wire};
 
 /// Makes new wires, each constrained to 0 or 1. It makes `n` wires and `n` constraints.
-pub fn new_bits<S: Sink>(s: &mut S, n: u32) -> Put<Bits>
-    requires room { Room S.meaning s.old n n }
-    ensures puts { PutsIn S.meaning s.old s.new (new_bits_of n) result }
-    ensures grows { IfOk result (λ _. Grows S.meaning s.old s.new n n) }
-    ensures size { IfOk result (λ bits. bits.n ≡ n) }
-    ensures below { IfOk result (λ bits. bits.first + bits.n ≤ S.meaning.wires s.new) }
-{
-    new_bits_by(s, &mut Scratch::new(), n)
-}
-
-/// Like `new_bits`, but reuses the caller's scratch combinations.
 pub fn new_bits_by<S: Sink>(s: &mut S, scratch: &mut Scratch, n: u32) -> Put<Bits>
     requires room { Room S.meaning s.old n n }
     ensures puts { PutsIn S.meaning s.old s.new (new_bits_of n) result }
@@ -74,7 +63,7 @@ pub fn bits_by<S: Sink>(s: &mut S, scratch: &mut Scratch, x: &Lc, n: u32) -> Put
 }
 
 /// Assigns the `n` lowest bits of `x`, lowest first: the values of the wires that `bits` makes for
-/// it, and `new_bits` for any number.
+/// it, and `new_bits_by` for any number.
 pub fn fill_bits<V: Values>(v: &mut V, x: F, n: u32) -> Put<()>
     requires whole { V.giving.broken v.old ≡ false }
     requires short { n ≤ 63 }
@@ -95,11 +84,11 @@ fn bit_at(x: F, i: u32) -> F
     F::of((x.number() >> i) % 2)
 }
 
-/// The laws of `new_bits`:
-/// - `sound`: where an assignment satisfies the constraints of `new_bits`, the wires hold 0 or 1.
+/// The laws of `new_bits_by`:
+/// - `sound`: where an assignment satisfies the constraints of `new_bits_by`, the wires hold 0 or 1.
 /// - `complete`: where an assignment has the values that `fill_bits` assigns for any number, it
-///   satisfies the constraints of `new_bits`.
-/// - `sizes`: which wires `new_bits` returns, and that `fill_bits` assigns one number to each wire
+///   satisfies the constraints of `new_bits_by`.
+/// - `sizes`: which wires `new_bits_by` returns, and that `fill_bits` assigns one number to each wire
 ///   that it makes.
 #[tactic(auto, using(crate::proofs::SizeLaws::new_bits_laws))]
 pub fn new_bits_laws()

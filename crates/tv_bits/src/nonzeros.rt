@@ -8,14 +8,15 @@ ghost use Rattle.tv_core.specs.Sinks.{PutsIn, Grows, Room};
 
 use tv_core::{F, Put, Scratch, Sink, Values, Wire, give_values};
 
-/// Makes a wire that is 0 exactly where `scratch.a` is 0, and else 1. It makes 2 wires and 2
-/// constraints.
+/// Makes a wire that is 0 exactly where `scratch.a`, which stays there, is 0, and else 1. It makes
+/// 2 wires and 2 constraints.
 pub fn nonzero_by<S: Sink>(s: &mut S, scratch: &mut Scratch) -> Put<Wire>
     requires room { Room S.meaning s.old 2 2 }
     requires x_made { top scratch.old.a ≤ S.meaning.wires s.old }
     ensures puts { PutsIn S.meaning s.old s.new (nonzero_of scratch.old.a) result }
     ensures grows { IfOk result (λ _. Grows S.meaning s.old s.new 2 2) }
     ensures below { IfOk result (λ flag. flag < S.meaning.wires s.new) }
+    ensures a { scratch.new.a ≡ scratch.old.a }
 {
     let flag = s.fresh();
     let hint = s.fresh();

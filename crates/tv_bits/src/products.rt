@@ -27,21 +27,22 @@ pub fn times_by<S: Sink>(s: &mut S, scratch: &mut Scratch) -> Put<Wire>
     Ok(w)
 }
 
-/// Makes a wire that holds the value of `scratch.a`. It makes 1 wire and 1 constraint, of 2 terms
-/// and those of `scratch.a`.
+/// Makes a wire that holds the value of `scratch.a`, which stays there. It makes 1 wire and 1
+/// constraint, of 2 terms and those of `scratch.a`.
 pub fn kept_by<S: Sink>(s: &mut S, scratch: &mut Scratch) -> Put<Wire>
     requires room { Room S.meaning s.old 1 1 }
     requires x_made { top scratch.old.a ≤ S.meaning.wires s.old }
     ensures puts { PutsIn S.meaning s.old s.new (kept_of scratch.old.a) result }
     ensures grows { IfOk result (λ _. Grows S.meaning s.old s.new 1 1) }
     ensures below { IfOk result (λ w. w < S.meaning.wires s.new) }
+    ensures a { scratch.new.a ≡ scratch.old.a }
 {
     scratch.b.set_wire(Wire(0));
     times_by(s, scratch)
 }
 
-/// Makes a wire that times `scratch.a` is `scratch.b`. Where `scratch.a` is 0 the wire may hold
-/// anything, and `scratch.b` is constrained to 0. It makes 1 wire and 1 constraint.
+/// Makes a wire that times `scratch.a` is `scratch.b`; both stay there. Where `scratch.a` is 0 the
+/// wire may hold anything, and `scratch.b` is constrained to 0. It makes 1 wire and 1 constraint.
 pub fn ratio_by<S: Sink>(s: &mut S, scratch: &mut Scratch) -> Put<Wire>
     requires room { Room S.meaning s.old 1 1 }
     requires x_made { top scratch.old.a ≤ S.meaning.wires s.old }
@@ -49,6 +50,8 @@ pub fn ratio_by<S: Sink>(s: &mut S, scratch: &mut Scratch) -> Put<Wire>
     ensures puts { PutsIn S.meaning s.old s.new (ratio_of scratch.old.a scratch.old.b) result }
     ensures grows { IfOk result (λ _. Grows S.meaning s.old s.new 1 1) }
     ensures below { IfOk result (λ ratio. ratio < S.meaning.wires s.new) }
+    ensures a { scratch.new.a ≡ scratch.old.a }
+    ensures b { scratch.new.b ≡ scratch.old.b }
 {
     let w = s.fresh();
     scratch.c.set_wire(w);

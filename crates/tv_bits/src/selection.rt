@@ -63,8 +63,9 @@ pub fn select_wires<S: Sink>(
     select_terms(s, scratch, b, &[(F::ONE, x)], &[(F::ONE, y)])
 }
 
-/// Makes a wire that is `x` where `scratch.a`, a bit, is 1, and `y` where it is 0; `x` and `y` have
-/// at most 64 terms. It makes 1 wire and 1 constraint. Its generator is `fill_select`.
+/// Makes a wire that is `x` where `scratch.a`, a bit that stays there, is 1, and `y` where it is 0;
+/// `x` and `y` have at most 64 terms. It makes 1 wire and 1 constraint. Its generator is
+/// `fill_select`.
 pub fn pick_by<S: Sink>(
     s: &mut S,
     scratch: &mut Scratch,
@@ -78,6 +79,7 @@ pub fn pick_by<S: Sink>(
     ensures puts { PutsIn S.meaning s.old s.new (pick_of scratch.old.a x.now y.now) result }
     ensures grows { IfOk result (λ _. Grows S.meaning s.old s.new 1 1) }
     ensures below { IfOk result (λ w. w < S.meaning.wires s.new) }
+    ensures a { scratch.new.a ≡ scratch.old.a }
 {
     let w = s.fresh();
     set_terms_less(&mut scratch.b, x, y);

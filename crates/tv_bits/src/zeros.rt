@@ -20,13 +20,15 @@ pub fn zero<S: Sink>(s: &mut S, x: &Lc) -> Put<Wire>
     zero_by(s, &mut scratch)
 }
 
-/// Like `zero`, of `scratch.a`, and reuses the caller's other scratch combinations.
+/// Like `zero`, of `scratch.a`, which stays there, and reuses the caller's other scratch
+/// combinations.
 pub fn zero_by<S: Sink>(s: &mut S, scratch: &mut Scratch) -> Put<Wire>
     requires room { Room S.meaning s.old 2 2 }
     requires x_made { top scratch.old.a ≤ S.meaning.wires s.old }
     ensures puts { PutsIn S.meaning s.old s.new (zero_of scratch.old.a) result }
     ensures grows { IfOk result (λ _. Grows S.meaning s.old s.new 2 2) }
     ensures below { IfOk result (λ flag. flag < S.meaning.wires s.new) }
+    ensures a { scratch.new.a ≡ scratch.old.a }
 {
     let flag = s.fresh();
     let hint = s.fresh();

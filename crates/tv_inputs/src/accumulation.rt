@@ -1,5 +1,5 @@
 //! A product added to a sum, as a new wire.
-ghost use Rattle.std.specs.Prelude.{◌≤◌, ◌<◌, length, IfOk};
+ghost use Rattle.std.specs.Prelude.{◌≡◌, ◌≤◌, ◌<◌, length, max, IfOk};
 ghost use Rattle.tv_core.specs.Combinations.{top};
 ghost use Rattle.tv_core.specs.Sinks.{PutsIn, Grows, Room};
 ghost use Rattle.tv_inputs.specs.Accumulation.{closed_of, AccumulatedIsSound};
@@ -7,18 +7,19 @@ ghost use Rattle.tv_inputs.specs.Accumulation.{AccumulatedIsComplete, Accumulate
 
 use tv_core::{F, Put, Scratch, Sink, Wire};
 
-/// Returns a wire that is the product of the factors in `scratch` plus a sum, of which `scratch.c`
-/// has the terms with their coefficients negated. It makes 1 wire and 1 constraint.
+/// Returns a wire that is the product of the factors in `scratch`, which stay there, plus a sum, of
+/// which `scratch.c` has the terms with their coefficients negated. It makes 1 wire and 1 constraint.
 pub fn accumulated<S: Sink>(s: &mut S, scratch: &mut Scratch) -> Put<Wire>
     requires room { Room S.meaning s.old 1 1 }
-    requires f_made { top scratch.old.a ≤ S.meaning.wires s.old }
-    requires g_made { top scratch.old.b ≤ S.meaning.wires s.old }
-    requires sum_made { top scratch.old.c ≤ S.meaning.wires s.old }
+    requires made { max (top scratch.old.a) (max (top scratch.old.b) (top scratch.old.c))
+        ≤ S.meaning.wires s.old }
     requires short { length scratch.old.c ≤ 64 }
     ensures puts { PutsIn S.meaning s.old s.new
         (closed_of scratch.old.c scratch.old.a scratch.old.b) result }
     ensures grows { IfOk result (λ _. Grows S.meaning s.old s.new 1 1) }
     ensures below { IfOk result (λ sum. sum < S.meaning.wires s.new) }
+    ensures a { scratch.new.a ≡ scratch.old.a }
+    ensures b { scratch.new.b ≡ scratch.old.b }
 {
     let sum = s.fresh();
     scratch.c.plus(F::ONE, sum);

@@ -79,8 +79,8 @@ fn put_reads<const W: u32, S: Sink>(
     if_zero(s, scratch, &read)
 }
 
-/// Returns a wire that is `g` where `scratch.a` is 0, and 0 where it isn't. It makes 2 wires and 2
-/// constraints.
+/// Returns a wire that is `g` where `scratch.a`, which stays there, is 0, and 0 where it isn't. It
+/// makes 2 wires and 2 constraints.
 pub fn if_zero<S: Sink>(s: &mut S, scratch: &mut Scratch, g: &[(F, Wire)]) -> Put<Wire>
     requires room { Room S.meaning s.old 2 2 }
     requires g_made { top g.now ≤ S.meaning.wires s.old }
@@ -89,6 +89,7 @@ pub fn if_zero<S: Sink>(s: &mut S, scratch: &mut Scratch, g: &[(F, Wire)]) -> Pu
     ensures puts { PutsIn S.meaning s.old s.new (if_zero_of g.now scratch.old.a) result }
     ensures grows { IfOk result (λ _. Grows S.meaning s.old s.new 2 2) }
     ensures below { IfOk result (λ w. w < S.meaning.wires s.new) }
+    ensures a { scratch.new.a ≡ scratch.old.a }
 {
     let w = s.fresh();
     let hint = s.fresh();

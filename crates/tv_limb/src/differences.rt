@@ -10,8 +10,8 @@ ghost use Rattle.tv_limb.specs.Difference.{borrow, less_borrow, difference_of_wo
 ghost use Rattle.tv_limb.specs.Difference.{sub_of, sub_values, SubIsSound, SubIsComplete, SubSizes};
 
 use crate::parts::{Split, split_at_word};
-use tv_bits::{Bits, fill_bits, new_bits};
-use tv_core::{F, Lc, Put, Sink, Values};
+use tv_bits::{Bits, fill_bits, new_bits_by};
+use tv_core::{F, Lc, Put, Scratch, Sink, Values};
 
 /// Constrains new bits to the difference of two words of `W` bits modulo 2^`W`, and one more to the
 /// borrow, which is 1 where `x` is below `y`. It makes `W + 1` wires and `W + 2` constraints, of
@@ -26,7 +26,7 @@ pub fn sub<const W: u32, S: Sink>(s: &mut S, x: &Bits, y: &Bits) -> Put<Split>
     ensures low { IfOk result (λ parts. AreBitsBelow (S.meaning.wires s.new) W parts.low) }
     ensures high { IfOk result (λ parts. AreBitsBelow (S.meaning.wires s.new) 1 parts.high) }
 {
-    let parts = split_at_word::<W>(new_bits(s, W + 1)?);
+    let parts = split_at_word::<W>(new_bits_by(s, &mut Scratch::new(), W + 1)?);
     s.put(
         &less_borrow::<W>(&parts),
         &Lc::constant(F::ONE),
