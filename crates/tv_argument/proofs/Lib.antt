@@ -1,17 +1,17 @@
 pub mod CheckCosts
 pub mod Complete
 pub mod Costs
-pub mod Counts
-pub mod FewTerms
+mod Counts
+mod FewTerms
 pub mod FillingLaws
-pub mod Honesty
-pub mod Made
+mod Honesty
+mod Made
 pub mod NormalLaws
-pub mod Order
+mod Order
 pub mod Parts
-pub mod Previous
+mod Previous
 pub mod Reached
-pub mod Increase
-pub mod Sizes
+mod Increase
+mod Sizes
 pub mod Sound
-pub mod Written
+mod Written

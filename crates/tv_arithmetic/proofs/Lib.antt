@@ -3,5 +3,5 @@ pub mod ArithmeticFills
 pub mod ArithmeticLaws
 pub mod ArithmeticNumbers
 pub mod NormalArithmetic
-pub mod OpcodeCases
+mod OpcodeCases
 pub mod ShiftTests

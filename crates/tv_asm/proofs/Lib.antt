@@ -1,7 +1,7 @@
-pub mod AssemblyLemmas
+mod AssemblyLemmas
 pub mod FirstLemmas
-pub mod HeaderLemmas
-pub mod LabelLemmas
+mod HeaderLemmas
+mod LabelLemmas
 pub mod OperandLemmas
 pub mod RangeLemmas
 pub mod TextLemmas

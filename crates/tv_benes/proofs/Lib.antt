@@ -1,18 +1,18 @@
-pub mod Bounds
-pub mod ColumnChain
+mod Bounds
+mod ColumnChain
 pub mod CostLaws
 pub mod Ends
 pub mod Measures
 pub mod Most
-pub mod Moved
-pub mod NetworkChain
+mod Moved
+mod NetworkChain
 pub mod NetworkComplete
 pub mod NetworkLaws
-pub mod NetworkRooms
+mod NetworkRooms
 pub mod NormalLaws
 pub mod Permutations
 pub mod Placed
 pub mod Sizes
-pub mod Sources
-pub mod SwitchCosts
+mod Sources
+mod SwitchCosts
 pub mod ThroughLaws

@@ -8,7 +8,7 @@ pub mod NormalLaws
 pub mod OneHotLaws
 pub mod PairLaws
 pub mod OrderLaws
-pub mod OrderRows
+mod OrderRows
 pub mod PrefixLaws
 pub mod ProductChain
 pub mod RowNumbers

@@ -4,9 +4,9 @@ mod FilledValues
 pub mod Growing
 pub mod MachineFills
 pub mod NormalLaws
-pub mod PartLaws
-pub mod PlaceLaws
+mod PartLaws
+mod PlaceLaws
 pub mod Placed
 pub mod SizeFills
-pub mod StepLaws
+mod StepLaws
 pub mod StepFills

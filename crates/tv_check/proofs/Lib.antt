@@ -1,6 +1,6 @@
-pub mod Difference
-pub mod Firsts
+mod Difference
+mod Firsts
 pub mod Room
 pub mod Verdicts
-pub mod Trials
+mod Trials
 mod Worked

@@ -1,3 +1,3 @@
-pub mod CompareLaws
-pub mod Decisions
-pub mod Flags
+mod CompareLaws
+mod Decisions
+mod Flags

@@ -1,6 +1,6 @@
 pub mod Buffers
 pub mod Chain
-pub mod Pieces
+mod Pieces
 pub mod SectionLemmas
 pub mod BytesAt
 pub mod Written

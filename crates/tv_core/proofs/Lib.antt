@@ -6,9 +6,9 @@ pub mod Chain
 pub mod CombinationLaws
 pub mod Common
 pub mod DifferenceLaws
-pub mod Euclid
+mod Euclid
 pub mod FieldLaws
-pub mod Fits
+mod Fits
 pub mod HasLaws
 pub mod InverseLaws
 pub mod JoinedLaws
@@ -17,13 +17,13 @@ pub mod LoopLaws
 pub mod MeetsLaws
 pub mod NormalCircuits
 pub mod NormalLaws
-pub mod Pigeonhole
+mod Pigeonhole
 pub mod PrimeLaws
-pub mod PrimeProof
+mod PrimeProof
 pub mod Residues
 pub mod Rooms
-pub mod RowLaws
-pub mod TailCalls
-pub mod TestLaws
+mod RowLaws
+mod TailCalls
+mod TestLaws
 pub mod Unique
 pub mod ValuesChain

@@ -1,4 +1,4 @@
-pub mod FieldsLaws
+mod FieldsLaws
 pub mod InstructionLaws
 pub mod NormalLaws
 mod Rooms

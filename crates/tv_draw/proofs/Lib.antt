@@ -1,2 +1,2 @@
-pub mod DrawLaws
+mod DrawLaws
 pub mod RunLaws

@@ -1,3 +1,3 @@
 pub mod ExtractLaws
-pub mod WordLaws
-pub mod TakenLaws
+mod WordLaws
+mod TakenLaws

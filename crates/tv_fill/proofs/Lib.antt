@@ -1,6 +1,6 @@
-pub mod PartValues
-pub mod Packed
-pub mod Prepared
-pub mod RunPlaces
-pub mod Satisfaction
-pub mod TraceLaws
+mod PartValues
+mod Packed
+mod Prepared
+mod RunPlaces
+mod Satisfaction
+mod TraceLaws

@@ -1,2 +1,2 @@
-pub mod Cases
+mod Cases
 pub mod TableLemmas

@@ -1,25 +1,25 @@
-pub mod Blocks
+mod Blocks
 pub mod Boot
-pub mod Checked
-pub mod Ends
-pub mod Fill
-pub mod FirstState
-pub mod Limits
-pub mod LineKinds
+mod Checked
+mod Ends
+mod Fill
+mod FirstState
+mod Limits
+mod LineKinds
 pub mod LinePlaces
-pub mod Machine
-pub mod MemoryCosts
+mod Machine
+mod MemoryCosts
 pub mod NormalLaws
 pub mod NumberPlaces
 pub mod Positions
-pub mod Run
+mod Run
 pub mod RunLines
-pub mod Sound
-pub mod SpotPlaces
-pub mod StepCells
-pub mod Steps
-pub mod StepsFill
-pub mod SystemSizes
+mod Sound
+mod SpotPlaces
+mod StepCells
+mod Steps
+mod StepsFill
+mod SystemSizes
 pub mod Systems
-pub mod TakenWords
+mod TakenWords
 pub mod Whole

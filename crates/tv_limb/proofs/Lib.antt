@@ -1,4 +1,4 @@
-pub mod AddLaws
-pub mod LimbLaws
-pub mod SplitLaws
-pub mod SubLaws
+mod AddLaws
+mod LimbLaws
+mod SplitLaws
+mod SubLaws

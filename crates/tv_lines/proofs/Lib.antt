@@ -1,23 +1,23 @@
 pub mod AddressOrder
-pub mod CompactLaws
-pub mod FirstLaws
+mod CompactLaws
+mod FirstLaws
 pub mod Neighbours
 pub mod NormalLaws
-pub mod Numbers
+mod Numbers
 pub mod OrderedLaws
 pub mod PackingLaws
-pub mod PairParts
+mod PairParts
 pub mod PredecessorComplete
 pub mod PredecessorCosts
 pub mod PredecessorLaws
-pub mod PredecessorNumbers
+mod PredecessorNumbers
 pub mod PredecessorReach
 pub mod PredecessorSizes
-pub mod PredecessorValues
-pub mod PrefixOrder
-pub mod SortedComplete
-pub mod SortedLaws
-pub mod SortedSizes
+mod PredecessorValues
+mod PrefixOrder
+mod SortedComplete
+mod SortedLaws
+mod SortedSizes
 pub mod StartsLaws
 pub mod TimeOrder
-pub mod UnpackingLaws
+mod UnpackingLaws

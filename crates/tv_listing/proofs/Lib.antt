@@ -1,3 +1,3 @@
-pub mod Order
-pub mod Rows
+mod Order
+mod Rows
 pub mod Traces

@@ -1,5 +1,5 @@
-pub mod AndLaws
-pub mod FlagLaws
-pub mod LogicLaws
-pub mod PairSums
-pub mod WordLaws
+mod AndLaws
+mod FlagLaws
+mod LogicLaws
+mod PairSums
+mod WordLaws

@@ -1,3 +1,3 @@
-pub mod PageLaws
-pub mod StoreLaws
+mod PageLaws
+mod StoreLaws
 pub mod WordLaws

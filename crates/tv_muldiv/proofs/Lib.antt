@@ -1,5 +1,5 @@
-pub mod HalvesLaws
-pub mod ProductLaws
-pub mod QuotientLaws
-pub mod QuotientNumbers
-pub mod SignedHighLaws
+mod HalvesLaws
+mod ProductLaws
+mod QuotientLaws
+mod QuotientNumbers
+mod SignedHighLaws

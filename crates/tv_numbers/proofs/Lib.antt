@@ -1,9 +1,9 @@
 pub mod Cases
-pub mod Examples
+mod Examples
 pub mod LineRows
-pub mod NextRows
-pub mod OldRows
+mod NextRows
+mod OldRows
 pub mod RangeLaws
-pub mod ReadRow
+mod ReadRow
 pub mod ShownLaws
 pub mod StepLaws

@@ -1,7 +1,7 @@
 pub mod FlagFills
-pub mod FlagLaws
+mod FlagLaws
 pub mod MemoryFills
-pub mod MemoryLaws
+mod MemoryLaws
 pub mod NormalFlag
 pub mod NormalMemory
 pub mod NormalWritten

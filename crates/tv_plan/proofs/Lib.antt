@@ -1,7 +1,7 @@
 pub mod Common
-pub mod WordBytes
+mod WordBytes
 pub mod LookLaws
-pub mod Sizes
+mod Sizes
 pub mod ContainerReads
 pub mod AnswerLaws
 pub mod ClaimLaws
@@ -12,7 +12,7 @@ pub mod AsmClaim
 pub mod DisasmClaim
 pub mod RunClaim
 pub mod CheckClaim
-pub mod ComesBack
+mod ComesBack
 pub mod TapeTexts
-pub mod TextFaults
-pub mod TapeFaults
+mod TextFaults
+mod TapeFaults

@@ -1,9 +1,9 @@
 pub mod Ahead
 pub mod Constraints
-pub mod Done
+mod Done
 pub mod HeaderLemmas
-pub mod Vectors
-pub mod Sums
-pub mod Failures
-pub mod StepLemmas
-pub mod HeldLemmas
+mod Vectors
+mod Sums
+mod Failures
+mod StepLemmas
+mod HeldLemmas

@@ -1,8 +1,8 @@
 mod Constraints
-pub mod Files
+mod Files
 mod Finish
 pub mod Others
 mod Rows
-pub mod Sizes
-pub mod Systems
+mod Sizes
+mod Systems
 pub mod StreamLaws

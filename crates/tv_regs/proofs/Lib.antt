@@ -1,10 +1,10 @@
 mod Alike
 mod Rooms
-pub mod Gates
+mod Gates
 pub mod NormalLaws
-pub mod ReadLaws
-pub mod WriteLaws
+mod ReadLaws
+mod WriteLaws
 pub mod TripleLaws
-pub mod TripleNumbers
+mod TripleNumbers
 pub mod UpdateLaws
 mod Inverses

@@ -1,6 +1,6 @@
 pub mod NormalPc
 pub mod NormalResults
 pub mod PcFills
-pub mod PcLaws
+mod PcLaws
 pub mod ResultFills
-pub mod ResultLaws
+mod ResultLaws

@@ -1,7 +1,7 @@
 pub mod FromSorts
-pub mod Halves
-pub mod PairLaws
+mod Halves
+mod PairLaws
 pub mod RouteLaws
-pub mod Seen
-pub mod Steps
-pub mod Walks
+mod Seen
+mod Steps
+mod Walks

@@ -5,9 +5,9 @@ pub mod NormalDigits
 pub mod NormalShifts
 pub mod NormalSums
 pub mod PowerLaws
-pub mod PowerNumbers
+mod PowerNumbers
 pub mod RowDifferenceLaws
-pub mod RowDifferenceNumbers
+mod RowDifferenceNumbers
 pub mod RowShiftLaws
-pub mod RowShiftNumbers
+mod RowShiftNumbers
 pub mod RowSumLaws

@@ -1,3 +1,3 @@
-pub mod Looks
-pub mod ScanChain
-pub mod ScanLaws
+mod Looks
+mod ScanChain
+mod ScanLaws

@@ -1,8 +1,8 @@
-pub mod HalfLaws
-pub mod LevelValues
-pub mod MarkTerms
-pub mod MaskLaws
-pub mod ShiftLaws
-pub mod ShiftNumbers
-pub mod ShiftSizes
-pub mod ThermometerLaws
+mod HalfLaws
+mod LevelValues
+mod MarkTerms
+mod MaskLaws
+mod ShiftLaws
+mod ShiftNumbers
+mod ShiftSizes
+mod ThermometerLaws

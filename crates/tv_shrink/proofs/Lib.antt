@@ -1,19 +1,19 @@
-pub mod Constants
-pub mod Elements
-pub mod Gone
-pub mod Labels
-pub mod LayLaws
-pub mod Linear
-pub mod Merges
-pub mod OccurrenceLaws
-pub mod PassLaws
-pub mod Passes
-pub mod Puts
-pub mod Read
-pub mod ReplacingLaws
-pub mod Settlement
+mod Constants
+mod Elements
+mod Gone
+mod Labels
+mod LayLaws
+mod Linear
+mod Merges
+mod OccurrenceLaws
+mod PassLaws
+mod Passes
+mod Puts
+mod Read
+mod ReplacingLaws
+mod Settlement
 pub mod Solutions
-pub mod SortLaws
-pub mod Spans
-pub mod States
+mod SortLaws
+mod Spans
+mod States
 pub mod Whole

@@ -1,6 +1,6 @@
 pub mod CellLaws
 pub mod EndLaws
-pub mod Examples
+mod Examples
 pub mod HonestLaws
 pub mod ImageLaws
 pub mod LineLaws
@@ -8,5 +8,5 @@ pub mod PlaceLaws
 pub mod RangeLaws
 pub mod ReadLaws
 pub mod RunLaws
-pub mod TapeLaws
-pub mod ViewLaws
+mod TapeLaws
+mod ViewLaws

@@ -1,5 +1,5 @@
-pub mod Numbers
-pub mod Range
+mod Numbers
+mod Range
 pub mod Narrow
 pub mod Texts
 mod Worked

@@ -1,10 +1,10 @@
-pub mod ShrunkReads
-pub mod SystemLimits
-pub mod AssignmentLaws
-pub mod BuildClaim
-pub mod WitnessClaim
-pub mod ExtractClaim
-pub mod ListingClaim
-pub mod TrialClaim
-pub mod ShrinkClaim
-pub mod TapesComeBack
+mod ShrunkReads
+mod SystemLimits
+mod AssignmentLaws
+mod BuildClaim
+mod WitnessClaim
+mod ExtractClaim
+mod ListingClaim
+mod TrialClaim
+mod ShrinkClaim
+mod TapesComeBack

@@ -2,6 +2,6 @@ pub mod ArithmeticLaws
 pub mod ByteLaws
 pub mod DecimalLemmas
 pub mod FlagLaws
-pub mod NumeralLemmas
+mod NumeralLemmas
 pub mod SignedLaws
 pub mod WidthLaws

@@ -1,9 +1,9 @@
-pub mod Ahead
-pub mod Firsts
-pub mod Sections
+mod Ahead
+mod Firsts
+mod Sections
 pub mod ValueLaws
-pub mod Vectors
+mod Vectors
 mod Takers
 mod Finish
-pub mod Files
+mod Files
 pub mod StreamLaws
