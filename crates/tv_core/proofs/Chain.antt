@@ -3,7 +3,8 @@
 -- finds the same at several times the cost.
 use Rattle.std.proofs.Common.{◌≡◌, ℕ, zero, suc, ◌+◌, ◌-◌, ◌<◌, ◌≤◌, ◌++◌, Result, IsErrAnd, refl, sym, ◌∙◌, ap, subst, append_assoc, add-one, arith}
 use Rattle.std.proofs.lemmas.List.{append-nil}
-use Rattle.std.proofs.lemmas.Result.{err_from_is_err_and}
+use Rattle.std.proofs.lemmas.Result.{IfOk-from_err, err_from_is_err_and}
+use Rattle.std.specs.Result.{IfOk, IsErr}
 use Rattle.tv_core.specs.Circuits.{Circuit, pure, here, turns, ◌>>=◌}
 use Rattle.tv_core.specs.Sinks.{Meaning, PutsAll, PutsSome, PutsIn, IsCause}
 use Rattle.tv_core.specs.declared.sink.SinkFault.{SinkFault}
@@ -113,6 +114,18 @@ module _ {S : Type 0} (m : Meaning S) where
     refused old new circuit result {fault} r p =
         let e = err_from_is_err_and result r in
         rw (e.1, e.2) p
+
+    -- all clauses there: of a call that returns wires, and of one that returns none
+    pub refused_wires : (old new : S) (circuit : Circuit A) (result : Result A SinkFault) {fault : SinkFault} (P Q : A → Type 0)
+        → IsErr result × IsErrAnd result (λ e. e ≡ fault) → PutsSome m old new circuit fault
+        → record { puts : PutsIn m old new circuit result; grows : IfOk result P; below : IfOk result Q }
+    refused_wires old new circuit result P Q r p =
+        record { puts = refused old new circuit result r.1 p; grows = IfOk-from_err result P r.0; below = IfOk-from_err result Q r.0 }
+
+    pub refused_whole : (old new : S) (circuit : Circuit A) (result : Result A SinkFault) {fault : SinkFault} (P : A → Type 0)
+        → IsErr result × IsErrAnd result (λ e. e ≡ fault) → PutsSome m old new circuit fault
+        → record { puts : PutsIn m old new circuit result; grows : IfOk result P }
+    refused_whole old new circuit result P r p = record { puts = refused old new circuit result r.1 p; grows = IfOk-from_err result P r.0 }
 
   pub puts_here : (s : S) → PutsAll m s s here (m.wires s)
   unfolding here

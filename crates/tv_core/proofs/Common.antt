@@ -14,12 +14,12 @@ pub use Rattle.tv_word.proofs.WidthLaws.{for_widths, width_short}
 pub use Rattle.tv_word.specs.Widths.{IsWidth}
 pub use Rattle.tv_word.specs.Word.{flag_of}
 pub use Rattle.tv_core.proofs.BelowLaws.{length-each_below}
-pub use Rattle.tv_core.proofs.Chain.{all_pure, all_then, puts_no_turn, refused, some_first, some_then}
+pub use Rattle.tv_core.proofs.Chain.{all_pure, all_then, puts_no_turn, refused, refused_whole, refused_wires, some_first, some_then}
 pub use Rattle.tv_core.proofs.CombinationLaws.{value-append, value-below, value-cons, value-less, value-wire, wire-below}
 pub use Rattle.tv_core.proofs.FieldLaws.{InField-cons, InField-none}
 pub use Rattle.tv_core.proofs.MeetsLaws.{HasFrom-split, Meets-join, Meets-split}
 pub use Rattle.tv_core.proofs.TailCalls.{puts_in_then}
-pub use Rattle.tv_core.proofs.ValuesChain.{first_given, gives_refused, in_given}
+pub use Rattle.tv_core.proofs.ValuesChain.{first_given, gives_refused, gives_refused_whole, in_given}
 unfoldable pub use Rattle.tv_core.specs.Below.{each_below, joined_below}
 pub use Rattle.tv_core.specs.Circuits.{Circuit}
 unfoldable pub use Rattle.tv_core.specs.Circuits.{fresh, here, pure, put, turns, ◌>>=◌}

@@ -4,7 +4,8 @@ use Rattle.std.proofs.Common.{◌≡◌, ℕ, suc, ◌+◌, ◌<◌, List, [], �
 use Rattle.std.proofs.Common.{append_assoc}
 use Rattle.std.proofs.Math.Seq.{drop-cons}
 use Rattle.std.proofs.lemmas.List.{append-nil, take_more, take-append-drop}
-use Rattle.std.proofs.lemmas.Result.{err_from_is_err_and}
+use Rattle.std.proofs.lemmas.Result.{IfOk-from_err, err_from_is_err_and}
+use Rattle.std.specs.Result.{IsErr, OnOk}
 use Rattle.tv_core.proofs.Chain.{IsCause-after}
 use Rattle.tv_core.specs.Values.{ValuesMeaning, GivesAll, GivesSome, GivesIn}
 use Rattle.tv_core.specs.declared.sink.SinkFault.{SinkFault}
@@ -84,6 +85,13 @@ module _ {V : Type 0} (m : ValuesMeaning V) where
   gives_refused old new values result {fault} r p =
       let e = err_from_is_err_and result r in
       rw (e.1, e.2) p
+
+  -- both clauses there
+  pub gives_refused_whole : (old new : V) (values : List ℕ) (result : Result (Unit {0}) SinkFault) {fault : SinkFault} (P : Type 0)
+      → IsErr result × IsErrAnd result (λ e. e ≡ fault) → GivesSome m old new values fault
+      → record { gives : GivesIn m old new values result; whole : OnOk result P }
+  gives_refused_whole old new values result P r p =
+      record { gives = gives_refused old new values result r.1 p; whole = IfOk-from_err result (λ _. P) r.0 }
 
   -- a last call, whose result is the whole's
   pub gives_in_then : (xs ys : List ℕ) (old mid new : V) (result : Result (Unit {0}) SinkFault)

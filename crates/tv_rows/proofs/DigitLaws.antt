@@ -1,8 +1,7 @@
 -- The laws of the bitwise operations as digits.
 use Rattle.tv_core.proofs.Common.{◌≡◌, ℕ, ◌+◌, ◌-◌, ◌*◌, ◌/◌, ◌%◌, ◌^◌, ◌≤◌, List, ◌++◌, length, refl, sym, ◌∙◌, ap, ap₂, arith, zero-mul, mod-eq_of_lt, bit_at}
 use Rattle.tv_core.proofs.Common.{slice_index, value-below, value-append, InField-none, put, ◌>>=◌, Combination, value, Meets, IsWidth}
-use Rattle.std.proofs.Common.{bit_and, bit_xor, length-append}
-use Rattle.std.proofs.Common.{add-zero, mul-zero, one-mul}
+use Rattle.std.proofs.Common.{bit_and, bit_xor, length-append, add-zero, mul-zero, one-mul}
 use Rattle.std.proofs.Math.Nat.{mul_assoc}
 use Rattle.std.proofs.lemmas.Nat.{mul-mod_first}
 use Rattle.tv_bits.proofs.BitNumbers.{HasBits-below, HasBits-bit_at, sum_below-plus}
@@ -163,11 +162,7 @@ bitwise_complete = record {
 -- ---- sizes and costs
 pub bitwise_sizes : BitwiseSizes
 unfolding bitwise_of digits_of put ◌>>=◌
-bitwise_sizes = record {
-  end = λ w gate x y row next. refl;
-  fills = λ w gate x y row next. sym (add-zero next);
-  in_field = InField-none;
-}
+bitwise_sizes = record { end = λ w gate x y row next. refl; fills = λ w gate x y row next. sym (add-zero next); in_field = InField-none }
 
 length-digits : (k first n : ℕ) → length (digits_combination k first n) ≡ n
 length-digits k first n = length-weighted first n (λ j. k * BASE ^ j % P)
@@ -180,7 +175,4 @@ halved w width = grind arith
 
 pub bitwise_cost_laws : BitwiseCosts
 unfolding bitwise_of digits_of put ◌>>=◌
-bitwise_cost_laws = record {
-  constraints = λ w gate x y row next. refl;
-  terms = λ w width gate x y row next. search (arith, length-sum, halved);
-}
+bitwise_cost_laws = record { constraints = λ w gate x y row next. refl; terms = λ w width gate x y row next. search (arith, length-sum, halved) }

@@ -1,7 +1,6 @@
 -- Numbers by their digits, and the bitwise operations of words by theirs.
 use Rattle.tv_core.proofs.Common.{◌≡◌, ℕ, zero, suc, ◌+◌, ◌-◌, ◌*◌, ◌/◌, ◌%◌, ◌^◌, ◌<◌, ◌≤◌, inl, inr, sym, ◌∙◌, ap, arith, bit_at, cases_eq, cases_lt, IsWidth}
-use Rattle.std.proofs.Common.{mul_comm}
-use Rattle.std.proofs.Common.{min, bit_and, bit_or, bit_xor}
+use Rattle.std.proofs.Common.{mul_comm, min, bit_and, bit_or, bit_xor}
 use Rattle.std.specs.Int.Bits.{and_lt, or_add_and, xor_add_and}
 use Rattle.std.proofs.Math.Nat.{pow-suc, mul-le-mul_left}
 use Rattle.std.proofs.lemmas.Nat.{div-mul-add, mod-mul-add, xor_lt, or_lt}

@@ -11,9 +11,8 @@ use Rattle.tv_bits.specs.Times.{times_of}
 use Rattle.tv_bits.specs.declared.bit_wires.Bits.{Bits}
 use Rattle.tv_core.specs.declared.field.TheConstants.{P}
 use Rattle.tv_rows.proofs.PowerNumbers.{both_is, middle_is, low_is, wide_is, power_small}
-use Rattle.tv_rows.specs.Power.{factor_by, pair_power, low_power_of, wide_power_of, shift_power_of, shift_power_made, shift_power_wires}
-use Rattle.tv_rows.specs.Power.{low_power_values, wide_power_values, shift_power_values, IsShiftPower}
-use Rattle.tv_rows.specs.Power.{ShiftPowerIsSound, ShiftPowerIsComplete, ShiftPowerSizes, ShiftPowerCosts}
+use Rattle.tv_rows.specs.Power.{factor_by, pair_power, low_power_of, wide_power_of, shift_power_of, shift_power_made, shift_power_wires, low_power_values}
+use Rattle.tv_rows.specs.Power.{wide_power_values, shift_power_values, IsShiftPower, ShiftPowerIsSound, ShiftPowerIsComplete, ShiftPowerSizes, ShiftPowerCosts}
 use Rattle.tv_rows.specs.declared.powers.ShiftPower.{ShiftPower}
 
 module _ (z : List ℕ) (assigns : Assigns z) where

@@ -1,8 +1,7 @@
 -- The numbers of a difference in a row.
 use Rattle.tv_core.proofs.Common.{◌≡◌, ◌⊎◌, ℕ, ◌+◌, ◌-◌, ◌*◌, ◌%◌, ◌^◌, ◌<◌, ◌≤◌, if◌then◌else◌, Bool, true, false, not, inl, inr, refl, sym, ◌∙◌, ap, arith}
 use Rattle.tv_core.proofs.Common.{zero-mul, bit_at, cases_eq, nat_tests, IsWidth}
-use Rattle.std.proofs.Common.{int_lt, int_le, ℤ}
-use Rattle.std.proofs.Common.{one-mul}
+use Rattle.std.proofs.Common.{int_lt, int_le, ℤ, one-mul}
 use Rattle.std.specs.Prelude.{nat_lt}
 use Rattle.std.proofs.lemmas.Int.{ints}
 use Rattle.tv_bits.proofs.RowNumbers.{row_below}

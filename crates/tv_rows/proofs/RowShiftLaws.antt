@@ -13,8 +13,7 @@ use Rattle.tv_bits.specs.declared.double_rows.DoubleRow.{DoubleRow}
 use Rattle.tv_core.proofs.CombinationLaws.{value-empty}
 use Rattle.tv_core.specs.declared.field.TheConstants.{P}
 use Rattle.tv_rows.proofs.RowShiftNumbers.{right_row, right_times, right_number, right_low_is, right_high_is}
-use Rattle.tv_rows.specs.RowShift.{raised, right_shift_of, right_shift_values}
-use Rattle.tv_rows.specs.RowShift.{RightShiftIsSound, RightShiftIsComplete, RightShiftSizes, RightShiftCosts}
+use Rattle.tv_rows.specs.RowShift.{raised, right_shift_of, right_shift_values, RightShiftIsSound, RightShiftIsComplete, RightShiftSizes, RightShiftCosts}
 
 -- a wire times 2 ^ w
 value-raised : (z : List ℕ) → Assigns z → (w v : ℕ) → value (raised w v) z ≡ 2 ^ w * slice_index z v % P

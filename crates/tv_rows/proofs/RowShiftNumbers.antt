@@ -2,10 +2,9 @@
 use Rattle.tv_core.proofs.Common.{◌≡◌, ◌≢◌, ℕ, ◌+◌, ◌-◌, ◌*◌, ◌/◌, ◌%◌, ◌^◌, ◌<◌, ◌≤◌, sym, subst, ◌∙◌, ap, arith, pow-le-pow_right, IsWidth}
 use Rattle.std.proofs.Common.{mul_comm, mul_assoc}
 use Rattle.std.proofs.Math.Nat.{div-div-eq-div-mul, mul-div_cancel}
-use Rattle.std.proofs.lemmas.Nat.{mul-le, pow-add}
+use Rattle.std.proofs.lemmas.Nat.{mul-le, pow-add, pow_pos}
 use Rattle.tv_bits.proofs.RowNumbers.{row_below, row_is, row_low, row_high, row_of, row_whole}
 use Rattle.tv_bits.specs.DoubleRow.{IsRow, whole}
-use Rattle.std.proofs.lemmas.Nat.{pow_pos}
 use Rattle.tv_core.proofs.PrimeLaws.{p_cancels}
 use Rattle.tv_core.specs.declared.field.TheConstants.{P}
 use Rattle.tv_rows.specs.RowShift.{right_low, right_high}

@@ -7,8 +7,7 @@ use Rattle.tv_bits.proofs.RowNumbers.{row_below, row_is, row_low}
 use Rattle.tv_bits.specs.DoubleRow.{IsRow, whole, row_number}
 use Rattle.tv_bits.specs.declared.double_rows.DoubleRow.{DoubleRow}
 use Rattle.tv_core.specs.declared.field.TheConstants.{P}
-use Rattle.tv_rows.specs.RowSum.{IsRowSum, row_sum_of, RowSumIsSound, RowSumIsComplete, RowSumSizes, RowSumCosts}
-use Rattle.tv_rows.specs.RowSum.{carry}
+use Rattle.tv_rows.specs.RowSum.{IsRowSum, row_sum_of, RowSumIsSound, RowSumIsComplete, RowSumSizes, RowSumCosts, carry}
 
 -- the numbers
 sum_small : (w : ℕ) → IsWidth w → (a b : ℕ) → a < 2 ^ w → b < 2 ^ w → a + b < P

@@ -1,11 +1,10 @@
-use Rattle.tv_core.proofs.Common.{refused, some_first, puts_in_then}
+use Rattle.tv_core.proofs.Common.{refused_whole, some_first, puts_in_then}
 use Rattle.tv_rows.specs.Digits.{bitwise_of}
 use Rattle.tv_rows.proofs.digits.bitwise.Goals as goal
 
-pub returns-in_err-digits-clause-puts : goal.returns-in_err-digits-clause-puts
+pub returns-in_err-digits : goal.returns-in_err-digits
 unfolding bitwise_of
-returns-in_err-digits-clause-puts g c =
-    refused _ _ _ _ _ c.from_residual.ensures.1 (some_first _ c.in_err-digits.ensures.puts)
+returns-in_err-digits g c = refused_whole _ _ _ _ _ _ c.from_residual.ensures (some_first _ c.in_err-digits.ensures.puts)
 
 pub returns-clause-puts : goal.returns-clause-puts
 unfolding bitwise_of

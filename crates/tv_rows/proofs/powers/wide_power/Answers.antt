@@ -4,8 +4,7 @@ use Rattle.tv_rows.proofs.powers.wide_power.Goals as goal
 
 pub returns-in_err-low-clause-puts : goal.returns-in_err-low-clause-puts
 unfolding wide_power_of
-returns-in_err-low-clause-puts g c =
-    refused _ _ _ _ _ c.from_residual.ensures.1 (some_first _ c.in_err-low.ensures.puts)
+returns-in_err-low-clause-puts g c = refused _ _ _ _ _ c.from_residual.ensures.1 (some_first _ c.in_err-low.ensures.puts)
 
 pub returns-in_err-power-clause-puts : goal.returns-in_err-power-clause-puts
 unfolding wide_power_of

@@ -1,13 +1,12 @@
 use Rattle.tv_bits.specs.Gate.{gated_of}
 use Rattle.tv_bits.specs.Times.{times_of}
-use Rattle.tv_core.proofs.Common.{refused, some_first, puts_in_then}
+use Rattle.tv_core.proofs.Common.{refused_whole, some_first, puts_in_then}
 use Rattle.tv_rows.specs.RowDifference.{sign_difference, minuend, subtrahend, row_difference_of}
 use Rattle.tv_rows.proofs.row_differences.row_difference.Goals as goal
 
-pub returns-in_err-signs-clause-puts : goal.returns-in_err-signs-clause-puts
+pub returns-in_err-signs : goal.returns-in_err-signs
 unfolding row_difference_of
-returns-in_err-signs-clause-puts g c =
-    refused _ _ _ _ _ c.from_residual.ensures.1 (some_first _ c.in_err-signs.ensures.puts)
+returns-in_err-signs g c = refused_whole _ _ _ _ _ _ c.from_residual.ensures (some_first _ c.in_err-signs.ensures.puts)
 
 pub returns-clause-puts : goal.returns-clause-puts
 unfolding row_difference_of gated_of

@@ -1,12 +1,12 @@
-use Rattle.tv_core.proofs.Common.{refused, all_then, all_pure, some_then, some_first}
+use Rattle.tv_core.proofs.Common.{refused_wires, all_then, all_pure, some_then, some_first}
 use Rattle.tv_bits.specs.Times.{times_of}
 use Rattle.tv_rows.proofs.row_differences.sign_difference.Goals as goal
 
-pub returns-in_err-put-clause-puts : goal.returns-in_err-put-clause-puts
+pub returns-in_err-put : goal.returns-in_err-put
 unfolding times_of
-returns-in_err-put-clause-puts g c =
+returns-in_err-put g c =
     let product = rw (c.set_wire.ensures.terms, c.plus-2.ensures.terms, c.plus.ensures.terms, c.clear.ensures, c.neg.ensures) at c.in_err-put.ensures.puts in
-    refused _ _ _ _ _ c.from_residual.ensures.1 (some_then _ c.fresh-signs.ensures.puts (some_first _ product))
+    refused_wires _ _ _ _ _ _ _ c.from_residual.ensures (some_then _ c.fresh-signs.ensures.puts (some_first _ product))
 
 pub returns-clause-puts : goal.returns-clause-puts
 unfolding times_of

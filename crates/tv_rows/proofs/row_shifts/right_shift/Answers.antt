@@ -1,4 +1,4 @@
-use Rattle.tv_core.proofs.Common.{◌≡◌, ℕ, ◌*◌, ◌%◌, ◌^◌, ◌∙◌, refl, refused, some_first, puts_in_then, Circuit, wire, for_widths, IsWidth}
+use Rattle.tv_core.proofs.Common.{◌≡◌, ℕ, ◌*◌, ◌%◌, ◌^◌, ◌∙◌, refl, refused_whole, some_first, puts_in_then, Circuit, wire, for_widths, IsWidth}
 use Rattle.tv_bits.specs.DoubleRow.{row_number}
 use Rattle.tv_bits.specs.Gate.{gated_of}
 use Rattle.tv_bits.specs.Times.{times_of}
@@ -9,9 +9,9 @@ use Rattle.tv_rows.proofs.row_shifts.right_shift.Goals as goal
 power_of : (w : ℕ) → IsWidth w → (r : ℕ) → r ≡ 1 * 2 ^ w % 2 ^ 64 % P → r ≡ 2 ^ w % P
 power_of w width r e = e ∙ for_widths (λ w. 1 * 2 ^ w % 2 ^ 64 % P ≡ 2 ^ w % P) refl refl w width
 
-pub returns-in_err-product-clause-puts : goal.returns-in_err-product-clause-puts
+pub returns-in_err-product : goal.returns-in_err-product
 unfolding right_shift_of
-returns-in_err-product-clause-puts g c = refused _ _ _ _ _ c.from_residual.ensures.1 (some_first _ c.in_err-product.ensures.puts)
+returns-in_err-product g c = refused_whole _ _ _ _ _ _ c.from_residual.ensures (some_first _ c.in_err-product.ensures.puts)
 
 pub returns-clause-puts : goal.returns-clause-puts
 unfolding right_shift_of
