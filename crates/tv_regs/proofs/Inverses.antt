@@ -1,8 +1,7 @@
 -- The inverses of small numbers and of their products, modulo P.
 use Rattle.tv_core.proofs.Common.{◌≡◌, ℕ, zero, suc, ◌+◌, ◌-◌, ◌*◌, ◌%◌, ◌<◌, ◌==◌, Bool, true, List, [], ◌∷◌, length, inl, inr, refl, sym, ◌∙◌, ap, ap₂, arith}
 use Rattle.tv_core.proofs.Common.{mod-lt, zero-mul, slice_index, cases_eq, eqb-true}
-use Rattle.std.proofs.Common.{◌&&◌}
-use Rattle.std.proofs.Common.{mul-zero, add-zero}
+use Rattle.std.proofs.Common.{◌&&◌, mul-zero, add-zero}
 use Rattle.std.proofs.lemmas.Bool.{and_parts}
 use Rattle.std.proofs.lemmas.Nat.{mul-mod, mul-mod_first, mul-mod_second}
 use Rattle.tv_core.proofs.InverseLaws.{mul-inverse_of, inverse_of-zero, inverse_of-below, inverse_of_is}

@@ -39,9 +39,4 @@ read_reg_in_field i words small = InField-cons (slice_index words i) [] (word_be
 
 pub read_reg_sizes : ReadRegSizes
 unfolding read_reg_of read_of turns fresh put pure ◌>>=◌
-read_reg_sizes = record {
-  answer = λ sel regs next. refl;
-  end = λ sel regs next. refl;
-  fills = λ sel regs i words next. refl;
-  in_field = read_reg_in_field;
-}
+read_reg_sizes = record { answer = λ sel regs next. refl; end = λ sel regs next. refl; fills = λ sel regs i words next. refl; in_field = read_reg_in_field }

@@ -1,4 +1,4 @@
-use Rattle.tv_core.proofs.Common.{◌<◌, arith, gives_refused}
+use Rattle.tv_core.proofs.Common.{◌<◌, arith, gives_refused_whole}
 use Rattle.tv_core.proofs.LoopLaws.{gives_no_turn, gives_turn, gives_turn_refused}
 use Rattle.tv_regs.specs.Triple.{passing}
 use Rattle.tv_regs.proofs.triple.fill_passing.Goals as goal
@@ -11,9 +11,9 @@ loop-i-preserved g c =
     let one = rw c.passing.ensures at c.in_ok-give.ensures.gives in
     (gives_turn g.V.Values.giving (passing c.args.o c.args.b c.args.d c.args.regs.now) _ _ _ _ c.loop-i.invariant.0 one, c.in_ok-give.ensures.whole)
 
-pub returns-in_err-give-clause-gives : goal.returns-in_err-give-clause-gives
-returns-in_err-give-clause-gives g c =
+pub returns-in_err-give : goal.returns-in_err-give
+returns-in_err-give g c =
     let within : c.loop-i.i < 16 = omega arith in
     let one = rw c.passing.ensures at c.in_err-give.ensures.gives in
-    gives_refused g.V.Values.giving _ _ _ c.from_residual.result c.from_residual.ensures.1
+    gives_refused_whole g.V.Values.giving _ _ _ c.from_residual.result _ c.from_residual.ensures
     (gives_turn_refused g.V.Values.giving (passing c.args.o c.args.b c.args.d c.args.regs.now) 16 c.loop-i.i _ _ _ _ within c.loop-i.invariant.0 one)

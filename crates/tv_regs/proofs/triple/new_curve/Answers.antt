@@ -1,4 +1,4 @@
-use Rattle.tv_core.proofs.Common.{◌≡◌, ◌<◌, length, arith, puts_no_turn, refused, all_then, all_pure, some_then, some_first}
+use Rattle.tv_core.proofs.Common.{◌≡◌, ◌<◌, length, arith, puts_no_turn, refused_wires, all_then, all_pure, some_then, some_first}
 use Rattle.std.proofs.lemmas.Grind.{get_or_default_zero}
 use Rattle.tv_bits.proofs.Growing.{both, one_turn, turn_some}
 use Rattle.tv_regs.proofs.Gates.{wires_top-at}
@@ -15,23 +15,20 @@ pub loop-i-preserved : goal.loop-i-preserved
 loop-i-preserved g c =
     let within : c.loop-i.i < length c.args.regs.now = omega arith in
     let turn = rw (get_or_default_zero c.args.regs.now c.loop-i.i c.index-regs-i.result within) at c.in_ok-passes.ensures.puts in
-    record {
-      puts = one_turn _ _ c.loop-i.invariant.puts turn;
-      grows = both c.loop-i.invariant.grows c.in_ok-passes.ensures.grows;
-    }
+    record { puts = one_turn _ _ c.loop-i.invariant.puts turn; grows = both c.loop-i.invariant.grows c.in_ok-passes.ensures.grows }
 
 pub passes-requires-clause-reg_made : goal.passes-requires-clause-reg_made
 passes-requires-clause-reg_made g c =
     let inside : c.loop-i.i < length c.args.regs.now = omega arith in
     omega (arith, wires_top-at c.args.regs.now c.loop-i.i c.index-regs-i.result inside)
 
-pub returns-in_err-passes-clause-puts : goal.returns-in_err-passes-clause-puts
+pub returns-in_err-passes : goal.returns-in_err-passes
 unfolding curve_of
-returns-in_err-passes-clause-puts g c =
+returns-in_err-passes g c =
     let within : c.loop-i.i < 16 = omega arith in
     let inside : c.loop-i.i < length c.args.regs.now = omega arith in
     let passes = rw (get_or_default_zero c.args.regs.now c.loop-i.i c.index-regs-i.result inside) at c.in_err-passes.ensures.puts in
-    refused _ _ _ _ _ c.from_residual.ensures.1 (some_then _ c.fresh-curve.ensures.puts (some_then _ c.fresh-slope.ensures.puts
+    refused_wires _ _ _ _ _ _ _ c.from_residual.ensures (some_then _ c.fresh-curve.ensures.puts (some_then _ c.fresh-slope.ensures.puts
     (some_then _ c.fresh-bend.ensures.puts (some_first _ (turn_some _ _ c.loop-i.invariant.puts within passes)))))
 
 pub returns-clause-puts : goal.returns-clause-puts

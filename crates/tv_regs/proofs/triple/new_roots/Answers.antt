@@ -1,21 +1,21 @@
-use Rattle.tv_core.proofs.Common.{refl, arith, refused, some_then, some_first, puts_in_then}
+use Rattle.tv_core.proofs.Common.{refl, arith, refused_wires, some_then, some_first, puts_in_then}
 use Rattle.tv_bits.proofs.Growing.{fewer, within, kept, both, both_in, left}
 use Rattle.tv_regs.specs.Triple.{roots_of}
 use Rattle.tv_regs.proofs.Rooms.{top_number}
 use Rattle.tv_regs.proofs.triple.new_roots.Goals as goal
 
-pub returns-in_err-dest-clause-puts : goal.returns-in_err-dest-clause-puts
+pub returns-in_err-dest : goal.returns-in_err-dest
 unfolding roots_of
-returns-in_err-dest-clause-puts g c =
+returns-in_err-dest g c =
     let dest = rw (c.set_number.ensures.terms) at c.in_err-dest.ensures.puts in
-    refused _ _ _ _ _ c.from_residual.ensures.1 (some_first _ dest)
+    refused_wires _ _ _ _ _ _ _ c.from_residual.ensures (some_first _ dest)
 
-pub returns-in_err-other-clause-puts : goal.returns-in_err-other-clause-puts
+pub returns-in_err-other : goal.returns-in_err-other
 unfolding roots_of
-returns-in_err-other-clause-puts g c =
+returns-in_err-other g c =
     let dest = rw (c.set_number.ensures.terms) at c.in_ok-dest.ensures.puts in
     let other = rw (c.plus_terms.ensures.terms, c.clear.ensures, c.terms.ensures.terms, c.number_terms-source.ensures.terms) at c.in_err-other.ensures.puts in
-    refused _ _ _ _ _ c.from_residual-in_err-other.ensures.1 (some_then _ dest (some_first _ other))
+    refused_wires _ _ _ _ _ _ _ c.from_residual-in_err-other.ensures (some_then _ dest (some_first _ other))
 
 pub returns-clause-puts : goal.returns-clause-puts
 unfolding roots_of

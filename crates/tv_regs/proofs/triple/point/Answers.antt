@@ -1,15 +1,15 @@
-use Rattle.tv_core.proofs.Common.{refl, refused, some_first, puts_in_then}
+use Rattle.tv_core.proofs.Common.{refl, refused_wires, some_first, puts_in_then}
 use Rattle.tv_bits.proofs.Growing.{fewer, within, both_in, left}
 use Rattle.tv_regs.specs.ProductPlus.{product_plus_of}
 use Rattle.tv_regs.specs.Triple.{point_of}
 use Rattle.tv_regs.proofs.Rooms.{top_more, top_second, top_third, begins}
 use Rattle.tv_regs.proofs.triple.point.Goals as goal
 
-pub returns-in_err-bend-clause-puts : goal.returns-in_err-bend-clause-puts
+pub returns-in_err-bend : goal.returns-in_err-bend
 unfolding point_of
-returns-in_err-bend-clause-puts g c =
+returns-in_err-bend g c =
     let bend = rw (c.set_wire.ensures.terms, c.offset.ensures) at c.in_err-bend.ensures.puts in
-    refused _ _ _ _ _ c.from_residual.ensures.1 (some_first _ bend)
+    refused_wires _ _ _ _ _ _ _ c.from_residual.ensures (some_first _ bend)
 
 pub returns-clause-puts : goal.returns-clause-puts
 unfolding product_plus_of point_of

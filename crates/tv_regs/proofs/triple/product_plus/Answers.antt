@@ -1,14 +1,14 @@
-use Rattle.tv_core.proofs.Common.{refl, refused, all_then, all_pure, some_then, some_first}
+use Rattle.tv_core.proofs.Common.{refl, refused_wires, all_then, all_pure, some_then, some_first}
 use Rattle.tv_bits.proofs.Growing.{fresh_fits, within, kept, both, put_fits, made_by}
 use Rattle.tv_regs.specs.ProductPlus.{product_plus_of}
 use Rattle.tv_regs.proofs.Rooms.{top_more, top_none}
 use Rattle.tv_regs.proofs.triple.product_plus.Goals as goal
 
-pub returns-in_err-put-clause-puts : goal.returns-in_err-put-clause-puts
+pub returns-in_err-put : goal.returns-in_err-put
 unfolding product_plus_of
-returns-in_err-put-clause-puts g c =
+returns-in_err-put g c =
     let sides = rw (c.plus-2.ensures.terms, c.plus.ensures.terms, c.clear.ensures, c.neg.ensures) at c.in_err-put.ensures.puts in
-    refused _ _ _ _ _ c.from_residual.ensures.1 (some_then _ c.fresh-new.ensures.puts (some_first _ sides))
+    refused_wires _ _ _ _ _ _ _ c.from_residual.ensures (some_then _ c.fresh-new.ensures.puts (some_first _ sides))
 
 pub returns-clause-puts : goal.returns-clause-puts
 unfolding product_plus_of

@@ -1,39 +1,39 @@
-use Rattle.tv_core.proofs.Common.{refl, refused, all_then, all_pure, some_then, some_first}
+use Rattle.tv_core.proofs.Common.{refl, refused_wires, all_then, all_pure, some_then, some_first}
 use Rattle.tv_bits.proofs.Growing.{fewer, within, kept, both, left, top_wire}
 use Rattle.tv_regs.specs.ProductPlus.{product_plus_of}
 use Rattle.tv_regs.specs.Triple.{pairs_of, sums_of}
 use Rattle.tv_regs.proofs.Rooms.{top_number, top_more, short_number, short_more}
 use Rattle.tv_regs.proofs.triple.sums.Goals as goal
 
-pub returns-in_err-sum-clause-puts : goal.returns-in_err-sum-clause-puts
+pub returns-in_err-sum : goal.returns-in_err-sum
 unfolding sums_of pairs_of product_plus_of
-returns-in_err-sum-clause-puts g c =
+returns-in_err-sum g c =
     let sum = rw (c.plus-2.ensures.terms, c.plus.ensures.terms, c.set_number.ensures.terms) at c.in_err-sum.ensures.puts in
-    refused _ _ _ _ _ c.from_residual.ensures.1 (some_first _ sum)
+    refused_wires _ _ _ _ _ _ _ c.from_residual.ensures (some_first _ sum)
 
-pub returns-in_err-pair-clause-puts : goal.returns-in_err-pair-clause-puts
+pub returns-in_err-pair : goal.returns-in_err-pair
 unfolding sums_of pairs_of product_plus_of
-returns-in_err-pair-clause-puts g c =
+returns-in_err-pair g c =
     let sum = rw (c.plus-2.ensures.terms, c.plus.ensures.terms, c.set_number.ensures.terms) at c.in_ok-sum.ensures.puts in
     let pair = rw (c.set_wire.ensures.terms, c.set_number-2.ensures.terms) at c.in_err-pair.ensures.puts in
-    refused _ _ _ _ _ c.from_residual-in_err-pair.ensures.1 (some_then _ sum (some_first _ pair))
+    refused_wires _ _ _ _ _ _ _ c.from_residual-in_err-pair.ensures (some_then _ sum (some_first _ pair))
 
-pub returns-in_err-pairs-clause-puts : goal.returns-in_err-pairs-clause-puts
+pub returns-in_err-pairs : goal.returns-in_err-pairs
 unfolding sums_of pairs_of product_plus_of
-returns-in_err-pairs-clause-puts g c =
+returns-in_err-pairs g c =
     let sum = rw (c.plus-2.ensures.terms, c.plus.ensures.terms, c.set_number.ensures.terms) at c.in_ok-sum.ensures.puts in
     let pair = rw (c.set_wire.ensures.terms, c.set_number-2.ensures.terms) at c.in_ok-pair.ensures.puts in
     let pairs = rw (c.set_wire-2.ensures.terms, c.plus-3.ensures.terms, c.in_ok-pair.ensures.b, c.set_number-2.ensures.terms) at c.in_err-pairs.ensures.puts in
-    refused _ _ _ _ _ c.from_residual-in_err-pairs.ensures.1 (some_then _ sum (some_then _ pair (some_first _ pairs)))
+    refused_wires _ _ _ _ _ _ _ c.from_residual-in_err-pairs.ensures (some_then _ sum (some_then _ pair (some_first _ pairs)))
 
-pub returns-in_err-product-clause-puts : goal.returns-in_err-product-clause-puts
+pub returns-in_err-product : goal.returns-in_err-product
 unfolding sums_of pairs_of product_plus_of
-returns-in_err-product-clause-puts g c =
+returns-in_err-product g c =
     let sum = rw (c.plus-2.ensures.terms, c.plus.ensures.terms, c.set_number.ensures.terms) at c.in_ok-sum.ensures.puts in
     let pair = rw (c.set_wire.ensures.terms, c.set_number-2.ensures.terms) at c.in_ok-pair.ensures.puts in
     let pairs = rw (c.set_wire-2.ensures.terms, c.plus-3.ensures.terms, c.in_ok-pair.ensures.b, c.set_number-2.ensures.terms) at c.in_ok-pairs.ensures.puts in
     let product = rw (c.set_wire-3.ensures.terms, c.set_wire-4.ensures.terms) at c.in_err-product.ensures.puts in
-    refused _ _ _ _ _ c.from_residual-in_err-product.ensures.1 (some_then _ sum (some_then _ pair (some_then _ pairs (some_first _ product))))
+    refused_wires _ _ _ _ _ _ _ c.from_residual-in_err-product.ensures (some_then _ sum (some_then _ pair (some_then _ pairs (some_first _ product))))
 
 pub returns-clause-puts : goal.returns-clause-puts
 unfolding sums_of pairs_of product_plus_of
@@ -54,10 +54,7 @@ pub kept_by-requires : goal.kept_by-requires
 kept_by-requires g c =
     let r = c.requires in
     let number = top_number _ c.set_number.ensures.top r.named_short r.named_made in
-    record {
-      room = fewer r.room refl refl;
-      x_made = top_more c.plus-2.ensures.top (top_more c.plus.ensures.top number r.dest_made) r.other_made;
-    }
+    record { room = fewer r.room refl refl; x_made = top_more c.plus-2.ensures.top (top_more c.plus.ensures.top number r.dest_made) r.other_made }
 
 pub times_by-requires : goal.times_by-requires
 times_by-requires g c =
@@ -95,8 +92,7 @@ times_by-requires-2 g c =
     }
 
 pub returns-clause-grows : goal.returns-clause-grows
-returns-clause-grows g c =
-    both (both (both c.in_ok-sum.ensures.grows c.in_ok-pair.ensures.grows) c.in_ok-pairs.ensures.grows) c.in_ok-product.ensures.grows
+returns-clause-grows g c = both (both (both c.in_ok-sum.ensures.grows c.in_ok-pair.ensures.grows) c.in_ok-pairs.ensures.grows) c.in_ok-product.ensures.grows
 
 pub returns-clause-below : goal.returns-clause-below
 returns-clause-below g c =

@@ -1,4 +1,4 @@
-use Rattle.tv_core.proofs.Common.{◌≡◌, ◌<◌, length, arith, puts_no_turn, refused, all_then, all_pure, some_then, some_first}
+use Rattle.tv_core.proofs.Common.{◌≡◌, ◌<◌, length, arith, puts_no_turn, refused_wires, all_then, all_pure, some_then, some_first}
 use Rattle.std.proofs.lemmas.Grind.{get_or_default_zero}
 use Rattle.tv_bits.proofs.Growing.{both, one_turn, turn_some}
 use Rattle.tv_core.proofs.LoopLaws.{puts_here_as}
@@ -17,35 +17,32 @@ unfolding write_of
 loop-i-preserved g c =
     let within : c.loop-i.i < length c.args.regs.now = omega arith in
     let turn = rw (c.offset.ensures, get_or_default_zero c.args.regs.now c.loop-i.i c.index-regs-i.result within) at c.in_ok-select_wires.ensures.puts in
-    record {
-      puts = one_turn _ _ c.loop-i.invariant.puts (all_then _ turn all_pure);
-      grows = both c.loop-i.invariant.grows c.in_ok-select_wires.ensures.grows;
-    }
+    record { puts = one_turn _ _ c.loop-i.invariant.puts (all_then _ turn all_pure); grows = both c.loop-i.invariant.grows c.in_ok-select_wires.ensures.grows }
 
 pub select_wires-requires-clause-y_made : goal.select_wires-requires-clause-y_made
 select_wires-requires-clause-y_made g c =
     let inside : c.loop-i.i < length c.args.regs.now = omega arith in
     omega (arith, wires_top-at c.args.regs.now c.loop-i.i c.index-regs-i.result inside)
 
-pub returns-in_err-select_wires-clause-puts : goal.returns-in_err-select_wires-clause-puts
+pub returns-in_err-select_wires : goal.returns-in_err-select_wires
 unfolding write_reg_of write_of
-returns-in_err-select_wires-clause-puts g c =
+returns-in_err-select_wires g c =
     let m = g.S.Sink.meaning in
     let within : c.loop-i.i < 16 = omega arith in
     let inside : c.loop-i.i < length c.args.regs.now = omega arith in
     let write = rw (c.offset.ensures, get_or_default_zero c.args.regs.now c.loop-i.i c.index-regs-i.result inside) at c.in_err-select_wires.ensures.puts in
     let first = puts_here_as m c.fresh-v.new.self c.wires.result c.wires.ensures in
-    refused _ _ _ _ _ c.from_residual.ensures.1 (some_then _ c.fresh-v.ensures.puts (some_then _ first
+    refused_wires _ _ _ _ _ _ _ c.from_residual.ensures (some_then _ c.fresh-v.ensures.puts (some_then _ first
     (some_first _ (turn_some _ _ c.loop-i.invariant.puts within (some_first _ write)))))
 
-pub returns-in_err-tie-clause-puts : goal.returns-in_err-tie-clause-puts
+pub returns-in_err-tie : goal.returns-in_err-tie
 unfolding write_reg_of
-returns-in_err-tie-clause-puts g c =
+returns-in_err-tie g c =
     let m = g.S.Sink.meaning in
     let all : c.loop-i.i ≡ 16 = omega arith in
     let first = puts_here_as m c.fresh-v.new.self c.wires.result c.wires.ensures in
     let turns = rw all at c.loop-i.invariant.puts in
-    refused _ _ _ _ _ c.from_residual-in_err-tie.ensures.1 (some_then _ c.fresh-v.ensures.puts (some_then _ first (some_then _ turns
+    refused_wires _ _ _ _ _ _ _ c.from_residual-in_err-tie.ensures (some_then _ c.fresh-v.ensures.puts (some_then _ first (some_then _ turns
     (some_first _ c.in_err-tie.ensures.puts))))
 
 pub returns-clause-puts : goal.returns-clause-puts
