@@ -3,8 +3,7 @@ use Rattle.tv_core.proofs.Common.{◌≡◌, ℕ, ◌+◌, ◌-◌, ◌*◌, ◌
 use Rattle.tv_core.proofs.Common.{refl, sym, ◌∙◌, ap, ap₂, arith, mod-lt, bit_at, slice_index, cases_eq, eqb-true, ne_eqb, value-wire, value-append, value-cons}
 use Rattle.tv_core.proofs.Common.{value-below, wire-below, InField-cons, InField-none, fresh, put, pure, ◌>>=◌, wire, Combination, value, Meets, InField}
 use Rattle.tv_core.proofs.Common.{terms_in, for_widths, IsWidth, flag_of}
-use Rattle.std.proofs.Common.{◌||◌}
-use Rattle.std.proofs.Common.{length-append, div-le_self, true≢false}
+use Rattle.std.proofs.Common.{◌||◌, length-append, div-le_self, true≢false}
 use Rattle.tv_bits.proofs.BitNumbers.{HasBits-below}
 use Rattle.tv_bits.specs.Times.{times_of}
 use Rattle.tv_core.specs.declared.field.TheConstants.{P}
@@ -17,21 +16,19 @@ use Rattle.tv_numbers.specs.Numbers.{operand_word, other_word, takes_primary, fo
 use Rattle.tv_numbers.specs.Views.{View}
 use Rattle.tv_step.specs.Rows.{word_size}
 use Rattle.tv_inputs.proofs.FieldNumbers.{small_word, byte_small, either, flag_times}
-use Rattle.tv_inputs.proofs.TapeLaws.{no_primary, no_auxiliary, one_tape}
+use Rattle.tv_inputs.proofs.TapeLaws.{no_primary, no_auxiliary, one_tape, among_one}
 use Rattle.tv_inputs.proofs.OpcodeLaws.{opcode_sum_sound, opcode_wire_is}
 use Rattle.tv_results.proofs.ResultLaws.{ResultCase, result_is, compared_is, tested_is}
 use Rattle.tv_inputs.proofs.TapeGates.{value-two, value-three, value-four}
-use Rattle.tv_inputs.proofs.TapeLaws.{among_one}
 use Rattle.tv_inputs.proofs.UpperLaws.{upper_is, length-upper}
 use Rattle.tv_inputs.specs.Accumulation.{closed_of}
 use Rattle.tv_inputs.specs.Inputs.{input_of}
 use Rattle.tv_inputs.specs.OpcodeSums.{opcode_sum}
 use Rattle.tv_inputs.specs.Operand.{upper_of}
 use Rattle.tv_inputs.specs.Rows.{covers}
-use Rattle.tv_inputs.specs.Results.{low_ops, high_ops, parts_in, signs_in, result_of, tested_of, results_of, AreResults}
+use Rattle.tv_inputs.specs.Results.{low_ops, high_ops, parts_in, signs_in, result_of, tested_of, results_of, AreResults, HasSources, ResultsAreSound, low_part}
+use Rattle.tv_inputs.specs.Results.{high_part, moved_part, result_number, tested_number, results_values, ResultsAreComplete, ResultsSizes, ResultsCosts}
 use Rattle.tv_inputs.specs.TestNumbers.{zero_ops, carry_ops, place_bits, tested_numbers}
-use Rattle.tv_inputs.specs.Results.{HasSources, ResultsAreSound, low_part, high_part, moved_part, result_number, tested_number, results_values}
-use Rattle.tv_inputs.specs.Results.{ResultsAreComplete, ResultsSizes, ResultsCosts}
 use Rattle.tv_inputs.specs.Tapes.{took}
 use Rattle.tv_inputs.specs.declared.records.OperandWires.{OperandWires}
 use Rattle.tv_inputs.specs.declared.records.ResultWires.{ResultWires}
@@ -138,10 +135,7 @@ module _ (w : ℕ) (width : IsWidth w) (z : List ℕ) (n : ℕ) (state : StateWi
   high_small = small_word w width high has.halves.high_word
 
   pub case_of : ResultCase w width (other_word v i) at low high finds (HasBits-below has.operand.bits) i.op
-  case_of = record {
-    reads = λ e. ap₂ (λ p q. p || q) (no_primary v i n e) (no_auxiliary v i (took z t) has.tapes.asked e);
-    halves = has.halves;
-  }
+  case_of = record { reads = λ e. ap₂ (λ p q. p || q) (no_primary v i n e) (no_auxiliary v i (took z t) has.tapes.asked e); halves = has.halves }
 
   apart_ops : (ks : List ℕ) (j : ℕ) → among ks j ≡ false → (i.op == j) ≡ true → among ks i.op ≡ false
   apart_ops ks j none e = ap (among ks) (eqb-true i.op j e) ∙ none

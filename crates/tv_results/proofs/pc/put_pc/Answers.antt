@@ -1,18 +1,18 @@
-use Rattle.tv_core.proofs.Common.{some_then, some_first, refused, puts_in_then}
+use Rattle.tv_core.proofs.Common.{some_then, some_first, refused_wires, puts_in_then}
 use Rattle.tv_results.specs.Pc.{pc_of}
 use Rattle.tv_results.proofs.pc.put_pc.Goals as goal
 
-pub returns-in_err-wraps-clause-puts : goal.returns-in_err-wraps-clause-puts
+pub returns-in_err-wraps : goal.returns-in_err-wraps
 unfolding pc_of
-returns-in_err-wraps-clause-puts g c =
+returns-in_err-wraps g c =
     let p0 = rw c.opcode_wire-answers.ensures at c.in_err-wraps.ensures.puts in
-    refused _ _ _ _ _ c.from_residual.ensures.1 (some_first _ p0)
+    refused_wires _ _ _ _ _ _ _ c.from_residual.ensures (some_first _ p0)
 
-pub returns-in_err-by_flag-clause-puts : goal.returns-in_err-by_flag-clause-puts
+pub returns-in_err-by_flag : goal.returns-in_err-by_flag
 unfolding pc_of
-returns-in_err-by_flag-clause-puts g c =
+returns-in_err-by_flag g c =
     let p0 = rw c.opcode_wire-answers.ensures at c.in_ok-wraps.ensures.puts in
-    refused _ _ _ _ _ c.from_residual-in_err-by_flag.ensures.1 (some_then _ p0 (some_first _ c.in_err-by_flag.ensures.puts))
+    refused_wires _ _ _ _ _ _ _ c.from_residual-in_err-by_flag.ensures (some_then _ p0 (some_first _ c.in_err-by_flag.ensures.puts))
 
 pub returns-clause-puts : goal.returns-clause-puts
 unfolding pc_of

@@ -1,31 +1,31 @@
-use Rattle.tv_core.proofs.Common.{some_then, some_first, refused, puts_in_then}
+use Rattle.tv_core.proofs.Common.{some_then, some_first, refused_wires, puts_in_then}
 use Rattle.tv_inputs.specs.Results.{result_of}
 use Rattle.tv_results.proofs.results.put_result.Goals as goal
 
-pub returns-in_err-low-clause-puts : goal.returns-in_err-low-clause-puts
+pub returns-in_err-low : goal.returns-in_err-low
 unfolding result_of
-returns-in_err-low-clause-puts g c =
+returns-in_err-low g c =
     let p0 = rw (c.set_low_gate.ensures.terms, c.set_wire.ensures.terms)
     at c.in_err-low.ensures.puts in
-    refused _ _ _ _ _ c.from_residual.ensures.1 (some_first _ p0)
+    refused_wires _ _ _ _ _ _ _ c.from_residual.ensures (some_first _ p0)
 
-pub returns-in_err-high-clause-puts : goal.returns-in_err-high-clause-puts
+pub returns-in_err-high : goal.returns-in_err-high
 unfolding result_of
-returns-in_err-high-clause-puts g c =
+returns-in_err-high g c =
     let p0 = rw (c.set_low_gate.ensures.terms, c.set_wire.ensures.terms)
     at c.in_ok-low.ensures.puts in
     let p1 = rw (c.set_opcodes.ensures.terms, c.set_wire-2.ensures.terms) at c.in_err-high.ensures.puts in
-    refused _ _ _ _ _ c.from_residual-in_err-high.ensures.1 (some_then _ p0 (some_first _ p1))
+    refused_wires _ _ _ _ _ _ _ c.from_residual-in_err-high.ensures (some_then _ p0 (some_first _ p1))
 
-pub returns-in_err-moved-clause-puts : goal.returns-in_err-moved-clause-puts
+pub returns-in_err-moved : goal.returns-in_err-moved
 unfolding result_of
-returns-in_err-moved-clause-puts g c =
+returns-in_err-moved g c =
     let p0 = rw (c.set_low_gate.ensures.terms, c.set_wire.ensures.terms)
     at c.in_ok-low.ensures.puts in
     let p1 = rw (c.set_opcodes.ensures.terms, c.set_wire-2.ensures.terms) at c.in_ok-high.ensures.puts in
     let p2 = rw (c.set_moved_gate.ensures.terms, c.set_wire-3.ensures.terms)
     at c.in_err-moved.ensures.puts in
-    refused _ _ _ _ _ c.from_residual-in_err-moved.ensures.1 (some_then _ p0 (some_then _ p1 (some_first _ p2)))
+    refused_wires _ _ _ _ _ _ _ c.from_residual-in_err-moved.ensures (some_then _ p0 (some_then _ p1 (some_first _ p2)))
 
 pub returns-clause-puts : goal.returns-clause-puts
 unfolding result_of

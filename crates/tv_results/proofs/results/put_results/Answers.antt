@@ -1,15 +1,15 @@
-use Rattle.tv_core.proofs.Common.{all_then, some_then, some_first, all_pure, refused}
+use Rattle.tv_core.proofs.Common.{all_then, some_then, some_first, all_pure, refused_wires}
 use Rattle.tv_inputs.specs.Results.{results_of}
 use Rattle.tv_results.proofs.results.put_results.Goals as goal
 
-pub returns-in_err-word-clause-puts : goal.returns-in_err-word-clause-puts
+pub returns-in_err-word : goal.returns-in_err-word
 unfolding results_of
-returns-in_err-word-clause-puts g c = refused _ _ _ _ _ c.from_residual.ensures.1 (some_first _ c.in_err-word.ensures.puts)
+returns-in_err-word g c = refused_wires _ _ _ _ _ _ _ c.from_residual.ensures (some_first _ c.in_err-word.ensures.puts)
 
-pub returns-in_err-tested-clause-puts : goal.returns-in_err-tested-clause-puts
+pub returns-in_err-tested : goal.returns-in_err-tested
 unfolding results_of
-returns-in_err-tested-clause-puts g c =
-    refused _ _ _ _ _ c.from_residual-in_err-tested.ensures.1 (some_then _ c.in_ok-word.ensures.puts (some_first _ c.in_err-tested.ensures.puts))
+returns-in_err-tested g c =
+    refused_wires _ _ _ _ _ _ _ c.from_residual-in_err-tested.ensures (some_then _ c.in_ok-word.ensures.puts (some_first _ c.in_err-tested.ensures.puts))
 
 pub returns-clause-puts : goal.returns-clause-puts
 unfolding results_of
