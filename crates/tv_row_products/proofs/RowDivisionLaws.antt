@@ -21,8 +21,7 @@ use Rattle.tv_core.proofs.NormalLaws.{residue_first}
 use Rattle.tv_core.specs.declared.field.TheConstants.{P}
 use Rattle.tv_row_products.proofs.RowDivisionNumbers.{Divides, Divides-sound, division_row, below_word, division_met}
 use Rattle.tv_row_products.specs.RowDivision.{dividing, IsRowDivision, below_divisor, room_below, bits_less, row_division_of, row_division_values}
-use Rattle.tv_row_products.specs.RowDivision.{RowDivisionIsSound}
-use Rattle.tv_row_products.specs.RowDivision.{RowDivisionIsComplete, RowDivisionSizes, RowDivisionCosts}
+use Rattle.tv_row_products.specs.RowDivision.{RowDivisionIsSound, RowDivisionIsComplete, RowDivisionSizes, RowDivisionCosts}
 
 -- ---- the combinations
 module _ (z : List ℕ) (assigns : Assigns z) where
@@ -32,8 +31,7 @@ module _ (z : List ℕ) (assigns : Assigns z) where
   value-three : (i j k : ℕ) → value (wire i ++ (wire j ++ wire k)) z ≡ (slice_index z i + slice_index z j + slice_index z k) % P
   value-three i j k = value-append (wire i) (wire j ++ wire k) z ∙ ap₂ (λ m n. (m + n) % P) (value-wire assigns i) (value-two j k) ∙ omega arith
 
-  value-room : (w x y by_zero : ℕ) (row : DoubleRow)
-      → value (room_below w x y by_zero row) z ≡ (P - 1 + (P - 1) * slice_index z x + slice_index z y +
+  value-room : (w x y by_zero : ℕ) (row : DoubleRow) → value (room_below w x y by_zero row) z ≡ (P - 1 + (P - 1) * slice_index z x + slice_index z y +
       (P - 1) * slice_index z row.low + 2 ^ w * slice_index z by_zero) % P
   value-room w x y by_zero row =
       let f = slice_index z by_zero in
@@ -43,8 +41,7 @@ module _ (z : List ℕ) (assigns : Assigns z) where
       ∙ both (2 ^ w) f ((P - 1) * slice_index z row.low) in
       let second = value-cons 1 y ((2 ^ w % P, by_zero) ∷ (P - 1, row.low) ∷ []) z ∙ ap (λ n. (1 * slice_index z y + n) % P) bit in
       let first = value-cons (P - 1) x ((1, y) ∷ (2 ^ w % P, by_zero) ∷ (P - 1, row.low) ∷ []) z ∙ ap (λ n. ((P - 1) * slice_index z x + n) % P) second in
-      value-cons (P - 1) 0 ((P - 1, x) ∷ (1, y) ∷ (2 ^ w % P, by_zero) ∷ (P - 1, row.low) ∷ []) z
-      ∙ ap₂ (λ m n. ((P - 1) * m + n) % P) assigns.one first
+      value-cons (P - 1) 0 ((P - 1, x) ∷ (1, y) ∷ (2 ^ w % P, by_zero) ∷ (P - 1, row.low) ∷ []) z ∙ ap₂ (λ m n. ((P - 1) * m + n) % P) assigns.one first
       ∙ flat ((P - 1) * slice_index z x) (slice_index z y) ((P - 1) * slice_index z row.low) (2 ^ w * f)
     where
       once : (n : ℕ) → (n + 0) % P ≡ n % P
@@ -136,8 +133,7 @@ module _ (w : ℕ) (width : IsWidth w) (z : List ℕ) (next : ℕ) (gate : Combi
   products_met has = search (arith, times_complete, value-wire, value-two)
 
   met_by : HasFrom z next (row_division_values (slice_index z by_zero) (slice_index z x) (slice_index z row.high) (slice_index z y))
-      → Meets z (gated_of gate (wire x) sums (next + 2)).list
-      → value gate z * value (room_below w x y by_zero row) z % P ≡ value (bits_less w x bits) z
+      → Meets z (gated_of gate (wire x) sums (next + 2)).list → value gate z * value (room_below w x y by_zero row) z % P ≡ value (bits_less w x bits) z
       → Meets z (row_division_of w gate (dividing x y by_zero) bits row next).list
   unfolding row_division_of times_of gated_of fresh put pure ◌>>=◌ sums
   met_by has parts tie = let products = products_met has in (products.0.0, (products.1.0, (parts.0, (tie, tt))))

@@ -12,8 +12,7 @@ use Rattle.tv_bits.specs.Gate.{gated_of}
 use Rattle.tv_bits.specs.Times.{times_of}
 use Rattle.tv_bits.specs.declared.double_rows.DoubleRow.{DoubleRow}
 use Rattle.tv_core.specs.declared.field.TheConstants.{P}
-use Rattle.tv_row_products.specs.RowProduct.{IsRowProduct, row_product_of, RowProductIsSound, RowProductIsComplete, RowProductSizes}
-use Rattle.tv_row_products.specs.RowProduct.{RowProductCosts}
+use Rattle.tv_row_products.specs.RowProduct.{IsRowProduct, row_product_of, RowProductIsSound, RowProductIsComplete, RowProductSizes, RowProductCosts}
 
 -- the numbers
 product_small : (w : ℕ) → IsWidth w → (a b : ℕ) → a < 2 ^ w → b < 2 ^ w → a * b < P
@@ -46,11 +45,7 @@ row_product_complete = record {
 
 pub row_product_sizes : RowProductSizes
 unfolding row_product_of times_of gated_of fresh put pure ◌>>=◌
-row_product_sizes = record {
-  end = λ w gate x y row next. refl;
-  fills = λ w gate x y row a b next. refl;
-  in_field = times_sizes.in_field;
-}
+row_product_sizes = record { end = λ w gate x y row next. refl; fills = λ w gate x y row a b next. refl; in_field = times_sizes.in_field }
 
 pub row_product_cost_laws : RowProductCosts
 unfolding row_product_of times_of gated_of fresh put pure ◌>>=◌

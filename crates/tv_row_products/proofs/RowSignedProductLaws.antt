@@ -79,8 +79,7 @@ module _ (z : List ℕ) (assigns : Assigns z) where
       let place : row.first + (2 * w - 1) ≡ row.first + w + (w - 1) = omega arith in
       let top = ap (slice_index z) place ∙ HasBits-bit_at s.high (w - 1) (omega arith)
       ∙ sym (row_top w width low high (HasBits-below s.low) (HasBits-below s.high)) in
-      value-cons c (row.first + (2 * w - 1)) (row_number w row) z
-      ∙ ap₂ (λ m n. (c * m + n) % P) top (value-row_number w z row assigns)
+      value-cons c (row.first + (2 * w - 1)) (row_number w row) z ∙ ap₂ (λ m n. (c * m + n) % P) top (value-row_number w z row assigns)
       ∙ flat (c * bit_at (whole w low high) (2 * w - 1)) (whole w low high)
       ∙ row_signed_is w width (whole w low high) (row_long w width low high (HasBits-below s.low) (HasBits-below s.high))
     where
@@ -113,8 +112,7 @@ on_values w width z next x y row a b assigns p q s is product =
     let made = product ∙ ap₂ (λ m n. m * n % P) (signed_in_is w width a p.small) (signed_in_is w width b q.small) in
     value-signed_row z assigns w width row s
     ∙ sym (Stands-meets w width (signed_value w a * signed_value w b) (whole w (slice_index z row.low) (slice_index z row.high)) (signed_product w a b)
-    (stands w width a b p.small q.small) numbers)
-    ∙ sym made ∙ sym (value-wire assigns next)
+    (stands w width a b p.small q.small) numbers) ∙ sym made ∙ sym (value-wire assigns next)
 
 product_met : (w : ℕ) (z : List ℕ) (next : ℕ) (x y : SignedWord) → Assigns z
     → HasFrom z next (row_signed_product_values w (slice_index z x.word) (slice_index z x.sign) (slice_index z y.word) (slice_index z y.sign))
@@ -128,8 +126,7 @@ row_signed_product_complete = record {
   on = λ w width z next gate x y row a b assigns p q s is has.
       let signs = ap₂ (λ m n. m * n % P) (ap₂ (signed_in w) (sym p.word) (sym p.sign)) (ap₂ (signed_in w) (sym q.word) (sym q.sign)) in (
         (product_met w z next x y assigns (
-          has.0
-              ∙ signs,
+          has.0 ∙ signs,
           tt,
         )).0,
         gated_complete.same z (next + 1) gate (signed_row w row) (wire next) (on_values w width z next x y row a b assigns p q s is has.0),

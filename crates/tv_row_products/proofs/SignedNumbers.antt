@@ -1,8 +1,7 @@
 -- Signed numbers as residues modulo P.
 use Rattle.tv_core.proofs.Common.{◌⊎◌, ◌≡◌, ◌≢◌, ℕ, zero, suc, ◌+◌, ◌-◌, ◌*◌, ◌%◌, ◌^◌, ◌<◌, ◌≤◌, Bool, true, false, if◌then◌else◌, inl, inr, refl, sym, ◌∙◌}
 use Rattle.tv_core.proofs.Common.{ap, ap₂, arith, mod-eq_of_lt, zero-mul, bit_at, cases_lt, lt-ltb, le-ltb, IsWidth}
-use Rattle.std.proofs.Common.{ℤ, pos, negsuc, neg_ℤ, ◌*ℤ◌, ◌-ℤ◌, w64}
-use Rattle.std.proofs.Common.{FitsSigned, to_z, of_z, mul-zero, mul_comm}
+use Rattle.std.proofs.Common.{ℤ, pos, negsuc, neg_ℤ, ◌*ℤ◌, ◌-ℤ◌, w64, FitsSigned, to_z, of_z, mul-zero, mul_comm}
 use Rattle.std.specs.Int.{cast_unsigned}
 use Rattle.std.proofs.Math.IntN.{pos-*ℤ-pos, pos-*ℤ-negsuc, negsuc-*ℤ-pos, negsuc-*ℤ-negsuc}
 use Rattle.std.proofs.lemmas.Int.{ints, to_z-of_z}

@@ -1,13 +1,12 @@
 use Rattle.tv_bits.specs.Gate.{gated_of}
 use Rattle.tv_bits.specs.Times.{times_of}
-use Rattle.tv_core.proofs.Common.{refused, some_first, puts_in_then, wire}
+use Rattle.tv_core.proofs.Common.{refused_whole, some_first, puts_in_then, wire}
 use Rattle.tv_row_products.specs.RowSignedProduct.{signed_word, signed_row, row_signed_product_of}
 use Rattle.tv_row_products.proofs.row_signed_products.row_signed_product.Goals as goal
 
-pub returns-in_err-product-clause-puts : goal.returns-in_err-product-clause-puts
+pub returns-in_err-product : goal.returns-in_err-product
 unfolding row_signed_product_of
-returns-in_err-product-clause-puts g c =
-    refused _ _ _ _ _ c.from_residual.ensures.1 (some_first _ c.in_err-product.ensures.puts)
+returns-in_err-product g c = refused_whole _ _ _ _ _ _ c.from_residual.ensures (some_first _ c.in_err-product.ensures.puts)
 
 pub returns-clause-puts : goal.returns-clause-puts
 unfolding row_signed_product_of gated_of
