@@ -21,8 +21,7 @@ pub accumulated_sound : AccumulatedIsSound
 unfolding closed_of fresh put pure ◌>>=◌
 accumulated_sound z next x f g assigns meets =
     sum_by (value x z) (value f z * value g z % P) (slice_index z next) (value-below x z) (mod-lt _ (omega arith)) (wire-below assigns next)
-    (meets.0 ∙ closing z next x assigns)
-    ∙ folded (value x z) (value f z * value g z)
+    (meets.0 ∙ closing z next x assigns) ∙ folded (value x z) (value f z * value g z)
 
 pub accumulated_complete : AccumulatedIsComplete
 unfolding closed_of fresh put pure ◌>>=◌

@@ -37,8 +37,7 @@ opcodes_top c op most (k ∷ ks) within =
 
 -- and wires after them
 pub opcodes_then : (c op least most : ℕ) (ks : List ℕ) (y : Combination) → 0 < c → c < P → rises_from least ks ≡ true → places_below most ks ≡ true
-    → least ≤ most
-    → IsNormalFrom (op + most) y → IsNormalFrom (op + least) (opcode_terms c op ks ++ y)
+    → least ≤ most → IsNormalFrom (op + most) y → IsNormalFrom (op + least) (opcode_terms c op ks ++ y)
 opcodes_then c op least most ks y some small rises within h n =
     normal_append (op + least) (op + most) (opcode_terms c op ks) y (opcodes_normal c op least ks some small rises) (opcodes_top c op most ks within)
     (omega (arith, h)) n

@@ -51,8 +51,7 @@ module _ (w : ℕ) (width : IsWidth w) (z : List ℕ) (imm tail register : ℕ) 
       }) (λ bits are. record { word = is_word; bits = are }))
 
 pub operand_sound : OperandIsSound
-operand_sound w width z next imm tail register immediate second named has =
-    (operand_settled w width z imm tail register immediate second named has).sound next
+operand_sound w width z next imm tail register immediate second named has = (operand_settled w width z imm tail register immediate second named has).sound next
 
 pub operand_complete : OperandIsComplete
 operand_complete w width z next imm tail register immediate second named has =

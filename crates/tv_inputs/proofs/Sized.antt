@@ -32,11 +32,7 @@ sized_pure a = record { end = none_more; count = λ next. refl; size = λ next. 
 
 -- with equal numbers
 pub sized_as : {A : Type 0} {circuit : Circuit A} {m c t n d u : ℕ} → Sized circuit m c t → m ≡ n → c ≡ d → t ≡ u → Sized circuit n d u
-sized_as p e f g = record {
-  end = λ next. p.end next ∙ ap (λ k. next + k) e;
-  count = λ next. p.count next ∙ f;
-  size = λ next. p.size next ∙ g;
-}
+sized_as p e f g = record { end = λ next. p.end next ∙ ap (λ k. next + k) e; count = λ next. p.count next ∙ f; size = λ next. p.size next ∙ g }
 
 pub sized_put : (a b c : Combination) → Sized (put a b c) 0 1 (length a + length b + length c)
 unfolding put

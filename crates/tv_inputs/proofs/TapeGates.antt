@@ -2,8 +2,7 @@
 use Rattle.tv_core.proofs.Common.{◌≡◌, ◌≢◌, ℕ, ◌+◌, ◌-◌, ◌*◌, ◌%◌, ◌^◌, ◌<◌, ◌≤◌, ◌==◌, not, Bool, true, false, if◌then◌else◌, List, [], ◌∷◌, inl, inr, refl}
 use Rattle.tv_core.proofs.Common.{sym, ◌∙◌, ap, ap₂, arith, mod-lt, zero-mul, slice_index, cases_eq, ne_eqb, value-below, value-less, value-cons, value-wire}
 use Rattle.tv_core.proofs.Common.{wire-below, fresh, put, pure, ◌>>=◌, wire, Combination, value, Assigns, Meets, flag_of}
-use Rattle.std.proofs.Common.{◌&&◌}
-use Rattle.std.proofs.Common.{mul-zero, eq-eqb, true≢false}
+use Rattle.std.proofs.Common.{◌&&◌, mul-zero, eq-eqb, true≢false}
 use Rattle.tv_bits.proofs.BitLaws.{bit_cases}
 use Rattle.tv_bits.proofs.SelectLaws.{times_zero}
 use Rattle.tv_bits.specs.Bit.{IsBit}
@@ -88,8 +87,7 @@ less_none : (a b : ℕ) → a < P → b ≡ 0 → (a + (P - b)) % P ≡ a
 less_none a b h e = omega arith
 
 pub if_zero_complete : (z : List ℕ) (next : ℕ) (g x : Combination) → Assigns z → slice_index z next ≡ (if value x z == 0 then value g z else 0)
-    → slice_index z (next + 1) ≡ inverse_of (value x z) * value g z % P
-    → Meets z (if_zero_of g x next).list
+    → slice_index z (next + 1) ≡ inverse_of (value x z) * value g z % P → Meets z (if_zero_of g x next).list
 unfolding if_zero_of fresh put pure ◌>>=◌
 if_zero_complete z next g x assigns w h =
     let gate = value-less g (wire next) z ∙ ap (λ n. (value g z + (P - n)) % P) (value-wire assigns next) in
@@ -99,15 +97,13 @@ if_zero_complete z next g x assigns w h =
     by_cases : (value x z * slice_index z (next + 1) % P ≡ (value g z + (P - slice_index z next)) % P) × (value x z * slice_index z next % P ≡ 0)
     by_cases = elim (cases_eq (value x z) 0) [
       | inl none ↦ (
-        times_zero (value x z) _ none
-            ∙ sym (itself (value g z) (slice_index z next) (wire-below assigns next)
+        times_zero (value x z) _ none ∙ sym (itself (value g z) (slice_index z next) (wire-below assigns next)
             (sym (w ∙ ap (λ b. if b then value g z else 0) (eq-eqb (value x z) 0 none)))),
         times_zero (value x z) _ none,
       )
       | inr some ↦
           let no : slice_index z next ≡ 0 = w ∙ ap (λ b. if b then value g z else 0) (ne_eqb (value x z) 0 some) in (
-            inverse_times (value x z) (value g z) _ (value-below x z) (value-below g z) some h
-                ∙ sym (less_none (value g z) _ (value-below g z) no),
+            inverse_times (value x z) (value g z) _ (value-below x z) (value-below g z) some h ∙ sym (less_none (value g z) _ (value-below g z) no),
             times_none (value x z) _ no,
           )
     ]
@@ -190,8 +186,7 @@ module _ (z : List ℕ) (n before reads aux g : ℕ) (assigns : Assigns z) (shor
       back t d h l e = omega arith
 
   pub primary_complete : (next : ℕ) → slice_index z next ≡ slice_index z before + (if n - slice_index z before == 0 then 0 else g)
-      → slice_index z (next + 1) ≡ inverse_of (n - slice_index z before) * g % P
-      → Meets z (primary_of n before reads aux next).list
+      → slice_index z (next + 1) ≡ inverse_of (n - slice_index z before) * g % P → Meets z (primary_of n before reads aux next).list
   unfolding primary_of fresh put pure ◌>>=◌
   primary_complete next e hint =
       let t = slice_index z next in
@@ -238,8 +233,7 @@ taking_by q before takes ended bs ts es sum product zeroth = elim
         record {
           took = one ∙ sym (ap flag_of test);
           only = λ t. refl;
-          ends = same_of_minus ended before es bs none
-              ∙ sym (ap (λ b. if b then before else 1) test);
+          ends = same_of_minus ended before es bs none ∙ sym (ap (λ b. if b then before else 1) test);
         }
     taken false none sum =
         let zeroth : takes ≡ 0 = omega arith in
@@ -306,8 +300,7 @@ taking_numbers r t before ended bit asked e = elim (bit_cases before bit) [
     at_one false false asked e b = rw (b, e) (refl, refl)
 
 pub auxiliary_complete : (z : List ℕ) (next taken aux before : ℕ) (r t : Bool) → Assigns z → slice_index z aux ≡ flag_of r → slice_index z next ≡ flag_of t
-    → IsBit (slice_index z before)
-    → (t ≡ true → (r && (slice_index z before == 0)) ≡ true)
+    → IsBit (slice_index z before) → (t ≡ true → (r && (slice_index z before == 0)) ≡ true)
     → slice_index z (next + 1) ≡ (if (r && (slice_index z before == 0)) && not t then 1 else slice_index z before)
     → Meets z (auxiliary_of taken aux before next).list
 unfolding auxiliary_of fresh put pure ◌>>=◌

@@ -2,8 +2,7 @@
 use Rattle.tv_core.proofs.Common.{◌≡◌, ℕ, ◌+◌, ◌-◌, ◌*◌, ◌/◌, ◌%◌, ◌<◌, ◌≤◌, ◌==◌, nat_lt, not, Bool, true, false, if◌then◌else◌, [], ◌∷◌, inl, inr, refl, sym}
 use Rattle.tv_core.proofs.Common.{◌∙◌, ap, ap₂, subst, arith, zero-mul, List, bit_at, slice_index, cases_eq, cases_lt, eq-eqb, eqb-true, ne_eqb, lt-ltb, le-ltb}
 use Rattle.tv_core.proofs.Common.{value-wire, fresh, put, pure, ◌>>=◌, wire, width_short, IsWidth, flag_of}
-use Rattle.std.proofs.Common.{◌&&◌}
-use Rattle.std.proofs.Common.{true≢false}
+use Rattle.std.proofs.Common.{◌&&◌, true≢false}
 use Rattle.std.proofs.lemmas.Bool.{and_parts}
 use Rattle.tv_bits.proofs.BitNumbers.{HasBits-bit_at}
 use Rattle.tv_bits.specs.Bit.{IsBit}
@@ -56,16 +55,14 @@ reading_by k a low reads aux is_low is_reads is_aux = elim (cases_eq a 0) [
     at_zero : (k : Bool) → reads ≡ flag_of k → low ≡ 0 → a ≡ 0 → Reading k a reads aux
     at_zero true r l z = record {
       one = is_aux ∙ rw (r, l) refl ∙ sym (ap (λ n. flag_of (true && (n == 1))) z);
-      none = rw (is_aux, r, l) refl
-          ∙ sym (ap (λ n. flag_of (true && (n == 0))) z);
+      none = rw (is_aux, r, l) refl ∙ sym (ap (λ n. flag_of (true && (n == 0))) z);
     }
     at_zero false r l z = record { one = is_aux ∙ rw (r, l) refl; none = rw (is_aux, r, l) refl }
 
     at_one : (k : Bool) → reads ≡ flag_of k → low ≡ 1 → a ≡ 1 → Reading k a reads aux
     at_one true r l z = record {
       one = is_aux ∙ rw (r, l) refl ∙ sym (ap (λ n. flag_of (true && (n == 1))) z);
-      none = rw (is_aux, r, l) refl
-          ∙ sym (ap (λ n. flag_of (true && (n == 0))) z);
+      none = rw (is_aux, r, l) refl ∙ sym (ap (λ n. flag_of (true && (n == 0))) z);
     }
     at_one false r l z = record { one = is_aux ∙ rw (r, l) refl; none = rw (is_aux, r, l) refl }
 

@@ -56,16 +56,12 @@ upper_is w width z a v m k assigns is within =
     let decomposed = HasBits-low z a.bits.first k (w - k) v (subst (λ n. HasBits z a.bits.first n v) size is.bits) in
     let small : v < P = HasBits-small is.bits (omega arith) in
     let upper : v / 2 ^ k < P = omega (arith, div-le_self v (2 ^ k)) in
-    value-scaled (m * power_inverse k % P) (less (wire a.word) low) z
-    ∙ ap (λ n. m * power_inverse k % P * n % P)
-    (value-less (wire a.word) low z
-    ∙ ap₂ (λ x y. (x + (P - y)) % P) (value-wire assigns a.word ∙ is.word) (value-bits_below decomposed (omega arith))
-    ∙ low_less v (2 ^ k) (v / 2 ^ k) small (div-add-mod v (2 ^ k)))
-    ∙ times_upper m k (v / 2 ^ k) (omega arith) upper
+    value-scaled (m * power_inverse k % P) (less (wire a.word) low) z ∙ ap (λ n. m * power_inverse k % P * n % P)
+    (value-less (wire a.word) low z ∙ ap₂ (λ x y. (x + (P - y)) % P) (value-wire assigns a.word ∙ is.word) (value-bits_below decomposed (omega arith))
+    ∙ low_less v (2 ^ k) (v / 2 ^ k) small (div-add-mod v (2 ^ k))) ∙ times_upper m k (v / 2 ^ k) (omega arith) upper
 
 -- once it is the number itself
-pub upper_once : (w : ℕ) → IsWidth w → (z : List ℕ) (a : OperandWires) (v k : ℕ) → Assigns z → IsOperand w z a v → k ≤ w
-    → value (upper_of 1 a k) z ≡ v / 2 ^ k
+pub upper_once : (w : ℕ) → IsWidth w → (z : List ℕ) (a : OperandWires) (v k : ℕ) → Assigns z → IsOperand w z a v → k ≤ w → value (upper_of 1 a k) z ≡ v / 2 ^ k
 upper_once w width z a v k assigns is within =
     let short = width_short w width in
     let small : v < P = HasBits-small is.bits (omega arith) in
@@ -109,8 +105,7 @@ upper_top m a k before =
     let low = bits_combination a.bits.first k in
     omega (arith, top-scaled (m * power_inverse k % P) (scaled (P - 1) low), top-scaled (P - 1) low, bits_top a.bits.first k)
 
-pub upper_normal : (least m : ℕ) (a : OperandWires) (k : ℕ) → k ≤ 32 → m % P ≢ 0 → least ≤ a.word → a.word < a.bits.first
-    → IsNormalFrom least (upper_of m a k)
+pub upper_normal : (least m : ℕ) (a : OperandWires) (k : ℕ) → k ≤ 32 → m % P ≢ 0 → least ≤ a.word → a.word < a.bits.first → IsNormalFrom least (upper_of m a k)
 upper_normal least m a k short apart above before =
     let splits = power_splits k short in
     let some : 0 < (P - 1) / 2 ^ k = positive (2 ^ k) ((P - 1) / 2 ^ k) splits in

@@ -1,18 +1,18 @@
-use Rattle.tv_core.proofs.Common.{all_then, some_then, some_first, all_pure, refused}
+use Rattle.tv_core.proofs.Common.{all_then, some_then, some_first, all_pure, refused_wires}
 use Rattle.tv_inputs.specs.Tapes.{auxiliary_of}
 use Rattle.tv_inputs.proofs.tapes.auxiliary.Goals as goal
 
-pub returns-in_err-put_asked-clause-puts : goal.returns-in_err-put_asked-clause-puts
+pub returns-in_err-put_asked : goal.returns-in_err-put_asked
 unfolding auxiliary_of
-returns-in_err-put_asked-clause-puts g c =
-    refused _ _ _ _ _ c.from_residual.ensures.1 (some_then _ c.fresh-takes.ensures.puts (some_then _ c.fresh-ended.ensures.puts
+returns-in_err-put_asked g c =
+    refused_wires _ _ _ _ _ _ _ c.from_residual.ensures (some_then _ c.fresh-takes.ensures.puts (some_then _ c.fresh-ended.ensures.puts
     (some_first _ c.in_err-put_asked.ensures.puts)))
 
-pub returns-in_err-put-clause-puts : goal.returns-in_err-put-clause-puts
+pub returns-in_err-put : goal.returns-in_err-put
 unfolding auxiliary_of
-returns-in_err-put-clause-puts g c =
+returns-in_err-put g c =
     let second = rw (c.set_wire.ensures.terms, c.set_rise.ensures.terms, c.clear.ensures) at c.in_err-put.ensures.puts in
-    refused _ _ _ _ _ c.from_residual-in_err-put.ensures.1 (some_then _ c.fresh-takes.ensures.puts (some_then _ c.fresh-ended.ensures.puts
+    refused_wires _ _ _ _ _ _ _ c.from_residual-in_err-put.ensures (some_then _ c.fresh-takes.ensures.puts (some_then _ c.fresh-ended.ensures.puts
     (some_then _ c.in_ok-put_asked.ensures.puts (some_first _ second))))
 
 pub returns-clause-puts : goal.returns-clause-puts

@@ -1,23 +1,22 @@
-use Rattle.tv_core.proofs.Common.{some_then, some_first, refused, puts_in_then}
+use Rattle.tv_core.proofs.Common.{some_then, some_first, refused_wires, puts_in_then}
 use Rattle.tv_inputs.specs.Tapes.{tapes_of}
 use Rattle.tv_inputs.proofs.tapes.put_tapes.Goals as goal
 
-pub returns-in_err-reads-clause-puts : goal.returns-in_err-reads-clause-puts
+pub returns-in_err-reads : goal.returns-in_err-reads
 unfolding tapes_of
-returns-in_err-reads-clause-puts g c =
-    refused _ _ _ _ _ c.from_residual.ensures.1 (some_first _ c.in_err-reads.ensures.puts)
+returns-in_err-reads g c = refused_wires _ _ _ _ _ _ _ c.from_residual.ensures (some_first _ c.in_err-reads.ensures.puts)
 
-pub returns-in_err-aux-clause-puts : goal.returns-in_err-aux-clause-puts
+pub returns-in_err-aux : goal.returns-in_err-aux
 unfolding tapes_of
-returns-in_err-aux-clause-puts g c =
+returns-in_err-aux g c =
     let p1 = rw (c.set_wire.ensures.terms, c.set_wire-2.ensures.terms) at c.in_err-aux.ensures.puts in
-    refused _ _ _ _ _ c.from_residual-in_err-aux.ensures.1 (some_then _ c.in_ok-reads.ensures.puts (some_first _ p1))
+    refused_wires _ _ _ _ _ _ _ c.from_residual-in_err-aux.ensures (some_then _ c.in_ok-reads.ensures.puts (some_first _ p1))
 
-pub returns-in_err-taken-clause-puts : goal.returns-in_err-taken-clause-puts
+pub returns-in_err-taken : goal.returns-in_err-taken
 unfolding tapes_of
-returns-in_err-taken-clause-puts g c =
+returns-in_err-taken g c =
     let p1 = rw (c.set_wire.ensures.terms, c.set_wire-2.ensures.terms) at c.in_ok-aux.ensures.puts in
-    refused _ _ _ _ _ c.from_residual-in_err-taken.ensures.1 (some_then _ c.in_ok-reads.ensures.puts (some_then _ p1
+    refused_wires _ _ _ _ _ _ _ c.from_residual-in_err-taken.ensures (some_then _ c.in_ok-reads.ensures.puts (some_then _ p1
     (some_first _ c.in_err-taken.ensures.puts)))
 
 pub returns-clause-puts : goal.returns-clause-puts
