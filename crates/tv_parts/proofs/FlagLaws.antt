@@ -1,9 +1,7 @@
 -- The numbers of the flag after a step.
 use Rattle.tv_core.proofs.Common.{◌≡◌, ◌≢◌, ℕ, ◌+◌, ◌-◌, ◌*◌, ◌/◌, ◌%◌, ◌^◌, ◌<◌, ◌≤◌, ◌==◌, nat_lt, not, Bool, true, false, if◌then◌else◌, List, [], ◌∷◌, inl}
 use Rattle.tv_core.proofs.Common.{inr, refl, sym, ◌∙◌, ap, ap₂, subst, arith, bit_at, cases_eq, cases_lt, ne_eqb, nat_tests, for_widths, IsWidth, flag_of}
-use Rattle.std.proofs.Common.{nat_le, int_lt, int_le, ◌||◌}
-use Rattle.std.proofs.Common.{eq-eqb, bit_and, bit_or, bit_xor, true≢false}
-use Rattle.std.proofs.Common.{◌*ℤ◌}
+use Rattle.std.proofs.Common.{nat_le, int_lt, int_le, ◌||◌, eq-eqb, bit_and, bit_or, bit_xor, true≢false, ◌*ℤ◌}
 use Rattle.std.proofs.lemmas.Bool.{le-leb, lt-leb}
 use Rattle.tv_bits.proofs.BitLaws.{bit_cases}
 use Rattle.tv_bits.specs.Bit.{IsBit}
@@ -177,11 +175,9 @@ module _ (w : ℕ) (width : IsWidth w) (x a low high result y f flag : ℕ) (p t
       let n = twos (2 * w) s in
       let halves = ap₂ (λ h l. (h + (P - (2 ^ w - 1) * bit_at l (w - 1))) % P) (c.halves.high_half refl) (c.halves.low_half refl) in
       raised f (flag_of p) (flag_of t) _ flag
-      (minus_of y f c.test ∙ ap nonzero_flag (c.tested refl ∙ halves ∙ excess_is w width n)
-      ∙ over_flag w width (signed_value w x * signed_value w a) n s
+      (minus_of y f c.test ∙ ap nonzero_flag (c.tested refl ∙ halves ∙ excess_is w width n) ∙ over_flag w width (signed_value w x * signed_value w a) n s
       (Stands-product (signed_value w x) (signed_value w a) (signed w x) (signed w a) (2 ^ (w - 1)) (2 ^ (w - 1)) (Stands-signed w width x x_word)
-      (Stands-signed w width a a_word)) refl
-      ∙ not_fits (fits w s)) (no_p 8 c refl) (no_t 8 c refl)
+      (Stands-signed w width a a_word)) refl ∙ not_fits (fits w s)) (no_p 8 c refl) (no_t 8 c refl)
 
   at_udiv : FlagNumber 9
   at_udiv c = straight f (flag_of p) (flag_of t) (flag_of (a == 0)) flag (c.divides refl) (flag_small _) (no_p 9 c refl) (no_t 9 c refl)

@@ -98,8 +98,7 @@ module _ (w : ℕ) (width : IsWidth w) (z : List ℕ) (n : ℕ) (state : StateWi
       (value-append (bits_combination d.x.first 8) ((P - 1, byte) ∷ []) z
       ∙ ap₂ (λ m k. (m + k) % P) (byte_value z w d.x.first d.x.first x 0 (w - 8) (omega arith) (omega (arith, width)) has.decomposed
       ∙ (let e : x / 2 ^ (8 * 0) % 2 ^ 8 ≡ x % 256 = omega arith in e))
-      (value-cons (P - 1) byte [] z ∙ ap (λ k. ((P - 1) * k + 0) % P) is)
-      ∙ less (x % 256) (byte_of o j) (omega arith))
+      (value-cons (P - 1) byte [] z ∙ ap (λ k. ((P - 1) * k + 0) % P) is) ∙ less (x % 256) (byte_of o j) (omega arith))
     where
       less : (m b : ℕ) → b < 256 → (m + ((P - 1) * b + 0) % P) % P ≡ (m + (P - b)) % P
       less m b h = omega arith
@@ -214,8 +213,7 @@ with_byte_small : (o j b : ℕ) → j < 4 → o < 2 ^ 32 → b < 256 → with_by
 with_byte_small o j b h k l = subst (λ m. m < P) (put_in_by o j b h k l) (mod-lt _ (omega arith))
 
 memory_in_field : (w : ℕ) → IsWidth w → (n : ℕ) (v : View) (i : Instr) (x o : ℕ) → n < 2 ^ 29 → v.taken ≤ n → operand_word v i < 2 ^ w
-    → other_word v i < 2 ^ w → o < 2 ^ w
-    → InField (memory_values w (input_of n v i o) x)
+    → other_word v i < 2 ^ w → o < 2 ^ w → InField (memory_values w (input_of n v i o) x)
 memory_in_field w width n v i x o short within word other o_word =
     let at : ℕ = operand_word v i in
     let located : ℕ = if touches v i then at / word_size w else NULL_CELL in
@@ -247,8 +245,7 @@ pub memory_sizes : MemorySizes
 memory_sizes = record {
   answer = λ w width state op a d t next. (memory_shape w width state op a d t next).0;
   end = λ w width state op a d t next. (memory_shape w width state op a d t next).1;
-  fills = λ w width n state op a d t v i x o next. (memory_shape w width state op a d t next).1
-      ∙ ap (λ k. next + k) (sym (values_length w width n v i x o));
+  fills = λ w width n state op a d t v i x o next. (memory_shape w width state op a d t next).1 ∙ ap (λ k. next + k) (sym (values_length w width n v i x o));
   in_field = memory_in_field;
 }
 

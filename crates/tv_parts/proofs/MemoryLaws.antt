@@ -2,8 +2,7 @@
 use Rattle.tv_core.proofs.Common.{◌≡◌, ℕ, zero, suc, ◌+◌, ◌-◌, ◌*◌, ◌/◌, ◌%◌, ◌^◌, ◌<◌, ◌==◌, Bool, true, false, if◌then◌else◌, List, [], ◌∷◌, ◌++◌, inl, inr}
 use Rattle.tv_core.proofs.Common.{refl, sym, ◌∙◌, ap, ap₂, subst, arith, bit_at, slice_index, cases_eq, ne_eqb, value-wire, value-append, value-cons}
 use Rattle.tv_core.proofs.Common.{value-below, put, wire, constant, scaled, Combination, value, Assigns, width_short, for_widths, IsWidth, flag_of}
-use Rattle.std.proofs.Common.{◌||◌}
-use Rattle.std.proofs.Common.{true≢false}
+use Rattle.std.proofs.Common.{◌||◌, true≢false}
 use Rattle.tv_bits.proofs.BitLaws.{bit_cases}
 use Rattle.tv_bits.proofs.BitNumbers.{value-bits_below, HasBits-below, HasBits-high, HasBits-low, HasBits-bit_at}
 use Rattle.tv_bits.specs.Bit.{IsBit}
@@ -147,8 +146,7 @@ module _ (w : ℕ) (width : IsWidth w) (z : List ℕ) (n : ℕ) (state : StateWi
   located_is =
       ap₂ (λ c k. (c + k) % P) (value-constant has.assigns NULL_CELL)
       (ap₂ (λ g k. g * k) gate (value-cons (P - NULL_CELL) 0 cell_upper z ∙ ap₂ (λ j k. ((P - NULL_CELL) * j + k) % P) has.assigns.one cell_is
-      ∙ null_number (at / word_size w) cell_small))
-      ∙ located_by m (at / word_size w) NULL_CELL _ cell_small (omega arith) refl
+      ∙ null_number (at / word_size w) cell_small)) ∙ located_by m (at / word_size w) NULL_CELL _ cell_small (omega arith) refl
 
   located_small : located_number < P
   located_small = lower m (at / word_size w) cell_small
@@ -179,12 +177,10 @@ module _ (w : ℕ) (width : IsWidth w) (z : List ℕ) (n : ℕ) (state : StateWi
   pub line_old : value ((P - 1, state.taken_of_primary) ∷ (opcode_sum op memory_ops ++ wire t.taken)) z * value (wire d.word) z % P ≡ old_in n v i o
   line_old =
       ap₂ (λ g k. g * k % P)
-      (value-cons (P - 1) state.taken_of_primary (opcode_sum op memory_ops ++ wire t.taken) z
-      ∙ ap₂ (λ b k. ((P - 1) * b + k) % P) has.before
+      (value-cons (P - 1) state.taken_of_primary (opcode_sum op memory_ops ++ wire t.taken) z ∙ ap₂ (λ b k. ((P - 1) * b + k) % P) has.before
       (value-append (opcode_sum op memory_ops) (wire t.taken) z ∙ ap₂ (λ g k. (g + k) % P) gate (value-wire has.assigns t.taken))
       ∙ held_is m p v.taken (slice_index z t.taken) early has.tapes.taken no_take)
-      (value-wire has.assigns d.word ∙ has.word)
-      ∙ flag_times (m || p) o word_below
+      (value-wire has.assigns d.word ∙ has.word) ∙ flag_times (m || p) o word_below
 
 -- ---- the byte
 pub byte_value : (z : List ℕ) (w bits first o j m : ℕ) → first ≡ bits + 8 * j → 8 * j + (8 + m) ≡ w → HasBits z bits w o
@@ -239,8 +235,7 @@ module _ (z : List ℕ) (bits a o at : ℕ) (assigns : Assigns z) where
   ]
 
   abbrev Byte : ℕ → Type 0
-  Byte w = HasBits z bits w o → HasBits z a w at
-      → Settles z (byte_at_of w bits a) (byte_values w o at) (λ k. slice_index z k ≡ byte_of o (at % (w / 8)))
+  Byte w = HasBits z bits w o → HasBits z a w at → Settles z (byte_at_of w bits a) (byte_values w o at) (λ k. slice_index z k ≡ byte_of o (at % (w / 8)))
 
   two_byte : Byte 16
   unfolding byte_at_of byte_of_pair

@@ -24,9 +24,8 @@ use Rattle.tv_inputs.proofs.OpcodeLaws.{opcode_sum_sound}
 use Rattle.tv_inputs.proofs.TapeFills.{flag_test}
 use Rattle.tv_inputs.proofs.TapeLaws.{among_one}
 use Rattle.tv_inputs.specs.Accumulation.{accumulated_of, closed_of}
-use Rattle.tv_parts.specs.Written.{written_of, HasWritten, written_values}
+use Rattle.tv_parts.specs.Written.{written_of, HasWritten, written_values, WrittenIsComplete, WrittenSizes, WrittenCosts}
 use Rattle.tv_inputs.specs.OpcodeSums.{opcode_sum}
-use Rattle.tv_parts.specs.Written.{WrittenIsComplete, WrittenSizes, WrittenCosts}
 use Rattle.tv_inputs.specs.declared.records.StateWires.{StateWires}
 use Rattle.tv_word.proofs.FlagLaws.{flag_small}
 

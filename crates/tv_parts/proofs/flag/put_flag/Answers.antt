@@ -1,19 +1,19 @@
-use Rattle.tv_core.proofs.Common.{some_then, some_first, refused, puts_in_then}
+use Rattle.tv_core.proofs.Common.{some_then, some_first, refused_wires, puts_in_then}
 use Rattle.tv_parts.specs.Flag.{next_flag_of}
 use Rattle.tv_parts.proofs.flag.put_flag.Goals as goal
 
-pub returns-in_err-left-clause-puts : goal.returns-in_err-left-clause-puts
+pub returns-in_err-left : goal.returns-in_err-left
 unfolding next_flag_of
-returns-in_err-left-clause-puts g c =
+returns-in_err-left g c =
     let p0 = rw (c.opcode_wire.ensures, c.offset-highest.ensures) at c.in_err-left.ensures.puts in
-    refused _ _ _ _ _ c.from_residual.ensures.1 (some_first _ p0)
+    refused_wires _ _ _ _ _ _ _ c.from_residual.ensures (some_first _ p0)
 
-pub returns-in_err-right-clause-puts : goal.returns-in_err-right-clause-puts
+pub returns-in_err-right : goal.returns-in_err-right
 unfolding next_flag_of
-returns-in_err-right-clause-puts g c =
+returns-in_err-right g c =
     let p0 = rw (c.opcode_wire.ensures, c.offset-highest.ensures) at c.in_ok-left.ensures.puts in
     let p1 = rw c.opcode_wire-2.ensures at c.in_err-right.ensures.puts in
-    refused _ _ _ _ _ c.from_residual-in_err-right.ensures.1 (some_then _ p0 (some_first _ p1))
+    refused_wires _ _ _ _ _ _ _ c.from_residual-in_err-right.ensures (some_then _ p0 (some_first _ p1))
 
 pub returns-clause-puts : goal.returns-clause-puts
 unfolding next_flag_of

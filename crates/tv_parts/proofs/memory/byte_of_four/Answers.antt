@@ -1,16 +1,16 @@
-use Rattle.tv_core.proofs.Common.{some_then, some_first, refused, puts_in_then}
+use Rattle.tv_core.proofs.Common.{some_then, some_first, refused_wires, puts_in_then}
 use Rattle.tv_parts.specs.Memory.{byte_of_four}
 use Rattle.tv_parts.proofs.memory.byte_of_four.Goals as goal
 
-pub returns-in_err-low-clause-puts : goal.returns-in_err-low-clause-puts
+pub returns-in_err-low : goal.returns-in_err-low
 unfolding byte_of_four
-returns-in_err-low-clause-puts g c = refused _ _ _ _ _ c.from_residual.ensures.1 (some_first _ c.in_err-low.ensures.puts)
+returns-in_err-low g c = refused_wires _ _ _ _ _ _ _ c.from_residual.ensures (some_first _ c.in_err-low.ensures.puts)
 
-pub returns-in_err-high-clause-puts : goal.returns-in_err-high-clause-puts
+pub returns-in_err-high : goal.returns-in_err-high
 unfolding byte_of_four
-returns-in_err-high-clause-puts g c =
+returns-in_err-high g c =
     let p1 = rw c.offset.ensures at c.in_err-high.ensures.puts in
-    refused _ _ _ _ _ c.from_residual-in_err-high.ensures.1 (some_then _ c.in_ok-low.ensures.puts (some_first _ p1))
+    refused_wires _ _ _ _ _ _ _ c.from_residual-in_err-high.ensures (some_then _ c.in_ok-low.ensures.puts (some_first _ p1))
 
 pub returns-clause-puts : goal.returns-clause-puts
 unfolding byte_of_four

@@ -1,10 +1,10 @@
-use Rattle.tv_core.proofs.Common.{some_first, refused, puts_in_then}
+use Rattle.tv_core.proofs.Common.{some_first, refused_wires, puts_in_then}
 use Rattle.tv_parts.specs.Written.{written_of}
 use Rattle.tv_parts.proofs.written.put_written.Goals as goal
 
-pub returns-in_err-on-clause-puts : goal.returns-in_err-on-clause-puts
+pub returns-in_err-on : goal.returns-in_err-on
 unfolding written_of
-returns-in_err-on-clause-puts g c = refused _ _ _ _ _ c.from_residual.ensures.1 (some_first _ c.in_err-on.ensures.puts)
+returns-in_err-on g c = refused_wires _ _ _ _ _ _ _ c.from_residual.ensures (some_first _ c.in_err-on.ensures.puts)
 
 pub returns-clause-puts : goal.returns-clause-puts
 unfolding written_of
