@@ -207,8 +207,7 @@ arithmetic_length w width k x a f low high =
     let v2 = sums_values w k x a in
     let v3 = products_values w k x a in
     let v4 = shifts_values w x a f low high in
-    length-append v1 (v2 ++ (v3 ++ v4))
-    ∙ ap₂ (λ m n. m + n) (rows_length w k x a low high)
+    length-append v1 (v2 ++ (v3 ++ v4)) ∙ ap₂ (λ m n. m + n) (rows_length w k x a low high)
     (length-append v2 (v3 ++ v4) ∙ ap (λ n. 1 + n) (length-append v3 v4 ∙ ap (λ n. 2 + n) (shifts_length w width x a f low high)))
     ∙ (let e : 3 * w + 3 + (1 + (2 + (w / 16 + 6))) ≡ 3 * w + w / 16 + 12 = omega arith in e)
 

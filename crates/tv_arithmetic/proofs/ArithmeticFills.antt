@@ -34,9 +34,8 @@ use Rattle.tv_arithmetic.proofs.ArithmeticLaws.{gate, on, off, gate_bit, a_word,
 use Rattle.tv_arithmetic.proofs.ArithmeticLaws.{left_is_shift, right_is_shift, kept_word}
 use Rattle.tv_arithmetic.proofs.ArithmeticNumbers.{apart_is, Operated, operated_by, FitsRow, numbers_fit, shifted_below, place_below}
 use Rattle.tv_arithmetic.specs.Arithmetic.{bitwise_ops, difference_ops, strict_ops, signed_ops, product_ops, division_ops, shift_ops, with_sign, rows_of}
-use Rattle.tv_arithmetic.specs.Arithmetic.{sums_of, products_of, shifts_of, arithmetic_of}
-use Rattle.tv_arithmetic.specs.Arithmetic.{decomposed_word, low_number, high_number, rows_values, sums_values, products_values, shifts_values}
-use Rattle.tv_arithmetic.specs.Arithmetic.{HasArithmetic, ArithmeticIsComplete}
+use Rattle.tv_arithmetic.specs.Arithmetic.{sums_of, products_of, shifts_of, arithmetic_of, decomposed_word, low_number, high_number, rows_values, sums_values}
+use Rattle.tv_arithmetic.specs.Arithmetic.{products_values, shifts_values, HasArithmetic, ArithmeticIsComplete}
 use Rattle.tv_inputs.specs.Inputs.{operation_of}
 use Rattle.tv_inputs.specs.OpcodeSums.{opcode_sum}
 use Rattle.tv_inputs.specs.declared.records.OperandWires.{OperandWires}

@@ -146,8 +146,7 @@ module _ (w : ℕ) (width : IsWidth w) (z : List ℕ) (op other f : ℕ) (operan
       }
 
   module _ (r : RowWires) (next : ℕ) (rows : RowsHold w z k r) where
-    shifts_sound : Meets z (shifts_of w op other f operand r next).list
-        → ShiftsHold w z r f operand (shifts_of w op other f operand r next).answer k x a
+    shifts_sound : Meets z (shifts_of w op other f operand r next).list → ShiftsHold w z r f operand (shifts_of w op other f operand r next).answer k x a
     unfolding shifts_of pure ◌>>=◌
     shifts_sound meets =
         let most = width_short w width in

@@ -11,8 +11,7 @@ use Rattle.tv_isa.specs.Opcodes.{among, chosen, unused_ops}
 use Rattle.tv_rows.proofs.RowDifferenceLaws.{row_difference_complete}
 use Rattle.tv_rows.proofs.RowSumLaws.{row_sum_complete}
 use Rattle.tv_rows.specs.RowDifference.{comparing, IsRowDifference}
-use Rattle.tv_rows.specs.RowSum.{IsRowSum}
-use Rattle.tv_rows.specs.RowSum.{carry}
+use Rattle.tv_rows.specs.RowSum.{IsRowSum, carry}
 use Rattle.tv_rows.proofs.DigitLaws.{bitwise_complete}
 use Rattle.tv_row_products.proofs.RowDivisionLaws.{row_division_complete}
 use Rattle.tv_row_products.proofs.RowProductLaws.{row_product_complete}
@@ -71,8 +70,7 @@ module _ (w : ℕ) (width : IsWidth w) (z : List ℕ) (row : DoubleRow) (f x a :
 
   low_difference : (k : ℕ) → among difference_ops k ≡ true → flag_of (among strict_ops k) ≡ 0 → Operated w z row f k x a
       → slice_index z row.low ≡ (x + (2 ^ w - a)) % 2 ^ w
-  low_difference k t strict o =
-      (o.difference t).low ∙ ap (λ n. (x + (2 ^ w - a) - n) % 2 ^ w) strict ∙ ap (λ n. n % 2 ^ w) (minus_none (x + (2 ^ w - a)))
+  low_difference k t strict o = (o.difference t).low ∙ ap (λ n. (x + (2 ^ w - a) - n) % 2 ^ w) strict ∙ ap (λ n. n % 2 ^ w) (minus_none (x + (2 ^ w - a)))
 
   low_is : (k : ℕ) → covers (low_halves w x a) k ≡ true → Low k (chosen (low_halves w x a) k)
   low_is =

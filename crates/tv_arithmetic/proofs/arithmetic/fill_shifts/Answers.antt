@@ -1,19 +1,19 @@
-use Rattle.tv_core.proofs.Common.{first_given, in_given, gives_refused}
+use Rattle.tv_core.proofs.Common.{first_given, in_given, gives_refused_whole}
 use Rattle.tv_core.proofs.ValuesChain.{some_given}
 use Rattle.tv_arithmetic.proofs.arithmetic.fill_shifts.Goals as goal
 
-pub returns-in_err-fill_row_division-clause-gives : goal.returns-in_err-fill_row_division-clause-gives
-returns-in_err-fill_row_division-clause-gives g c = gives_refused _ _ _ _ _ c.from_residual.ensures.1 (first_given _ c.in_err-fill_row_division.ensures.gives)
+pub returns-in_err-fill_row_division : goal.returns-in_err-fill_row_division
+returns-in_err-fill_row_division g c = gives_refused_whole _ _ _ _ _ _ c.from_residual.ensures (first_given _ c.in_err-fill_row_division.ensures.gives)
 
-pub returns-in_err-fill_shift_power-clause-gives : goal.returns-in_err-fill_shift_power-clause-gives
-returns-in_err-fill_shift_power-clause-gives g c =
-    gives_refused _ _ _ _ _ c.from_residual-in_err-fill_shift_power.ensures.1 (some_given _ c.in_ok-fill_row_division.ensures.gives
+pub returns-in_err-fill_shift_power : goal.returns-in_err-fill_shift_power
+returns-in_err-fill_shift_power g c =
+    gives_refused_whole _ _ _ _ _ _ c.from_residual-in_err-fill_shift_power.ensures (some_given _ c.in_ok-fill_row_division.ensures.gives
     (first_given _ c.in_err-fill_shift_power.ensures.gives))
 
-pub returns-in_err-give-clause-gives : goal.returns-in_err-give-clause-gives
-returns-in_err-give-clause-gives g c =
+pub returns-in_err-give : goal.returns-in_err-give
+returns-in_err-give g c =
     let p2 = rw (c.mul-2.ensures, c.mul.ensures, c.from.ensures, c.from-2.ensures, c.power-power.ensures) at c.in_err-give.ensures.gives in
-    gives_refused _ _ _ _ _ c.from_residual-in_err-give.ensures.1 (some_given _ c.in_ok-fill_row_division.ensures.gives
+    gives_refused_whole _ _ _ _ _ _ c.from_residual-in_err-give.ensures (some_given _ c.in_ok-fill_row_division.ensures.gives
     (some_given _ c.in_ok-fill_shift_power.ensures.gives (first_given _ p2)))
 
 pub returns-clause-gives : goal.returns-clause-gives

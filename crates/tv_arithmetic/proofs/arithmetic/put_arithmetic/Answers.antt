@@ -1,26 +1,26 @@
-use Rattle.tv_core.proofs.Common.{all_then, some_then, some_first, all_pure, refused}
+use Rattle.tv_core.proofs.Common.{all_then, some_then, some_first, all_pure, refused_wires}
 use Rattle.tv_arithmetic.specs.Arithmetic.{arithmetic_of}
 use Rattle.tv_arithmetic.proofs.arithmetic.put_arithmetic.Goals as goal
 
-pub returns-in_err-rows-clause-puts : goal.returns-in_err-rows-clause-puts
+pub returns-in_err-rows : goal.returns-in_err-rows
 unfolding arithmetic_of
-returns-in_err-rows-clause-puts g c = refused _ _ _ _ _ c.from_residual.ensures.1 (some_first _ c.in_err-rows.ensures.puts)
+returns-in_err-rows g c = refused_wires _ _ _ _ _ _ _ c.from_residual.ensures (some_first _ c.in_err-rows.ensures.puts)
 
-pub returns-in_err-put_sums-clause-puts : goal.returns-in_err-put_sums-clause-puts
+pub returns-in_err-put_sums : goal.returns-in_err-put_sums
 unfolding arithmetic_of
-returns-in_err-put_sums-clause-puts g c =
-    refused _ _ _ _ _ c.from_residual-in_err-put_sums.ensures.1 (some_then _ c.in_ok-rows.ensures.puts (some_first _ c.in_err-put_sums.ensures.puts))
+returns-in_err-put_sums g c =
+    refused_wires _ _ _ _ _ _ _ c.from_residual-in_err-put_sums.ensures (some_then _ c.in_ok-rows.ensures.puts (some_first _ c.in_err-put_sums.ensures.puts))
 
-pub returns-in_err-put_products-clause-puts : goal.returns-in_err-put_products-clause-puts
+pub returns-in_err-put_products : goal.returns-in_err-put_products
 unfolding arithmetic_of
-returns-in_err-put_products-clause-puts g c =
-    refused _ _ _ _ _ c.from_residual-in_err-put_products.ensures.1 (some_then _ c.in_ok-rows.ensures.puts (some_then _ c.in_ok-put_sums.ensures.puts
+returns-in_err-put_products g c =
+    refused_wires _ _ _ _ _ _ _ c.from_residual-in_err-put_products.ensures (some_then _ c.in_ok-rows.ensures.puts (some_then _ c.in_ok-put_sums.ensures.puts
     (some_first _ c.in_err-put_products.ensures.puts)))
 
-pub returns-in_err-both-clause-puts : goal.returns-in_err-both-clause-puts
+pub returns-in_err-both : goal.returns-in_err-both
 unfolding arithmetic_of
-returns-in_err-both-clause-puts g c =
-    refused _ _ _ _ _ c.from_residual-in_err-both.ensures.1 (some_then _ c.in_ok-rows.ensures.puts (some_then _ c.in_ok-put_sums.ensures.puts
+returns-in_err-both g c =
+    refused_wires _ _ _ _ _ _ _ c.from_residual-in_err-both.ensures (some_then _ c.in_ok-rows.ensures.puts (some_then _ c.in_ok-put_sums.ensures.puts
     (some_then _ c.in_ok-put_products.ensures.puts (some_first _ c.in_err-both.ensures.puts))))
 
 pub returns-clause-puts : goal.returns-clause-puts

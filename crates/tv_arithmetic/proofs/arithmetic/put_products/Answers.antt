@@ -1,12 +1,12 @@
-use Rattle.tv_core.proofs.Common.{some_first, refused, puts_in_then}
+use Rattle.tv_core.proofs.Common.{some_first, refused_whole, puts_in_then}
 use Rattle.tv_arithmetic.specs.Arithmetic.{products_of}
 use Rattle.tv_arithmetic.proofs.arithmetic.put_products.Goals as goal
 
-pub returns-in_err-row_product-clause-puts : goal.returns-in_err-row_product-clause-puts
+pub returns-in_err-row_product : goal.returns-in_err-row_product
 unfolding products_of
-returns-in_err-row_product-clause-puts g c =
+returns-in_err-row_product g c =
     let p0 = rw c.set_opcodes.ensures.terms at c.in_err-row_product.ensures.puts in
-    refused _ _ _ _ _ c.from_residual.ensures.1 (some_first _ p0)
+    refused_whole _ _ _ _ _ _ c.from_residual.ensures (some_first _ p0)
 
 pub returns-clause-puts : goal.returns-clause-puts
 unfolding products_of

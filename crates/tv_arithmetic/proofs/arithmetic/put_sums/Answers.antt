@@ -1,18 +1,18 @@
-use Rattle.tv_core.proofs.Common.{some_then, some_first, refused, puts_in_then}
+use Rattle.tv_core.proofs.Common.{some_then, some_first, refused_whole, puts_in_then}
 use Rattle.tv_arithmetic.specs.Arithmetic.{sums_of}
 use Rattle.tv_arithmetic.proofs.arithmetic.put_sums.Goals as goal
 
-pub returns-in_err-row_sum-clause-puts : goal.returns-in_err-row_sum-clause-puts
+pub returns-in_err-row_sum : goal.returns-in_err-row_sum
 unfolding sums_of
-returns-in_err-row_sum-clause-puts g c =
+returns-in_err-row_sum g c =
     let p0 = rw c.set_opcodes.ensures.terms at c.in_err-row_sum.ensures.puts in
-    refused _ _ _ _ _ c.from_residual.ensures.1 (some_first _ p0)
+    refused_whole _ _ _ _ _ _ c.from_residual.ensures (some_first _ p0)
 
-pub returns-in_err-put_difference-clause-puts : goal.returns-in_err-put_difference-clause-puts
+pub returns-in_err-put_difference : goal.returns-in_err-put_difference
 unfolding sums_of
-returns-in_err-put_difference-clause-puts g c =
+returns-in_err-put_difference g c =
     let p0 = rw c.set_opcodes.ensures.terms at c.in_ok-row_sum.ensures.puts in
-    refused _ _ _ _ _ c.from_residual-in_err-put_difference.ensures.1 (some_then _ p0 (some_first _ c.in_err-put_difference.ensures.puts))
+    refused_whole _ _ _ _ _ _ c.from_residual-in_err-put_difference.ensures (some_then _ p0 (some_first _ c.in_err-put_difference.ensures.puts))
 
 pub returns-clause-puts : goal.returns-clause-puts
 unfolding sums_of
