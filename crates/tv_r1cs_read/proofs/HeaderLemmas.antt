@@ -4,6 +4,7 @@ use Rattle.std.specs.Prelude.{IfErr, IfOk, OnOk}
 use Rattle.tv_files.specs.Outside.{Outside}
 use Rattle.tv_container.proofs.Chain.{reads_done, stopped_here}
 use Rattle.tv_container.specs.declared.why.ReadRefusal.{ReadRefusal}
+use Rattle.tv_container.specs.Places.{Fault}
 use Rattle.tv_container.specs.Reading.{IsNotFault, Piece, ReadsIn}
 use Rattle.tv_container.specs.declared.sections.Section.{Section}
 use Rattle.tv_r1cs_read.specs.declared.header.Header.{Header}
@@ -13,11 +14,12 @@ use Rattle.tv_container.specs.Sections.{section_of, wanted}
 
 -- once section 1 is known to be of this field, the rest of the header is checked
 pub header_in-checked : (file : List ℕ) (sections : List Section) (one two : Section) (done : Unit {0}) (header : Header) →
-    wanted 1 file sections ≡ Ok one → wanted 2 file sections ≡ Ok two → this_field file 40 one ≡ Ok done → counted file one two ≡ header →
+    wanted 1 file sections ≡ Ok one → wanted 2 file sections ≡ Ok two → this_field file 40 one ≡ Ok done →
+    ◌≡◌ {A = Result Header Fault} (Ok (counted file one two)) (Ok header) →
     header_in file sections ≡ checked header one (section_of 3 sections)
 unfolding header_in
 header_in-checked file sections one two done header one_is two_is field counts =
-    rw (one_is, two_is, field) (ap (λ fields. checked fields one (section_of 3 sections)) counts)
+    let same : counted file one two ≡ header = cc in rw (one_is, two_is, field) (ap (λ fields. checked fields one (section_of 3 sections)) same)
 
 -- what a check of the header returns is the header
 pub checked_has : (result : Result Header ReadRefusal) (header : Header) (P : Header → Type 0) → IfOk result (λ checked. checked ≡ header) → P header →

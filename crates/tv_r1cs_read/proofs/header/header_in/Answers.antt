@@ -77,7 +77,7 @@ returns g c =
                 (c.in_ok-one.ensures.gives file end sections one_is)
                 (c.in_ok-rows.ensures.gives file end sections (ap (λ fields. fields.two) found))
                 (is.first within)
-                (cc (is.rest.first room)),
+                (is.rest.first room),
             ← ap (λ fields. fields.three) found,
           ) has.gives);
       within = λ file sections found fit. checked_has _ c.in_ok-header.header (λ header. header.rows.at + header.rows.size ≤ places file) has.same
