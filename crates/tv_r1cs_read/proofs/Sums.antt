@@ -51,6 +51,20 @@ adds_more piece bounds z at count old sum new here before is one = λ file held 
     let sums = before file held answer first k n (omega arith) summed in
     rw (count-is, left, next) (one file held answer first (k + count) (n - count) (omega arith) (rw is sums))
 
+-- one more term, and those after it that are as they should be
+pub adds_far : (answer : Result (Read Combination) Fault) (file : List ℕ) (bounds : Bounds) (piece : Piece) (z : List ℕ)
+    (first terms left good from at sum next new v wire coefficient : ℕ) →
+    IsSummed answer (terms_at file bounds.wires bounds.end left at) z first (terms - left) sum → term_at file bounds.wires bounds.end at ≡ Ok (coefficient, wire) →
+    IsPiece piece file → Adds piece bounds z (record { at = at + 12; count = good }) next new → next ≡ sum + coefficient * v → v ≡ slice_index z wire →
+    left ≤ terms → 1 + good ≤ left → from ≡ 1 + good →
+    IsSummed answer (terms_at file bounds.wires bounds.end (left - (1 + good)) (at + 12 * from)) z first (terms - (left - (1 + good))) new
+adds_far answer file bounds piece z first terms left good from at sum next new v wire coefficient summed is held added next_is v_is most enough from_is =
+    let count : terms - (left - (1 + good)) ≡ terms - left + 1 + good = omega arith in
+    let rest : left - (1 + good) ≡ left - 1 - good = omega arith in
+    let place : at + 12 * from ≡ at + 12 + 12 * good = omega arith in
+    let one = adds answer file bounds.wires bounds.end z first (terms - left) left (left - 1) at sum wire coefficient summed (omega arith) is in
+    rw (count, rest, place) (added file held answer first (terms - left + 1) (left - 1) (omega arith) (rw (next_is, v_is) one))
+
 -- no term is left
 pub comes_to : (answer : Result (Read Combination) Fault) (file : List ℕ) (wires end : ℕ) (z : List ℕ) (first k n at sum : ℕ) →
     IsSummed answer (terms_at file wires end n at) z first k sum → n ≡ 0 → SumsTo answer z first sum k at

@@ -1,7 +1,7 @@
 use Rattle.tv_core.proofs.Common.{◌≡◌, ◌+◌, ◌-◌, ◌*◌, arith, refl}
 use Rattle.tv_container.proofs.Chain.{err_is, reads_as, reads_done, reads_off, reads_on, reads_past}
 use Rattle.tv_r1cs_read.proofs.Ahead.{combination_at-counted, combination_at-uncounted, refused}
-use Rattle.tv_r1cs_read.proofs.Sums.{adds, comes_to, counted, starts, valued}
+use Rattle.tv_r1cs_read.proofs.Sums.{adds_far, comes_to, counted, starts, valued}
 use Rattle.tv_r1cs_read.proofs.far_trial.sum_far.Goals as goal
 
 pub returns-in_err-terms : goal.returns-in_err-terms
@@ -41,17 +41,8 @@ loop-left-preserved g c = record {
   place = omega (arith, c.loop-left.invariant.place, c.min-some.ensures, c.from.ensures, c.add_far-good.ensures.most);
   small = omega (arith, c.loop-left.invariant.small, c.add.ensures.small, c.add_far-good.ensures.small, c.add_far-good.ensures.most, c.min-some.ensures);
   reads = reads_as (reads_on c.loop-left.invariant.reads (reads_on c.in_ok-wire.ensures.reads reads_done)) (λ file known is end.
-      let terms = c.in_ok-terms.terms in
-      let left = c.loop-left.left in
-      let good = c.add_far-good.result.0 in
-      let one : left ≡ left - 1 + 1 = omega (arith, c.loop-left-test.true) in
-      let count : terms - (left - (1 + good)) ≡ terms - left + 1 + good =
-      omega (arith, c.loop-left.invariant.most, c.min-some.ensures, c.add_far-good.ensures.most) in
-      let rest : left - (1 + good) ≡ left - 1 - good = omega arith in
-      let place : c.loop-left.at + 12 * c.from.result ≡ c.loop-left.at + 12 + 12 * good = omega (arith, c.from.ensures) in
-      let read = adds _ file _ _ _ _ (terms - left) left (left - 1) _ _ _ _ (is.first end) one (is.rest.first end) in
-      rw (count, rest, place) (c.add_far-good.ensures.adds file is.rest.held _ _ _ _ (omega (arith, c.min-some.ensures))
-      (rw (c.add.ensures.sum, c.value_at.ensures) read)));
+      adds_far _ file _ _ _ _ _ c.loop-left.left c.add_far-good.result.0 _ _ _ _ _ _ _ _ (is.first end) (is.rest.first end) is.rest.held c.add_far-good.ensures.adds
+      c.add.ensures.sum c.value_at.ensures c.loop-left.invariant.most (omega (arith, c.add_far-good.ensures.most, c.min-some.ensures)) c.from.ensures);
 }
 
 pub returns : goal.returns
