@@ -13,7 +13,7 @@ use Rattle.tv_r1cs_read.specs.R1cs.{r1cs_system}
 use Rattle.tv_r1cs_read.specs.Steps.{Failed}
 use Rattle.tv_container.proofs.Chain.{refuses_first}
 use Rattle.tv_check.specs.declared.verdict.Verdict.{Verdict}
-use Rattle.tv_check.specs.declared.verdict.Verdict.TheVariants.{Yes, WireCount}
+use Rattle.tv_check.specs.declared.verdict.Verdict.TheVariants.{NoConstraint, Yes, WireCount}
 use Rattle.tv_check.specs.Verdict.{first_difference, constraint_verdict, public_verdict, judge, verdict_of}
 
 by_failure : (test : Bool) (public failing first : Option ℕ) (has wants : ℕ) → cond test (public_verdict public Yes) (WireCount has wants) ≡ Yes →
@@ -82,6 +82,10 @@ pub read_holds : (stopped : Option ReadRefusal) (file z x : List ℕ) (reached :
 read_holds None file z x reached header verdict all same decides is =
     read_ends None file z x reached header all.0 verdict all.1 same (is ∙ sym (judge-failure header z x all.0 None decides all.2))
 read_holds (Some why) file z x reached header verdict refuses same decides is = verdict_of-refuses file z x why refuses
+
+-- a constraint that fails is no Yes
+pub failed_no : {verdict : Verdict} {at : ℕ} → verdict ≡ NoConstraint at → verdict ≢ Yes
+failed_no is same = cc
 
 -- and on those that were tried, where the verdict is the same whatever was passed after them
 pub read_passes : (stopped : Option ReadRefusal) (file z x : List ℕ) (reached : Reached) (header : Header) (done : List Constraint) (verdict : Verdict) →

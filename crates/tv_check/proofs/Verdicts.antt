@@ -1,8 +1,7 @@
 -- What a verdict says of the system, the assignment and the public numbers.
 use Rattle.tv_core.proofs.Common.{◌≡◌, ◌≢◌, ℕ, suc, ◌+◌, ◌<◌, ◌≤◌, ◌==◌, Bool, true, false, cond, List, [], ◌∷◌, length, take, drop, Option, Some, None, All}
 use Rattle.tv_core.proofs.Common.{refl, sym, ap, ◌∙◌, arith, eqb-true, eq-eqb, ne_eqb}
-use Rattle.std.proofs.Common.{◌↔◌}
-use Rattle.std.proofs.Common.{length-take}
+use Rattle.std.proofs.Common.{◌↔◌, length-take}
 use Rattle.std.specs.Prelude.{slice_get}
 use Rattle.std.proofs.lemmas.Bool.{eqb-false}
 use Rattle.std.proofs.lemmas.List.Elements.{All-from_recursion, recursion_from_All}

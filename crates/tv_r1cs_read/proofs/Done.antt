@@ -1,8 +1,7 @@
 -- Constraints that were read, and those ahead.
 use Rattle.tv_core.proofs.Common.{◌≡◌, ℕ, ◌+◌, ◌-◌, ◌*◌, ◌<◌, Bool, true, false, cond, zero, suc, List, ◌∷◌, ◌++◌, length, Option, None, [], Result, Ok, Err}
 use Rattle.tv_core.proofs.Common.{append_assoc, append-nil, arith, ap, refl, sym, ◌∙◌, length-map, Constraint}
-use Rattle.std.proofs.Common.{eqb}
-use Rattle.std.proofs.Common.{MatchOption}
+use Rattle.std.proofs.Common.{eqb, MatchOption}
 use Rattle.std.proofs.lemmas.List.Sums.{sum_by_push}
 use Rattle.tv_core.specs.Meanings.{terms_of}
 use Rattle.tv_r1cs_read.specs.declared.header.Header.{Header}

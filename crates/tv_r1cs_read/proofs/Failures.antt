@@ -1,8 +1,7 @@
 -- Constraints that are tried one after another.
 use Rattle.tv_core.proofs.Common.{◌≡◌, ℕ, ◌+◌, ◌-◌, Bool, true, false, cond, if◌then◌else◌, List, [], ◌∷◌, ◌++◌, length, Option, Some, None, refl, sym, ap, ◌∙◌}
 use Rattle.tv_core.proofs.Common.{append_assoc, append-nil, arith, ◌<◌, Constraint}
-use Rattle.std.proofs.Common.{MatchOption}
-use Rattle.std.proofs.Common.{add-zero, length-append}
+use Rattle.std.proofs.Common.{MatchOption, add-zero, length-append}
 use Rattle.std.proofs.lemmas.List.{length_push}
 use Rattle.tv_core.specs.Meanings.{holds, first_failure}
 use Rattle.tv_container.proofs.Chain.{either_way}

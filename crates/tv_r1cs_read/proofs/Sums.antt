@@ -1,8 +1,7 @@
 -- Terms that are summed as they are read, with none kept.
 use Rattle.tv_core.proofs.Common.{◌≡◌, ℕ, ◌+◌, ◌-◌, ◌*◌, ◌%◌, ◌≤◌, List, [], ◌∷◌, ◌++◌, Result, Ok, refl, ap, sym, ◌∙◌, arith, ◌==◌, Bool, true, false}
 use Rattle.tv_core.proofs.Common.{eqb-true, eq-eqb, ne_eqb, length-map, Combination, value}
-use Rattle.std.proofs.Common.{slice_index}
-use Rattle.std.proofs.Common.{add-zero, zero-add, add_assoc}
+use Rattle.std.proofs.Common.{slice_index, add-zero, zero-add, add_assoc}
 use Rattle.std.proofs.lemmas.Bool.{eqb-false}
 use Rattle.std.proofs.Math.Nat.{mod-mod}
 use Rattle.std.proofs.lemmas.List.{length_push}
@@ -53,12 +52,11 @@ adds_more piece bounds z at count old sum new here before is one = λ file held 
 
 -- one more term, and those after it that are as they should be
 pub adds_far : (answer : Result (Read Combination) Fault) (file : List ℕ) (bounds : Bounds) (piece : Piece) (z : List ℕ)
-    (first terms left good from at sum next new v wire coefficient : ℕ) →
-    IsSummed answer (terms_at file bounds.wires bounds.end left at) z first (terms - left) sum → term_at file bounds.wires bounds.end at ≡ Ok (coefficient, wire) →
-    IsPiece piece file → Adds piece bounds z (record { at = at + 12; count = good }) next new → next ≡ sum + coefficient * v → v ≡ slice_index z wire →
-    left ≤ terms → 1 + good ≤ left → from ≡ 1 + good →
+    (first terms left good from at sum next new v wire coefficient : ℕ) → term_at file bounds.wires bounds.end at ≡ Ok (coefficient, wire) →
+    IsSummed answer (terms_at file bounds.wires bounds.end left at) z first (terms - left) sum → IsPiece piece file → next ≡ sum + coefficient * v →
+    Adds piece bounds z (record { at = at + 12; count = good }) next new → v ≡ slice_index z wire → left ≤ terms → 1 + good ≤ left → from ≡ 1 + good →
     IsSummed answer (terms_at file bounds.wires bounds.end (left - (1 + good)) (at + 12 * from)) z first (terms - (left - (1 + good))) new
-adds_far answer file bounds piece z first terms left good from at sum next new v wire coefficient summed is held added next_is v_is most enough from_is =
+adds_far answer file bounds piece z first terms left good from at sum next new v wire coefficient is summed held next_is added v_is most enough from_is =
     let count : terms - (left - (1 + good)) ≡ terms - left + 1 + good = omega arith in
     let rest : left - (1 + good) ≡ left - 1 - good = omega arith in
     let place : at + 12 * from ≡ at + 12 + 12 * good = omega arith in

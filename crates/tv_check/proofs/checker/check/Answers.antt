@@ -1,6 +1,6 @@
 use Rattle.tv_core.proofs.Common.{◌∙◌, [], sym}
 use Rattle.std.proofs.lemmas.Option.{MatchOption-at_none}
-use Rattle.tv_check.proofs.Trials.{answers, judge-failure, judge-stays, read_holds, read_passes, verdict_of-refuses}
+use Rattle.tv_check.proofs.Trials.{answers, failed_no, judge-failure, judge-stays, read_holds, read_passes, verdict_of-refuses}
 use Rattle.tv_check.proofs.checker.check.Goals.{in-Yes+in-Some, in_default}
 use Rattle.tv_check.proofs.checker.check.Goals as goal
 
@@ -38,7 +38,7 @@ returns-clause-gives g c = λ file known.
           let passed = rw w.reader-is at c.pass_rest.ensures.steps in
           read_passes _ file z x _ header failed.0 _ (passed.gives failed.0 file (rw (← looked, ← tried.name) at begun) failed.1)
           (passed.header ∙ tried.steps.header)
-          (λ rest. w.verdict-is ∙ sym is ∙ sym (judge-stays header z x failed.0 rest (λ same. cc (sym is ∙ same))))
+          (λ rest. w.verdict-is ∙ sym is ∙ sym (judge-stays header z x failed.0 rest (failed_no is)))
       | in_default w ↦
           let passed = rw w.reader-is at c.pass_rest.ensures.steps in
           read_passes _ file z x _ header [] _ (passed.gives [] file begun start) passed.header

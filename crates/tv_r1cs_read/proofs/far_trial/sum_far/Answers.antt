@@ -41,8 +41,9 @@ loop-left-preserved g c = record {
   place = omega (arith, c.loop-left.invariant.place, c.min-some.ensures, c.from.ensures, c.add_far-good.ensures.most);
   small = omega (arith, c.loop-left.invariant.small, c.add.ensures.small, c.add_far-good.ensures.small, c.add_far-good.ensures.most, c.min-some.ensures);
   reads = reads_as (reads_on c.loop-left.invariant.reads (reads_on c.in_ok-wire.ensures.reads reads_done)) (λ file known is end.
-      adds_far _ file _ _ _ _ _ c.loop-left.left c.add_far-good.result.0 _ _ _ _ _ _ _ _ (is.first end) (is.rest.first end) is.rest.held c.add_far-good.ensures.adds
-      c.add.ensures.sum c.value_at.ensures c.loop-left.invariant.most (omega (arith, c.add_far-good.ensures.most, c.min-some.ensures)) c.from.ensures);
+      adds_far _ file _ _ _ _ _ c.loop-left.left c.add_far-good.result.0 _ _ _ _ _ _ _ _ (is.rest.first end) (is.first end) is.rest.held
+      c.add.ensures.sum c.add_far-good.ensures.adds c.value_at.ensures c.loop-left.invariant.most
+      (omega (arith, c.add_far-good.ensures.most, c.min-some.ensures)) c.from.ensures);
 }
 
 pub returns : goal.returns

@@ -10,12 +10,9 @@ unfolding assignment_in
 returns-in_err-this_field-clause-gives g c = λ file known piece end sections found fit.
     let one_is = ap (λ fields. fields.one) found in
     let within = fit.fits 1 c.in_ok-one.one (sym one_is ∙ c.in_ok-one.ensures.same) in
-    rw (
-      err_is c.from_residual-in_err-this_field.result c.from_residual-in_err-this_field.ensures.1,
-      c.in_ok-one.ensures.gives file end sections one_is,
-      c.in_ok-two.ensures.gives file end sections (ap (λ fields. fields.two) found),
-    )
-    (refuses_first _ _ _ (refuses_first _ _ _ (c.in_err-this_field.ensures.reads.gives file known piece within)))
+    rw (err_is c.from_residual-in_err-this_field.result c.from_residual-in_err-this_field.ensures.1)
+    (rw (c.in_ok-one.ensures.gives file end sections one_is, c.in_ok-two.ensures.gives file end sections (ap (λ fields. fields.two) found))
+    (refuses_first _ _ _ (refuses_first _ _ _ (c.in_err-this_field.ensures.reads.gives file known piece within))))
 
 pub returns-in_err-count-clause-gives : goal.returns-in_err-count-clause-gives
 returns-in_err-count-clause-gives g c = λ file known piece end sections found fit.

@@ -38,9 +38,9 @@ loop-index-preserved c =
     ]
 
 pub returns-in_err-push : goal.returns-in_err-push
-returns-in_err-push c = rw (err_is c.from_residual.result c.from_residual.ensures.1) (record { gives = λ file words answer n enough ahead. record { bad = λ at what e. cc }; below = λ old. tt; no_fault = record { known = λ e. cc } })
-
-pub returns-clause-gives : goal.returns-clause-gives
-returns-clause-gives c = λ file words answer n enough ahead.
-    let all : c.loop-index.index ≡ length c.args.words.now = omega arith in
-    rw all at (c.loop-index.invariant.ahead file words answer n enough ahead)
+returns-in_err-push c =
+    rw (err_is c.from_residual.result c.from_residual.ensures.1) (record {
+      gives = λ file words answer n enough ahead. record { bad = λ at what e. cc };
+      below = λ old. tt;
+      no_fault = record { known = λ e. cc };
+    })
