@@ -2,7 +2,6 @@ use Rattle.tv_core.proofs.Common.{◌≡◌, ◌+◌, ◌-◌, ◌*◌, ◌<◌,
 use Rattle.std.proofs.Common.{⊎_elim}
 use Rattle.std.proofs.lemmas.List.Elements.{All-push}
 use Rattle.tv_core.specs.declared.field.TheConstants.{P}
-use Rattle.tv_container.proofs.Chain.{err_is}
 use Rattle.tv_wtns.specs.Values.{AreWords}
 use Rattle.tv_wtns.proofs.Ahead.{goes_in, goes_by, no_residue}
 use Rattle.tv_wtns.proofs.values.take_values.Goals as goal
@@ -36,11 +35,3 @@ loop-index-preserved c =
         below = c.loop-index.invariant.below;
       }
     ]
-
-pub returns-in_err-push : goal.returns-in_err-push
-returns-in_err-push c =
-    rw (err_is c.from_residual.result c.from_residual.ensures.1) (record {
-      gives = λ file words answer n enough ahead. record { bad = λ at what e. cc };
-      below = λ old. tt;
-      no_fault = record { known = λ e. cc };
-    })
