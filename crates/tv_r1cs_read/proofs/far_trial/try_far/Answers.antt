@@ -36,7 +36,6 @@ returns g c = record {
   size = omega (arith, c.in_ok-a.ensures.size, c.in_ok-b.ensures.size, c.in_ok-c.ensures.size, c.from.ensures, c.from-2.ensures, c.from-3.ensures);
   reads = reads_as (reads_on c.in_ok-a.ensures.reads (reads_on c.in_ok-b.ensures.reads (reads_on c.in_ok-c.ensures.reads reads_done)))
       (λ file known is end.
-      let test : c.eq.result ≡ (c.mul.result == c.in_ok-c.c.value) = search rules in
       three file _ _ _ _ _ _ _ _ _ _ _ _ _ _ _ (is.first end) (is.rest.first end) (is.rest.rest.first end)
-      (test ∙ ap (λ n. n == c.in_ok-c.c.value) c.mul.ensures) (omega (arith, c.from.ensures, c.from-2.ensures, c.from-3.ensures)));
+      (c.eq.ensures ∙ ap (λ n. n == c.in_ok-c.c.value) c.mul.ensures) (omega (arith, c.from.ensures, c.from-2.ensures, c.from-3.ensures)));
 }
