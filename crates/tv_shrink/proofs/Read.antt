@@ -1,18 +1,19 @@
 -- Terms that were read, made normal.
-use Rattle.tv_core.proofs.Common.{◌≡◌, ℕ, ◌<◌, ◌≤◌, List, ◌∷◌, ◌++◌, Option, Some, None, refl, sym, ◌∙◌, ap, subst, arith, inl, inr, [], cond, length, Result}
-use Rattle.tv_core.proofs.Common.{Ok, Err, top, Combination, Constraint, normal}
+use Rattle.tv_core.proofs.Common.{◌≡◌, ℕ, ◌+◌, ◌<◌, ◌≤◌, ◌^◌, List, ◌∷◌, ◌++◌, Option, Some, None, refl, sym, ◌∙◌, ap, subst, arith, inl, inr, [], cond}
+use Rattle.tv_core.proofs.Common.{length, Result, Ok, Err, top, Combination, Constraint, normal}
 use Rattle.std.proofs.Common.{ltb}
+use Rattle.std.specs.Prelude.{IsErrAnd}
 use Rattle.std.specs.List.{AllByRecursion, All}
 use Rattle.std.specs.Option.{option_or}
 use Rattle.tv_container.specs.Places.{Fault, ◌>>=◌, wrong}
-use Rattle.tv_container.proofs.Chain.{stopped_here}
+use Rattle.tv_container.proofs.Chain.{err_is, stopped_here}
 use Rattle.tv_container.specs.Reading.{Refuses, Stopped}
 use Rattle.tv_container.specs.declared.why.ReadRefusal.{ReadRefusal}
 use Rattle.tv_container.specs.declared.why.ReadRefusal.TheVariants as refusal
 use Rattle.tv_core.specs.Meanings.{system_counts}
 use Rattle.tv_files.specs.Outside.{Outside}
 use Rattle.tv_r1cs_read.specs.Places.{IsAt, system_with}
-use Rattle.tv_r1cs_read.specs.Progress.{Reached, ahead}
+use Rattle.tv_r1cs_read.specs.Progress.{Reached, ahead, counts_of, IsBegun}
 use Rattle.tv_r1cs_read.specs.R1cs.{r1cs_system}
 use Rattle.tv_shrink.specs.declared.fault.ShrinkFault.{ShrinkFault}
 use Rattle.tv_shrink.specs.declared.fault.ShrinkFault.TheVariants as fault
@@ -25,10 +26,11 @@ use Rattle.tv_r1cs_read.specs.Survey.{survey_of}
 use Rattle.tv_core.specs.Constraints.{System}
 use Rattle.tv_r1cs_read.specs.Rows.{combination_of, constraint_of, IsOver}
 use Rattle.tv_r1cs_read.specs.declared.rows.Row.{Row}
-use Rattle.tv_shrink.specs.Answers.{first_wide, read_fault, start_rows, wide, wide_in, all_terms, most, Halted, IsLong, IsSmall, IsTooWide, FaultMeans, Leaves}
+use Rattle.tv_shrink.specs.Answers.{first_wide, read_fault, start_rows, wide, wide_in, all_terms, most, Halted, HaltsBy, IsLong, IsSmall}
+use Rattle.tv_shrink.specs.Answers.{IsReady, IsTooWide, FaultMeans, Leaves}
 use Rattle.tv_core.specs.Normal.{normal_constraint}
 use Rattle.tv_core.proofs.NormalLaws.{Over, Over-normal, IsNormalFrom-normal}
-use Rattle.tv_shrink.specs.Tidy.{RowsAreNormal, IsWithin, RowIsNormal}
+use Rattle.tv_shrink.specs.Tidy.{AreWithin, RowsAreNormal, IsWithin, RowIsNormal}
 use Rattle.tv_shrink.proofs.Elements.{each_pushed}
 
 -- the wires of terms that were read
@@ -120,6 +122,11 @@ too_wide_front (fault.Combination has) o p e = ap (λ q. option_or q p) e
 too_wide_front fault.Fault o p e = e
 too_wide_front fault.Memory o p e = tt
 
+-- shrinking that ends in a refusal stopped as it did
+pub halts_err : {T : Type 0} (old new after : Outside) (name : List ℕ) (why : ShrinkFault) (result : Result T ShrinkFault) → IsErrAnd result (λ e. e ≡ why)
+    → Halted old after name why → new ≡ after → HaltsBy old new name result
+halts_err old new after name why result ends stopped is = rw (err_is result ends, is) stopped
+
 -- a refusal that says what is wrong leaves all as it was
 pub still_halted : (old new : Outside) (name : List ℕ) (why : ShrinkFault) → new ≡ old → Leaves why old old → Halted old new name why
 still_halted old new name why is leaves =
@@ -173,7 +180,17 @@ pub few_terms : (file : List ℕ) (system : System) → IsSmall file → r1cs_sy
 few_terms file system small is = let both : Ok small.system ≡ Ok system = sym small.is
     ∙ is in let same : small.system ≡ system = cc in subst (λ s. all_terms s ≤ most) same small.few
 
+-- a pass may begin on what was read to the end
+pub ready_as_read : (reached : Reached) (rows : List (Option Constraint)) (left : ℕ) → IsBegun reached → length rows + left ≡ reached.left
+    → AreWithin reached.header.wires rows → RowsAreNormal rows → reached.header.wires < 2 ^ 32 → reached.header.constraints < 2 ^ 32
+    → IsReady (counts_of reached) rows
+ready_as_read reached rows left begun counted within normal wires few =
+    record { room = begun.room; within = within; normal = normal; few = omega (arith, begun.left); fits = wires }
+
 -- one more constraint
+pub left_falls : (left before : ℕ) → left + 1 ≡ before → left < before
+left_falls left before e = omega arith
+
 pub start_more : (done : List Constraint) (c : Constraint) → start_rows (done ++ c ∷ []) ≡ start_rows done ++ Some (normal_constraint c) ∷ []
 start_more done c = map_push (λ d. Some (normal_constraint d)) done c
 
