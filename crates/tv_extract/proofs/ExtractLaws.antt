@@ -4,11 +4,12 @@ use Rattle.tv_core.proofs.Common.{Ok, Err, All, lt-ltb, eq-eqb, eqb-true, length
 use Rattle.std.proofs.lemmas.Bool.{ltb-true}
 use Rattle.std.proofs.lemmas.List.Elements.{All-nil, All-cons, All-head, All-tail}
 use Rattle.std.proofs.lemmas.List.FromFn.{length-range_with_len}
-use Rattle.std.specs.Prelude.{◌==◌, nat_lt}
+use Rattle.std.specs.Prelude.{◌==◌, nat_lt, IfErr, IsErrAnd}
 use Rattle.tv_benes.specs.declared.shape.Net.{Net}
 use Rattle.tv_block.specs.Block.{block_of}
 use Rattle.tv_step.proofs.EndLaws.{answer_is_within}
 use Rattle.tv_step.specs.Machine.{start, end_of}
+use Rattle.tv_step.specs.State.{State}
 use Rattle.tv_step.specs.Range.{AreWords}
 use Rattle.tv_step.specs.declared.end.End.{End}
 use Rattle.tv_step.specs.declared.end.End.TheVariants as ends
@@ -16,7 +17,9 @@ use Rattle.tv_layout.proofs.Systems.{system_sound}
 use Rattle.tv_layout.specs.Layout.{taken_wires}
 use Rattle.tv_layout.specs.Places.{tape_at, runs_of}
 use Rattle.tv_layout.specs.Systems.{system_of}
-use Rattle.tv_extract.specs.Extraction.{◌>>=◌, word_at, words_at, answering, run_in}
+use Rattle.tv_extract.specs.Extraction.{◌>>=◌, word_at, words_at, answering, run_in, IsFaultOf}
+use Rattle.tv_extract.specs.declared.run.ExtractFault.{ExtractFault}
+use Rattle.tv_extract.specs.declared.run.ExtractFault.TheVariants.{NoRun}
 use Rattle.tv_extract.specs.Runs.{IsRunOf, ExtractedIsRun, SatisfyingHaveRuns}
 use Rattle.tv_step.specs.declared.not_run.NotRun.{NotRun}
 use Rattle.tv_extract.specs.declared.run.Run.{Run}
@@ -135,11 +138,20 @@ module _ (w : ℕ) (net : Net) (image : List ℕ) (n t : ℕ) (z : List ℕ) whe
   run_wide_aux answer tape fault many first second refused =
       rw (eq-eqb (length z) (system_of net (runs_of w image n t)).wires many, first, second, refused) refl
 
-  pub run_answering : (answer : ℕ) (tape aux : List ℕ) → length z ≡ (system_of net (runs_of w image n t)).wires → word_at w z 1 ≡ Ok answer
-      → words_at w z (range_with_len tape_at n) ≡ Ok tape → words_at w z (taken_wires (block_of w) (runs_of w image n t) z) ≡ Ok aux
-      → run_in net (runs_of w image n t) z ≡ answering answer tape aux (end_of w t (start w image tape aux))
+  -- what the run that ends so gives
+  pub run_ends : (answer steps : ℕ) (tape aux x u : List ℕ) (machine : State) (end : End) (result : Result Run NotRun)
+      → length z ≡ (system_of net (runs_of w image n t)).wires → word_at w z 1 ≡ Ok answer → words_at w z (range_with_len tape_at n) ≡ Ok tape
+      → words_at w z (taken_wires (block_of w) (runs_of w image n t) z) ≡ Ok aux → x ≡ tape → u ≡ aux → machine ≡ start w image x u → steps ≡ t
+      → end ≡ end_of w steps machine → result ≡ answering answer tape aux end → run_in net (runs_of w image n t) z ≡ result
   unfolding run_in
-  run_answering answer tape aux many first second third = rw (eq-eqb (length z) (system_of net (runs_of w image n t)).wires many, first, second, third) refl
+  run_ends answer steps tape aux x u machine end result many first second third a b c d e f =
+      rw (eq-eqb (length z) (system_of net (runs_of w image n t)).wires many, first, second, third, f, e, d, c, a, b) refl
+
+-- a refusal is that of the run
+pub fault_of : {A B : Type 0} (due : Result A NotRun) (why : NotRun) (result : Result B ExtractFault) → IsErrAnd result (λ fault. fault ≡ NoRun why)
+    → due ≡ Err why → IfErr result (IsFaultOf due)
+fault_of due why (Ok x) ends is = tt
+fault_of due why (Err fault) ends is = rw ends is
 
 -- ---- the laws
 pub extracted_is_run : ExtractedIsRun
@@ -210,4 +222,4 @@ satisfying_have_runs net runs z fits sat =
     u : List ℕ
     u = map (slice_index z) (taken_wires (block_of runs.width) runs z)
 
-pub ruleset extracted = (words_small, run_miscounted, run_wide, run_wide_tape, run_wide_aux, run_answering)
+pub ruleset extracted = (words_small, run_miscounted, run_wide, run_wide_tape, run_wide_aux)
