@@ -1,8 +1,7 @@
 -- Looking into a normal combination.
 use Rattle.tv_core.proofs.Common.{◌≡◌, ℕ, zero, suc, ◌+◌, ◌*◌, ◌%◌, ◌<◌, ◌≤◌, ◌∷◌, Some, None, refl, sym, ◌∙◌, ap, ap₂, subst, arith, [], ◌++◌, not, true}
 use Rattle.tv_core.proofs.Common.{false, inl, inr, cond, length, get_or, mod-eq_of_lt, cases_lt, scaled, Combination, IsNormalFrom}
-use Rattle.std.proofs.Common.{◌&&◌, eqb, ltb}
-use Rattle.std.proofs.Common.{eq-eqb, ne_eqb, ltb-true, one-mul}
+use Rattle.std.proofs.Common.{◌&&◌, eqb, ltb, eq-eqb, ne_eqb, ltb-true, one-mul}
 use Rattle.std.specs.List.{list_all}
 use Rattle.std.specs.Prelude.{Option, IfSome, is_some}
 use Rattle.std.proofs.lemmas.Bool.{and_left, and_right, cond-true, cond-false, ltb-false, or_from}
@@ -145,8 +144,7 @@ parted least w k (t ∷ before) after n =
 
 pub has_from : {A : Type 0} (w : ℕ) (x : Combination) (o : Option A) (before after : A → Combination) (k : A → ℕ) → IsNormalFrom 0 x
     → IfSome o (λ p. x ≡ before p ++ (k p, w) ∷ after p) → (is_some o ≡ false → has_wire w x ≡ false) → is_some o ≡ has_wire w x
-has_from w x (Some p) before after k n is none =
-    sym (ap (has_wire w) is ∙ (parted 0 w (k p) (before p) (after p) (subst (IsNormalFrom 0) is n)).has)
+has_from w x (Some p) before after k n is none = sym (ap (has_wire w) is ∙ (parted 0 w (k p) (before p) (after p) (subst (IsNormalFrom 0) is n)).has)
 has_from w x None before after k n is none = sym (none refl)
 
 -- a normal combination, and one of later wires after it

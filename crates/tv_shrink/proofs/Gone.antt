@@ -1,8 +1,7 @@
 -- The wires that are gone, and the numbers of the others.
 use Rattle.tv_core.proofs.Common.{◌≡◌, ◌≢◌, ℕ, zero, suc, ◌+◌, ◌-◌, ◌<◌, ◌≤◌, Bool, not, List, ◌∷◌, ◌++◌, refl, sym, ◌∙◌, ap, arith, [], true, false, inl, inr}
 use Rattle.tv_core.proofs.Common.{cond, length, get_or, add-one, append-nil, subst, cases_eq, cases_lt, length-append}
-use Rattle.std.proofs.Common.{◌||◌, eqb, ltb}
-use Rattle.std.proofs.Common.{eqb-true}
+use Rattle.std.proofs.Common.{◌||◌, eqb, ltb, eqb-true}
 use Rattle.std.specs.List.{dedup, dedup_from, list_any}
 use Rattle.std.specs.List.Sorted.{IsNonDecreasingBy, IsPartitionPoint, IsStrictlyIncreasing}
 use Rattle.std.proofs.lemmas.Bool.{cases_Bool, ltb-false, ltb-true}
@@ -65,8 +64,7 @@ module _ (n : ℕ) (gone : List ℕ) (i : ℕ) (ahead : AreAhead (n + 1) gone i)
 -- those below a number and those that are not among them are all
 pub lowered_by : (gone : List ℕ) (w i : ℕ) → AreAhead w gone i → i + length (others w gone) ≡ w
 unfolding others
-lowered_by gone zero i ahead =
-    elim (cases_lt 0 i) [ inl some ↦ absurd (omega (arith, ahead.before 0 some)) | inr none ↦ omega arith ]
+lowered_by gone zero i ahead = elim (cases_lt 0 i) [ inl some ↦ absurd (omega (arith, ahead.before 0 some)) | inr none ↦ omega arith ]
 lowered_by gone (suc w) i ahead =
     subst (λ m. i + length (others m gone) ≡ m) (add-one w)
     (step w gone i (subst (λ m. AreAhead m gone i) (sym (add-one w)) ahead) (λ j before. lowered_by gone w j before))

@@ -1,8 +1,7 @@
 -- The wires that are kept, and the place of each among them.
 use Rattle.tv_core.proofs.Common.{◌≡◌, ℕ, zero, suc, ◌+◌, ◌-◌, ◌<◌, ◌≤◌, Bool, not, List, ◌∷◌, ◌++◌, refl, sym, ◌∙◌, ap, arith, subst, true, false, cond, map}
 use Rattle.tv_core.proofs.Common.{length, get_or, take, range_with_len, slice_index, length-append, length-map}
-use Rattle.std.proofs.Common.{eqb}
-use Rattle.std.proofs.Common.{eq-eqb, ne_eqb}
+use Rattle.std.proofs.Common.{eqb, eq-eqb, ne_eqb}
 use Rattle.std.specs.List.{AllByRecursion, AllPairs, filter, list_any}
 use Rattle.std.proofs.lemmas.Bool.{false_from_ne_true, not-true}
 use Rattle.std.proofs.lemmas.List.Elements.{filter-append, filter_agree, filter_passes, recursion_from_All, All-filter}

@@ -67,8 +67,7 @@ apart_back s t (inr h) = inl h
 others_apart : (spans : List (Option Span)) (i : ℕ) (span : Span) → AreApart spans → i < length spans → get_or spans i None ≡ Some span
     → AllByRecursion (IsClear span.start (end_of span)) (set spans i None)
 others_apart [] i span apart h at = tt
-others_apart (first ∷ spans) zero span apart h at =
-    let here : AreApart (Some span ∷ spans) = subst (λ s. AreApart (s ∷ spans)) at apart in (tt, here.0)
+others_apart (first ∷ spans) zero span apart h at = let here : AreApart (Some span ∷ spans) = subst (λ s. AreApart (s ∷ spans)) at apart in (tt, here.0)
 others_apart (None ∷ spans) (suc i) span apart h at = (tt, others_apart spans i span apart (omega arith) at)
 others_apart (Some first ∷ spans) (suc i) span apart h at =
     let inside : i < length spans = omega arith in (

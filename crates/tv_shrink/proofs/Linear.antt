@@ -2,8 +2,7 @@
 use Rattle.tv_core.proofs.Common.{◌≡◌, ◌≢◌, ℕ, ◌+◌, ◌-◌, ◌*◌, ◌%◌, ◌<◌, ◌≤◌, Bool, not, length, ◌∷◌, ◌++◌, Some, None, sym, ◌∙◌, ap, [], ap₂, append-nil, arith}
 use Rattle.tv_core.proofs.Common.{true, false, inl, inr, cond, mod-lt, cond_both, length-append, length-map, scaled, value-append, Combination, Constraint}
 use Rattle.tv_core.proofs.Common.{value, normal, IsNormalFrom}
-use Rattle.std.proofs.Common.{◌||◌, leb}
-use Rattle.std.proofs.Common.{eqb, mul-zero}
+use Rattle.std.proofs.Common.{◌||◌, leb, eqb, mul-zero}
 use Rattle.std.proofs.lemmas.Bool.{le-leb, leb-true, not-true, or_cases, or_left, or_right}
 use Rattle.std.specs.Option.{option_or}
 use Rattle.tv_core.proofs.InverseLaws.{inverse_of-below, mul-inverse_of}
@@ -20,14 +19,12 @@ use Rattle.tv_shrink.proofs.Constants.{joined, parted, scaled_once}
 pub linear-first : (c : Constraint) (k : ℕ) (out : Combination) → constant_in c.a ≡ Some k → out ≡ normal (scaled k c.b ++ scaled (P - 1) c.c)
     → linear_form c ≡ Some out
 unfolding linear_form difference
-linear-first c k out is made =
-    ap (λ o. option_or (difference o c.b c.c) (difference (constant_in c.b) c.a c.c)) is ∙ ap Some (sym made)
+linear-first c k out is made = ap (λ o. option_or (difference o c.b c.c) (difference (constant_in c.b) c.a c.c)) is ∙ ap Some (sym made)
 
 pub linear-second : (c : Constraint) (k : ℕ) (out : Combination) → constant_in c.a ≡ None → constant_in c.b ≡ Some k
     → out ≡ normal (scaled k c.a ++ scaled (P - 1) c.c) → linear_form c ≡ Some out
 unfolding linear_form difference
-linear-second c k out isnt is made =
-    ap₂ (λ o p. option_or (difference o c.b c.c) (difference p c.a c.c)) isnt is ∙ ap Some (sym made)
+linear-second c k out isnt is made = ap₂ (λ o p. option_or (difference o c.b c.c) (difference p c.a c.c)) isnt is ∙ ap Some (sym made)
 
 pub linear-none : (c : Constraint) → constant_in c.a ≡ None → constant_in c.b ≡ None → linear_form c ≡ None
 unfolding linear_form difference
@@ -97,8 +94,7 @@ fits-lacking w r x e = or_left (not (has_wire w x)) (leb (length (replaced w r x
 
 pub fits-having : (w : ℕ) (r x out : Combination) (has : Bool) → has ≡ has_wire w x → has ≡ true → out ≡ replaced w r x → leb (length out) 128 ≡ fits w r x
 unfolding fits
-fits-having w r x out has is e made =
-    ap (λ y. leb (length y) 128) made ∙ sym (ap (λ b. not b || leb (length (replaced w r x)) 128) (sym is ∙ e))
+fits-having w r x out has is e made = ap (λ y. leb (length y) 128) made ∙ sym (ap (λ b. not b || leb (length (replaced w r x)) 128) (sym is ∙ e))
 
 -- a combination has no more terms with another one in place of a wire than both together
 length-without : (w : ℕ) (x : Combination) → length (without w x) ≤ length x

@@ -2,8 +2,7 @@
 use Rattle.tv_core.proofs.Common.{◌≡◌, ◌≢◌, ℕ, ◌+◌, ◌*◌, ◌%◌, ◌<◌, ◌≤◌, Bool, List, ◌∷◌, ◌++◌, refl, sym, ◌∙◌, ap, ap₂, subst, arith, true, false, [], ◌-◌, ◌^◌}
 use Rattle.tv_core.proofs.Common.{cond, inl, inr, length, append_assoc, append-nil, slice_index, cases_lt, cond_both, value-cons, value-append, value-below}
 use Rattle.tv_core.proofs.Common.{scaled, Combination, value, normal, IsNormalFrom}
-use Rattle.std.proofs.Common.{eqb}
-use Rattle.std.proofs.Common.{eq-eqb, min, eqb-true, add-mul, mul-zero}
+use Rattle.std.proofs.Common.{eqb, eq-eqb, min, eqb-true, add-mul, mul-zero}
 use Rattle.std.proofs.lemmas.Bool.{cond-true, eqb-false}
 use Rattle.tv_core.specs.declared.field.TheConstants.{P}
 use Rattle.tv_core.specs.Normal.{with_term}
@@ -99,8 +98,7 @@ normal-rest w x n h = IsNormalFrom-lower 0 (w + 1) (tail_at w x) (omega arith) (
 pub nothing_left : (out total : Combination) (left right : ℕ) (x y : Combination) → x ≡ [] → y ≡ []
     → out ++ normal (scaled left x ++ scaled right y) ≡ total → out ≡ total
 unfolding normal
-nothing_left out total left right x y e f before =
-    sym (append-nil out) ∙ ap₂ (λ u v. out ++ normal (scaled left u ++ scaled right v)) (sym e) (sym f) ∙ before
+nothing_left out total left right x y e f before = sym (append-nil out) ∙ ap₂ (λ u v. out ++ normal (scaled left u ++ scaled right v)) (sym e) (sym f) ∙ before
 
 -- and one of them gets shorter in each turn
 tail_here : (w : ℕ) (t : ℕ × ℕ) (x : Combination) → t.1 ≡ w → length (tail_at w (t ∷ x)) ≡ length x

@@ -2,13 +2,10 @@
 use Rattle.tv_core.proofs.Common.{◌≡◌, ◌≢◌, ◌⊎◌, ℕ, zero, suc, ◌+◌, ◌<◌, ◌≤◌, Bool, List, ◌∷◌, ◌++◌, Option, Some, None, refl, sym, ◌∙◌, ap, [], subst, arith}
 use Rattle.tv_core.proofs.Common.{true, false, inl, inr, cond, map, length, get_or, set, take, add-one, range_with_len, cond_both, cases_eq, length-map, scaled}
 use Rattle.tv_core.proofs.Common.{Combination, Constraint, normal, IsNormalFrom}
-use Rattle.std.proofs.Common.{◌||◌, ◌&&◌}
-use Rattle.std.proofs.Common.{eqb, ltb, ltb-true, lt-ltb, le-ltb}
-use Rattle.std.proofs.Common.{eqb-true, eq-eqb, ne_eqb, take_all}
+use Rattle.std.proofs.Common.{◌||◌, ◌&&◌, eqb, ltb, ltb-true, lt-ltb, le-ltb, eqb-true, eq-eqb, ne_eqb, take_all}
 use Rattle.std.specs.List.{fold, list_any, list_all}
 use Rattle.std.specs.Option.{option_map}
-use Rattle.std.proofs.lemmas.Bool.{cases_Bool, or_cases, or_parts, or_from, or_left, or_right, and_parts}
-use Rattle.std.proofs.lemmas.Bool.{and_right, false_from_ne_true}
+use Rattle.std.proofs.lemmas.Bool.{cases_Bool, or_cases, or_parts, or_from, or_left, or_right, and_parts, and_right, false_from_ne_true}
 use Rattle.std.proofs.lemmas.List.{ext_get_or, get_or-map, get_or-set_other}
 use Rattle.std.proofs.lemmas.List.Elements.{All-from_get_or}
 use Rattle.std.proofs.lemmas.List.Folds.{list_any_more}

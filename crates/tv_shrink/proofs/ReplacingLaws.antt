@@ -2,8 +2,7 @@
 use Rattle.tv_core.proofs.Common.{◌≡◌, ◌≢◌, ◌⊎◌, ℕ, ◌+◌, ◌-◌, ◌*◌, ◌%◌, ◌<◌, ◌≤◌, Bool, not, List, ◌∷◌, ◌++◌, Option, Some, None, refl, sym, ◌∙◌, ap, subst, []}
 use Rattle.tv_core.proofs.Common.{arith, true, false, inl, inr, cond, mod-lt, mod-eq_of_lt, slice_index, cond_both, cases_lt, value-cons, value-append}
 use Rattle.tv_core.proofs.Common.{value-below, value-less, wire-below, Combination, Constraint, value, scaled, less, Assigns, normal, IsNormalFrom}
-use Rattle.std.proofs.Common.{ltb, eqb, max, ltb-false, eqb-true, eq-eqb, add-mul, mul-add, mul_assoc, mul_comm}
-use Rattle.std.proofs.Common.{one-mul}
+use Rattle.std.proofs.Common.{ltb, eqb, max, ltb-false, eqb-true, eq-eqb, add-mul, mul-add, mul_assoc, mul_comm, one-mul}
 use Rattle.std.specs.List.{list_all}
 use Rattle.std.proofs.lemmas.Bool.{eqb-false, or_cases, or_parts, and_parts, or_left, or_right, cond-false}
 use Rattle.std.proofs.lemmas.Nat.{mul-mod_second}

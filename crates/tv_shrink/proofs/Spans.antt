@@ -5,8 +5,7 @@ use Rattle.std.specs.Option.{option_map}
 use Rattle.std.specs.Prelude.{slice_range}
 use Rattle.tv_r1cs_write.specs.Bytes.{others}
 use Rattle.std.proofs.Math.Seq.{drop-append_seam, take-append_seam}
-use Rattle.std.proofs.lemmas.List.{append_assoc, drop-append-le, drop-map, get_or-map, length-drop, length-take}
-use Rattle.std.proofs.lemmas.List.{take-append-le, take-map}
+use Rattle.std.proofs.lemmas.List.{append_assoc, drop-append-le, drop-map, get_or-map, length-drop, length-take, take-append-le, take-map}
 use Rattle.tv_shrink.specs.Renumbering.{moved, moved_rows}
 use Rattle.tv_shrink.specs.Spans.{end_of, row_at, row_terms, span_of, AreInside}
 use Rattle.tv_shrink.specs.declared.arena.Span.{Span}
@@ -106,8 +105,7 @@ span_is xs row start a b c at p q r =
     ap₂ (λ s x. made s x b c) at p ∙ ap₂ (λ y z. made (length xs) (length row.a) y z) q r
 
 pub terms_appended : (xs one two three a b c : Combination) → one ≡ xs ++ a → two ≡ one ++ b → three ≡ two ++ c → three ≡ xs ++ (a ++ (b ++ c))
-terms_appended xs one two three a b c p q r =
-    r ∙ ap (λ ys. ys ++ c) (q ∙ ap (λ ys. ys ++ b) p) ∙ append_assoc (xs ++ a) b c ∙ append_assoc xs a (b ++ c)
+terms_appended xs one two three a b c p q r = r ∙ ap (λ ys. ys ++ c) (q ∙ ap (λ ys. ys ++ b) p) ∙ append_assoc (xs ++ a) b c ∙ append_assoc xs a (b ++ c)
 
 -- how many terms lie where a constraint's do
 pub part_size : (xs : Combination) (i n : ℕ) → i + n ≤ length xs → n ≡ length (slice_range xs i (i + n))

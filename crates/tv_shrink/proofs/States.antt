@@ -1,8 +1,7 @@
 -- What the steps of a pass keep.
 use Rattle.tv_core.proofs.Common.{◌≡◌, ℕ, ◌∷◌, ◌<◌, ◌≤◌, ◌^◌, Bool, List, Option, None, Some, Result, Ok, Err, refl, sym, ◌∙◌, ap, [], ap₂, subst, true, false}
 use Rattle.tv_core.proofs.Common.{length, get_or, set, range_with_len, cond_both, length-map, Combination, Constraint}
-use Rattle.std.proofs.Common.{OnOk}
-use Rattle.std.proofs.Common.{length-set}
+use Rattle.std.proofs.Common.{OnOk, length-set}
 use Rattle.std.specs.Prelude.{OnErr}
 use Rattle.std.specs.List.{fold, list_all}
 use Rattle.std.specs.Option.{option_map}
@@ -15,8 +14,7 @@ use Rattle.tv_shrink.proofs.Passes.{covers-replaced, normal-replaced_row}
 -- once more is filed
 pub kept_more : (publics : ℕ) (rows : List (Option Constraint)) (may next : ℕ → ℕ → Bool) → IsKept publics rows may
     → ((v i : ℕ) → may v i ≡ true → next v i ≡ true) → IsKept publics rows next
-kept_more publics rows may next kept more =
-    record { normal = kept.normal; covers = λ i v above has. more v i (kept.covers i v above has); few = kept.few }
+kept_more publics rows may next kept more = record { normal = kept.normal; covers = λ i v above has. more v i (kept.covers i v above has); few = kept.few }
 
 -- once a wire is replaced in a constraint, or memory ran out, all are normal, and filed
 module _ (publics w at : ℕ) (r : Combination) (rows : List (Option Constraint)) (may next : ℕ → ℕ → Bool)

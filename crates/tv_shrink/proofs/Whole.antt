@@ -32,8 +32,7 @@ terms_over file wires end (suc n) at =
 
 combination_over : (file : List ℕ) (wires end at : ℕ) → IfOk (combination_at file wires end at) (λ read. HasWiresBelow wires read.value)
 unfolding combination_at
-combination_over file wires end at =
-    bind_any (count_at file end at) _ _ (λ count. terms_over file wires end count (at + 4))
+combination_over file wires end at = bind_any (count_at file end at) _ _ (λ count. terms_over file wires end count (at + 4))
 
 constraint_over : (file : List ℕ) (wires end at : ℕ) → IfOk (constraint_at file wires end at) (λ read. AreOver wires read.value)
 unfolding constraint_at

@@ -3,8 +3,7 @@ use Rattle.tv_layout.proofs.LinePlaces.{in_image, in_tape, in_steps, in_padding}
 use Rattle.tv_layout.proofs.lines.compact_line.Goals as goal
 
 pub returns-then-i-words-clause-is : goal.returns-then-i-words-clause-is
-returns-then-i-words-clause-is g c =
-    c.line_of_word.ensures.is ∙ sym (in_image _ c.requires.fits c.args.i (omega arith))
+returns-then-i-words-clause-is g c = c.line_of_word.ensures.is ∙ sym (in_image _ c.requires.fits c.args.i (omega arith))
 
 pub returns-then-i-boot-clause-is : goal.returns-then-i-boot-clause-is
 returns-then-i-boot-clause-is g c =
@@ -12,9 +11,7 @@ returns-then-i-boot-clause-is g c =
     is ∙ sym (in_tape _ c.requires.fits c.args.i (omega arith) (omega arith))
 
 pub returns-then-i-boot-2-clause-is : goal.returns-then-i-boot-2-clause-is
-returns-then-i-boot-2-clause-is g c =
-    c.step_line.ensures.is ∙ sym (in_steps _ c.requires.fits c.args.i (omega arith) (omega arith))
+returns-then-i-boot-2-clause-is g c = c.step_line.ensures.is ∙ sym (in_steps _ c.requires.fits c.args.i (omega arith) (omega arith))
 
 pub returns-else-i-boot-2-clause-is : goal.returns-else-i-boot-2-clause-is
-returns-else-i-boot-2-clause-is g c =
-    c.line_of_word-else-i-boot-2.ensures.is ∙ sym (in_padding _ c.requires.fits c.args.i (omega arith) c.requires.within)
+returns-else-i-boot-2-clause-is g c = c.line_of_word-else-i-boot-2.ensures.is ∙ sym (in_padding _ c.requires.fits c.args.i (omega arith) c.requires.within)

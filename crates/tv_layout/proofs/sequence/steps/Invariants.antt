@@ -1,9 +1,8 @@
 use Rattle.tv_core.proofs.Common.{ℕ, ◌*◌, turns, PutsAll, Grows}
 use Rattle.tv_block.specs.Block.{block_of}
-use Rattle.tv_block.specs.Complete.{block_made}
+use Rattle.tv_block.specs.Complete.{block_made, block_added}
 use Rattle.tv_layout.specs.Layout.{before_steps, step_of}
 use Rattle.tv_layout.specs.Reached.{ReachedUnder}
-use Rattle.tv_block.specs.Complete.{block_added}
 use Rattle.tv_layout.proofs.sequence.steps.Given as goal
 
 abbrev pub invariant-loop-step : goal.invariant-loop-step

@@ -16,9 +16,7 @@ returns-clause-is g c time =
     ∙ sym (ap (λ (b : Block). b.spot) (block_is w c.requires.fits.width c.args.n time (zero_wires_at w c.args.n) (first_at w c.args.n) c.args.step))
 
 pub returns-clause-taken : goal.returns-clause-taken
-returns-clause-taken g c net =
-    of_step net _ c.args.step c.requires.fits c.requires.within _ _ c.step_at.ensures c.block_spot.ensures.below.taken
+returns-clause-taken g c net = of_step net _ c.args.step c.requires.fits c.requires.within _ _ c.step_at.ensures c.block_spot.ensures.below.taken
 
 pub returns-clause-word : goal.returns-clause-word
-returns-clause-word g c net =
-    of_step net _ c.args.step c.requires.fits c.requires.within _ _ c.step_at.ensures c.block_spot.ensures.below.word
+returns-clause-word g c net = of_step net _ c.args.step c.requires.fits c.requires.within _ _ c.step_at.ensures c.block_spot.ensures.below.word

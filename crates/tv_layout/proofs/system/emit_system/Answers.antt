@@ -53,8 +53,7 @@ memory-requires-clause-made g c =
 
 pub returns-in_err-words-clause-puts : goal.returns-in_err-words-clause-puts
 unfolding layout_of
-returns-in_err-words-clause-puts g c =
-    refused _ _ _ _ _ c.from_residual.ensures.1 (some_first _ (rw c.tape_wire.ensures at c.in_err-words.ensures.puts))
+returns-in_err-words-clause-puts g c = refused _ _ _ _ _ c.from_residual.ensures.1 (some_first _ (rw c.tape_wire.ensures at c.in_err-words.ensures.puts))
 
 pub returns-in_err-zero_wires-clause-puts : goal.returns-in_err-zero_wires-clause-puts
 unfolding layout_of

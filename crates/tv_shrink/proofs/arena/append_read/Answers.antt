@@ -7,8 +7,7 @@ use Rattle.tv_shrink.proofs.Spans.{span_is, terms_appended}
 use Rattle.tv_shrink.proofs.arena.append_read.Goals as goal
 
 pub returns-clause-out : goal.returns-clause-out
-returns-clause-out c =
-    terms_appended _ _ _ _ _ _ _ c.in_ok-a.ensures.ok c.in_ok-b.ensures.ok c.in_ok-c.ensures.ok
+returns-clause-out c = terms_appended _ _ _ _ _ _ _ c.in_ok-a.ensures.ok c.in_ok-b.ensures.ok c.in_ok-c.ensures.ok
 
 pub returns-clause-made : goal.returns-clause-made
 returns-clause-made c =
@@ -22,8 +21,7 @@ pub returns-in_err-start-clause-err : goal.returns-in_err-start-clause-err
 returns-in_err-start-clause-err c = rw (err_is c.from_residual.result c.from_residual.ensures.1) tt
 
 pub returns-in_err-a-clause-err : goal.returns-in_err-a-clause-err
-returns-in_err-a-clause-err c =
-    rw (err_is c.from_residual-in_err-a.result c.from_residual-in_err-a.ensures.1) (too_wide_front _ _ _ c.in_err-a.ensures.err)
+returns-in_err-a-clause-err c = rw (err_is c.from_residual-in_err-a.result c.from_residual-in_err-a.ensures.1) (too_wide_front _ _ _ c.in_err-a.ensures.err)
 
 pub returns-in_err-b-clause-err : goal.returns-in_err-b-clause-err
 returns-in_err-b-clause-err c =

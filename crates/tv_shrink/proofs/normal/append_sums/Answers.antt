@@ -6,8 +6,7 @@ use Rattle.tv_r1cs_read.specs.Rows.{combination_of}
 use Rattle.tv_shrink.proofs.SortLaws.{no_sum, read_at, read_rises, sum_ends, sum_goes_on, sum_past, with_sum}
 use Rattle.tv_shrink.proofs.normal.append_sums.Goals as goal
 use Rattle.tv_shrink.proofs.normal.append_sums.Goals.{then-at-terms+in_ok-push_term, then-at-terms-via-then-at-terms}
-use Rattle.tv_shrink.proofs.normal.append_sums.Goals.{then-at-terms-via-else-at-terms+then-terms-at}
-use Rattle.tv_shrink.proofs.normal.append_sums.Goals.{else-at-terms+else-terms-at}
+use Rattle.tv_shrink.proofs.normal.append_sums.Goals.{then-at-terms-via-else-at-terms+then-terms-at, else-at-terms+else-terms-at}
 
 pub loop-at-init : goal.loop-at-init
 loop-at-init c = record { so_far = ap (λ x. c.args.out.now.items ++ x) (no_sum (combination_of c.args.terms.now)); longer = omega arith }

@@ -32,9 +32,8 @@ returns-in-Err-clause-gives g c = λ file known.
 
 pub returns-in-Err-clause-looks : goal.returns-in-Err-clause-looks
 returns-in-Err-clause-looks g c =
-    let stopped = halted _ _ _ _ c.in-Err.ensures.err_stopped in
     let halts : (new : Outside) → new ≡ g.D.Files.seen c.in-Err.unread.files.now → Halted (g.D.Files.seen c.args.files.now) new c.args.name.now c.from.result =
-    λ new is. rw (c.from.ensures, is) stopped in
+    λ new is. rw (c.from.ensures, is) (halted _ _ _ _ c.in-Err.ensures.err_stopped) in
     halts _ (search rules)
 
 pub returns-in_err-next_into-clause-gives : goal.returns-in_err-next_into-clause-gives

@@ -24,5 +24,4 @@ returns-then-ne-clause-is c =
     ∙ scaled-same c.args.own c.args.terms.now c.requires.apart (omega arith) c.requires.normal
 
 pub returns-then-ne-clause-size : goal.returns-then-ne-clause-size
-returns-then-ne-clause-size c =
-    ap length c.scale.ensures ∙ length-map {B = ℕ × ℕ} c.args.terms.now (λ (t : ℕ × ℕ). (c.neg-then-ne.result * t.0 % P, t.1))
+returns-then-ne-clause-size c = ap length c.scale.ensures ∙ length-map {B = ℕ × ℕ} c.args.terms.now (λ (t : ℕ × ℕ). (c.neg-then-ne.result * t.0 % P, t.1))

@@ -12,8 +12,7 @@ returns-then-not-branch c =
 
 pub substitute-requires-clause-fit : goal.substitute-requires-clause-fit
 unfolding dropped
-substitute-requires-clause-fit c =
-    rw (c.remove.ensures, c.others_fit.ensures.same) (sym c.in_ok-others_fit.ensures.fit ∙ c.if-not-branch.false)
+substitute-requires-clause-fit c = rw (c.remove.ensures, c.others_fit.ensures.same) (sym c.in_ok-others_fit.ensures.fit ∙ c.if-not-branch.false)
 
 pub returns : goal.returns
 unfolding attempted dropped

@@ -66,8 +66,7 @@ made c =
     ∙ ap (λ x. normal (scaled (P - inverse_of c.in-Some-pop.last.0) x)) c.deref_mut.ensures.value
 
 pub eliminate-requires-clause-by : goal.eliminate-requires-clause-by
-eliminate-requires-clause-by c =
-    subst (IsNormalFrom 0) (sym (made (goal.at.eliminate-requires-clause-by c).After-solve)) (IsNormalFrom-normal _)
+eliminate-requires-clause-by c = subst (IsNormalFrom 0) (sym (made (goal.at.eliminate-requires-clause-by c).After-solve)) (IsNormalFrom-normal _)
 
 pub eliminate-requires-clause-below : goal.eliminate-requires-clause-below
 eliminate-requires-clause-below c =

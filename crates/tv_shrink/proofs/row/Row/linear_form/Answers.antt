@@ -3,8 +3,7 @@ use Rattle.tv_shrink.proofs.Linear.{linear-first, linear-second, linear-none}
 use Rattle.tv_shrink.proofs.row.Row.linear_form.Goals as goal
 
 pub returns-in-Some : goal.returns-in-Some
-returns-in-Some c =
-    rw (← c.self.view_is) (linear-first _ c.in-Some.factor _ (sym c.constant_in.ensures ∙ c.in-Some.is) c.in_ok-subtract.ensures)
+returns-in-Some c = rw (← c.self.view_is) (linear-first _ c.in-Some.factor _ (sym c.constant_in.ensures ∙ c.in-Some.is) c.in_ok-subtract.ensures)
 
 pub returns-in-Some-constant_in : goal.returns-in-Some-constant_in
 returns-in-Some-constant_in c =

@@ -24,12 +24,10 @@ pub returns-clause-narrow : goal.returns-clause-narrow
 returns-clause-narrow c = c.in_ok-span.ensures.narrow
 
 pub returns-in_err-span-clause-err : goal.returns-in_err-span-clause-err
-returns-in_err-span-clause-err c =
-    rw (err_is c.from_residual.result c.from_residual.ensures.1) c.in_err-span.ensures.err
+returns-in_err-span-clause-err c = rw (err_is c.from_residual.result c.from_residual.ensures.1) c.in_err-span.ensures.err
 
 pub returns-in_err-push-clause-err : goal.returns-in_err-push-clause-err
-returns-in_err-push-clause-err c =
-    rw (err_is c.from_residual-in_err-push.result c.from_residual-in_err-push.ensures.1) tt
+returns-in_err-push-clause-err c = rw (err_is c.from_residual-in_err-push.result c.from_residual-in_err-push.ensures.1) tt
 
 pub invariant_of-self : goal.invariant_of-self
 invariant_of-self c = laid_more _ _ c.self.inside.spans.items c.append_read.ensures.longer c.self.invariant
