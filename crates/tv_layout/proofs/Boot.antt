@@ -81,8 +81,7 @@ length-boot_lines image x =
     ∙ ap₂ (λ a b. a + b) (length-boot_from 0 0 image) (length-boot_from TAPE_CELLS (length image) x)
 
 -- one more of the lines that write words
-pub boot_more : (cell time : ℕ) (words : List ℕ) (i : ℕ) → i < length words
-    → boot_from cell time (take (i + 1) words) ≡ boot_from cell time (take i words)
+pub boot_more : (cell time : ℕ) (words : List ℕ) (i : ℕ) → i < length words → boot_from cell time (take (i + 1) words) ≡ boot_from cell time (take i words)
     ++ record { cell = cell + i; time = time + i; old = 0; new = slice_index words i } ∷ []
 boot_more cell time [] i h = absurd (omega arith)
 boot_more cell time (v ∷ words) zero h = let c : cell + 0 ≡ cell = omega arith in let t : time + 0 ≡ time = omega arith in rw (c, t) refl

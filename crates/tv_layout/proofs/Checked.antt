@@ -45,8 +45,7 @@ not_least words n i a b same = elim (cases_eq words 0) [
 
 -- ---- kinds of lines
 boot_is : (least place cell i word : ℕ) (first : Kind) → cell + i < 2 ^ 31 → (i ≡ 0 → IsOfKind least place (written_at (cell + i) place word) first)
-    → (i ≢ 0 → place ≢ least)
-    → IsOfKind least place (written_at (cell + i) place word) (boot_kind first cell i)
+    → (i ≢ 0 → place ≢ least) → IsOfKind least place (written_at (cell + i) place word) (boot_kind first cell i)
 boot_is least place cell i word first small begins other = elim (cases_eq i 0) [
   | inl e ↦ subst (IsOfKind least place (written_at (cell + i) place word)) (sym (first_boot first cell i e)) (begins e)
   | inr e ↦
@@ -114,8 +113,7 @@ module _ (w : ℕ) (block : BlockCircuit) (made : ℕ) (sizes : BlockSizes block
       (λ e. (e ∙ sym (least_some (length image) (length x) some), refl))
       (λ e. not_least (length image) (length x) i (λ _. e) (λ none. absurd (some none)))))
 
-  on_tape : (i : ℕ) → i < length x
-      → IsOfKind least (length image + i) (written_at (TAPE_CELLS + i) (length image + i) (slice_index x i))
+  on_tape : (i : ℕ) → i < length x → IsOfKind least (length image + i) (written_at (TAPE_CELLS + i) (length image + i) (slice_index x i))
       (line_kind k (length image) (length x) (length image + i))
   on_tape i h =
       let other : length image + i ≢ least =
@@ -149,8 +147,7 @@ module _ (w : ℕ) (block : BlockCircuit) (made : ℕ) (sizes : BlockSizes block
   first_at_step j = let e : 3 * j + 0 ≡ 3 * j = omega arith in ap (λ p. line_kind k (length image) (length x) (length image + length x + p)) e
       ∙ first_kinds k (length image) (length x) j
 
-  on_step : (j r : ℕ) → j < t → r < 3
-      → IsOfKind least (length image + length x + (3 * j + r)) (number_in (f j) r)
+  on_step : (j r : ℕ) → j < t → r < 3 → IsOfKind least (length image + length x + (3 * j + r)) (number_in (f j) r)
       (line_kind k (length image) (length x) (length image + length x + (3 * j + r)))
   on_step j r h i =
       below_three (λ r. IsOfKind least (length image + length x + (3 * j + r)) (number_in (f j) r)

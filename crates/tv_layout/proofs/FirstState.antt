@@ -17,8 +17,7 @@ abbrev pub numbers_are : ℕ → List ℕ → ℕ → ℕ → ℕ → View
 numbers_are pc regs flag taken ended = record { pc = pc; regs = regs; flag = flag; taken = taken; ended = ended }
 
 pub view_same : (pc flag taken ended pc' flag' taken' ended' : ℕ) (regs regs' : List ℕ) → pc ≡ pc' → regs ≡ regs' → flag ≡ flag' → taken ≡ taken'
-    → ended ≡ ended'
-    → numbers_are pc regs flag taken ended ≡ numbers_are pc' regs' flag' taken' ended'
+    → ended ≡ ended' → numbers_are pc regs flag taken ended ≡ numbers_are pc' regs' flag' taken' ended'
 view_same pc flag taken ended pc' flag' taken' ended' regs regs' a b c d e = rw (a, b, c, d, e) refl
 
 -- its wires are below those after it

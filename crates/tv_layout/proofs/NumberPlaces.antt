@@ -105,8 +105,7 @@ module _ (image x : List ℕ) (t : ℕ) (f : ℕ → List Line) (three : (i : �
   -- so what holds at each place of its line holds at each place
   pub each_checked : (Q : ℕ → Line → Type 0) → ((i : ℕ) → i < length image → Q i (written_at i i (slice_index image i)))
       → ((i : ℕ) → i < length x → Q (length image + i) (written_at (TAPE_CELLS + i) (length image + i) (slice_index x i)))
-      → ((j r : ℕ) → j < t → r < 3 → Q (length image + length x + (3 * j + r)) (number_in (f j) r))
-      → (i : ℕ) → i < count → Q i (number_in all i)
+      → ((j r : ℕ) → j < t → r < 3 → Q (length image + length x + (3 * j + r)) (number_in (f j) r)) → (i : ℕ) → i < count → Q i (number_in all i)
   each_checked Q on_image on_tape on_steps i h = elim (cases_lt i (length image)) [
     | inl here ↦ subst (Q i) (sym (at_image i here)) (on_image i here)
     | inr past ↦ elim (cases_lt i boot) [

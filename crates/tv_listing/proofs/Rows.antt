@@ -40,6 +40,13 @@ rows_more runs i z rows row line fits h before is valued =
     ∙ ap₂ (λ (a b : List Line). a ++ b) before (ap (λ (l : Line). l ∷ []) (sym here))
     ∙ sym (take_next (lines_at runs z) i (row_line row) (omega (arith, length-map (system_lines (block_of runs.width) runs) (line_value z))))
 
+-- one more line of a trace
+pub line_pushed : (front lines : List Line) (rows : List ListedLine) (i : ℕ) (row : ListedLine) (d : Line) → map row_line rows ≡ front ++ take i lines
+    → i < length lines → row_line row ≡ get_or lines i d → map row_line (rows ++ row ∷ []) ≡ front ++ take (i + 1) lines
+line_pushed front lines rows i row d before h is =
+    map-append row_line rows (row ∷ []) ∙ ap₂ (λ (a b : List Line). a ++ b) before (ap (λ (l : Line). l ∷ []) is)
+    ∙ append_assoc front (take i lines) (get_or lines i d ∷ []) ∙ ap (λ l. front ++ l) (sym (take_next lines i d h))
+
 -- one more of the lines that write words
 pub words_pushed : (lines : List Line) (rows : List ListedLine) (row : ListedLine) (cell time i : ℕ) (words : List ℕ) → i < length words
     → map row_line rows ≡ lines ++ boot_from cell time (take i words)

@@ -79,8 +79,7 @@ scaled-normal f least (t ∷ x) apart n =
     let some : f * t.0 % P ≢ 0 = λ none. let zero = p_cancels f t.0 0 (none ∙ sym (ap (λ k. k % P) (mul-zero f))) apart in omega (arith, zero, n.1, n.2) in
     (n.0, omega arith, mod-lt (f * t.0) (omega arith), scaled-normal f (t.1 + 1) x apart n.3)
 
-pub scaled-same : (own : ℕ) (x : Combination) → 0 < own → own < P → IsNormalFrom 0 x
-    → scaled (P - inverse_of own) x ≡ normal (scaled (P - inverse_of own) x)
+pub scaled-same : (own : ℕ) (x : Combination) → 0 < own → own < P → IsNormalFrom 0 x → scaled (P - inverse_of own) x ≡ normal (scaled (P - inverse_of own) x)
 scaled-same own x some small n =
     let one = mul-inverse_of own (λ none. omega arith) in
     let factor = negative own (inverse_of own) (inverse_of-below own) one in

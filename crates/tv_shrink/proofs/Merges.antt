@@ -25,8 +25,7 @@ module _ (factor : ℕ) (z : List ℕ) where
       ∙ ap (λ v. (factor * t.0 % P * slice_index z v + value (scaled factor x) z) % P) (eqb-true t.1 w e)
   split_head w t x false e = none_given (slice_index z w) (value (scaled factor (t ∷ x)) z) (value-below (scaled factor (t ∷ x)) z)
 
-  value-side : (w : ℕ) (x : Combination)
-      → value (scaled factor x) z ≡ (given factor w x * slice_index z w + value (scaled factor (tail_at w x)) z) % P
+  value-side : (w : ℕ) (x : Combination) → value (scaled factor x) z ≡ (given factor w x * slice_index z w + value (scaled factor (tail_at w x)) z) % P
   value-side w [] = none_given (slice_index z w) (value (scaled factor []) z) (value-below (scaled factor []) z)
   value-side w (t ∷ x) = split_head w t x (eqb t.1 w) refl
 

@@ -92,8 +92,7 @@ module _ (w : ℕ) (r : Combination) where
         ≡ cond (list_any (λ p. eqb p i) places) (option_map (replaced_in w r) (get_or start i None)) (get_or start i None)
 
     pub replaced-step : (rows start : List (Option Constraint)) (places : List ℕ) (k at : ℕ) → k < length places → get_or places k 0 ≡ at
-        → IsReplacedAt rows start (take k places)
-        → IsReplacedAt (set rows at (option_map (replaced_in w r) (get_or rows at None))) start (take (k + 1) places)
+        → IsReplacedAt rows start (take k places) → IsReplacedAt (set rows at (option_map (replaced_in w r) (get_or rows at None))) start (take (k + 1) places)
     replaced-step rows start places k at h is before i =
         let next = list_any_more (λ p. eqb p i) places k 0 h in
         let row = get_or start i None in
@@ -287,8 +286,7 @@ set_cases (first ∷ rows) zero (suc i) row = inl refl
 set_cases (first ∷ rows) (suc at) zero row = inl refl
 set_cases (first ∷ rows) (suc at) (suc i) row = elim (set_cases rows at i row) [ inl same ↦ inl same | inr here ↦ inr (ap suc here.0, here.1) ]
 
-pub covers-dropped : (publics at : ℕ) (rows : List (Option Constraint)) (may : ℕ → ℕ → Bool) → Covers publics rows may
-    → Covers publics (set rows at None) may
+pub covers-dropped : (publics at : ℕ) (rows : List (Option Constraint)) (may : ℕ → ℕ → Bool) → Covers publics rows may → Covers publics (set rows at None) may
 covers-dropped publics at rows may covers i w above has =
     elim (set_cases rows at i None) [
       | inl same ↦ covers i w above (ap (row_has w) (sym same) ∙ has)

@@ -39,8 +39,7 @@ module _ (z : List ℕ) where
 over-from_All : (wires : ℕ) (x : Combination) → All (λ t. t.1 < wires) x → Over (λ v. v < wires) x
 over-from_All wires x h = recursion_from_All (λ t. t.1 < wires) x h
 
-start_over : (wires : ℕ) (list : List Constraint) → AllByRecursion (AreOver wires) list
-    → RowsOver (Stays wires []) (map (λ c. Some (normal_constraint c)) list)
+start_over : (wires : ℕ) (list : List Constraint) → AllByRecursion (AreOver wires) list → RowsOver (Stays wires []) (map (λ c. Some (normal_constraint c)) list)
 start_over wires [] h = tt
 start_over wires (c ∷ list) h =
     let each = λ (x : Combination) (k : All (λ t. t.1 < wires) x).
@@ -48,8 +47,7 @@ start_over wires (c ∷ list) h =
     (Over-weaker (λ v. v < wires) (Stays wires []) x (λ v l. (l, refl)) (over-from_All wires x k)) in
     ((each c.a h.0.a, each c.b h.0.b, each c.c h.0.c), start_over wires list h.1)
 
-pub start-sound : (wires publics : ℕ) (rows : List (Option Constraint)) → RowsOver (Stays wires []) rows
-    → Sound rows wires publics (pass_of rows [])
+pub start-sound : (wires publics : ℕ) (rows : List (Option Constraint)) → RowsOver (Stays wires []) rows → Sound rows wires publics (pass_of rows [])
 start-sound wires publics rows over = record {
   over = over;
   private = λ v e. absurd (let both : false ≡ true = e in cc);

@@ -73,8 +73,7 @@ over_after least zero (x ∷ xs) h = (h 0 x (omega arith) (omega arith), over_af
 over_after least (suc j) (x ∷ xs) h = over_after least j xs (λ k d above inside. h (suc k) d (omega arith) (omega arith))
 
 -- terms that were read, as a combination
-pub read_at : (terms : List (ℕ × ℕ)) (i : ℕ) (d e : ℕ × ℕ) → i < length terms
-    → get_or (combination_of terms) i e ≡ ((get_or terms i d).1, (get_or terms i d).0)
+pub read_at : (terms : List (ℕ × ℕ)) (i : ℕ) (d e : ℕ × ℕ) → i < length terms → get_or (combination_of terms) i e ≡ ((get_or terms i d).1, (get_or terms i d).0)
 read_at terms i d e h = get_or-map (λ (t : ℕ × ℕ). (t.1, t.0)) terms i d e h
 
 pub read_rises : (terms : List (ℕ × ℕ)) → IsNonDecreasingBy (λ t. t.0) terms → IsNonDecreasingBy (λ t. t.1) (combination_of terms)
