@@ -1,8 +1,7 @@
 -- Counting over the places below a number, and over a permutation of them.
 use Rattle.tv_core.proofs.Common.{◌≡◌, ◌≢◌, ◌⊎◌, ℕ, zero, suc, ◌+◌, ◌<◌, ◌≤◌, ◌==◌, Bool, true, false, if◌then◌else◌, refl, sym, ◌∙◌, ap, subst, arith, inl}
 use Rattle.tv_core.proofs.Common.{inr, cases_lt, cases_eq, eq-eqb, ne_eqb, flag_of}
-use Rattle.std.proofs.Common.{nat_le, sum_by}
-use Rattle.std.proofs.Common.{IsPermutation}
+use Rattle.std.proofs.Common.{nat_le, sum_by, IsPermutation}
 use Rattle.std.proofs.lemmas.Bool.{leb-true, leb-false}
 use Rattle.std.proofs.lemmas.List.Sorted.{All-permutation, sum_by-IsPermutation}
 use Rattle.std.proofs.lemmas.List.Sums.{sum_by_push}

@@ -1,8 +1,7 @@
 -- Numbers in rising order: a sort makes them, and there is one such list.
 use Rattle.tv_core.proofs.Common.{◌≡◌, ◌≢◌, ◌⊎◌, ℕ, zero, suc, ◌+◌, ◌<◌, ◌≤◌, ◌==◌, if◌then◌else◌, List, [], ◌∷◌, length, get_or, refl, sym, ◌∙◌, ap, ap₂}
 use Rattle.tv_core.proofs.Common.{arith, inl, inr, cond_both, eq-eqb, ne_eqb}
-use Rattle.std.proofs.Common.{nat_le}
-use Rattle.std.proofs.Common.{sum_by, IsPermutation}
+use Rattle.std.proofs.Common.{nat_le, sum_by, IsPermutation}
 use Rattle.std.specs.List.Sorted.{IsNonDecreasing}
 use Rattle.std.proofs.lemmas.Bool.{cases_order, leb-true, leb-false}
 use Rattle.std.proofs.lemmas.List.Sorted.{IsPermutation-refl, IsPermutation-cons, IsPermutation-trans, IsPermutation-insert, sum_by-IsPermutation}

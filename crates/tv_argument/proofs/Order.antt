@@ -1,8 +1,7 @@
 -- The address order of lines whose times are their places.
 use Rattle.tv_core.proofs.Common.{◌≡◌, ℕ, ◌%◌, ◌<◌, ◌≤◌, ◌^◌, List, [], ◌∷◌, length, map, get_or, All, refl, sym, ap, ◌∙◌, subst, arith, length-map, each_below}
 use Rattle.tv_core.proofs.Common.{Line}
-use Rattle.std.proofs.Common.{IsPermutation}
-use Rattle.std.proofs.Common.{zero-add}
+use Rattle.std.proofs.Common.{IsPermutation, zero-add}
 use Rattle.std.proofs.lemmas.List.{get_or-map, map-id}
 use Rattle.std.proofs.lemmas.List.Elements.{All-from_get_or, All-get_or}
 use Rattle.std.proofs.lemmas.List.Sorted.{All-permutation, IsPermutation-map, length_permutation}

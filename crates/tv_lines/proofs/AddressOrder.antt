@@ -1,8 +1,7 @@
 -- Honest lines, sorted by cell and time.
 use Rattle.tv_core.proofs.Common.{◌≡◌, ℕ, ◌+◌, ◌^◌, ◌<◌, ◌≤◌, ◌≢◌, ◌⊎◌, ◌==◌, Bool, true, false, List, ◌∷◌, ◌++◌, length, take, drop, get_or, All, refl, sym}
 use Rattle.tv_core.proofs.Common.{ap, ◌∙◌, arith, inl, inr, cases_lt, eqb-true, eq-eqb, ne_eqb, Line}
-use Rattle.std.proofs.Common.{Contains}
-use Rattle.std.proofs.Common.{IsPermutation}
+use Rattle.std.proofs.Common.{Contains, IsPermutation}
 use Rattle.std.specs.List.{IsDistinct}
 use Rattle.std.proofs.lemmas.List.{get_or_default, take-append-drop, drop_more, get_or-take, length-take-le}
 use Rattle.std.proofs.lemmas.List.Elements.{Contains-get_or}

@@ -16,8 +16,7 @@ use Rattle.tv_core.specs.declared.lines.PairNum.{PairNum}
 use Rattle.tv_lines.specs.Ordered.{Follows}
 use Rattle.tv_lines.specs.PackedLines.{LineInRange}
 use Rattle.tv_lines.proofs.PredecessorValues.{value-excess, value-cells, value-times}
-use Rattle.tv_lines.specs.Predecessor.{excess, cell_difference, time_difference, either_of, follows_of, reach_between, excess_between}
-use Rattle.tv_lines.specs.Predecessor.{FollowsIsComplete}
+use Rattle.tv_lines.specs.Predecessor.{excess, cell_difference, time_difference, either_of, follows_of, reach_between, excess_between, FollowsIsComplete}
 
 -- ---- the values in their two cases
 -- what the three constraints ask of two numbers

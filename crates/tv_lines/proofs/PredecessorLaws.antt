@@ -24,11 +24,7 @@ met_follows : (p l : Line) (r e : ℕ) → LineInRange p → LineInRange l → r
     → Follows p l
 met_follows p l r e in_p in_l small is (inl none) =
     let known = other_cells r p.cell l.cell l.old small in_p.cell in_l.cell in_l.old (sym is ∙ none) in
-    record {
-      rises = inl (omega (arith, known.1));
-      carried = λ same. absurd (omega (arith, known.1));
-      fresh = λ apart. known.0;
-    }
+    record { rises = inl (omega (arith, known.1)); carried = λ same. absurd (omega (arith, known.1)); fresh = λ apart. known.0 }
 met_follows p l r e in_p in_l small is (inr (cells, times)) =
     let same : p.cell ≡ l.cell = same_cells p.cell l.cell in_p.cell in_l.cell cells in
     let whole : ((2 ^ 32 * (r + 1 + l.cell) + (P - (2 ^ 32 * l.cell + l.old))) % P + (2 ^ 32 * p.time + p.new) + (P - 2 ^ 32 * l.time)) % P ≡ 0 =
@@ -37,11 +33,7 @@ met_follows p l r e in_p in_l small is (inr (cells, times)) =
     let added : (e + (2 ^ 32 * p.time + p.new) + (P - 2 ^ 32 * l.time)) % P ≡ 0 = omega (arith, times) in
     ap (λ x. (x + (2 ^ 32 * p.time + p.new) + (P - 2 ^ 32 * l.time)) % P) (sym is') ∙ added in
     let known = same_times r l.cell l.old l.time p.time p.new small in_l.cell in_l.old in_l.time in_p.time in_p.new whole in
-    record {
-      rises = inr (same, omega (arith, known.1));
-      carried = λ _. known.0;
-      fresh = λ apart. absurd (apart same);
-    }
+    record { rises = inr (same, omega (arith, known.1)); carried = λ _. known.0; fresh = λ apart. absurd (apart same) }
 
 pub either_sound : (z : List ℕ) (next e : ℕ) (line : LineLc) (item : Pair) → Assigns z → Meets z (either_of e line item next).list
     → (slice_index z e ≡ 0) ⊎ ((value (cell_difference line item) z ≡ 0) × (value (time_difference e line item) z ≡ 0))

@@ -18,17 +18,9 @@ unfolding unpack_of
 returns-clause-puts g c = rw c.line_bits.ensures (all_then _ c.in_ok-first.ensures.puts (all_then _ c.in_ok-second.ensures.puts all_pure))
 
 pub bits_by-requires : goal.bits_by-requires
-bits_by-requires g c = record {
-  room = room_here c.requires.room (omega arith);
-  x_made = c.requires.first_made;
-  short = omega arith;
-}
+bits_by-requires g c = record { room = room_here c.requires.room (omega arith); x_made = c.requires.first_made; short = omega arith }
 
 pub bits_by-requires-2 : goal.bits_by-requires-2
 bits_by-requires-2 g c =
     let first = c.in_ok-first.ensures.grows in
-    record {
-      room = room_left c.requires.room first (omega arith);
-      x_made = omega (arith, c.requires.second_made, first.wires);
-      short = omega arith;
-    }
+    record { room = room_left c.requires.room first (omega arith); x_made = omega (arith, c.requires.second_made, first.wires); short = omega arith }
