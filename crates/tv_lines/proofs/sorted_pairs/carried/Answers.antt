@@ -17,10 +17,7 @@ returns-clause-puts g c =
     puts_in_then g.S.Sink.meaning _ _ _ _ _ _ _ flag word
 
 pub zero_by-requires : goal.zero_by-requires
-zero_by-requires g c = record {
-  room = room_here c.requires.room (omega arith);
-  x_made = omega (arith, c.set_wire.ensures.top, c.requires.apart_made);
-}
+zero_by-requires g c = record { room = room_here c.requires.room (omega arith); x_made = omega (arith, c.set_wire.ensures.top, c.requires.apart_made) }
 
 pub put-requires : goal.put-requires
 put-requires g c =
