@@ -38,32 +38,17 @@ row_of-requires g c = record { room = fewer c.requires.room refl refl; short = o
 pub row_of-requires-2 : goal.row_of-requires-2
 row_of-requires-2 g c =
     let g1 = c.in_ok-op.ensures.grows in
-    record {
-      room = left g1 c.requires.room refl refl;
-      short = omega arith;
-      enough = omega (arith, c.requires.width);
-      word = bits_within g1 c.requires.h_word;
-    }
+    record { room = left g1 c.requires.room refl refl; short = omega arith; enough = omega (arith, c.requires.width); word = bits_within g1 c.requires.h_word }
 
 pub row_of-requires-3 : goal.row_of-requires-3
 row_of-requires-3 g c =
     let g2 = both c.in_ok-op.ensures.grows c.in_ok-dest.ensures.grows in
-    record {
-      room = left g2 c.requires.room refl refl;
-      short = omega arith;
-      enough = omega (arith, c.requires.width);
-      word = bits_within g2 c.requires.h_word;
-    }
+    record { room = left g2 c.requires.room refl refl; short = omega arith; enough = omega (arith, c.requires.width); word = bits_within g2 c.requires.h_word }
 
 pub row_of-requires-4 : goal.row_of-requires-4
 row_of-requires-4 g c =
     let g3 = both (both c.in_ok-op.ensures.grows c.in_ok-dest.ensures.grows) c.in_ok-source.ensures.grows in
-    record {
-      room = left g3 c.requires.room refl refl;
-      short = omega arith;
-      enough = omega (arith, c.requires.width);
-      word = bits_within g3 c.requires.a_word;
-    }
+    record { room = left g3 c.requires.room refl refl; short = omega arith; enough = omega (arith, c.requires.width); word = bits_within g3 c.requires.a_word }
 
 pub returns-clause-grows : goal.returns-clause-grows
 returns-clause-grows g c =

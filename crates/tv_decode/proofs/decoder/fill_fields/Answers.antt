@@ -2,6 +2,11 @@ use Rattle.tv_core.proofs.Common.{first_given, in_given, gives_refused}
 use Rattle.tv_core.proofs.ValuesChain.{some_given}
 use Rattle.tv_decode.proofs.decoder.fill_fields.Goals as goal
 
+pub returns-in_err-fill_onehot-clause-gives : goal.returns-in_err-fill_onehot-clause-gives
+returns-in_err-fill_onehot-clause-gives g c =
+    let op = rw (c.from.ensures, c.decode-instr.ensures.fields) at c.in_err-fill_onehot.ensures.gives in
+    gives_refused _ _ _ _ _ c.from_residual.ensures.1 (first_given _ op)
+
 pub returns-in_err-fill_onehot-2-clause-gives : goal.returns-in_err-fill_onehot-2-clause-gives
 returns-in_err-fill_onehot-2-clause-gives g c =
     let op = rw (c.from.ensures, c.decode-instr.ensures.fields) at c.in_ok-fill_onehot.ensures.gives in
