@@ -85,11 +85,12 @@ fn bit_at(x: F, i: u32) -> F
 }
 
 /// The laws of `new_bits_by`:
-/// - `sound`: where an assignment satisfies the constraints of `new_bits_by`, the wires hold 0 or 1.
+/// - `sound`: where an assignment satisfies the constraints of `new_bits_by`, the wires hold 0 or
+///   1.
 /// - `complete`: where an assignment has the values that `fill_bits` assigns for any number, it
 ///   satisfies the constraints of `new_bits_by`.
-/// - `sizes`: which wires `new_bits_by` returns, and that `fill_bits` assigns one number to each wire
-///   that it makes.
+/// - `sizes`: which wires `new_bits_by` returns, and that `fill_bits` assigns one number to each
+///   wire that it makes.
 #[tactic(auto, using(crate::proofs::SizeLaws::new_bits_laws))]
 pub fn new_bits_laws()
     ensures sound { NewBitsAreSound }

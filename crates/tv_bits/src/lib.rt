@@ -30,9 +30,7 @@ mod zeros;
 
 pub use bit_wires::Bits;
 pub use booleans::{bit, bit_by, bit_laws, fill_bit};
-pub use decomposition::{
-    bits, bits_by, bits_laws, fill_bits, new_bits_by, new_bits_laws,
-};
+pub use decomposition::{bits, bits_by, bits_laws, fill_bits, new_bits_by, new_bits_laws};
 pub use double_rows::{DoubleRow, double_row, double_row_laws, fill_double_row};
 pub use gates::{gated, gated_laws};
 pub use nonzeros::{fill_nonzero, nonzero_by, nonzero_laws};

@@ -8,7 +8,8 @@ ghost use Rattle.tv_inputs.specs.Accumulation.{AccumulatedIsComplete, Accumulate
 use tv_core::{F, Put, Scratch, Sink, Wire};
 
 /// Returns a wire that is the product of the factors in `scratch`, which stay there, plus a sum, of
-/// which `scratch.c` has the terms with their coefficients negated. It makes 1 wire and 1 constraint.
+/// which `scratch.c` has the terms with their coefficients negated. It makes 1 wire and 1
+/// constraint.
 pub fn accumulated<S: Sink>(s: &mut S, scratch: &mut Scratch) -> Put<Wire>
     requires room { Room S.meaning s.old 1 1 }
     requires made { max (top scratch.old.a) (max (top scratch.old.b) (top scratch.old.c))
