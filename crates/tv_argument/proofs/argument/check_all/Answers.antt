@@ -1,4 +1,4 @@
-use Rattle.tv_core.proofs.Common.{◌≡◌, ◌<◌, ap, arith, puts_no_turn, refused}
+use Rattle.tv_core.proofs.Common.{◌≡◌, ◌<◌, ap, arith, puts_no_turn, refused_whole}
 use Rattle.tv_core.proofs.BelowLaws.{sum_below-zero}
 use Rattle.tv_core.proofs.Chain.{puts_turn, turn_refused}
 use Rattle.tv_argument.proofs.Parts.{sum_next, sum_most}
@@ -51,9 +51,9 @@ loop-i-preserved g c =
       };
     }
 
-pub returns-in_err-check-clause-puts : goal.returns-in_err-check-clause-puts
-returns-in_err-check-clause-puts g c =
+pub returns-in_err-check : goal.returns-in_err-check
+returns-in_err-check g c =
     let checks = g.L.CompactLines.checks c.args.lines.now in
     let below : c.loop-i.i < checks.count = omega (arith, c.loop-i-test.true, c.checked-i-end.ensures) in
     let one = rw (c.kind.ensures, c.set_item.ensures, c.line.ensures.is) at c.in_err-check.ensures.puts in
-    refused _ _ _ _ _ c.from_residual.ensures.1 (turn_refused _ _ _ _ _ _ _ _ _ _ below c.loop-i.invariant.puts one)
+    refused_whole _ _ _ _ _ _ c.from_residual.ensures (turn_refused _ _ _ _ _ _ _ _ _ _ below c.loop-i.invariant.puts one)

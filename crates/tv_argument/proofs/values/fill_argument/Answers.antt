@@ -1,11 +1,11 @@
-use Rattle.tv_core.proofs.Common.{◌-◌, ◌^◌, first_given, in_given, gives_refused}
+use Rattle.tv_core.proofs.Common.{◌-◌, ◌^◌, first_given, in_given, gives_refused_whole}
 use Rattle.tv_benes.specs.Items.{bit_at, pair_at}
 use Rattle.tv_benes.specs.Through.{through}
 use Rattle.tv_argument.proofs.FillingLaws.{checks_moved, given_in}
 use Rattle.tv_argument.proofs.values.fill_argument.Goals as goal
 
-pub returns-in_err-route_items-clause-gives : goal.returns-in_err-route_items-clause-gives
-returns-in_err-route_items-clause-gives g c = gives_refused _ _ _ _ _ c.from_residual.ensures.1 (first_given _ c.in_err-route_items.ensures.gives)
+pub returns-in_err-route_items : goal.returns-in_err-route_items
+returns-in_err-route_items g c = gives_refused_whole _ _ _ _ _ _ c.from_residual.ensures (first_given _ c.in_err-route_items.ensures.gives)
 
 pub returns-clause-gives : goal.returns-clause-gives
 returns-clause-gives g c =

@@ -1,4 +1,4 @@
-use Rattle.tv_core.proofs.Common.{◌≡◌, ◌+◌, ◌*◌, arith, puts_no_turn, refused}
+use Rattle.tv_core.proofs.Common.{◌≡◌, ◌+◌, ◌*◌, arith, puts_no_turn, refused_whole}
 use Rattle.tv_core.proofs.Chain.{puts_turn, turn_refused}
 use Rattle.tv_core.proofs.Rooms.{room_left}
 use Rattle.tv_benes.specs.Network.{column_of}
@@ -19,11 +19,11 @@ loop-j-preserved g c =
       grows = record { wires = omega (arith, grown.wires); constraints = omega (arith, grown.constraints); whole = grown.whole };
     }
 
-pub returns-in_err-open_switch-clause-puts : goal.returns-in_err-open_switch-clause-puts
+pub returns-in_err-open_switch : goal.returns-in_err-open_switch
 unfolding column_of
-returns-in_err-open_switch-clause-puts g c =
+returns-in_err-open_switch g c =
     let switch = rw (c.at-x.ensures, c.at-y.ensures) at c.in_err-open_switch.ensures.puts in
-    refused _ _ _ _ _ c.from_residual.ensures.1 (turn_refused _ _ _ _ _ _ _ _ _ _ c.loop-j-test.true c.loop-j.invariant.puts switch)
+    refused_whole _ _ _ _ _ _ c.from_residual.ensures (turn_refused _ _ _ _ _ _ _ _ _ _ c.loop-j-test.true c.loop-j.invariant.puts switch)
 
 pub returns-clause-puts : goal.returns-clause-puts
 unfolding column_of

@@ -1,15 +1,15 @@
-use Rattle.tv_core.proofs.Common.{arith, refused, all_then, all_pure, some_then, some_first}
+use Rattle.tv_core.proofs.Common.{arith, all_then, all_pure, some_then, some_first, refused_whole}
 use Rattle.tv_core.proofs.Unique.{normal-front}
 use Rattle.tv_benes.specs.Network.{remainder_of}
 use Rattle.tv_benes.proofs.columns.remainder.Goals as goal
 
-pub returns-in_err-put-clause-puts : goal.returns-in_err-put-clause-puts
+pub returns-in_err-put : goal.returns-in_err-put
 unfolding remainder_of
-returns-in_err-put-clause-puts g c =
+returns-in_err-put g c =
     let first = rw (c.terms.ensures.terms, c.clear.ensures) at c.add_terms.ensures.terms in
     let sum = rw (c.terms-2.ensures.terms, first, normal-front c.args.x.now c.args.y.now) at c.add_terms-2.ensures.terms in
     let put = rw (sum, c.set_wire.ensures.terms, c.plus.ensures.terms, c.set_wire-2.ensures.terms) at c.in_err-put.ensures.puts in
-    refused _ _ _ _ _ c.from_residual.ensures.1 (some_then _ c.fresh-q.ensures.puts (some_first _ put))
+    refused_whole _ _ _ _ _ _ c.from_residual.ensures (some_then _ c.fresh-q.ensures.puts (some_first _ put))
 
 pub returns-clause-puts : goal.returns-clause-puts
 unfolding remainder_of

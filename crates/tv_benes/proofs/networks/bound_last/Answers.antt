@@ -1,4 +1,4 @@
-use Rattle.tv_core.proofs.Common.{◌-◌, ◌^◌, arith, ap₂, refused, all_then, all_pure, some_then, some_first}
+use Rattle.tv_core.proofs.Common.{◌-◌, ◌^◌, arith, ap₂, all_then, all_pure, some_then, some_first, refused_whole}
 use Rattle.tv_benes.proofs.Sizes.{last_made}
 use Rattle.tv_benes.proofs.ThroughLaws.{missing_small, above}
 use Rattle.tv_benes.specs.Network.{last_column_of}
@@ -15,10 +15,10 @@ bound_column-requires-clause-made g c =
     rw (ap₂ (λ a b. a - b) c.power.ensures c.missing.ensures) (last_made c.args.net c.args.upper.now c.args.lower.now (2 ^ c.args.h) _
     (omega (arith, below.size, below.some)) c.requires.upper c.requires.lower)
 
-pub returns-in_err-bound_column-clause-puts : goal.returns-in_err-bound_column-clause-puts
+pub returns-in_err-bound_column : goal.returns-in_err-bound_column
 unfolding last_column_of
-returns-in_err-bound_column-clause-puts g c =
-    refused _ _ _ _ _ c.from_residual.ensures.1 (some_then _ (puts_here _ _) (some_first _
+returns-in_err-bound_column g c =
+    refused_whole _ _ _ _ _ _ c.from_residual.ensures (some_then _ (puts_here _ _) (some_first _
     (rw (ap₂ (λ a b. a - b) c.power.ensures c.missing.ensures) at c.in_err-bound_column.ensures.puts)))
 
 pub last_outputs-requires : goal.last_outputs-requires

@@ -1,4 +1,4 @@
-use Rattle.tv_core.proofs.Common.{◌≡◌, ℕ, ◌+◌, ◌-◌, ◌*◌, ap₂, refused, all_then, all_pure, some_then, some_first}
+use Rattle.tv_core.proofs.Common.{◌≡◌, ℕ, ◌+◌, ◌-◌, ◌*◌, ap₂, all_then, all_pure, some_then, some_first, refused_whole}
 use Rattle.tv_benes.proofs.ThroughLaws.{alternating_map}
 use Rattle.tv_benes.specs.Network.{last_column_of}
 use Rattle.tv_benes.specs.Places.{wires_at, output_wire, last_wire, last_pair}
@@ -14,12 +14,12 @@ use Rattle.tv_benes.proofs.networks.open_last.Goals as goal
 items_are : (net : Net) (upper lower : Outputs) → ◌≡◌ {A = ℕ → Pair} (λ i. wires_at (last_wire net upper lower i)) (last_pair net Open upper lower)
 items_are net upper lower = λ t i. alternating_map wires_at (output_wire upper) (output_wire lower) (i + 2 * missing net) t
 
-pub returns-in_err-open_column-clause-puts : goal.returns-in_err-open_column-clause-puts
+pub returns-in_err-open_column : goal.returns-in_err-open_column
 unfolding last_column_of
-returns-in_err-open_column-clause-puts g c =
+returns-in_err-open_column g c =
     let count = ap₂ (λ a b. a - b) c.power.ensures c.missing.ensures in
     let column = rw (count, items_are c.args.net c.args.upper.now c.args.lower.now) at c.in_err-open_column.ensures.puts in
-    refused _ _ _ _ _ c.from_residual.ensures.1 (some_then _ (puts_here _ _) (some_first _ column))
+    refused_whole _ _ _ _ _ _ c.from_residual.ensures (some_then _ (puts_here _ _) (some_first _ column))
 
 pub returns-clause-puts : goal.returns-clause-puts
 unfolding last_column_of

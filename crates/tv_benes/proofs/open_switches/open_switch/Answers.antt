@@ -1,4 +1,4 @@
-use Rattle.tv_core.proofs.Common.{◌<◌, refl, sym, ap₂, subst, refused, all_then, all_pure, some_then, some_first}
+use Rattle.tv_core.proofs.Common.{◌<◌, refl, sym, ap₂, subst, all_then, all_pure, some_then, some_first, refused_whole}
 use Rattle.tv_bits.proofs.Growing.{both, kept, left, made_by}
 use Rattle.tv_benes.proofs.Bounds.{less_one}
 use Rattle.tv_benes.proofs.NetworkChain.{all_at, some_at}
@@ -6,21 +6,21 @@ use Rattle.tv_core.specs.Combinations.{wire}
 use Rattle.tv_benes.specs.Network.{product_of, switch_of}
 use Rattle.tv_benes.proofs.open_switches.open_switch.Goals as goal
 
-pub returns-in_err-bit_by-clause-puts : goal.returns-in_err-bit_by-clause-puts
+pub returns-in_err-bit_by : goal.returns-in_err-bit_by
 unfolding switch_of
-returns-in_err-bit_by-clause-puts g c =
-    refused _ _ _ _ _ c.from_residual.ensures.1 (some_then _ c.fresh-b.ensures.puts (some_first _ c.in_err-bit_by.ensures.puts))
+returns-in_err-bit_by g c =
+    refused_whole _ _ _ _ _ _ c.from_residual.ensures (some_then _ c.fresh-b.ensures.puts (some_first _ c.in_err-bit_by.ensures.puts))
 
-pub returns-in_err-product-clause-puts : goal.returns-in_err-product-clause-puts
+pub returns-in_err-product : goal.returns-in_err-product
 unfolding switch_of
-returns-in_err-product-clause-puts g c =
-    refused _ _ _ _ _ c.from_residual-in_err-product.ensures.1 (some_then _ c.fresh-b.ensures.puts (some_then _ c.in_ok-bit_by.ensures.puts
+returns-in_err-product g c =
+    refused_whole _ _ _ _ _ _ c.from_residual-in_err-product.ensures (some_then _ c.fresh-b.ensures.puts (some_then _ c.in_ok-bit_by.ensures.puts
     (some_first _ c.in_err-product.ensures.puts)))
 
-pub returns-in_err-product-2-clause-puts : goal.returns-in_err-product-2-clause-puts
+pub returns-in_err-product-2 : goal.returns-in_err-product-2
 unfolding switch_of
-returns-in_err-product-2-clause-puts g c =
-    refused _ _ _ _ _ c.from_residual-in_err-product-2.ensures.1 (some_then _ c.fresh-b.ensures.puts (some_then _ c.in_ok-bit_by.ensures.puts
+returns-in_err-product-2 g c =
+    refused_whole _ _ _ _ _ _ c.from_residual-in_err-product-2.ensures (some_then _ c.fresh-b.ensures.puts (some_then _ c.in_ok-bit_by.ensures.puts
     (some_then _ c.in_ok-product.ensures.puts (some_first _ (some_at
     (ap₂ (λ x y. product_of c.fresh-b.result (wire x) (wire y)) c.offset.ensures c.offset-2.ensures) c.in_err-product-2.ensures.puts)))))
 

@@ -1,13 +1,13 @@
-use Rattle.tv_core.proofs.Common.{arith, refused, all_then, all_pure, some_then, some_first}
+use Rattle.tv_core.proofs.Common.{arith, all_then, all_pure, some_then, some_first, refused_whole}
 use Rattle.tv_bits.specs.Select.{pick_of}
 use Rattle.tv_benes.proofs.open_switches.product.Goals as goal
 
-pub returns-in_err-put-clause-puts : goal.returns-in_err-put-clause-puts
+pub returns-in_err-put : goal.returns-in_err-put
 unfolding pick_of
-returns-in_err-put-clause-puts g c =
+returns-in_err-put g c =
     let less = rw (c.set_wire-2.ensures.terms, c.neg.ensures) at c.add.ensures.terms in
     let held = rw (c.set_wire.ensures.terms, less, c.set_wire-3.ensures.terms) at c.in_err-put.ensures.puts in
-    refused _ _ _ _ _ c.from_residual.ensures.1 (some_then _ c.fresh-m.ensures.puts (some_first _ held))
+    refused_whole _ _ _ _ _ _ c.from_residual.ensures (some_then _ c.fresh-m.ensures.puts (some_first _ held))
 
 pub returns-clause-puts : goal.returns-clause-puts
 unfolding pick_of

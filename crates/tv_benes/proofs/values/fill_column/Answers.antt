@@ -1,4 +1,4 @@
-use Rattle.tv_core.proofs.Common.{◌≡◌, arith, gives_refused}
+use Rattle.tv_core.proofs.Common.{◌≡◌, arith, gives_refused_whole}
 use Rattle.tv_benes.proofs.ColumnChain.{no_switch, one_switch, switch_refused, values_as, all_as, some_as}
 use Rattle.tv_benes.specs.Items.{bit_at, item_of}
 use Rattle.tv_benes.proofs.values.fill_column.Goals as goal
@@ -18,9 +18,9 @@ loop-j-preserved g c =
       whole = c.in_ok-fill_switch.ensures.whole;
     }
 
-pub returns-in_err-fill_switch-clause-gives : goal.returns-in_err-fill_switch-clause-gives
-returns-in_err-fill_switch-clause-gives g c =
-    gives_refused _ _ _ _ _ c.from_residual.ensures.1 (switch_refused _ _ _ _ _ _ _ _ _ _ c.loop-j-test.true c.loop-j.invariant.gives
+pub returns-in_err-fill_switch : goal.returns-in_err-fill_switch
+returns-in_err-fill_switch g c =
+    gives_refused_whole _ _ _ _ _ _ c.from_residual.ensures (switch_refused _ _ _ _ _ _ _ _ _ _ c.loop-j-test.true c.loop-j.invariant.gives
     (some_as (values_as c.args.form _ _ _ _ _ _ c.bit.ensures c.read-x.ensures c.read-y.ensures) c.in_err-fill_switch.ensures.gives))
 
 pub returns-clause-gives : goal.returns-clause-gives

@@ -1,4 +1,4 @@
-use Rattle.tv_core.proofs.Common.{common_steps, ◌≡◌, ◌^◌, ◌<◌, arith, puts_no_turn, refused, all_then, all_pure, some_then, some_first}
+use Rattle.tv_core.proofs.Common.{common_steps, ◌≡◌, ◌^◌, ◌<◌, arith, puts_no_turn, all_then, all_pure, some_then, some_first, refused_wires}
 use Rattle.tv_bits.proofs.Growing.{both, one_turn, turn_some, grows_as, room_after}
 use Rattle.tv_core.proofs.LoopLaws.{puts_here_as}
 use Rattle.tv_bits.specs.OneHot.{onehot_of}
@@ -14,21 +14,21 @@ loop-i-preserved g c =
       grows = both c.loop-i.invariant.grows c.in_ok-mark.ensures.grows;
     }
 
-pub returns-in_err-mark-clause-puts : goal.returns-in_err-mark-clause-puts
+pub returns-in_err-mark : goal.returns-in_err-mark
 unfolding onehot_of
-returns-in_err-mark-clause-puts g c =
+returns-in_err-mark g c =
     let within : c.loop-i.i < 2 ^ c.args.x.now.n = omega arith in
     let first = puts_here_as g.S.Sink.meaning c.args.s.now c.wires.result c.wires.ensures in
-    refused _ _ _ _ _ c.from_residual.ensures.1 (some_then _ first (some_first _ (turn_some _ _ c.loop-i.invariant.puts within c.in_err-mark.ensures.puts)))
+    refused_wires _ _ _ _ _ _ _ c.from_residual.ensures (some_then _ first (some_first _ (turn_some _ _ c.loop-i.invariant.puts within c.in_err-mark.ensures.puts)))
 
-pub returns-in_err-put-clause-puts : goal.returns-in_err-put-clause-puts
+pub returns-in_err-put : goal.returns-in_err-put
 unfolding onehot_of
-returns-in_err-put-clause-puts g c =
+returns-in_err-put g c =
     let all : c.loop-i.i ≡ 2 ^ c.args.x.now.n = omega arith in
     let first = puts_here_as g.S.Sink.meaning c.args.s.now c.wires.result c.wires.ensures in
     let turns = rw all at c.loop-i.invariant.puts in
     let sum = rw (c.plus_row.ensures.terms, c.clear.ensures, c.row_len-count.ensures, c.set_wire.ensures.terms) at c.in_err-put.ensures.puts in
-    refused _ _ _ _ _ c.from_residual-in_err-put.ensures.1 (some_then _ first (some_then _ turns (some_first _ sum)))
+    refused_wires _ _ _ _ _ _ _ c.from_residual-in_err-put.ensures (some_then _ first (some_then _ turns (some_first _ sum)))
 
 pub returns-clause-puts : goal.returns-clause-puts
 unfolding onehot_of

@@ -1,13 +1,13 @@
-use Rattle.tv_core.proofs.Common.{arith, refused, some_then, some_first, puts_in_then}
+use Rattle.tv_core.proofs.Common.{arith, some_then, some_first, puts_in_then, refused_whole}
 use Rattle.tv_bits.specs.ZeroSign.{zero_sign_of}
 use Rattle.tv_bits.proofs.zero_signs.zero_sign.Goals as goal
 
-pub returns-in_err-put-clause-puts : goal.returns-in_err-put-clause-puts
+pub returns-in_err-put : goal.returns-in_err-put
 unfolding zero_sign_of
-returns-in_err-put-clause-puts g c =
+returns-in_err-put g c =
     let terms = rw (c.plus_terms.ensures.terms, c.clear.ensures, c.neg.ensures) at c.plus.ensures.terms in
     let first = rw (c.set_wire.ensures.terms, c.set_wire-2.ensures.terms, terms) at c.in_err-put.ensures.puts in
-    refused _ _ _ _ _ c.from_residual.ensures.1 (some_then _ c.fresh-hint.ensures.puts (some_first _ first))
+    refused_whole _ _ _ _ _ _ c.from_residual.ensures (some_then _ c.fresh-hint.ensures.puts (some_first _ first))
 
 pub returns-clause-puts : goal.returns-clause-puts
 unfolding zero_sign_of

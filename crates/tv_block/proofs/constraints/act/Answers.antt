@@ -1,28 +1,28 @@
-use Rattle.tv_core.proofs.Common.{some_then, some_first, refused, puts_in_then}
+use Rattle.tv_core.proofs.Common.{some_then, some_first, puts_in_then, refused_wires}
 use Rattle.tv_block.proofs.Growing.{rises, both, now, after, effects_room, effects_grow, if_ok, one_up, state_under, computed_under, before_under}
 use Rattle.tv_block.proofs.Growing.{tapes_under, store_under}
 use Rattle.tv_block.specs.Block.{effects_of}
 use Rattle.tv_block.proofs.constraints.act.Goals as goal
 
-pub returns-in_err-tapes-clause-puts : goal.returns-in_err-tapes-clause-puts
+pub returns-in_err-tapes : goal.returns-in_err-tapes
 unfolding effects_of
-returns-in_err-tapes-clause-puts g c = refused _ _ _ _ _ c.from_residual.ensures.1 (some_first _ c.in_err-tapes.ensures.puts)
+returns-in_err-tapes g c = refused_wires _ _ _ _ _ _ _ c.from_residual.ensures (some_first _ c.in_err-tapes.ensures.puts)
 
-pub returns-in_err-memory-clause-puts : goal.returns-in_err-memory-clause-puts
+pub returns-in_err-memory : goal.returns-in_err-memory
 unfolding effects_of
-returns-in_err-memory-clause-puts g c =
-    refused _ _ _ _ _ c.from_residual-in_err-memory.ensures.1 (some_then _ c.in_ok-tapes.ensures.puts (some_first _ c.in_err-memory.ensures.puts))
+returns-in_err-memory g c =
+    refused_wires _ _ _ _ _ _ _ c.from_residual-in_err-memory.ensures (some_then _ c.in_ok-tapes.ensures.puts (some_first _ c.in_err-memory.ensures.puts))
 
-pub returns-in_err-results-clause-puts : goal.returns-in_err-results-clause-puts
+pub returns-in_err-results : goal.returns-in_err-results
 unfolding effects_of
-returns-in_err-results-clause-puts g c =
-    refused _ _ _ _ _ c.from_residual-in_err-results.ensures.1 (some_then _ c.in_ok-tapes.ensures.puts (some_then _ c.in_ok-memory.ensures.puts
+returns-in_err-results g c =
+    refused_wires _ _ _ _ _ _ _ c.from_residual-in_err-results.ensures (some_then _ c.in_ok-tapes.ensures.puts (some_then _ c.in_ok-memory.ensures.puts
     (some_first _ c.in_err-results.ensures.puts)))
 
-pub returns-in_err-put_test-clause-puts : goal.returns-in_err-put_test-clause-puts
+pub returns-in_err-put_test : goal.returns-in_err-put_test
 unfolding effects_of
-returns-in_err-put_test-clause-puts g c =
-    refused _ _ _ _ _ c.from_residual-in_err-put_test.ensures.1 (some_then _ c.in_ok-tapes.ensures.puts (some_then _ c.in_ok-memory.ensures.puts
+returns-in_err-put_test g c =
+    refused_wires _ _ _ _ _ _ _ c.from_residual-in_err-put_test.ensures (some_then _ c.in_ok-tapes.ensures.puts (some_then _ c.in_ok-memory.ensures.puts
     (some_then _ c.in_ok-results.ensures.puts (some_first _ c.in_err-put_test.ensures.puts))))
 
 pub returns-clause-puts : goal.returns-clause-puts

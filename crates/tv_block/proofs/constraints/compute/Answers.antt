@@ -1,30 +1,30 @@
-use Rattle.tv_core.proofs.Common.{all_then, some_then, some_first, all_pure, refused}
+use Rattle.tv_core.proofs.Common.{all_then, some_then, some_first, all_pure, refused_wires}
 use Rattle.tv_block.proofs.Growing.{rises, both, now, after, computed_room, computed_grows, next_fits, made_by, within, up, one_up, state_under, triple_under}
 use Rattle.tv_block.proofs.Growing.{operand_under, instruction_under, tail_under, imm_under}
 use Rattle.tv_block.specs.Block.{computed_of}
 use Rattle.tv_block.proofs.constraints.compute.Goals as goal
 
-pub returns-in_err-instruction-clause-puts : goal.returns-in_err-instruction-clause-puts
+pub returns-in_err-instruction : goal.returns-in_err-instruction
 unfolding computed_of
-returns-in_err-instruction-clause-puts g c = refused _ _ _ _ _ c.from_residual.ensures.1 (some_first _ c.in_err-instruction.ensures.puts)
+returns-in_err-instruction g c = refused_wires _ _ _ _ _ _ _ c.from_residual.ensures (some_first _ c.in_err-instruction.ensures.puts)
 
-pub returns-in_err-regs-clause-puts : goal.returns-in_err-regs-clause-puts
+pub returns-in_err-regs : goal.returns-in_err-regs
 unfolding computed_of
-returns-in_err-regs-clause-puts g c =
-    refused _ _ _ _ _ c.from_residual-in_err-regs.ensures.1 (some_then _ c.in_ok-instruction.ensures.puts (some_first _ c.in_err-regs.ensures.puts))
+returns-in_err-regs g c =
+    refused_wires _ _ _ _ _ _ _ c.from_residual-in_err-regs.ensures (some_then _ c.in_ok-instruction.ensures.puts (some_first _ c.in_err-regs.ensures.puts))
 
-pub returns-in_err-operand-clause-puts : goal.returns-in_err-operand-clause-puts
+pub returns-in_err-operand : goal.returns-in_err-operand
 unfolding computed_of
-returns-in_err-operand-clause-puts g c =
+returns-in_err-operand g c =
     let p2 = rw c.imm-imm.ensures at c.in_err-operand.ensures.puts in
-    refused _ _ _ _ _ c.from_residual-in_err-operand.ensures.1 (some_then _ c.in_ok-instruction.ensures.puts (some_then _ c.in_ok-regs.ensures.puts
+    refused_wires _ _ _ _ _ _ _ c.from_residual-in_err-operand.ensures (some_then _ c.in_ok-instruction.ensures.puts (some_then _ c.in_ok-regs.ensures.puts
     (some_first _ p2)))
 
-pub returns-in_err-made-clause-puts : goal.returns-in_err-made-clause-puts
+pub returns-in_err-made : goal.returns-in_err-made
 unfolding computed_of
-returns-in_err-made-clause-puts g c =
+returns-in_err-made g c =
     let p2 = rw c.imm-imm.ensures at c.in_ok-operand.ensures.puts in
-    refused _ _ _ _ _ c.from_residual-in_err-made.ensures.1 (some_then _ c.in_ok-instruction.ensures.puts (some_then _ c.in_ok-regs.ensures.puts
+    refused_wires _ _ _ _ _ _ _ c.from_residual-in_err-made.ensures (some_then _ c.in_ok-instruction.ensures.puts (some_then _ c.in_ok-regs.ensures.puts
     (some_then _ p2 (some_then _ c.fresh-test.ensures.puts (some_first _ c.in_err-made.ensures.puts)))))
 
 pub returns-clause-puts : goal.returns-clause-puts

@@ -1,17 +1,17 @@
-use Rattle.tv_core.proofs.Common.{all_then, some_then, some_first, all_pure, refused}
+use Rattle.tv_core.proofs.Common.{all_then, some_then, some_first, all_pure, refused_wires}
 use Rattle.tv_block.proofs.Growing.{rises, both, now, after, up, one_up, state_under, computed_under, tapes_under, store_under}
 use Rattle.tv_block.proofs.constraints.leave.Goals as goal
 
-pub returns-in_err-regs-clause-puts : goal.returns-in_err-regs-clause-puts
-returns-in_err-regs-clause-puts g c = refused _ _ _ _ _ c.from_residual.ensures.1 (some_first _ c.in_err-regs.ensures.puts)
+pub returns-in_err-regs : goal.returns-in_err-regs
+returns-in_err-regs g c = refused_wires _ _ _ _ _ _ _ c.from_residual.ensures (some_first _ c.in_err-regs.ensures.puts)
 
-pub returns-in_err-flag-clause-puts : goal.returns-in_err-flag-clause-puts
-returns-in_err-flag-clause-puts g c =
-    refused _ _ _ _ _ c.from_residual-in_err-flag.ensures.1 (some_then _ c.in_ok-regs.ensures.puts (some_first _ c.in_err-flag.ensures.puts))
+pub returns-in_err-flag : goal.returns-in_err-flag
+returns-in_err-flag g c =
+    refused_wires _ _ _ _ _ _ _ c.from_residual-in_err-flag.ensures (some_then _ c.in_ok-regs.ensures.puts (some_first _ c.in_err-flag.ensures.puts))
 
-pub returns-in_err-pc-clause-puts : goal.returns-in_err-pc-clause-puts
-returns-in_err-pc-clause-puts g c =
-    refused _ _ _ _ _ c.from_residual-in_err-pc.ensures.1 (some_then _ c.in_ok-regs.ensures.puts (some_then _ c.in_ok-flag.ensures.puts
+pub returns-in_err-pc : goal.returns-in_err-pc
+returns-in_err-pc g c =
+    refused_wires _ _ _ _ _ _ _ c.from_residual-in_err-pc.ensures (some_then _ c.in_ok-regs.ensures.puts (some_then _ c.in_ok-flag.ensures.puts
     (some_first _ c.in_err-pc.ensures.puts)))
 
 pub returns-clause-puts : goal.returns-clause-puts

@@ -1,40 +1,40 @@
-use Rattle.tv_core.proofs.Common.{refused, all_then, all_pure, some_then, some_first}
+use Rattle.tv_core.proofs.Common.{all_then, all_pure, some_then, some_first, refused_wires}
 use Rattle.tv_cmp.specs.Compare.{compare_of}
 use Rattle.tv_bits.proofs.BitNumbers.{bits_sized}
 use Rattle.tv_cmp.proofs.comparison.compare.Goals as goal
 
-pub returns-in_err-order_flags-clause-puts : goal.returns-in_err-order_flags-clause-puts
+pub returns-in_err-order_flags : goal.returns-in_err-order_flags
 unfolding compare_of
-returns-in_err-order_flags-clause-puts g c =
-    refused _ _ _ _ _ c.from_residual.ensures.1 (some_then _ c.fresh-equal.ensures.puts (some_then _ c.fresh-above.ensures.puts
+returns-in_err-order_flags g c =
+    refused_wires _ _ _ _ _ _ _ c.from_residual.ensures (some_then _ c.fresh-equal.ensures.puts (some_then _ c.fresh-above.ensures.puts
     (some_first _ c.in_err-order_flags.ensures.puts)))
 
-pub returns-in_err-difference-clause-puts : goal.returns-in_err-difference-clause-puts
+pub returns-in_err-difference : goal.returns-in_err-difference
 unfolding compare_of
-returns-in_err-difference-clause-puts g c =
-    refused _ _ _ _ _ c.from_residual-in_err-difference.ensures.1 (some_then _ c.fresh-equal.ensures.puts (some_then _ c.fresh-above.ensures.puts
+returns-in_err-difference g c =
+    refused_wires _ _ _ _ _ _ _ c.from_residual-in_err-difference.ensures (some_then _ c.fresh-equal.ensures.puts (some_then _ c.fresh-above.ensures.puts
     (some_then _ c.in_ok-order_flags.ensures.puts (some_first _ c.in_err-difference.ensures.puts))))
 
-pub returns-in_err-prefix_difference_by-clause-puts : goal.returns-in_err-prefix_difference_by-clause-puts
+pub returns-in_err-prefix_difference_by : goal.returns-in_err-prefix_difference_by
 unfolding compare_of
-returns-in_err-prefix_difference_by-clause-puts g c =
+returns-in_err-prefix_difference_by g c =
     let prefix = rw (
       c.wire-size.ensures,
       bits_sized g.row.W c.args.x.now c.requires.x_word.size,
       bits_sized g.row.W c.args.y.now c.requires.y_word.size,
     ) at c.in_err-prefix_difference_by.ensures.puts in
-    refused _ _ _ _ _ c.from_residual-in_err-prefix_difference_by.ensures.1 (some_then _ c.fresh-equal.ensures.puts (some_then _ c.fresh-above.ensures.puts
+    refused_wires _ _ _ _ _ _ _ c.from_residual-in_err-prefix_difference_by.ensures (some_then _ c.fresh-equal.ensures.puts (some_then _ c.fresh-above.ensures.puts
     (some_then _ c.in_ok-order_flags.ensures.puts (some_then _ c.in_ok-difference.ensures.puts (some_first _ prefix)))))
 
-pub returns-in_err-greater-clause-puts : goal.returns-in_err-greater-clause-puts
+pub returns-in_err-greater : goal.returns-in_err-greater
 unfolding compare_of
-returns-in_err-greater-clause-puts g c =
+returns-in_err-greater g c =
     let prefix = rw (
       c.wire-size.ensures,
       bits_sized g.row.W c.args.x.now c.requires.x_word.size,
       bits_sized g.row.W c.args.y.now c.requires.y_word.size,
     ) at c.in_ok-prefix_difference_by.ensures.puts in
-    refused _ _ _ _ _ c.from_residual-in_err-greater.ensures.1 (some_then _ c.fresh-equal.ensures.puts (some_then _ c.fresh-above.ensures.puts
+    refused_wires _ _ _ _ _ _ _ c.from_residual-in_err-greater.ensures (some_then _ c.fresh-equal.ensures.puts (some_then _ c.fresh-above.ensures.puts
     (some_then _ c.in_ok-order_flags.ensures.puts (some_then _ c.in_ok-difference.ensures.puts (some_then _ prefix
     (some_first _ c.in_err-greater.ensures.puts))))))
 

@@ -1,15 +1,15 @@
-use Rattle.tv_core.proofs.Common.{refused, some_then, some_first, puts_in_then}
+use Rattle.tv_core.proofs.Common.{some_then, some_first, puts_in_then, refused_whole}
 use Rattle.tv_cmp.specs.Compare.{order_flags_of}
 use Rattle.tv_cmp.proofs.comparison.order_flags.Goals as goal
 
-pub returns-in_err-bit_by-clause-puts : goal.returns-in_err-bit_by-clause-puts
+pub returns-in_err-bit_by : goal.returns-in_err-bit_by
 unfolding order_flags_of
-returns-in_err-bit_by-clause-puts g c =
-    refused _ _ _ _ _ c.from_residual.ensures.1 (some_first _ c.in_err-bit_by.ensures.puts)
+returns-in_err-bit_by g c =
+    refused_whole _ _ _ _ _ _ c.from_residual.ensures (some_first _ c.in_err-bit_by.ensures.puts)
 
-pub returns-in_err-put-clause-puts : goal.returns-in_err-put-clause-puts
+pub returns-in_err-put : goal.returns-in_err-put
 unfolding order_flags_of
-returns-in_err-put-clause-puts g c =
+returns-in_err-put g c =
     let same = rw (
       c.plus_to.ensures.terms,
       c.neg.ensures,
@@ -19,7 +19,7 @@ returns-in_err-put-clause-puts g c =
       c.requires.x_word.size,
       c.requires.y_word.size,
     ) at c.in_err-put.ensures.puts in
-    refused _ _ _ _ _ c.from_residual-in_err-put.ensures.1 (some_then _ c.in_ok-bit_by.ensures.puts (some_first _ same))
+    refused_whole _ _ _ _ _ _ c.from_residual-in_err-put.ensures (some_then _ c.in_ok-bit_by.ensures.puts (some_first _ same))
 
 pub returns-clause-puts : goal.returns-clause-puts
 unfolding order_flags_of

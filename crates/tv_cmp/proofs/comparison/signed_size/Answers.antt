@@ -1,11 +1,11 @@
-use Rattle.tv_core.proofs.Common.{refused, some_first, puts_in_then}
+use Rattle.tv_core.proofs.Common.{some_first, puts_in_then, refused_wires}
 use Rattle.tv_cmp.specs.Compare.{signed_size_of}
 use Rattle.tv_cmp.proofs.comparison.signed_size.Goals as goal
 
-pub returns-in_err-size-clause-puts : goal.returns-in_err-size-clause-puts
+pub returns-in_err-size : goal.returns-in_err-size
 unfolding signed_size_of
-returns-in_err-size-clause-puts g c =
-    refused _ _ _ _ _ c.from_residual.ensures.1 (some_first _ c.in_err-size.ensures.puts)
+returns-in_err-size g c =
+    refused_wires _ _ _ _ _ _ _ c.from_residual.ensures (some_first _ c.in_err-size.ensures.puts)
 
 pub returns-clause-puts : goal.returns-clause-puts
 unfolding signed_size_of

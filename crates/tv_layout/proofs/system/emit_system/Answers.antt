@@ -1,4 +1,4 @@
-use Rattle.tv_core.proofs.Common.{◌≡◌, ◌+◌, ◌*◌, ◌<◌, ◌^◌, All, sym, ap, ◌∙◌, subst, arith, some_then, some_first, refused, puts_in_then}
+use Rattle.tv_core.proofs.Common.{◌≡◌, ◌+◌, ◌*◌, ◌<◌, ◌^◌, All, sym, ap, ◌∙◌, subst, arith, some_then, some_first, puts_in_then, refused_whole}
 use Rattle.tv_block.specs.Block.{block_of}
 use Rattle.tv_block.proofs.Growing.{both, grows_as, if_ok}
 use Rattle.tv_block.specs.Complete.{block_made}
@@ -51,28 +51,28 @@ memory-requires-clause-made g c =
     subst (λ wires. All (IsMade wires) (system_lines (block_of g.row.W) (runs_of g.row.W c.args.image.now c.args.n c.args.t))) wires
     (lines_made _ c.requires.fits)
 
-pub returns-in_err-words-clause-puts : goal.returns-in_err-words-clause-puts
+pub returns-in_err-words : goal.returns-in_err-words
 unfolding layout_of
-returns-in_err-words-clause-puts g c = refused _ _ _ _ _ c.from_residual.ensures.1 (some_first _ (rw c.tape_wire.ensures at c.in_err-words.ensures.puts))
+returns-in_err-words g c = refused_whole _ _ _ _ _ _ c.from_residual.ensures (some_first _ (rw c.tape_wire.ensures at c.in_err-words.ensures.puts))
 
-pub returns-in_err-zero_wires-clause-puts : goal.returns-in_err-zero_wires-clause-puts
+pub returns-in_err-zero_wires : goal.returns-in_err-zero_wires
 unfolding layout_of
-returns-in_err-zero_wires-clause-puts g c =
+returns-in_err-zero_wires g c =
     let words = rw c.tape_wire.ensures at c.in_ok-words.ensures.puts in
-    refused _ _ _ _ _ c.from_residual-in_err-zero_wires.ensures.1 (some_then _ words (some_first _ c.in_err-zero_wires.ensures.puts))
+    refused_whole _ _ _ _ _ _ c.from_residual-in_err-zero_wires.ensures (some_then _ words (some_first _ c.in_err-zero_wires.ensures.puts))
 
-pub returns-in_err-last-clause-puts : goal.returns-in_err-last-clause-puts
+pub returns-in_err-last : goal.returns-in_err-last
 unfolding layout_of
-returns-in_err-last-clause-puts g c =
+returns-in_err-last g c =
     let words = rw c.tape_wire.ensures at c.in_ok-words.ensures.puts in
-    refused _ _ _ _ _ c.from_residual-in_err-last.ensures.1 (some_then _ words (some_then _ c.in_ok-zero_wires.ensures.puts
+    refused_whole _ _ _ _ _ _ c.from_residual-in_err-last.ensures (some_then _ words (some_then _ c.in_ok-zero_wires.ensures.puts
     (some_first _ (c.in_err-last.ensures.puts (boot_count c.args.image.now c.args.n)))))
 
-pub returns-in_err-tie-clause-puts : goal.returns-in_err-tie-clause-puts
+pub returns-in_err-tie : goal.returns-in_err-tie
 unfolding layout_of
-returns-in_err-tie-clause-puts g c =
+returns-in_err-tie g c =
     let words = rw c.tape_wire.ensures at c.in_ok-words.ensures.puts in
-    refused _ _ _ _ _ c.from_residual-in_err-tie.ensures.1 (some_then _ words (some_then _ c.in_ok-zero_wires.ensures.puts
+    refused_whole _ _ _ _ _ _ c.from_residual-in_err-tie.ensures (some_then _ words (some_then _ c.in_ok-zero_wires.ensures.puts
     (some_then _ (c.in_ok-last.ensures.puts (boot_count c.args.image.now c.args.n)) (some_first _ c.in_err-tie.ensures.puts))))
 
 pub returns-clause-puts : goal.returns-clause-puts

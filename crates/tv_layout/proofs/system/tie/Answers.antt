@@ -1,4 +1,4 @@
-use Rattle.tv_core.proofs.Common.{◌≡◌, ℕ, ◌+◌, ◌≤◌, ◌<◌, arith, some_first, refused, puts_in_then, wire, constant, top, Combination}
+use Rattle.tv_core.proofs.Common.{◌≡◌, ℕ, ◌+◌, ◌≤◌, ◌<◌, arith, some_first, puts_in_then, wire, constant, top, Combination, refused_whole}
 use Rattle.tv_layout.specs.Layout.{tie_of}
 use Rattle.tv_layout.proofs.system.tie.Goals as goal
 
@@ -31,11 +31,11 @@ put-requires-2-clause-a_made g c = top_wire c.wire-2.ensures (stays c.in_ok-put.
 pub put-requires-2-clause-b_made : goal.put-requires-2-clause-b_made
 put-requires-2-clause-b_made g c = top_one c.constant-one.ensures (stays c.in_ok-put.ensures.grows.wires c.requires.room.constant)
 
-pub returns-in_err-put-clause-puts : goal.returns-in_err-put-clause-puts
+pub returns-in_err-put : goal.returns-in_err-put
 unfolding tie_of
-returns-in_err-put-clause-puts g c =
+returns-in_err-put g c =
     let sum = rw (c.wire.ensures, c.constant-one.ensures) at c.in_err-put.ensures.puts in
-    refused _ _ _ _ _ c.from_residual.ensures.1 (some_first _ sum)
+    refused_whole _ _ _ _ _ _ c.from_residual.ensures (some_first _ sum)
 
 pub returns-clause-puts : goal.returns-clause-puts
 unfolding tie_of

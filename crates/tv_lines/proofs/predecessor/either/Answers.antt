@@ -1,12 +1,12 @@
-use Rattle.tv_core.proofs.Common.{arith, refused, some_first, puts_in_then}
+use Rattle.tv_core.proofs.Common.{arith, some_first, puts_in_then, refused_whole}
 use Rattle.tv_lines.specs.Predecessor.{either_of}
 use Rattle.tv_lines.proofs.predecessor.either.Goals as goal
 
-pub returns-in_err-put-clause-puts : goal.returns-in_err-put-clause-puts
+pub returns-in_err-put : goal.returns-in_err-put
 unfolding either_of
-returns-in_err-put-clause-puts g c =
+returns-in_err-put g c =
     let cells = rw (c.set_either.ensures.a, c.set_either.ensures.b, c.set_either.ensures.c) at c.in_err-put.ensures.puts in
-    refused _ _ _ _ _ c.from_residual.ensures.1 (some_first _ cells)
+    refused_whole _ _ _ _ _ _ c.from_residual.ensures (some_first _ cells)
 
 pub returns-clause-puts : goal.returns-clause-puts
 unfolding either_of

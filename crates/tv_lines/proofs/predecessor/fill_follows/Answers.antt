@@ -1,12 +1,12 @@
-use Rattle.tv_core.proofs.Common.{◌≡◌, ◌∙◌, ap, arith, first_given, in_given, gives_refused}
+use Rattle.tv_core.proofs.Common.{◌≡◌, ◌∙◌, ap, arith, first_given, in_given, gives_refused_whole}
 use Rattle.tv_lines.specs.PackedLines.{unpacked}
 use Rattle.tv_lines.specs.Predecessor.{excess_between}
 use Rattle.tv_lines.proofs.predecessor.fill_follows.Goals as goal
 
-pub returns-in_err-fill_bits-clause-gives : goal.returns-in_err-fill_bits-clause-gives
-returns-in_err-fill_bits-clause-gives g c =
+pub returns-in_err-fill_bits : goal.returns-in_err-fill_bits
+returns-in_err-fill_bits g c =
     let bits = rw (c.from.ensures, c.reach_between.ensures, c.unpack_item-before.ensures) at c.in_err-fill_bits.ensures.gives in
-    gives_refused _ _ _ _ _ c.from_residual.ensures.1 (first_given _ bits)
+    gives_refused_whole _ _ _ _ _ _ c.from_residual.ensures (first_given _ bits)
 
 pub returns-clause-gives : goal.returns-clause-gives
 returns-clause-gives g c =

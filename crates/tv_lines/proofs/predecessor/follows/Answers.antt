@@ -1,18 +1,18 @@
-use Rattle.tv_core.proofs.Common.{arith, refused, some_then, some_first, puts_in_then}
+use Rattle.tv_core.proofs.Common.{arith, some_then, some_first, puts_in_then, refused_whole}
 use Rattle.tv_core.proofs.Rooms.{room_here, room_left, both}
 use Rattle.tv_lines.specs.Predecessor.{follows_of}
 use Rattle.tv_lines.proofs.predecessor.follows.Goals as goal
 
-pub returns-in_err-reach-clause-puts : goal.returns-in_err-reach-clause-puts
+pub returns-in_err-reach : goal.returns-in_err-reach
 unfolding follows_of
-returns-in_err-reach-clause-puts g c =
-    refused _ _ _ _ _ c.from_residual.ensures.1 (some_first _ c.in_err-reach.ensures.puts)
+returns-in_err-reach g c =
+    refused_whole _ _ _ _ _ _ c.from_residual.ensures (some_first _ c.in_err-reach.ensures.puts)
 
-pub returns-in_err-e-clause-puts : goal.returns-in_err-e-clause-puts
+pub returns-in_err-e : goal.returns-in_err-e
 unfolding follows_of
-returns-in_err-e-clause-puts g c =
+returns-in_err-e g c =
     let kept = rw c.set_excess.ensures.terms at c.in_err-e.ensures.puts in
-    refused _ _ _ _ _ c.from_residual-in_err-e.ensures.1 (some_then _ c.in_ok-reach.ensures.puts (some_first _ kept))
+    refused_whole _ _ _ _ _ _ c.from_residual-in_err-e.ensures (some_then _ c.in_ok-reach.ensures.puts (some_first _ kept))
 
 pub returns-clause-puts : goal.returns-clause-puts
 unfolding follows_of

@@ -1,13 +1,13 @@
-use Rattle.tv_core.proofs.Common.{arith, refused, some_first, puts_in_then}
+use Rattle.tv_core.proofs.Common.{arith, some_first, puts_in_then, refused_whole}
 use Rattle.tv_core.proofs.Rooms.{room_here}
 use Rattle.tv_lines.specs.SortedPair.{carried_of}
 use Rattle.tv_lines.proofs.sorted_pairs.carried.Goals as goal
 
-pub returns-in_err-same-clause-puts : goal.returns-in_err-same-clause-puts
+pub returns-in_err-same : goal.returns-in_err-same
 unfolding carried_of
-returns-in_err-same-clause-puts g c =
+returns-in_err-same g c =
     let flag = rw c.set_wire.ensures.terms at c.in_err-same.ensures.puts in
-    refused _ _ _ _ _ c.from_residual.ensures.1 (some_first _ flag)
+    refused_whole _ _ _ _ _ _ c.from_residual.ensures (some_first _ flag)
 
 pub returns-clause-puts : goal.returns-clause-puts
 unfolding carried_of

@@ -1,12 +1,12 @@
-use Rattle.tv_core.proofs.Common.{arith, refused, some_first, puts_in_then}
+use Rattle.tv_core.proofs.Common.{arith, some_first, puts_in_then, refused_wires}
 use Rattle.tv_core.proofs.Rooms.{room_here, room_left}
 use Rattle.tv_lines.specs.SortedPair.{size_of}
 use Rattle.tv_lines.proofs.sorted_pairs.new_size.Goals as goal
 
-pub returns-in_err-bits-clause-puts : goal.returns-in_err-bits-clause-puts
+pub returns-in_err-bits : goal.returns-in_err-bits
 unfolding size_of
-returns-in_err-bits-clause-puts g c =
-    refused _ _ _ _ _ c.from_residual.ensures.1 (some_first _ c.in_err-bits.ensures.puts)
+returns-in_err-bits g c =
+    refused_wires _ _ _ _ _ _ _ c.from_residual.ensures (some_first _ c.in_err-bits.ensures.puts)
 
 pub returns-clause-puts : goal.returns-clause-puts
 unfolding size_of

@@ -1,17 +1,17 @@
-use Rattle.tv_core.proofs.Common.{arith, refused, all_then, all_pure, some_then, some_first}
+use Rattle.tv_core.proofs.Common.{arith, all_then, all_pure, some_then, some_first, refused_wires}
 use Rattle.tv_core.proofs.Rooms.{room_here, room_left}
 use Rattle.tv_lines.specs.UnpackedLines.{unpack_of}
 use Rattle.tv_lines.proofs.unpacked_lines.unpack.Goals as goal
 
-pub returns-in_err-first-clause-puts : goal.returns-in_err-first-clause-puts
+pub returns-in_err-first : goal.returns-in_err-first
 unfolding unpack_of
-returns-in_err-first-clause-puts g c =
-    refused _ _ _ _ _ c.from_residual.ensures.1 (some_first _ c.in_err-first.ensures.puts)
+returns-in_err-first g c =
+    refused_wires _ _ _ _ _ _ _ c.from_residual.ensures (some_first _ c.in_err-first.ensures.puts)
 
-pub returns-in_err-second-clause-puts : goal.returns-in_err-second-clause-puts
+pub returns-in_err-second : goal.returns-in_err-second
 unfolding unpack_of
-returns-in_err-second-clause-puts g c =
-    refused _ _ _ _ _ c.from_residual-in_err-second.ensures.1 (some_then _ c.in_ok-first.ensures.puts (some_first _ c.in_err-second.ensures.puts))
+returns-in_err-second g c =
+    refused_wires _ _ _ _ _ _ _ c.from_residual-in_err-second.ensures (some_then _ c.in_ok-first.ensures.puts (some_first _ c.in_err-second.ensures.puts))
 
 pub returns-clause-puts : goal.returns-clause-puts
 unfolding unpack_of

@@ -1,32 +1,32 @@
-use Rattle.tv_core.proofs.Common.{refused, all_then, all_pure, some_then, some_first}
+use Rattle.tv_core.proofs.Common.{all_then, all_pure, some_then, some_first, refused_wires}
 use Rattle.tv_logic.specs.Words.{logic_words_of}
 use Rattle.tv_logic.proofs.words.words.Goals as goal
 
-pub returns-in_err-and_word-clause-puts : goal.returns-in_err-and_word-clause-puts
+pub returns-in_err-and_word : goal.returns-in_err-and_word
 unfolding logic_words_of
-returns-in_err-and_word-clause-puts g c =
-    refused _ _ _ _ _ c.from_residual.ensures.1 (some_first _ c.in_err-and_word.ensures.puts)
+returns-in_err-and_word g c =
+    refused_wires _ _ _ _ _ _ _ c.from_residual.ensures (some_first _ c.in_err-and_word.ensures.puts)
 
-pub returns-in_err-or_word-clause-puts : goal.returns-in_err-or_word-clause-puts
+pub returns-in_err-or_word : goal.returns-in_err-or_word
 unfolding logic_words_of
-returns-in_err-or_word-clause-puts g c =
+returns-in_err-or_word g c =
     let ors = rw c.set_sum_less.ensures.terms at c.in_err-or_word.ensures.puts in
-    refused _ _ _ _ _ c.from_residual-in_err-or_word.ensures.1 (some_then _ c.in_ok-and_word.ensures.puts (some_first _ ors))
+    refused_wires _ _ _ _ _ _ _ c.from_residual-in_err-or_word.ensures (some_then _ c.in_ok-and_word.ensures.puts (some_first _ ors))
 
-pub returns-in_err-xor_word-clause-puts : goal.returns-in_err-xor_word-clause-puts
+pub returns-in_err-xor_word : goal.returns-in_err-xor_word
 unfolding logic_words_of
-returns-in_err-xor_word-clause-puts g c =
+returns-in_err-xor_word g c =
     let ors = rw c.set_sum_less.ensures.terms at c.in_ok-or_word.ensures.puts in
     let xors = rw (c.set_sum_less-2.ensures.terms, c.of.ensures) at c.in_err-xor_word.ensures.puts in
-    refused _ _ _ _ _ c.from_residual-in_err-xor_word.ensures.1 (some_then _ c.in_ok-and_word.ensures.puts (some_then _ ors (some_first _ xors)))
+    refused_wires _ _ _ _ _ _ _ c.from_residual-in_err-xor_word.ensures (some_then _ c.in_ok-and_word.ensures.puts (some_then _ ors (some_first _ xors)))
 
-pub returns-in_err-not_word-clause-puts : goal.returns-in_err-not_word-clause-puts
+pub returns-in_err-not_word : goal.returns-in_err-not_word
 unfolding logic_words_of
-returns-in_err-not_word-clause-puts g c =
+returns-in_err-not_word g c =
     let ors = rw c.set_sum_less.ensures.terms at c.in_ok-or_word.ensures.puts in
     let xors = rw (c.set_sum_less-2.ensures.terms, c.of.ensures) at c.in_ok-xor_word.ensures.puts in
     let nots = rw c.set_complement.ensures.terms at c.in_err-not_word.ensures.puts in
-    refused _ _ _ _ _ c.from_residual-in_err-not_word.ensures.1 (some_then _ c.in_ok-and_word.ensures.puts (some_then _ ors (some_then _ xors
+    refused_wires _ _ _ _ _ _ _ c.from_residual-in_err-not_word.ensures (some_then _ c.in_ok-and_word.ensures.puts (some_then _ ors (some_then _ xors
     (some_first _ nots))))
 
 pub returns-clause-puts : goal.returns-clause-puts

@@ -1,12 +1,12 @@
-use Rattle.tv_core.proofs.Common.{◌≡◌, ◌*◌, ◌/◌, ◌%◌, ◌^◌, arith, first_given, in_given, gives_refused}
+use Rattle.tv_core.proofs.Common.{◌≡◌, ◌*◌, ◌/◌, ◌%◌, ◌^◌, arith, first_given, in_given, gives_refused_whole}
 use Rattle.tv_muldiv.proofs.ProductLaws.{product_small}
 use Rattle.tv_core.specs.declared.field.TheConstants.{P}
 use Rattle.tv_muldiv.proofs.products.fill_product.Goals as goal
 
-pub returns-in_err-fill_halves-clause-gives : goal.returns-in_err-fill_halves-clause-gives
-returns-in_err-fill_halves-clause-gives g c =
+pub returns-in_err-fill_halves : goal.returns-in_err-fill_halves
+returns-in_err-fill_halves g c =
     let halves = rw (c.from.ensures, c.from-2.ensures) at c.in_err-fill_halves.ensures.gives in
-    gives_refused _ _ _ _ _ c.from_residual.ensures.1 (first_given _ halves)
+    gives_refused_whole _ _ _ _ _ _ c.from_residual.ensures (first_given _ halves)
 
 pub returns-clause-gives : goal.returns-clause-gives
 returns-clause-gives g c =

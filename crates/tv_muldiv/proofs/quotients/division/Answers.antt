@@ -1,11 +1,11 @@
-use Rattle.tv_core.proofs.Common.{arith, refused, some_first, puts_in_then}
+use Rattle.tv_core.proofs.Common.{arith, some_first, puts_in_then, refused_whole}
 use Rattle.tv_muldiv.specs.Quotient.{division_of}
 use Rattle.tv_muldiv.proofs.quotients.division.Goals as goal
 
-pub returns-in_err-gate-clause-puts : goal.returns-in_err-gate-clause-puts
+pub returns-in_err-gate : goal.returns-in_err-gate
 unfolding division_of
-returns-in_err-gate-clause-puts g c =
-    refused _ _ _ _ _ c.from_residual.ensures.1 (some_first _ c.in_err-gate.ensures.puts)
+returns-in_err-gate g c =
+    refused_whole _ _ _ _ _ _ c.from_residual.ensures (some_first _ c.in_err-gate.ensures.puts)
 
 pub returns-clause-puts : goal.returns-clause-puts
 unfolding division_of

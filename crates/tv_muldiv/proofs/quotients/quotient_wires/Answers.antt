@@ -1,18 +1,18 @@
-use Rattle.tv_core.proofs.Common.{refused, all_then, all_pure, some_then, some_first}
+use Rattle.tv_core.proofs.Common.{all_then, all_pure, some_then, some_first, refused_wires}
 use Rattle.tv_muldiv.specs.Quotient.{quotient_wires_of}
 use Rattle.tv_muldiv.proofs.quotients.quotient_wires.Goals as goal
 
-pub returns-in_err-first-clause-puts : goal.returns-in_err-first-clause-puts
+pub returns-in_err-first : goal.returns-in_err-first
 unfolding quotient_wires_of
-returns-in_err-first-clause-puts g c =
-    refused _ _ _ _ _ c.from_residual.ensures.1 (some_first _ c.in_err-first.ensures.puts)
+returns-in_err-first g c =
+    refused_wires _ _ _ _ _ _ _ c.from_residual.ensures (some_first _ c.in_err-first.ensures.puts)
 
-pub returns-in_err-put-clause-puts : goal.returns-in_err-put-clause-puts
+pub returns-in_err-put : goal.returns-in_err-put
 unfolding quotient_wires_of
-returns-in_err-put-clause-puts g c =
+returns-in_err-put g c =
     let none = rw (c.set_wire.ensures.terms, c.offset-by_zero.ensures, c.set_number.ensures.terms, c.clear.ensures, c.requires.y_word.size)
     at c.in_err-put.ensures.puts in
-    refused _ _ _ _ _ c.from_residual-in_err-put.ensures.1 (some_then _ c.in_ok-first.ensures.puts (some_first _ none))
+    refused_wires _ _ _ _ _ _ _ c.from_residual-in_err-put.ensures (some_then _ c.in_ok-first.ensures.puts (some_first _ none))
 
 pub returns-clause-puts : goal.returns-clause-puts
 unfolding quotient_wires_of

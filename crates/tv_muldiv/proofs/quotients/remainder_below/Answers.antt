@@ -1,12 +1,12 @@
-use Rattle.tv_core.proofs.Common.{refused, some_first, puts_in_then}
+use Rattle.tv_core.proofs.Common.{some_first, puts_in_then, refused_whole}
 use Rattle.tv_bits.proofs.BitNumbers.{bits_sized}
 use Rattle.tv_muldiv.specs.Quotient.{remainder_below_of}
 use Rattle.tv_muldiv.proofs.quotients.remainder_below.Goals as goal
 
-pub returns-in_err-above-clause-puts : goal.returns-in_err-above-clause-puts
+pub returns-in_err-above : goal.returns-in_err-above
 unfolding remainder_below_of
-returns-in_err-above-clause-puts g c =
-    refused _ _ _ _ _ c.from_residual.ensures.1 (some_first _ c.in_err-above.ensures.puts)
+returns-in_err-above g c =
+    refused_whole _ _ _ _ _ _ c.from_residual.ensures (some_first _ c.in_err-above.ensures.puts)
 
 pub returns-clause-puts : goal.returns-clause-puts
 unfolding remainder_below_of

@@ -1,21 +1,21 @@
-use Rattle.tv_core.proofs.Common.{refused, all_then, all_pure, some_then, some_first}
+use Rattle.tv_core.proofs.Common.{all_then, all_pure, some_then, some_first, refused_wires}
 use Rattle.tv_muldiv.specs.SignedHigh.{signed_bits_of}
 use Rattle.tv_muldiv.proofs.signed_products.signed_bits.Goals as goal
 
-pub returns-in_err-made-clause-puts : goal.returns-in_err-made-clause-puts
+pub returns-in_err-made : goal.returns-in_err-made
 unfolding signed_bits_of
-returns-in_err-made-clause-puts g c =
-    refused _ _ _ _ _ c.from_residual.ensures.1 (some_first _ c.in_err-made.ensures.puts)
+returns-in_err-made g c =
+    refused_wires _ _ _ _ _ _ _ c.from_residual.ensures (some_first _ c.in_err-made.ensures.puts)
 
-pub returns-in_err-put-clause-puts : goal.returns-in_err-put-clause-puts
+pub returns-in_err-put : goal.returns-in_err-put
 unfolding signed_bits_of
-returns-in_err-put-clause-puts g c =
+returns-in_err-put g c =
     let product = rw (
       c.set_signed_number.ensures.terms,
       c.set_signed_number-2.ensures.terms,
       c.set_signed_number-3.ensures.terms,
     ) at c.in_err-put.ensures.puts in
-    refused _ _ _ _ _ c.from_residual-in_err-put.ensures.1 (some_then _ c.in_ok-made.ensures.puts (some_first _ product))
+    refused_wires _ _ _ _ _ _ _ c.from_residual-in_err-put.ensures (some_then _ c.in_ok-made.ensures.puts (some_first _ product))
 
 pub returns-clause-puts : goal.returns-clause-puts
 unfolding signed_bits_of

@@ -1,19 +1,19 @@
-use Rattle.tv_core.proofs.Common.{refused, all_then, all_pure, some_then, some_first}
+use Rattle.tv_core.proofs.Common.{all_then, all_pure, some_then, some_first, refused_wires}
 use Rattle.tv_shift.specs.Shift.{ends_of}
 use Rattle.tv_shift.proofs.ends.ends.Goals as goal
 
-pub returns-in_err-left-clause-puts : goal.returns-in_err-left-clause-puts
+pub returns-in_err-left : goal.returns-in_err-left
 unfolding ends_of
-returns-in_err-left-clause-puts g c =
+returns-in_err-left g c =
     let left = rw (c.set_wire.ensures.terms, c.set_wire-2.ensures.terms) at c.in_err-left.ensures.puts in
-    refused _ _ _ _ _ c.from_residual.ensures.1 (some_first _ left)
+    refused_wires _ _ _ _ _ _ _ c.from_residual.ensures (some_first _ left)
 
-pub returns-in_err-right-clause-puts : goal.returns-in_err-right-clause-puts
+pub returns-in_err-right : goal.returns-in_err-right
 unfolding ends_of
-returns-in_err-right-clause-puts g c =
+returns-in_err-right g c =
     let left = rw (c.set_wire.ensures.terms, c.set_wire-2.ensures.terms) at c.in_ok-left.ensures.puts in
     let right = rw (c.in_ok-left.ensures.a, c.set_wire.ensures.terms, c.set_wire-3.ensures.terms) at c.in_err-right.ensures.puts in
-    refused _ _ _ _ _ c.from_residual-in_err-right.ensures.1 (some_then _ left (some_first _ right))
+    refused_wires _ _ _ _ _ _ _ c.from_residual-in_err-right.ensures (some_then _ left (some_first _ right))
 
 pub returns-clause-puts : goal.returns-clause-puts
 unfolding ends_of

@@ -1,28 +1,28 @@
-use Rattle.tv_core.proofs.Common.{refused, some_then, some_first, puts_in_then}
+use Rattle.tv_core.proofs.Common.{some_then, some_first, puts_in_then, refused_wires}
 use Rattle.tv_shift.specs.Shift.{shift_of}
 use Rattle.tv_shift.proofs.shifts.shift.Goals as goal
 
-pub returns-in_err-parts-clause-puts : goal.returns-in_err-parts-clause-puts
+pub returns-in_err-parts : goal.returns-in_err-parts
 unfolding shift_of
-returns-in_err-parts-clause-puts g c =
-    refused _ _ _ _ _ c.from_residual.ensures.1 (some_first _ c.in_err-parts.ensures.puts)
+returns-in_err-parts g c =
+    refused_wires _ _ _ _ _ _ _ c.from_residual.ensures (some_first _ c.in_err-parts.ensures.puts)
 
-pub returns-in_err-half-clause-puts : goal.returns-in_err-half-clause-puts
+pub returns-in_err-half : goal.returns-in_err-half
 unfolding shift_of
-returns-in_err-half-clause-puts g c =
+returns-in_err-half g c =
     let half = rw (c.offset.ensures, c.half_log-k.ensures) at c.in_err-half.ensures.puts in
-    refused _ _ _ _ _ c.from_residual-in_err-half.ensures.1 (some_then _ c.in_ok-parts.ensures.puts (some_first _ half))
+    refused_wires _ _ _ _ _ _ _ c.from_residual-in_err-half.ensures (some_then _ c.in_ok-parts.ensures.puts (some_first _ half))
 
-pub returns-in_err-near-clause-puts : goal.returns-in_err-near-clause-puts
+pub returns-in_err-near : goal.returns-in_err-near
 unfolding shift_of
-returns-in_err-near-clause-puts g c =
+returns-in_err-near g c =
     let half = rw (c.offset.ensures, c.half_log-k.ensures) at c.in_ok-half.ensures.puts in
-    refused _ _ _ _ _ c.from_residual-in_err-near.ensures.1 (some_then _ c.in_ok-parts.ensures.puts (some_then _ half
+    refused_wires _ _ _ _ _ _ _ c.from_residual-in_err-near.ensures (some_then _ c.in_ok-parts.ensures.puts (some_then _ half
     (some_first _ c.in_err-near.ensures.puts)))
 
-pub returns-in_err-in_range-clause-puts : goal.returns-in_err-in_range-clause-puts
+pub returns-in_err-in_range : goal.returns-in_err-in_range
 unfolding shift_of
-returns-in_err-in_range-clause-puts g c =
+returns-in_err-in_range g c =
     let half = rw (c.offset.ensures, c.half_log-k.ensures) at c.in_ok-half.ensures.puts in
     let in_range = rw (
       c.set_number.ensures.terms,
@@ -31,7 +31,7 @@ returns-in_err-in_range-clause-puts g c =
       c.requires.y_word.size,
       c.half_log-k.ensures,
     ) at c.in_err-in_range.ensures.puts in
-    refused _ _ _ _ _ c.from_residual-in_err-in_range.ensures.1 (some_then _ c.in_ok-parts.ensures.puts (some_then _ half (some_then _ c.in_ok-near.ensures.puts
+    refused_wires _ _ _ _ _ _ _ c.from_residual-in_err-in_range.ensures (some_then _ c.in_ok-parts.ensures.puts (some_then _ half (some_then _ c.in_ok-near.ensures.puts
     (some_first _ in_range))))
 
 pub returns-clause-puts : goal.returns-clause-puts

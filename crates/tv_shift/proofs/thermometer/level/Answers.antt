@@ -1,4 +1,4 @@
-use Rattle.tv_core.proofs.Common.{common_steps, ◌≡◌, ◌-◌, ◌^◌, ◌<◌, arith, puts_no_turn, refused, all_then, all_pure, some_first}
+use Rattle.tv_core.proofs.Common.{common_steps, ◌≡◌, ◌-◌, ◌^◌, ◌<◌, arith, puts_no_turn, all_then, all_pure, some_first, refused_whole}
 use Rattle.tv_bits.proofs.Growing.{both, one_turn, turn_some}
 use Rattle.tv_shift.specs.Thermometer.{level_product_of, bit_level_of}
 use Rattle.tv_shift.proofs.thermometer.level.Goals as goal
@@ -15,12 +15,12 @@ loop-j-preserved g c =
       grows = both c.loop-j.invariant.grows c.in_ok-times_by.ensures.grows;
     }
 
-pub returns-in_err-times_by-clause-puts : goal.returns-in_err-times_by-clause-puts
+pub returns-in_err-times_by : goal.returns-in_err-times_by
 unfolding bit_level_of level_product_of
-returns-in_err-times_by-clause-puts g c =
+returns-in_err-times_by g c =
     let within : c.loop-j.j < 2 ^ c.args.k - 1 = omega arith in
     let one = rw (c.set_wire.ensures.terms, c.offset.ensures, c.set_mark.ensures.terms) at c.in_err-times_by.ensures.puts in
-    refused _ _ _ _ _ c.from_residual.ensures.1 (turn_some _ _ c.loop-j.invariant.puts within (some_first _ one))
+    refused_whole _ _ _ _ _ _ c.from_residual.ensures (turn_some _ _ c.loop-j.invariant.puts within (some_first _ one))
 
 pub returns-clause-puts : goal.returns-clause-puts
 unfolding bit_level_of

@@ -1,4 +1,4 @@
-use Rattle.tv_core.proofs.Common.{common_steps, ◌≡◌, arith, puts_no_turn, refused, all_then, all_pure, some_then, some_first}
+use Rattle.tv_core.proofs.Common.{common_steps, ◌≡◌, arith, puts_no_turn, all_then, all_pure, some_then, some_first, refused_wires}
 use Rattle.tv_bits.proofs.Growing.{both, grows_as, one_turn, turn_some}
 use Rattle.tv_core.proofs.LoopLaws.{puts_here_as}
 use Rattle.tv_shift.proofs.MarkTerms.{products-more, products-up}
@@ -16,12 +16,12 @@ loop-i-preserved g c =
       grows = grows_as (both c.loop-i.invariant.grows c.in_ok-level.ensures.grows) (omega (arith, more)) (omega (arith, more));
     }
 
-pub returns-in_err-level-clause-puts : goal.returns-in_err-level-clause-puts
+pub returns-in_err-level : goal.returns-in_err-level
 unfolding thermometer_of
-returns-in_err-level-clause-puts g c =
+returns-in_err-level g c =
     let turn = turn_some _ _ c.loop-i.invariant.puts c.loop-i-test.true c.in_err-level.ensures.puts in
     let first = puts_here_as g.S.Sink.meaning c.args.s.now c.wires.result c.wires.ensures in
-    refused _ _ _ _ _ c.from_residual.ensures.1 (some_then _ first (some_first _ turn))
+    refused_wires _ _ _ _ _ _ _ c.from_residual.ensures (some_then _ first (some_first _ turn))
 
 pub returns-clause-puts : goal.returns-clause-puts
 unfolding thermometer_of
