@@ -142,6 +142,6 @@ systems_come_back system count labels is each =
     let counted_are = counts_read file counts count s1 s2 read.one_at is.wires (omega (arith, is.publics, is.wires))
     (omega (arith, is.publics, is.wires)) is.constraints in
     let found = header_found file (s1 ∷ s2 ∷ s3 ∷ []) read.sections
-    ∙ header_in-checked file (s1 ∷ s2 ∷ s3 ∷ []) s1 s2 tt header refl refl field counted_are
+    ∙ header_in-checked file (s1 ∷ s2 ∷ s3 ∷ []) s1 s2 tt header refl refl field (ap Ok counted_are)
     ∙ checked_passes header s1 s3 is.publics (omega (arith, length-label_bytes labels, each)) in
     system_found file header list found (rows_read file system.wires (24 + length one + 12) s2 list read.two_at is.narrow is.wires refl)
