@@ -102,20 +102,3 @@ row w LoadW st on = moves w st on.dest (word_in w st.memory (on.operand / word_s
 row w Read st on = reads w st on.dest on.operand
 row w Answer st on = Next.Answered on.operand
 row w (Unused op) st on = Next.Undefined op
-
--- the instructions that compute their result and flag of their source and operand alone
-abbrev pub is_computed : Op → Bool
-is_computed And = true
-is_computed Or = true
-is_computed Xor = true
-is_computed Not = true
-is_computed Add = true
-is_computed Sub = true
-is_computed Mull = true
-is_computed Umulh = true
-is_computed Smulh = true
-is_computed Udiv = true
-is_computed Umod = true
-is_computed Shl = true
-is_computed Shr = true
-is_computed _ = false

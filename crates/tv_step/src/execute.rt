@@ -1,13 +1,12 @@
 //! The 29 instructions: a method for each kind, and one that chooses.
 ghost use Rattle.std.specs.Prelude.{◌≡◌, ◌<◌, ◌^◌, [], ◌∷◌, None, All, IfSome, ◌/◌};
-ghost use Rattle.std.specs.Prelude.{ℕ, true, IfOk, OnOk, OnErr, if◌then◌else◌};
-ghost use Rattle.tv_word.specs.Operations.{bitwise_flag};
+ghost use Rattle.std.specs.Prelude.{IfOk, OnOk, OnErr, if◌then◌else◌};
 ghost use Rattle.tv_word.specs.Widths.{IsWidth};
 ghost use Rattle.tv_isa.specs.Instruction.{IsInstruction};
 ghost use Rattle.tv_mem.specs.Bytes.{with_byte, with_word, word_in};
 ghost use Rattle.tv_step.specs.Machine.{executed, operand, reg};
-ghost use Rattle.tv_step.specs.Rows.{row, gives, tests, goes_on, jumps, stores, reads, is_computed};
-ghost use Rattle.tv_step.specs.State.{State, Next};
+ghost use Rattle.tv_step.specs.Rows.{row, gives, logic, tests, goes_on, jumps, stores, reads};
+ghost use Rattle.tv_step.specs.State.{Next};
 ghost use Rattle.tv_step.specs.Views.{state_of, CameTo};
 
 use crate::end::Outcome;
@@ -33,6 +32,16 @@ impl<const W: u32> Machine<W> {
         self.regs.set(i, value);
         self.flag = flag;
         self.pc = self.pc.following();
+    }
+
+    // Register `i` gets `value`, and the flag is set exactly where that is 0.
+    fn logic(&mut self, i: u8, value: u32)
+        requires width { IsWidth W }
+        requires register { i < 16 }
+        requires word { value < 2 ^ W }
+        ensures { logic W (state_of self.old) i value ≡ Next.Gone (state_of self.new) }
+    {
+        self.gives(i, value, value == 0);
     }
 
     // The flag is `flag`.
@@ -112,6 +121,22 @@ impl<const W: u32> Machine<W> {
         ensures err { OnErr result (state_of self.new ≡ state_of self.old) }
     {
         match op {
+            Op::And => self.logic(i, both::<W>(s, a)),
+            Op::Or => self.logic(i, either::<W>(s, a)),
+            Op::Xor => self.logic(i, differing::<W>(s, a)),
+            Op::Not => self.logic(i, inverted::<W>(a)),
+            Op::Add => self.gives(i, sum::<W>(s, a), carries::<W>(s, a)),
+            Op::Sub => self.gives(i, difference::<W>(s, a), s < a),
+            Op::Mull => self.gives(i, low_product::<W>(s, a), is_wide::<W>(s, a)),
+            Op::Umulh => self.gives(i, high_product::<W>(s, a), is_wide::<W>(s, a)),
+            Op::Smulh => {
+                let (high, wide) = high_signed::<W>(s, a);
+                self.gives(i, high, wide);
+            }
+            Op::Udiv => self.gives(i, quotient::<W>(s, a), a == 0),
+            Op::Umod => self.gives(i, remainder::<W>(s, a), a == 0),
+            Op::Shl => self.gives(i, shifted_left::<W>(s, a), sign_bit::<W>(s)),
+            Op::Shr => self.gives(i, shifted_right::<W>(s, a), s % 2 == 1),
             Op::Cmpe => self.tests(s == a),
             Op::Cmpa => self.tests(s > a),
             Op::Cmpae => self.tests(s >= a),
@@ -130,10 +155,6 @@ impl<const W: u32> Machine<W> {
             Op::Read => self.reads(i, a),
             Op::Answer => return Ok(Outcome::Answered { value: a }),
             Op::Unused(op) => return Ok(Outcome::Undefined { op }),
-            _ => {
-                let (value, flag) = computed::<W>(op, s, a);
-                self.gives(i, value, flag);
-            }
         }
         Ok(Outcome::Gone)
     }
@@ -190,44 +211,6 @@ impl<const W: u32> Machine<W> {
         let s = self.word_in(instr.source);
         let a = self.operand(instr);
         self.execute(op_of(instr.op), instr.dest, d, s, a)
-    }
-}
-
-// A word, and whether it is 0.
-fn with_zero_flag(word: u32) -> (u32, bool)
-    ensures same { result.0 ≡ word }
-    ensures flag { result.1 ≡ bitwise_flag word }
-{
-    (word, word == 0)
-}
-
-// What an instruction computes of the words in its source and its operand: the word that its
-// destination gets, and the flag.
-#[inline(always)]
-fn computed<const W: u32>(op: Op, s: u32, a: u32) -> (u32, bool)
-    requires width { IsWidth W }
-    requires s_word { s < 2 ^ W }
-    requires a_word { a < 2 ^ W }
-    ensures row { is_computed op ≡ true → (st : State) (i d : ℕ) → row W op st
-        (record { dest = i; held = d; source = s; operand = a })
-        ≡ gives W st i result.0 result.1 }
-    ensures small { result.0 < 2 ^ W }
-{
-    match op {
-        Op::And => with_zero_flag(both::<W>(s, a)),
-        Op::Or => with_zero_flag(either::<W>(s, a)),
-        Op::Xor => with_zero_flag(differing::<W>(s, a)),
-        Op::Not => with_zero_flag(inverted::<W>(a)),
-        Op::Add => (sum::<W>(s, a), carries::<W>(s, a)),
-        Op::Sub => (difference::<W>(s, a), s < a),
-        Op::Mull => (low_product::<W>(s, a), is_wide::<W>(s, a)),
-        Op::Umulh => (high_product::<W>(s, a), is_wide::<W>(s, a)),
-        Op::Smulh => high_signed::<W>(s, a),
-        Op::Udiv => (quotient::<W>(s, a), a == 0),
-        Op::Umod => (remainder::<W>(s, a), a == 0),
-        Op::Shl => (shifted_left::<W>(s, a), sign_bit::<W>(s)),
-        Op::Shr => (shifted_right::<W>(s, a), s % 2 == 1),
-        _ => (0, false),
     }
 }
 
