@@ -1,5 +1,4 @@
 //! A session: files in memory, the words of the next command, and where the last line begins.
-ghost use Rattle.std.specs.Prelude.{◌≡◌};
 ghost use Rattle.tinyr1cs_c.specs.Answer.{code_of};
 ghost use Rattle.tinyr1cs_c.specs.Command.{Ran};
 ghost use Rattle.tinyr1cs_c.specs.Session.{IsNew, Sets, AddsWord, CopiesFile, CopiesLine, Copies};

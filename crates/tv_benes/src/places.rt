@@ -2,7 +2,7 @@
 ghost use Rattle.std.specs.Prelude.{◌≡◌, ℕ, ◌+◌, ◌*◌, ◌^◌, ◌<◌, ◌≤◌};
 ghost use Rattle.tv_core.specs.Combinations.{top};
 ghost use Rattle.tv_core.specs.declared.lines.Pair.{Pair};
-ghost use Rattle.tv_benes.specs.Places.{wires_at, fifth, row, first_of, second_of, passed_to};
+ghost use Rattle.tv_benes.specs.Places.{wires_at, fifth, row, first_of, second_of};
 ghost use Rattle.tv_benes.specs.Places.{bound_pair, bound_count};
 ghost use Rattle.tv_benes.specs.Places.{output, output_wire, column_outputs, lone, sum_at};
 ghost use Rattle.tv_benes.specs.Places.{last_wire, last_ends, last_pair};

@@ -1,6 +1,6 @@
 -- What the parts of a step that are made of gadgets alone say: opcode, registers, test and registers written.
 use Rattle.tv_core.proofs.Common.{◌≡◌, ℕ, ◌+◌, ◌-◌, ◌%◌, ◌<◌, ◌==◌, Bool, true, false, if◌then◌else◌, List, [], ◌∷◌, ◌++◌, length, inl, inr, refl, sym, ◌∙◌, ap}
-use Rattle.tv_core.proofs.Common.{ap₂, subst, arith, slice_index, cases_eq, ne_eqb, eqb-true, nat_tests, value-append, wire, Combination, value, Assigns, Meets}
+use Rattle.tv_core.proofs.Common.{ap₂, subst, arith, slice_index, cases_eq, ne_eqb, eqb-true, nat_tests, value-append, Combination, value, Assigns, Meets}
 use Rattle.tv_core.proofs.Common.{IsWidth, flag_of}
 use Rattle.std.proofs.Common.{true≢false}
 use Rattle.std.specs.List.{AllByRecursion, list_all}

@@ -1,5 +1,5 @@
 -- Records of a step by their fields, what holds of its three lines, and a state that is one wire.
-use Rattle.tv_core.proofs.Common.{◌≡◌, ℕ, zero, suc, ◌<◌, ◌≤◌, List, [], ◌∷◌, All, ◌∙◌, ap, arith}
+use Rattle.tv_core.proofs.Common.{◌≡◌, ℕ, zero, suc, ◌<◌, ◌≤◌, List, [], ◌∷◌, All, arith}
 use Rattle.std.proofs.Common.{replicate}
 use Rattle.std.proofs.lemmas.List.Elements.{All-nil, All-cons}
 use Rattle.tv_core.specs.declared.lines.LineLc.{LineLc}

@@ -12,7 +12,7 @@ use Rattle.tv_layout.proofs.Boot.{length-boot_lines}
 use Rattle.tv_layout.proofs.Positions.{log_above, log_within, log_some}
 use Rattle.tv_layout.proofs.RunLines.{run_placed, run_few, all_many}
 use Rattle.tv_layout.proofs.Systems.{system_complete}
-use Rattle.tv_layout.proofs.Whole.{few, short, filled, spare}
+use Rattle.tv_layout.proofs.Whole.{few, short, spare}
 use Rattle.tv_layout.specs.Checks.{checks_of}
 use Rattle.tv_layout.specs.Places.{WithinLimits, line_count, log_of, runs_like}
 use Rattle.tv_layout.specs.RunInputs.{run_on}

@@ -1,7 +1,7 @@
 //! The gadgets of a step that decode an instruction, read three registers and write one: each
 //! over its generator's values, at each opcode and each pattern of equal numbers, with an altered
 //! value that fails.
-ghost use Rattle.std.specs.Prelude.{◌≡◌, ◌<◌};
+ghost use Rattle.std.specs.Prelude.{◌<◌};
 
 use crate::assignments::{add_one, at, failing, set};
 use crate::gadgets::bits;

@@ -1,5 +1,5 @@
 -- The laws of the words that are linear in the inputs and the word of ands.
-use Rattle.tv_core.proofs.Common.{◌≡◌, ℕ, ◌+◌, ◌-◌, ◌*◌, ◌/◌, ◌%◌, ◌^◌, ◌<◌, ◌≤◌, List, [], ◌∷◌, ◌++◌, length, sym, subst, ◌∙◌, ap, ap₂, arith, slice_index}
+use Rattle.tv_core.proofs.Common.{◌≡◌, ℕ, ◌+◌, ◌-◌, ◌*◌, ◌/◌, ◌%◌, ◌^◌, ◌<◌, ◌≤◌, List, [], ◌∷◌, length, sym, subst, ◌∙◌, ap, ap₂, arith, slice_index}
 use Rattle.tv_core.proofs.Common.{length-each_below, value-append, value-less, Meets-split, Meets-join, HasFrom-split, pure, ◌>>=◌, constant, value, Assigns}
 use Rattle.tv_core.proofs.Common.{Meets, HasFrom, width_short, IsWidth}
 use Rattle.std.proofs.Common.{bit_and, bit_or, bit_xor}

@@ -1,5 +1,5 @@
 -- Numbers of 2 w bits, given in two halves.
-use Rattle.tv_core.proofs.Common.{◌≡◌, ℕ, ◌+◌, ◌*◌, ◌/◌, ◌%◌, ◌^◌, ◌<◌, List, length, ◌∙◌, arith, bit_at, length-each_below, HasFrom-split, each_below, HasFrom}
+use Rattle.tv_core.proofs.Common.{◌≡◌, ℕ, ◌+◌, ◌*◌, ◌/◌, ◌%◌, ◌^◌, ◌<◌, List, length, arith, bit_at, length-each_below, HasFrom-split, each_below, HasFrom}
 use Rattle.tv_core.proofs.Common.{InField, IsWidth}
 use Rattle.std.proofs.Common.{length-append}
 use Rattle.std.proofs.lemmas.Nat.{shr_split}

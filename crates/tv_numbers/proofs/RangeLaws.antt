@@ -1,5 +1,5 @@
 -- The numbers of a step stay in range.
-use Rattle.tv_core.proofs.Common.{◌≡◌, ℕ, zero, suc, ◌+◌, ◌-◌, ◌*◌, ◌/◌, ◌%◌, ◌^◌, ◌<◌, ◌≤◌, ◌==◌, nat_lt, Bool, true, false, not, if◌then◌else◌, List, drop}
+use Rattle.tv_core.proofs.Common.{◌≡◌, ℕ, zero, suc, ◌+◌, ◌-◌, ◌*◌, ◌/◌, ◌%◌, ◌^◌, ◌<◌, ◌≤◌, ◌==◌, nat_lt, Bool, true, not, if◌then◌else◌, List, drop}
 use Rattle.tv_core.proofs.Common.{length, refl, sym, ◌∙◌, arith, inl, inr, slice_index, cond_both, cases_lt, le-ltb, for_widths, IsWidth}
 use Rattle.std.proofs.Common.{◌&&◌, ◌||◌}
 use Rattle.std.proofs.Common.{true≢false}

@@ -1,5 +1,5 @@
 -- Constraints that are tried one after another.
-use Rattle.tv_core.proofs.Common.{◌≡◌, ℕ, ◌+◌, ◌-◌, Bool, true, false, cond, if◌then◌else◌, List, [], ◌∷◌, ◌++◌, length, Option, Some, None, refl, sym, ap, ◌∙◌}
+use Rattle.tv_core.proofs.Common.{◌≡◌, ℕ, ◌+◌, ◌-◌, Bool, true, false, cond, if◌then◌else◌, List, [], ◌∷◌, ◌++◌, length, Some, None, refl, sym, ap, ◌∙◌}
 use Rattle.tv_core.proofs.Common.{append_assoc, append-nil, arith, ◌<◌, Constraint}
 use Rattle.std.proofs.Common.{MatchOption, add-zero, length-append}
 use Rattle.std.proofs.lemmas.List.{length_push}

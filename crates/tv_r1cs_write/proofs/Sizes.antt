@@ -1,7 +1,7 @@
 -- How many bytes there are.
-use Rattle.tv_core.proofs.Common.{◌≡◌, ℕ, ◌+◌, ◌*◌, List, [], ◌∷◌, ◌++◌, length, refl, arith, length-append, Combination, Constraint, terms_in}
+use Rattle.tv_core.proofs.Common.{◌≡◌, ℕ, ◌+◌, ◌*◌, List, [], ◌∷◌, length, refl, arith, length-append, Combination, Constraint, terms_in}
 use Rattle.std.proofs.lemmas.List.Sums.{sum_by-cons}
-use Rattle.tv_container.specs.Bytes.{four_bytes, eight_bytes, term_bytes, terms_bytes}
+use Rattle.tv_container.specs.Bytes.{four_bytes, terms_bytes}
 use Rattle.tv_container.proofs.BytesAt.{length-four_bytes, length-eight_bytes}
 use Rattle.tv_r1cs_write.specs.Bytes.{combination_bytes, constraint_bytes, label_bytes, rows_bytes}
 

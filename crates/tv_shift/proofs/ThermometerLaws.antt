@@ -1,5 +1,5 @@
 -- The laws of a thermometer: its marks, and the power of 2 that they add up to.
-use Rattle.tv_core.proofs.Common.{◌≡◌, ℕ, zero, suc, ◌+◌, ◌-◌, ◌*◌, ◌%◌, ◌^◌, ◌<◌, ◌≤◌, List, [], ◌++◌, if◌then◌else◌, inl, inr, refl, sym, subst, ◌∙◌, ap, ap₂}
+use Rattle.tv_core.proofs.Common.{◌≡◌, ℕ, zero, suc, ◌+◌, ◌-◌, ◌*◌, ◌%◌, ◌^◌, ◌<◌, ◌≤◌, List, [], if◌then◌else◌, inl, inr, refl, sym, subst, ◌∙◌, ap, ap₂}
 use Rattle.tv_core.proofs.Common.{arith, mod-lt, cases_lt, lt-ltb, le-ltb, slice_index, value-append, value-cons, value-wire, wire-below, Meets-split}
 use Rattle.tv_core.proofs.Common.{Meets-join, HasFrom-split, here, fresh, put, pure, turns, ◌>>=◌, scaled, Combination, value, Assigns, Meets, HasFrom}
 use Rattle.tv_core.proofs.Common.{sequence}

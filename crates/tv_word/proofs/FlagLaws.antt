@@ -1,5 +1,5 @@
 -- A truth value as a number.
-use Rattle.std.proofs.Common.{ℕ, ◌<◌, Bool, true, false, arith}
+use Rattle.std.proofs.Common.{◌<◌, Bool, true, false, arith}
 use Rattle.tv_word.specs.Word.{flag_of}
 
 pub flag_small : (b : Bool) → flag_of b < 2

@@ -1,5 +1,5 @@
 -- What the values of an assignment are.
-use Rattle.tv_core.proofs.Common.{◌≡◌, ℕ, ◌+◌, ◌<◌, zero, suc, List, [], ◌∷◌, length, not, Ok, nat_lt, ap, refl}
+use Rattle.tv_core.proofs.Common.{◌≡◌, ℕ, ◌+◌, ◌<◌, zero, suc, List, length, not, Ok, nat_lt, ap, refl}
 use Rattle.std.proofs.lemmas.Bool.{ltb-true, not-false}
 use Rattle.std.proofs.lemmas.Result.{IfOk-at_ok, IfOk-weaker}
 use Rattle.std.specs.Prelude.{IfOk}

@@ -1,4 +1,4 @@
-use Rattle.tv_core.proofs.Common.{common_steps, ◌/◌, arith}
+use Rattle.tv_core.proofs.Common.{common_steps, arith}
 use Rattle.tv_bits.proofs.OrderLaws.{first_difference-le}
 use Rattle.tv_cmp.proofs.comparison.sizes.Goals as goal
 

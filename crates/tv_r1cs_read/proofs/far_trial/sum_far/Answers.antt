@@ -1,4 +1,4 @@
-use Rattle.tv_core.proofs.Common.{◌≡◌, ◌+◌, ◌-◌, ◌*◌, arith, refl}
+use Rattle.tv_core.proofs.Common.{◌≡◌, ◌+◌, ◌-◌, arith, refl}
 use Rattle.tv_container.proofs.Chain.{err_is, reads_as, reads_done, reads_off, reads_on, reads_past}
 use Rattle.tv_r1cs_read.proofs.Ahead.{combination_at-counted, combination_at-uncounted, refused}
 use Rattle.tv_r1cs_read.proofs.Sums.{adds_far, comes_to, counted, starts, valued}

@@ -1,4 +1,4 @@
-use Rattle.tv_core.proofs.Common.{◌≡◌, ◌==◌, ◌∙◌, ap, arith, rules}
+use Rattle.tv_core.proofs.Common.{◌==◌, ◌∙◌, ap, arith}
 use Rattle.tv_container.proofs.Chain.{err_is, reads_as, reads_done, reads_off, reads_on}
 use Rattle.tv_r1cs_read.proofs.Ahead.{constraint_at-first, constraint_at-second, constraint_at-third}
 use Rattle.tv_r1cs_read.proofs.Sums.{three}

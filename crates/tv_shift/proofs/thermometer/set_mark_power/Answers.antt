@@ -1,4 +1,4 @@
-use Rattle.tv_core.proofs.Common.{common_steps, ◌≡◌, ◌+◌, ◌%◌, ◌^◌, ◌≤◌, ◌++◌, length, sym, ◌∙◌, ap, ap₂, arith, add-one, pow-le-pow_right, scaled, top}
+use Rattle.tv_core.proofs.Common.{common_steps, ◌≡◌, ◌+◌, ◌%◌, ◌^◌, ◌++◌, length, sym, ◌∙◌, ap, ap₂, arith, add-one, pow-le-pow_right, scaled, top}
 use Rattle.std.proofs.Math.Nat.{pow-suc, add-mod}
 use Rattle.tv_core.specs.declared.field.TheConstants.{P}
 use Rattle.tv_shift.specs.Thermometer.{mark, power_of}

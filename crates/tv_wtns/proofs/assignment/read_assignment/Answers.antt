@@ -1,4 +1,4 @@
-use Rattle.tv_core.proofs.Common.{◌≡◌, ◌+◌, ◌*◌, ◌≤◌, ap, sym, ◌∙◌, arith}
+use Rattle.tv_core.proofs.Common.{◌+◌, ◌*◌, ◌≤◌, ap, sym, ◌∙◌, arith}
 use Rattle.tv_container.specs.Places.{places}
 use Rattle.tv_container.proofs.Chain.{err_is, refuses_any, refuses_first}
 use Rattle.tv_wtns.specs.Wtns.{assignment_in}

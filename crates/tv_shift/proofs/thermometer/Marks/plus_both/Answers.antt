@@ -1,4 +1,4 @@
-use Rattle.tv_core.proofs.Common.{common_steps, ◌≡◌, ◌+◌, [], ◌∷◌, ◌++◌, ◌∙◌, arith}
+use Rattle.tv_core.proofs.Common.{common_steps, arith}
 use Rattle.std.proofs.lemmas.List.{append-nil}
 use Rattle.tv_core.proofs.BelowLaws.{below-power}
 use Rattle.tv_shift.proofs.MarkTerms.{products-more, both-in, both-last}
