@@ -495,7 +495,7 @@ later_values w n v i takes low high f = tapes_values w n v i low takes ++ effect
 
 had_later : (w n : ℕ) (v : View) (i : Instr) (takes : Bool) (z : List ℕ) (at l h f low high test : ℕ) → low ≡ l → high ≡ h → test ≡ f
     → HasFrom z at (later_values w n v i takes l h f) → HasFrom z at (later_values w n v i takes low high test)
-had_later w n v i takes z at l h f low high test p q r has =
+had_later w n v i takes z at l h f _ high test p q r has =
     subst (λ k. HasFrom z at (later_values w n v i takes k high test)) (sym p)
     (subst (λ k. HasFrom z at (later_values w n v i takes l k test)) (sym q)
     (subst (λ k. HasFrom z at (later_values w n v i takes l h k)) (sym r) has))

@@ -109,7 +109,7 @@ flags-below : (ands ors xors nots : ℕ) → InField (flag_values ands ors xors 
 flags-below ands ors xors nots = search (arith, InField-append, zero_in_field, InField-cons, zero_flag-below, InField-none)
 
 logic_in_field : (w : ℕ) → IsWidth w → (a b : ℕ) → a < 2 ^ w → b < 2 ^ w → InField (logic_values w a b)
-logic_in_field w width a b h k = search (arith, bit_and, bit_or, bit_xor, InField-append, words-below, flags-below)
+logic_in_field w width a b h k = search (arith, InField-append, words-below, flags-below)
 
 pub logic_sizes : LogicSizes
 logic_sizes = record { answer = logic_answer; end = logic_next; fills = logic_fills; in_field = logic_in_field }

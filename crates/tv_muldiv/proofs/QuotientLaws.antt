@@ -8,7 +8,7 @@ use Rattle.tv_core.proofs.CombinationLaws.{value-scaled, value-constant}
 use Rattle.tv_core.proofs.FieldLaws.{InField-append}
 use Rattle.tv_core.specs.declared.field.TheConstants.{P}
 use Rattle.tv_bits.proofs.NewBitsLaws.{bits_are, bits_met}
-use Rattle.tv_bits.proofs.PrefixLaws.{prefix_difference_sound, prefix_difference_complete, prefix_difference_next, length-products, products_in_field}
+use Rattle.tv_bits.proofs.PrefixLaws.{prefix_difference_sound, prefix_difference_complete, prefix_difference_next, products_in_field}
 use Rattle.tv_bits.proofs.SizeLaws.{bits_in_field, zero_flag-below}
 use Rattle.tv_bits.proofs.BitNumbers.{HasBits-below, HasBits-join, HasBits-from_values, value-bits_below}
 use Rattle.tv_bits.proofs.BitsLaws.{new_bits_answer, new_bits_next}
@@ -221,7 +221,7 @@ quotient_complete w width z next x y a b assigns p q has =
 
 -- ---- how many values there are, and that they are numbers of the field
 length-quotient_values : (w a b : ℕ) → length (quotient_values w a b) ≡ 2 * w + w / 4 + 4
-length-quotient_values w a b = simp (length-append, length-each_below, length-products) (omega arith)
+length-quotient_values w a b = simp (length-append, length-each_below) (omega arith)
 
 gate-small : (w : ℕ) → IsWidth w → (a b : ℕ) → a < 2 ^ w → gate_in a b < P
 gate-small w width a b h = grind (arith, nat_tests)

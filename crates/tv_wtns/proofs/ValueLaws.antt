@@ -6,7 +6,7 @@ use Rattle.std.specs.Prelude.{IfOk}
 use Rattle.std.proofs.lemmas.List.Elements.{All-nil, All-cons}
 use Rattle.std.specs.List.{All}
 use Rattle.tv_core.specs.declared.field.TheConstants.{P}
-use Rattle.tv_container.specs.Places.{◌>>=◌, number, unless}
+use Rattle.tv_container.specs.Places.{number, unless}
 use Rattle.tv_container.specs.Field.{this_field}
 use Rattle.tv_container.specs.Sections.{sections_of, wanted}
 use Rattle.tv_container.specs.declared.why.ReadWhy.TheVariants.{NotCanonical}
