@@ -88,7 +88,9 @@ pub fn pick_by<S: Sink>(
     Ok(w)
 }
 
-// Makes `lc` the difference of `x` and `y`, in normal form.
+// Makes `lc` the difference of `x` and `y`, in normal form. It costs least where the wires of `y`
+// are before those of `x`.
+#[inline(always)]
 fn set_terms_less(lc: &mut Lc, x: &[(F, Wire)], y: &[(F, Wire)])
     requires x_short { length x.now ≤ 64 }
     requires y_short { length y.now ≤ 64 }
@@ -96,8 +98,8 @@ fn set_terms_less(lc: &mut Lc, x: &[(F, Wire)], y: &[(F, Wire)])
     ensures top { top lc.new ≤ max (top x.now) (top y.now) }
 {
     lc.clear();
-    lc.add_terms(x);
     lc.add_scaled(-F::ONE, y);
+    lc.add_terms(x);
 }
 
 // Makes `lc` the wire `w` less `y`.

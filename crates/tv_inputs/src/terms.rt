@@ -17,6 +17,7 @@ pub fn set_terms(lc: &mut Lc, terms: &[(F, Wire)])
 }
 
 /// Sets `lc` to these terms with their coefficients negated.
+#[inline]
 pub fn set_negated(lc: &mut Lc, terms: &[(F, Wire)])
     requires { length terms.now ≤ 128 }
     ensures terms { lc.new ≡ scaled (P - 1) terms.now }
