@@ -19,11 +19,11 @@ use crate::places::block_wires;
 use crate::records::{Block, Computed, Effects, Reached};
 use tv_arithmetic::put_arithmetic;
 use tv_bits::zero_sign;
-use tv_core::{Lc, Put, Scratch, Sink, Wire};
+use tv_core::{F, Lc, Put, Scratch, Sink, Wire};
 use tv_decode::{InstructionWires, instruction};
 use tv_inputs::{
     DataWires, ResultWires, Sources, StateWires, StoreWires, TapeWires, opcode_wire, put_operand,
-    put_tapes, set_opcodes,
+    put_tapes,
 };
 use tv_isa::opcode::{ANSWER, STORE_B, STORE_W};
 use tv_parts::{put_flag, put_memory, put_written};
@@ -122,8 +122,10 @@ fn registers<const W: u32, S: Sink>(
     ensures grows { IfOk result (λ _. Grows S.meaning s.old s.new 31 28) }
     ensures below { IfOk result (λ regs. TripleUnder (S.meaning.wires s.new) regs) }
 {
-    let mut stores = Lc::empty();
-    set_opcodes(&mut stores, i.op, &[STORE_B, STORE_W]);
+    let stores = [
+        (F::ONE, opcode_wire(i.op, STORE_B)),
+        (F::ONE, opcode_wire(i.op, STORE_W)),
+    ];
     let names = Names {
         dest: i.dest::<W>(),
         source: i.source::<W>(),

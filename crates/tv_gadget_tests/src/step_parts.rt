@@ -8,7 +8,7 @@ use crate::gadgets::bits;
 use std::alloc::Global;
 use std::test::Fail;
 use tv_bits::fill_bits;
-use tv_core::{F, Lc, ListValues, Put, Scratch, TestSink, Values, Wire, give_words};
+use tv_core::{F, ListValues, Put, Scratch, TestSink, Values, Wire, give_words};
 use tv_decode::{fill_instruction, instruction};
 use tv_regs::{
     Names, Triple, Write, fill_triple, fill_update, read_triple, update_register, wires_from,
@@ -91,7 +91,7 @@ fn read(alloc: Global, store: bool, dest: u32, source: u32, named: u32) -> Resul
 
 fn unread(z: &[F]) -> Put<(u32, Triple)> {
     let (mut tests, mut scratch) = (TestSink::over(z, 30), Scratch::new());
-    let (stores, registers) = (Lc::wire(Wire(17)), wires_from(Wire(1)));
+    let (stores, registers) = ([(F::ONE, Wire(17))], wires_from(Wire(1)));
     let names = Names {
         dest: bits(18, 4),
         source: bits(22, 4),

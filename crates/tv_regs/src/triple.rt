@@ -6,7 +6,7 @@
 //! where three trees of choices take 45. Where numbers are equal the words are, and the divided
 //! differences of the curve are 0, so one formula assigns its values.
 ghost use Rattle.std.specs.Prelude.{◌≡◌, ◌+◌, ◌*◌, ◌%◌, ◌≤◌, ◌<◌, ◌^◌, false, IfOk};
-ghost use Rattle.std.specs.Prelude.{OnOk};
+ghost use Rattle.std.specs.Prelude.{length, OnOk};
 ghost use Rattle.tv_bits.specs.Number.{number_of};
 ghost use Rattle.tv_core.specs.Combinations.{top};
 ghost use Rattle.tv_core.specs.Values.{GivesIn};
@@ -92,16 +92,18 @@ const INVERSES: [u64; 15] = [
 ];
 
 /// Constrains wires to the words of three registers: of the destination, of the register that the
-/// second word names, and of a third one, which is the destination where `stores` is 1 and the
-/// source where it is 0. It makes 31 wires and 28 constraints, of 210 terms and those of `stores`.
+/// second word names, and of a third one, which is the destination where `stores`, of at most 128
+/// terms, is 1 and the source where it is 0. It makes 31 wires and 28 constraints, of 210 terms and
+/// those of `stores`.
 pub fn read_triple<S: Sink>(
     s: &mut S,
     scratch: &mut Scratch,
-    stores: &Lc,
+    stores: &[(F, Wire)],
     names: &Names,
     regs: &[Wire; 16],
 ) -> Put<Triple>
     requires room { Room S.meaning s.old 31 28 }
+    requires stores_short { length stores.now ≤ 128 }
     requires stores_made { top stores.now ≤ S.meaning.wires s.old }
     requires names_made { AreNames (S.meaning.wires s.old) names.now }
     requires regs_made { wires_top regs.now ≤ S.meaning.wires s.old }
@@ -129,8 +131,14 @@ pub fn read_triple<S: Sink>(
 
 // The numbers of the destination and of the third register, and the sums of the products of the
 // three by one, two and three.
-fn new_roots<S: Sink>(s: &mut S, scratch: &mut Scratch, stores: &Lc, names: &Names) -> Put<Roots>
+fn new_roots<S: Sink>(
+    s: &mut S,
+    scratch: &mut Scratch,
+    stores: &[(F, Wire)],
+    names: &Names,
+) -> Put<Roots>
     requires room { Room S.meaning s.old 6 6 }
+    requires stores_short { length stores.now ≤ 128 }
     requires stores_made { top stores.now ≤ S.meaning.wires s.old }
     requires names_made { AreNames (S.meaning.wires s.old) names.now }
     ensures puts { PutsIn S.meaning s.old s.new (roots_of stores.now (number_of names.now.dest)
@@ -141,7 +149,7 @@ fn new_roots<S: Sink>(s: &mut S, scratch: &mut Scratch, stores: &Lc, names: &Nam
     names.dest.set_number(&mut scratch.a);
     let dest = kept_by(s, scratch)?;
     scratch.a.clear();
-    scratch.a.plus_terms(stores.terms());
+    scratch.a.plus_terms(stores);
     let source = number_terms(&names.source);
     let other = pick_by(s, scratch, &[(F::ONE, dest)], &source)?;
     sums(s, scratch, &names.named, dest, other)

@@ -2,4 +2,4 @@ use Rattle.tv_block.proofs.constraints.registers.Goals as goal
 
 pub returns-clause-puts : goal.returns-clause-puts
 returns-clause-puts g c =
-    rw (c.set_opcodes.ensures.terms, c.dest.ensures, c.source.ensures, c.register.ensures) at c.read_triple.ensures.puts
+    rw (c.opcode_wire.ensures, c.opcode_wire-2.ensures, c.dest.ensures, c.source.ensures, c.register.ensures) at c.read_triple.ensures.puts

@@ -14,14 +14,14 @@ pub returns-in_err-other : goal.returns-in_err-other
 unfolding roots_of
 returns-in_err-other g c =
     let dest = rw (c.set_number.ensures.terms) at c.in_ok-dest.ensures.puts in
-    let other = rw (c.plus_terms.ensures.terms, c.clear.ensures, c.terms.ensures.terms, c.number_terms-source.ensures.terms) at c.in_err-other.ensures.puts in
+    let other = rw (c.plus_terms.ensures.terms, c.clear.ensures, c.number_terms-source.ensures.terms) at c.in_err-other.ensures.puts in
     refused_wires _ _ _ _ _ _ _ c.from_residual-in_err-other.ensures (some_then _ dest (some_first _ other))
 
 pub returns-clause-puts : goal.returns-clause-puts
 unfolding roots_of
 returns-clause-puts g c =
     let dest = rw (c.set_number.ensures.terms) at c.in_ok-dest.ensures.puts in
-    let other = rw (c.plus_terms.ensures.terms, c.clear.ensures, c.terms.ensures.terms, c.number_terms-source.ensures.terms) at c.in_ok-other.ensures.puts in
+    let other = rw (c.plus_terms.ensures.terms, c.clear.ensures, c.number_terms-source.ensures.terms) at c.in_ok-other.ensures.puts in
     puts_in_then g.S.Sink.meaning _ _ _ _ _ _ _ dest (puts_in_then g.S.Sink.meaning _ _ _ _ _ _ _ other c.sums.ensures.puts)
 
 pub kept_by-requires : goal.kept_by-requires
@@ -34,7 +34,7 @@ pick_by-requires-clause-room g c = left c.in_ok-dest.ensures.grows c.requires.ro
 
 pub pick_by-requires-clause-b_made : goal.pick_by-requires-clause-b_made
 pick_by-requires-clause-b_made g c =
-    rw (c.plus_terms.ensures.terms, c.clear.ensures, c.terms.ensures.terms) (within c.in_ok-dest.ensures.grows c.requires.stores_made)
+    rw (c.plus_terms.ensures.terms, c.clear.ensures) (within c.in_ok-dest.ensures.grows c.requires.stores_made)
 
 pub pick_by-requires-clause-made : goal.pick_by-requires-clause-made
 pick_by-requires-clause-made g c =

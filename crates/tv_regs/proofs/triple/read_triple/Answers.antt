@@ -64,7 +64,7 @@ returns-clause-places g c = (returns-clause-puts g c).answers
 pub new_roots-requires : goal.new_roots-requires
 new_roots-requires g c =
     let r = c.requires in
-    record { room = fewer r.room refl refl; stores_made = r.stores_made; names_made = r.names_made }
+    record { room = fewer r.room refl refl; stores_short = r.stores_short; stores_made = r.stores_made; names_made = r.names_made }
 
 pub new_curve-requires : goal.new_curve-requires
 new_curve-requires g c =
