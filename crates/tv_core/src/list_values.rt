@@ -8,6 +8,10 @@ use crate::values::Values;
 use std::alloc::Global;
 use std::marker::Model;
 
+// For how many more values room is made, at least, where there is none left: a gadget of words
+// assigns fewer.
+const MORE: usize = 128;
+
 /// A taker of values that keeps their list. It refuses only where memory runs out.
 #[derive(Drop)]
 pub struct ListValues {
@@ -44,7 +48,8 @@ impl Values for ListValues {
     ghost giving = { kept_giving };
 
     fn give(&mut self, value: F) -> Put<()> {
-        if self.list.push(value).is_err() {
+        let full = self.list.len() == self.list.capacity();
+        if full && self.list.reserve(MORE).is_err() || self.list.push(value).is_err() {
             self.broken = true;
             return Err(SinkFault::Memory);
         }
