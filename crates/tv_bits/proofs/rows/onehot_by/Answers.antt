@@ -19,7 +19,8 @@ unfolding onehot_of
 returns-in_err-mark g c =
     let within : c.loop-i.i < 2 ^ c.args.x.now.n = omega arith in
     let first = puts_here_as g.S.Sink.meaning c.args.s.now c.wires.result c.wires.ensures in
-    refused_wires _ _ _ _ _ _ _ c.from_residual.ensures (some_then _ first (some_first _ (turn_some _ _ c.loop-i.invariant.puts within c.in_err-mark.ensures.puts)))
+    refused_wires _ _ _ _ _ _ _ c.from_residual.ensures
+    (some_then _ first (some_first _ (turn_some _ _ c.loop-i.invariant.puts within c.in_err-mark.ensures.puts)))
 
 pub returns-in_err-put : goal.returns-in_err-put
 unfolding onehot_of

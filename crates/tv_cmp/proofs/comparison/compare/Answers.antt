@@ -23,7 +23,8 @@ returns-in_err-prefix_difference_by g c =
       bits_sized g.row.W c.args.x.now c.requires.x_word.size,
       bits_sized g.row.W c.args.y.now c.requires.y_word.size,
     ) at c.in_err-prefix_difference_by.ensures.puts in
-    refused_wires _ _ _ _ _ _ _ c.from_residual-in_err-prefix_difference_by.ensures (some_then _ c.fresh-equal.ensures.puts (some_then _ c.fresh-above.ensures.puts
+    refused_wires _ _ _ _ _ _ _ c.from_residual-in_err-prefix_difference_by.ensures
+    (some_then _ c.fresh-equal.ensures.puts (some_then _ c.fresh-above.ensures.puts
     (some_then _ c.in_ok-order_flags.ensures.puts (some_then _ c.in_ok-difference.ensures.puts (some_first _ prefix)))))
 
 pub returns-in_err-greater : goal.returns-in_err-greater

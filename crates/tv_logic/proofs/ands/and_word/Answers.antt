@@ -36,7 +36,8 @@ returns-in_err-pair g c =
     let first = puts_here_as m c.fresh-word.new.self c.wires.result c.wires.ensures in
     let turns = rw all at c.loop-i.invariant.puts in
     let last = rw (c.terms.ensures.terms, c.lowest_pair-lowest.ensures.terms) at c.in_err-pair.ensures.puts in
-    refused_wires _ _ _ _ _ _ _ c.from_residual-in_err-pair.ensures (some_then _ c.fresh-word.ensures.puts (some_then _ first (some_then _ turns (some_first _ last))))
+    refused_wires _ _ _ _ _ _ _ c.from_residual-in_err-pair.ensures
+    (some_then _ c.fresh-word.ensures.puts (some_then _ first (some_then _ turns (some_first _ last))))
 
 pub returns-clause-puts : goal.returns-clause-puts
 unfolding and_of

@@ -10,7 +10,8 @@ returns-in_err-and_zero g c =
 pub returns-in_err-xor_zero : goal.returns-in_err-xor_zero
 unfolding logic_flags_of
 returns-in_err-xor_zero g c =
-    refused_wires _ _ _ _ _ _ _ c.from_residual-in_err-xor_zero.ensures (some_then _ c.in_ok-and_zero.ensures.puts (some_first _ c.in_err-xor_zero.ensures.puts))
+    refused_wires _ _ _ _ _ _ _ c.from_residual-in_err-xor_zero.ensures
+    (some_then _ c.in_ok-and_zero.ensures.puts (some_first _ c.in_err-xor_zero.ensures.puts))
 
 pub returns-in_err-not_zero : goal.returns-in_err-not_zero
 unfolding logic_flags_of

@@ -21,7 +21,8 @@ unfolding halves_of half_bit_of
 returns-in_err-select_wires g c =
     let one = rw (c.offset.ensures, c.offset-in-loop-i.ensures) at c.in_err-select_wires.ensures.puts in
     let first = puts_here_as g.S.Sink.meaning c.args.s.now c.wires.result c.wires.ensures in
-    refused_wires _ _ _ _ _ _ _ c.from_residual.ensures (some_then _ first (some_first _ (turn_some _ _ c.loop-i.invariant.puts c.loop-i-test.true (some_first _ one))))
+    refused_wires _ _ _ _ _ _ _ c.from_residual.ensures
+    (some_then _ first (some_first _ (turn_some _ _ c.loop-i.invariant.puts c.loop-i-test.true (some_first _ one))))
 
 pub returns-clause-puts : goal.returns-clause-puts
 unfolding halves_of

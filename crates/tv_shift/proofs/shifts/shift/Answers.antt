@@ -31,7 +31,8 @@ returns-in_err-in_range g c =
       c.requires.y_word.size,
       c.half_log-k.ensures,
     ) at c.in_err-in_range.ensures.puts in
-    refused_wires _ _ _ _ _ _ _ c.from_residual-in_err-in_range.ensures (some_then _ c.in_ok-parts.ensures.puts (some_then _ half (some_then _ c.in_ok-near.ensures.puts
+    refused_wires _ _ _ _ _ _ _ c.from_residual-in_err-in_range.ensures
+    (some_then _ c.in_ok-parts.ensures.puts (some_then _ half (some_then _ c.in_ok-near.ensures.puts
     (some_first _ in_range))))
 
 pub returns-clause-puts : goal.returns-clause-puts

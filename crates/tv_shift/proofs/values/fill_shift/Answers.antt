@@ -14,7 +14,8 @@ pub returns-in_err-fill_zero : goal.returns-in_err-fill_zero
 returns-in_err-fill_zero g c =
     let near = rw c.ends_values.ensures at c.in_ok-give_values.ensures.gives in
     let zero = rw (c.from.ensures, c.half_log.ensures) at c.in_err-fill_zero.ensures.gives in
-    gives_refused_whole _ _ _ _ _ _ c.from_residual-in_err-fill_zero.ensures (some_given _ c.in_ok-fill_parts.ensures.gives (some_given _ near (first_given _ zero)))
+    gives_refused_whole _ _ _ _ _ _ c.from_residual-in_err-fill_zero.ensures
+    (some_given _ c.in_ok-fill_parts.ensures.gives (some_given _ near (first_given _ zero)))
 
 pub returns-clause-gives : goal.returns-clause-gives
 returns-clause-gives g c =
