@@ -1,6 +1,6 @@
 -- One term more in a normal combination, at its wire's place.
 use Rattle.std.proofs.Common.{◌≡◌, ℕ, zero, suc, ◌+◌, ◌*◌, ◌%◌, ◌<◌, ◌≤◌, [], ◌∷◌, ◌++◌, refl, sym, ◌∙◌, ap, arith, subst, append_assoc, append-nil, take}
-use Rattle.std.proofs.Common.{length-append, max, length, get_or, eqb, eq-eqb, ne_eqb, cond, inl, inr}
+use Rattle.std.proofs.Common.{length-append, max, length, get_or, false, eqb, eq-eqb, ne_eqb, cond, inl, inr}
 use Rattle.std.specs.List.{insert, remove}
 use Rattle.std.proofs.lemmas.Bool.{cases_lt, cases_eq, cond_both, lt-ltb, le-ltb}
 use Rattle.tv_core.specs.Combinations.{scaled, top}
@@ -120,15 +120,19 @@ put_at-mod : (k n w place : ℕ) (x : Combination) → k ≡ n % P → put_at k 
 put_at-mod k n w place x e =
     let twice : k % P ≡ n % P = omega arith in ap (λ m. cond (eqb m 0) x (insert x place (m, w))) twice
 
+-- a coefficient that is a number of the field other than 0
+pub put_at-kept : (k w place : ℕ) (x : Combination) → k < P → eqb k 0 ≡ false → put_at k w place x ≡ insert x place (k, w)
+put_at-kept k w place x below kept =
+    let same : k % P ≡ k = omega arith in
+    ap (λ m. cond (eqb m 0) x (insert x place (m, w))) same ∙ ap (λ b. cond b x (insert x place (k, w))) kept
+
 -- what a call of `add` leaves
-pub added_same : (k w at sum : ℕ) (u : ℕ × ℕ) (x less out : Combination) → IsNormal x → at ≡ place w x → at < length x → u ≡ get_or x at u → u.1 ≡ w
-    → sum ≡ (k + u.0) % P → less ≡ remove x at →
-    out ≡ put_at sum w at less → out ≡ normal (x ++ (k, w) ∷ [])
-added_same k w at sum u x less out n is within read same adds removed put =
+pub added_same : (k w at sum : ℕ) (u : ℕ × ℕ) (x out : Combination) → IsNormal x → at ≡ place w x → at < length x → u ≡ get_or x at u → u.1 ≡ w
+    → sum ≡ (k + u.0) % P → out ≡ put_at sum w at (remove x at) → out ≡ normal (x ++ (k, w) ∷ [])
+added_same k w at sum u x out n is within read same adds put =
     let same_term : (get_or x at u).1 ≡ w = ap (λ t. t.1) (sym read) ∙ same in
     put
-    ∙ put_at-mod sum (k + u.0) w at less adds
-    ∙ ap (λ y. put_at (k + u.0) w at y) removed
+    ∙ put_at-mod sum (k + u.0) w at (remove x at) adds
     ∙ ap (λ t. put_at (k + t.0) w at (remove x at)) read
     ∙ at_place same_term
     ∙ sym (normal-end (k, w) x n)

@@ -1,7 +1,8 @@
--- The first of an array's cells, where one more is put among them, or one is removed.
+-- The first of an array's cells, where one more is put among them, or one is removed or replaced.
 use Rattle.std.proofs.Common.{◌≡◌, ℕ, suc, ◌+◌, ◌-◌, ◌<◌, ◌≤◌, List, [], ◌∷◌, ◌++◌, length, take, drop, set, get_or, ap, ap₂, sym, ◌∙◌, arith}
 use Rattle.std.proofs.Common.{append_assoc, length-append, length-drop}
-use Rattle.std.proofs.lemmas.List.{length-take-le, take-take, take_at, take_more, set_at, drop-take, get_or-take}
+use Rattle.std.proofs.Math.Seq.{take-set-lt}
+use Rattle.std.proofs.lemmas.List.{length-take-le, take-take, take_at, take_more, set_at, set_split, drop-take, drop_at, get_or-take}
 use Rattle.std.proofs.lemmas.List.Edits.{take-paste}
 use Rattle.std.specs.List.{copy_within, insert, remove}
 
@@ -31,6 +32,11 @@ module _ {X : Type 0} (xs : List X) (len at : ℕ) where
       ∙ take-paste xs at (drop (at + 1) xs) n (omega (arith, within, room)) (omega (arith, within, room, length-drop (at + 1) xs))
       ∙ sym (ap₂ (λ p q. p ++ q) (take-take at len xs (omega (arith, within)))
       (ap (λ k. drop k (take len xs)) next ∙ ap (λ k. drop (at + 1) (take k xs)) whole ∙ drop-take (at + 1) n xs))
+
+  pub replaced : (y : X) → at < len → len ≤ length xs → take len (set xs at y) ≡ insert (remove (take len xs) at) at y
+  replaced y within room =
+      let there : at < length (take len xs) = omega (arith, within, length-take-le len xs room) in
+      take-set-lt len xs at y within ∙ grind (arith, set_split, take_at, drop_at, length-take-le, insert, remove)
 
   pub first_cells : (x : List X) → take len xs ≡ x → len ≤ length xs → length x ≡ len
   first_cells x is room = ap length (sym is) ∙ length-take-le len xs room

@@ -169,11 +169,13 @@ impl Lc {
         ensures { self.new ≡ normal (self.old ++ (coefficient, wire) ∷ []) }
     {
         let (before, found) = self.cells[at];
-        if found.0 == wire.0 {
-            self.remove(at);
-            self.put_at(at, coefficient + before, wire);
-        } else {
+        let sum = coefficient + before;
+        if found.0 != wire.0 {
             self.put_at(at, coefficient, wire);
+        } else if sum == F::ZERO {
+            self.remove(at);
+        } else {
+            self.cells[at] = (sum, wire);
         }
     }
 

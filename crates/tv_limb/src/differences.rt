@@ -11,7 +11,7 @@ ghost use Rattle.tv_limb.specs.Difference.{sub_of, sub_values, SubIsSound, SubIs
 
 use crate::parts::{Split, split_at_word};
 use tv_bits::{Bits, fill_bits, new_bits_by};
-use tv_core::{F, Lc, Put, Scratch, Sink, Values};
+use tv_core::{F, Lc, Put, Scratch, Sink, Values, Wire};
 
 /// Constrains new bits to the difference of two words of `W` bits modulo 2^`W`, and one more to the
 /// borrow, which is 1 where `x` is below `y`. It makes `W + 1` wires and `W + 2` constraints, of
@@ -26,26 +26,24 @@ pub fn sub<const W: u32, S: Sink>(s: &mut S, x: &Bits, y: &Bits) -> Put<Split>
     ensures low { IfOk result (λ parts. AreBitsBelow (S.meaning.wires s.new) W parts.low) }
     ensures high { IfOk result (λ parts. AreBitsBelow (S.meaning.wires s.new) 1 parts.high) }
 {
-    let parts = split_at_word::<W>(new_bits_by(s, &mut Scratch::new(), W + 1)?);
-    s.put(
-        &less_borrow::<W>(&parts),
-        &Lc::constant(F::ONE),
-        &difference_of_words::<W>(x, y),
-    )?;
+    let mut scratch = Scratch::new();
+    let parts = split_at_word::<W>(new_bits_by(s, &mut scratch, W + 1)?);
+    set_less_borrow::<W>(&mut scratch.a, &parts);
+    scratch.b.set_wire(Wire(0));
+    s.put(&scratch.a, &scratch.b, &difference_of_words::<W>(x, y))?;
     Ok(parts)
 }
 
-// The low part less 2^`W` times the borrow.
-fn less_borrow<const W: u32>(parts: &Split) -> Lc
+// Makes `lc` the low part less 2^`W` times the borrow.
+fn set_less_borrow<const W: u32>(lc: &mut Lc, parts: &Split)
     requires width { IsWidth W }
     requires word { parts.now.low.n ≡ W }
     requires low_within { parts.now.low.first + W < 2 ^ 32 }
-    ensures terms { result ≡ less_borrow W parts.now }
-    ensures top { top result ≤ max (parts.now.low.first + W) (parts.now.high.first + 1) }
+    ensures terms { lc.new ≡ less_borrow W parts.now }
+    ensures top { top lc.new ≤ max (parts.now.low.first + W) (parts.now.high.first + 1) }
 {
-    let mut lc = parts.low.lc();
+    parts.low.set_number(lc);
     lc.plus(-F::of(1 << W), parts.high.first);
-    lc
 }
 
 // One word less the other.

@@ -11,10 +11,10 @@ pub returns-in_err-put-clause-puts : goal.returns-in_err-put-clause-puts
 unfolding sub_of
 returns-in_err-put-clause-puts g c =
     let last = rw (
-      c.less_borrow.ensures.terms,
+      c.set_less_borrow.ensures.terms,
       c.split_at_word-parts.ensures,
       c.difference_of_words.ensures.terms,
-      c.constant.ensures,
+      c.set_wire.ensures.terms,
     ) at c.in_err-put.ensures.puts in
     refused _ _ _ _ _ c.from_residual-in_err-put.ensures.1 (some_then _ c.in_ok-new_bits_by.ensures.puts (some_first _ last))
 
@@ -22,9 +22,9 @@ pub returns-clause-puts : goal.returns-clause-puts
 unfolding sub_of
 returns-clause-puts g c =
     let last = rw (
-      c.less_borrow.ensures.terms,
+      c.set_less_borrow.ensures.terms,
       c.split_at_word-parts.ensures,
       c.difference_of_words.ensures.terms,
-      c.constant.ensures,
+      c.set_wire.ensures.terms,
     ) at c.in_ok-put.ensures.puts in
     rw c.split_at_word-parts.ensures (all_then _ c.in_ok-new_bits_by.ensures.puts (all_then _ last all_pure))
