@@ -67,19 +67,20 @@ pub(crate) fn source(net: Net, bits: &[bool], h: u32, i: u64) -> u64
     }
     let n = long_power(h);
     let s = level_switches(net, h - 1);
-    let lower = last_bit(net, bits_from(bits, n + 2 * s), j) != odd;
+    let lower = last_bit(net, bits, n + 2 * s, j) != odd;
     let inner = source(net, bits_from(bits, n + only_if(lower, s)), h - 1, j);
     let crossed = bit(bits, inner) != lower;
     2 * inner + flag(crossed)
 }
 
-// The bit of switch `j` of a last column with these bits.
-pub(crate) fn last_bit(net: Net, bits: &[bool], j: u64) -> bool
-    ensures { result ≡ last_bit net (bit_at bits.now) j }
+// The bit of switch `j` of a last column whose bits begin at `at`.
+pub(crate) fn last_bit(net: Net, bits: &[bool], at: u64, j: u64) -> bool
+    requires { at + j < 2 ^ 64 }
+    ensures { result ≡ last_bit net (from at (bit_at bits.now)) j }
 {
     match net {
-        Net::Benes => bit(bits, j),
-        Net::Waksman => { if j == 0 { false } else { bit(bits, j - 1) } }
+        Net::Benes => bit(bits, at + j),
+        Net::Waksman => j > 0 && bit(bits, at + j - 1),
     }
 }
 

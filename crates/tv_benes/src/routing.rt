@@ -158,7 +158,7 @@ fn last_column<V: Values>(
     for j in 0..upper.len() {
         let x = upper[j];
         let y = lower[j];
-        let b = last_bit(net, bits, j as u64);
+        let b = last_bit(net, bits, 0, j as u64);
         items[2 * j] = passed(b, &x, &y);
         items[2 * j + 1] = passed(b, &y, &x);
         fill_unless(v, form, j < skipped, b, x, y)?;

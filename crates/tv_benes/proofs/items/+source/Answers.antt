@@ -27,10 +27,10 @@ returns-clause-is t c =
     let t : ℕ = c.source-inner.result in
     let lower : Bool = not (beq c.last_bit.result (c.args.i % 2 == 1)) in
     let power : c.long_power-n.result ≡ 2 ^ suc k = c.long_power-n.ensures.is ∙ ap (λ l. 2 ^ l) below.level in
-    let last = c.bits_from.ensures ∙ ap₂ (λ (n s : ℕ). from (n + 2 * s) bit) power c.level_switches-s.ensures.is in
-    let which = ap (λ (x : Bool). not (beq x (c.args.i % 2 == 1))) (c.last_bit.ensures ∙ ap (λ (f : ℕ → Bool). last_bit net f (c.args.i / 2)) last) in
+    let last = c.last_bit.ensures ∙ ap₂ (λ (n s : ℕ). last_bit net (from (n + 2 * s) bit) (c.args.i / 2)) power c.level_switches-s.ensures.is in
+    let which = ap (λ (x : Bool). not (beq x (c.args.i % 2 == 1))) last in
     let skipped = c.only_if.ensures ∙ ap (λ (n : ℕ). if lower then n else 0) c.level_switches-s.ensures.is in
-    let first = c.bits_from-2.ensures ∙ ap₂ (λ (n s : ℕ). from (n + s) bit) power skipped in
+    let first = c.bits_from.ensures ∙ ap₂ (λ (n s : ℕ). from (n + s) bit) power skipped in
     let inner = c.source-inner.ensures.is ∙ ap (λ (f : ℕ → Bool). through net k f (λ j. j) (c.args.i / 2)) first in
     ap (λ n. 2 * t + n) c.flag-2.ensures.is ∙ sym (half_place lower c.bit-2.result bit t (sym c.bit-2.ensures))
     ∙ sym (source_suc net k bit c.args.i t lower which inner)

@@ -3,6 +3,7 @@ use Rattle.std.proofs.lemmas.List.{length-set}
 use Rattle.std.specs.Prelude.{nat_lt}
 use Rattle.tv_benes.proofs.ColumnChain.{no_switch, values_as, all_as, some_as}
 use Rattle.tv_benes.proofs.Moved.{is_places, join_more, read_item, last_given, last_refused}
+use Rattle.tv_benes.proofs.Sources.{from_start}
 use Rattle.tv_benes.proofs.ThroughLaws.{passed-same}
 use Rattle.tv_benes.specs.Items.{bit_at, pair_at}
 use Rattle.tv_benes.specs.Network.{column_values}
@@ -24,7 +25,6 @@ loop-j-init g c =
 
 pub loop-j-preserved : goal.loop-j-preserved
 loop-j-preserved g c =
-    let m = g.V.Values.giving in
     let net = c.args.net in
     let j = c.loop-j.j in
     let bit = bit_at c.args.bits.now in
@@ -32,12 +32,13 @@ loop-j-preserved g c =
     let w = pair_at c.args.lower.now in
     let x = read_item c.args.upper.now j c.index-upper-j.result (omega arith) c.index-upper-j.is in
     let y = read_item c.args.lower.now j c.index-lower-j.result (omega arith) c.index-lower-j.is in
-    let values = ap₂ (λ n l. if nat_lt j n then [] else l) c.missing-skipped.ensures (values_as c.args.form _ _ _ _ _ _ c.last_bit-b.ensures x y) in
+    let is = rw (from_start bit) at c.last_bit-b.ensures in
+    let values = ap₂ (λ n l. if nat_lt j n then [] else l) c.missing-skipped.ensures (values_as c.args.form _ _ _ _ _ _ is x y) in
     let switch = all_as values c.in_ok-fill_unless.ensures.gives in
-    let first = c.passed.ensures ∙ passed-same _ _ _ _ _ _ c.last_bit-b.ensures x y in
-    let second = c.passed-in-loop-j.ensures ∙ passed-same _ _ _ _ _ _ c.last_bit-b.ensures y x in
+    let first = c.passed.ensures ∙ passed-same _ _ _ _ _ _ is x y in
+    let second = c.passed-in-loop-j.ensures ∙ passed-same _ _ _ _ _ _ is y x in
     record {
-      gives = last_given m net c.args.form bit u w j _ _ _ c.loop-j.invariant.gives switch;
+      gives = last_given g.V.Values.giving net c.args.form bit u w j _ _ _ c.loop-j.invariant.gives switch;
       whole = c.in_ok-fill_unless.ensures.whole;
       joined = join_more (last_bit net bit) u w c.loop-j.items j c.passed.result c.passed-in-loop-j.result (omega arith) first second c.loop-j.invariant.joined;
     }
@@ -47,7 +48,8 @@ returns-in_err-fill_unless-clause-gives g c =
     let j = c.loop-j.j in
     let x = read_item c.args.upper.now j c.index-upper-j.result (omega arith) c.index-upper-j.is in
     let y = read_item c.args.lower.now j c.index-lower-j.result (omega arith) c.index-lower-j.is in
-    let values = ap₂ (λ n l. if nat_lt j n then [] else l) c.missing-skipped.ensures (values_as c.args.form _ _ _ _ _ _ c.last_bit-b.ensures x y) in
+    let is = rw (from_start (bit_at c.args.bits.now)) at c.last_bit-b.ensures in
+    let values = ap₂ (λ n l. if nat_lt j n then [] else l) c.missing-skipped.ensures (values_as c.args.form _ _ _ _ _ _ is x y) in
     gives_refused _ _ _ _ _ c.from_residual.ensures.1 (last_refused g.V.Values.giving c.args.net c.args.form (bit_at c.args.bits.now)
     (pair_at c.args.upper.now) (pair_at c.args.lower.now) _ j _ _ _ _ c.loop-j-test.true c.loop-j.invariant.gives
     (some_as values c.in_err-fill_unless.ensures.gives))
