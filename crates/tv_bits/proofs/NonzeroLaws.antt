@@ -8,6 +8,7 @@ use Rattle.tv_core.proofs.PrimeLaws.{p_zero_product_below}
 use Rattle.tv_core.specs.Inverse.{inverse_of}
 use Rattle.tv_core.specs.declared.field.TheConstants.{P}
 use Rattle.tv_bits.specs.Nonzero.{nonzero_flag, nonzero_of, NonzeroIsSound, NonzeroIsComplete, NonzeroSizes}
+use Rattle.tv_bits.specs.Zero.{zero_cases_of}
 
 pub nonzero_flag-zero : (x : ℕ) → x ≡ 0 → nonzero_flag x ≡ 0
 nonzero_flag-zero x none = rw none refl
@@ -26,18 +27,18 @@ flag_meets : (x : ℕ) → x < P → (x * inverse_of x % P ≡ nonzero_flag x) �
 flag_meets x small = search (arith, cases_eq, ℕ, zero-mul, nonzero_flag-zero, mul-inverse_of, nonzero_flag-other, mul-zero)
 
 pub nonzero_sound : NonzeroIsSound
-unfolding nonzero_of ◌>>=◌ fresh put pure
+unfolding nonzero_of zero_cases_of ◌>>=◌ fresh put pure
 nonzero_sound z next x assigns meets = search (arith, flag_of, value-below, wire-below, value-wire, value-one_less)
 
 pub nonzero_complete : NonzeroIsComplete
-unfolding nonzero_of ◌>>=◌ fresh put pure
+unfolding nonzero_of zero_cases_of ◌>>=◌ fresh put pure
 nonzero_complete z next x assigns has = search (arith, flag_meets, value-below, value-wire, value-one_less)
 
 nonzero_flag-below : (v : ℕ) → nonzero_flag v < P
 nonzero_flag-below v = grind (arith, nat_tests)
 
 pub nonzero_sizes : NonzeroSizes
-unfolding nonzero_of fresh put pure ◌>>=◌
+unfolding nonzero_of zero_cases_of fresh put pure ◌>>=◌
 nonzero_sizes = record {
   answer = λ x next. refl;
   end = λ x next. omega arith;

@@ -22,6 +22,7 @@ use Rattle.tv_bits.specs.Select.{pick_of, SelectIsNormal}
 use Rattle.tv_bits.specs.Times.{times_of, kept_of}
 use Rattle.tv_bits.specs.ZeroSign.{zero_sign_of}
 use Rattle.tv_bits.specs.declared.double_rows.DoubleRow.{DoubleRow}
+use Rattle.tv_bits.specs.Zero.{zero_cases_of}
 
 -- ---- combinations
 pub wire_normal : (least w : ℕ) → least ≤ w → IsNormalFrom least (wire w)
@@ -115,7 +116,7 @@ gated_normal gate x y next ng nd = normal_put gate (less x y) [] next ng nd tt
 
 -- the sign's wires are below f
 pub zero_sign_normal : (y f : ℕ) (sign : Combination) (next : ℕ) → IsNormal sign → top sign ≤ f → AreNormal (zero_sign_of y f sign next).list
-unfolding zero_sign_of fresh put ◌>>=◌
+unfolding zero_sign_of zero_cases_of fresh put ◌>>=◌
 zero_sign_normal y f sign next n below =
     let gate : IsNormal (wire y) = wire_normal 0 y (omega arith) in
     let flag : IsNormal (wire f) = wire_normal 0 f (omega arith) in

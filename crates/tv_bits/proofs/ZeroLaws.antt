@@ -7,7 +7,7 @@ use Rattle.tv_core.proofs.InverseLaws.{mul-inverse_of}
 use Rattle.tv_core.proofs.PrimeLaws.{p_zero_product_below}
 use Rattle.tv_core.specs.declared.field.TheConstants.{P}
 use Rattle.tv_core.specs.Inverse.{inverse_of}
-use Rattle.tv_bits.specs.Zero.{zero_flag, zero_of, ZeroIsSound, ZeroIsComplete}
+use Rattle.tv_bits.specs.Zero.{zero_cases_of, zero_flag, zero_of, ZeroIsSound, ZeroIsComplete}
 
 -- the flag by its two cases
 pub zero_flag-zero : (x : ℕ) → x ≡ 0 → zero_flag x ≡ 1
@@ -24,18 +24,18 @@ flag_meets : (x : ℕ) → x < P → (x * inverse_of x % P ≡ (1 + (P - zero_fl
 flag_meets x small = search (arith, cases_eq, ℕ, zero-mul, zero_flag-zero, mul-inverse_of, zero_flag-other, mul-zero)
 
 pub zero_sound : ZeroIsSound
-unfolding zero_of ◌>>=◌ fresh put pure
+unfolding zero_of zero_cases_of ◌>>=◌ fresh put pure
 zero_sound z next x assigns meets = search (arith, flag_of, value-below, wire-below, value-wire, value-one_less)
 
 pub zero_complete : ZeroIsComplete
-unfolding zero_of ◌>>=◌ fresh put pure
+unfolding zero_of zero_cases_of ◌>>=◌ fresh put pure
 zero_complete z next x assigns has = search (arith, flag_meets, value-below, value-wire, value-one_less)
 
 -- what the circuit answers, and where it ends
 pub zero_answer : (x : Combination) (next : ℕ) → (zero_of x next).answer ≡ next
-unfolding zero_of fresh put pure ◌>>=◌
+unfolding zero_of zero_cases_of fresh put pure ◌>>=◌
 zero_answer x next = refl
 
 pub zero_next : (x : Combination) (next : ℕ) → (zero_of x next).next ≡ next + 2
-unfolding zero_of fresh put pure ◌>>=◌
+unfolding zero_of zero_cases_of fresh put pure ◌>>=◌
 zero_next x next = omega arith

@@ -9,6 +9,7 @@ use Rattle.tv_core.specs.declared.field.TheConstants.{P}
 use Rattle.tv_bits.proofs.TimesLaws.{ratio_divides, residue_below}
 use Rattle.tv_bits.specs.Ratio.{ratio}
 use Rattle.tv_bits.specs.ZeroSign.{sign_at_zero, zero_sign_of, ZeroSignIsSound, ZeroSignIsComplete, ZeroSignSizes, ZeroSignCosts}
+use Rattle.tv_bits.specs.Zero.{zero_cases_of}
 
 -- the sign by its two cases
 sign-zero : (y sign : ℕ) → y ≡ 0 → sign_at_zero y sign ≡ sign
@@ -36,7 +37,7 @@ sign_meets : (y sign : ℕ) → y < P → sign < P → (y * ratio y sign % P ≡
 sign_meets y sign h k = search (arith, cases_eq, zero-mul, sign-zero, difference_same, ratio_divides, sign-other, difference_zero, mul-zero)
 
 pub zero_sign_sound : ZeroSignIsSound
-unfolding zero_sign_of ◌>>=◌ fresh put pure
+unfolding zero_sign_of zero_cases_of ◌>>=◌ fresh put pure
 zero_sign_sound z next y f sign assigns meets =
     sign_is (slice_index z y) (slice_index z next) (value sign z) (slice_index z f) (wire-below assigns y) (value-below sign z) (wire-below assigns f)
     (sym (ap₂ (λ m n. m * n % P) (value-wire assigns y) (value-wire assigns next)) ∙ meets.0 ∙ value-less sign (wire f) z
@@ -44,7 +45,7 @@ zero_sign_sound z next y f sign assigns meets =
     (sym (ap₂ (λ m n. m * n % P) (value-wire assigns y) (value-wire assigns f)) ∙ meets.1.0)
 
 pub zero_sign_complete : ZeroSignIsComplete
-unfolding zero_sign_of ◌>>=◌ fresh put pure
+unfolding zero_sign_of zero_cases_of ◌>>=◌ fresh put pure
 zero_sign_complete z next y f sign assigns is has =
     let numbers = sign_meets (slice_index z y) (value sign z) (wire-below assigns y) (value-below sign z) in
     let difference = value-less sign (wire f) z ∙ ap (λ n. (value sign z + (P - n)) % P) (value-wire assigns f ∙ is) in (
@@ -53,7 +54,7 @@ zero_sign_complete z next y f sign assigns is has =
     )
 
 pub zero_sign_sizes : ZeroSignSizes
-unfolding zero_sign_of fresh put pure ◌>>=◌
+unfolding zero_sign_of zero_cases_of fresh put pure ◌>>=◌
 zero_sign_sizes = record {
   end = λ y f sign next. refl;
   fills = λ y f sign v s next. refl;
@@ -61,7 +62,7 @@ zero_sign_sizes = record {
 }
 
 pub zero_sign_costs : ZeroSignCosts
-unfolding zero_sign_of fresh put pure ◌>>=◌
+unfolding zero_sign_of zero_cases_of fresh put pure ◌>>=◌
 zero_sign_costs = record {
   constraints = λ y f sign next. refl;
   terms = λ y f sign next. omega (arith, length-append sign ((P - 1, f) ∷ []));

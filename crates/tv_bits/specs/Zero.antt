@@ -10,13 +10,18 @@ use Rattle.tv_core.specs.Laws.{Assigns, Meets, HasFrom, Fills, InField}
 abbrev pub zero_flag : ℕ → ℕ
 zero_flag x = if x == 0 then 1 else 0
 
--- a wire that is 1 where x is 0, and else 0: x times a hint is 1 less the flag, and x times the flag is 0
+-- u is 0 where x is 0, and v where it isn't: x times a hint is u, and x times v is 0
+unfoldable pub zero_cases_of : Combination → Combination → Combination → Circuit (Unit {0})
+zero_cases_of x u v = do
+  hint ← fresh
+  _ ← put x (wire hint) u
+  put x v []
+
+-- a wire that is 1 where x is 0, and else 0
 unfoldable pub zero_of : Combination → Circuit ℕ
 zero_of x = do
   flag ← fresh
-  hint ← fresh
-  _ ← put x (wire hint) (one_less flag)
-  _ ← put x (wire flag) []
+  _ ← zero_cases_of x (one_less flag) (wire flag)
   pure flag
 
 -- the values of the wires that are made: the flag, and as hint the inverse of x, or 0

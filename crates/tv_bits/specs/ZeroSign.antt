@@ -1,7 +1,8 @@
 -- A number that is a sign where another is 0.
 use Rattle.std.specs.Prelude.{◌≡◌, ℕ, ◌+◌, ◌==◌, if◌then◌else◌, List, [], ◌∷◌, length, slice_index}
 use Rattle.tv_bits.specs.Ratio.{ratio}
-use Rattle.tv_core.specs.Circuits.{Circuit, fresh, put, ◌>>=◌}
+use Rattle.tv_bits.specs.Zero.{zero_cases_of}
+use Rattle.tv_core.specs.Circuits.{Circuit}
 use Rattle.tv_core.specs.Combinations.{wire, less}
 use Rattle.tv_core.specs.Constraints.{Combination, value}
 use Rattle.tv_core.specs.Laws.{Assigns, Meets, HasFrom, Fills, InField}
@@ -11,12 +12,9 @@ use Rattle.tv_core.specs.Meanings.{terms_in}
 abbrev pub sign_at_zero : ℕ → ℕ → ℕ
 sign_at_zero y sign = if y == 0 then sign else 0
 
--- holds wire f to the sign where wire y is 0, and else to 0: y times a hint is the sign less f, and y times f is 0
+-- holds wire f to the sign where wire y is 0, and else to 0
 unfoldable pub zero_sign_of : ℕ → ℕ → Combination → Circuit (Unit {0})
-zero_sign_of y f sign = do
-  hint ← fresh
-  _ ← put (wire y) (wire hint) (less sign (wire f))
-  put (wire y) (wire f) []
+zero_sign_of y f sign = zero_cases_of (wire y) (less sign (wire f)) (wire f)
 
 -- the value of the hint: the sign divided by y, and 0 where y is 0
 abbrev pub zero_sign_values : ℕ → ℕ → List ℕ

@@ -45,4 +45,4 @@ pub use selection::{
 };
 pub use signed_words::{SignedWord, sign_of};
 pub use zero_signs::{fill_zero_sign, zero_sign, zero_sign_laws};
-pub use zeros::{fill_zero, zero, zero_by, zero_laws, zero_values};
+pub use zeros::{fill_zero, zero, zero_by, zero_cases, zero_laws, zero_values};

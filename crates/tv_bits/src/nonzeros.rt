@@ -6,6 +6,7 @@ ghost use Rattle.tv_core.specs.Combinations.{top};
 ghost use Rattle.tv_core.specs.Values.{GivesIn};
 ghost use Rattle.tv_core.specs.Sinks.{PutsIn, Grows, Room};
 
+use crate::zeros::zero_cases;
 use tv_core::{F, Put, Scratch, Sink, Values, Wire, give_values};
 
 /// Makes a wire that is 0 exactly where `scratch.a`, which stays there, is 0, and else 1. It makes
@@ -19,13 +20,8 @@ pub fn nonzero_by<S: Sink>(s: &mut S, scratch: &mut Scratch) -> Put<Wire>
     ensures a { scratch.new.a ≡ scratch.old.a }
 {
     let flag = s.fresh();
-    let hint = s.fresh();
-    scratch.b.set_wire(hint);
     scratch.c.set_wire(flag);
-    s.put(&scratch.a, &scratch.b, &scratch.c)?;
-    scratch.b.set_difference(Wire(0), flag);
-    scratch.c.clear();
-    s.put(&scratch.a, &scratch.b, &scratch.c)?;
+    zero_cases(s, scratch, &[(F::ONE, Wire(0)), (-F::ONE, flag)])?;
     Ok(flag)
 }
 

@@ -6,6 +6,7 @@ ghost use Rattle.tv_core.specs.Combinations.{top};
 ghost use Rattle.tv_core.specs.Values.{GivesIn};
 ghost use Rattle.tv_core.specs.Sinks.{PutsIn, Grows, Room};
 
+use crate::zeros::zero_cases;
 use tv_core::{F, Put, Scratch, Sink, Values, Wire};
 
 /// Constrains the wire `f` to `sign` where the wire `y` is 0, and else to 0. `sign` has at most 127
@@ -26,16 +27,11 @@ pub fn zero_sign<S: Sink>(
     ensures puts { PutsIn S.meaning s.old s.new (zero_sign_of y f sign.now) result }
     ensures grows { IfOk result (λ _. Grows S.meaning s.old s.new 1 2) }
 {
-    let hint = s.fresh();
     scratch.a.set_wire(y);
-    scratch.b.set_wire(hint);
     scratch.c.clear();
     scratch.c.plus_terms(sign);
     scratch.c.plus(-F::ONE, f);
-    s.put(&scratch.a, &scratch.b, &scratch.c)?;
-    scratch.b.set_wire(f);
-    scratch.c.clear();
-    s.put(&scratch.a, &scratch.b, &scratch.c)
+    zero_cases(s, scratch, &[(F::ONE, f)])
 }
 
 /// Assigns the value of the wire that `zero_sign` makes, `y` and `sign` being those of its

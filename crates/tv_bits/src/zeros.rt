@@ -1,9 +1,10 @@
 //! Whether a combination is 0.
-ghost use Rattle.std.specs.Prelude.{◌≡◌, ◌≤◌, ◌<◌, false, IfOk, OnOk};
+ghost use Rattle.std.specs.Prelude.{◌≡◌, ◌≤◌, ◌<◌, false, length, max, IfOk, OnOk};
 ghost use Rattle.tv_core.specs.Combinations.{top};
 ghost use Rattle.tv_core.specs.Sinks.{PutsIn, Grows, Room};
 ghost use Rattle.tv_core.specs.Values.{GivesIn};
-ghost use Rattle.tv_bits.specs.Zero.{zero_of, zero_values, ZeroIsSound, ZeroIsComplete, ZeroSizes};
+ghost use Rattle.tv_bits.specs.Zero.{zero_cases_of, zero_of, zero_values};
+ghost use Rattle.tv_bits.specs.Zero.{ZeroIsSound, ZeroIsComplete, ZeroSizes};
 
 use tv_core::{F, Lc, Put, Scratch, Sink, Values, Wire, give_values};
 
@@ -31,14 +32,31 @@ pub fn zero_by<S: Sink>(s: &mut S, scratch: &mut Scratch) -> Put<Wire>
     ensures a { scratch.new.a ≡ scratch.old.a }
 {
     let flag = s.fresh();
+    scratch.c.set_difference(Wire(0), flag);
+    zero_cases(s, scratch, &[(F::ONE, flag)])?;
+    Ok(flag)
+}
+
+/// Constrains `scratch.c` to 0 where `scratch.a` is 0, and `other` to 0 where it isn't; `scratch.a`
+/// stays. It makes 1 wire, a hint, whose value is `scratch.c` divided by `scratch.a`, and 2
+/// constraints.
+pub fn zero_cases<S: Sink>(s: &mut S, scratch: &mut Scratch, other: &[(F, Wire)]) -> Put<()>
+    requires room { Room S.meaning s.old 1 2 }
+    requires made { max (top scratch.old.a) (max (top scratch.old.c) (top other.now))
+        ≤ S.meaning.wires s.old }
+    requires short { length other.now ≤ 128 }
+    ensures puts { PutsIn S.meaning s.old s.new
+        (zero_cases_of scratch.old.a scratch.old.c other.now) result }
+    ensures grows { IfOk result (λ _. Grows S.meaning s.old s.new 1 2) }
+    ensures a { scratch.new.a ≡ scratch.old.a }
+{
     let hint = s.fresh();
     scratch.b.set_wire(hint);
-    scratch.c.set_difference(Wire(0), flag);
     s.put(&scratch.a, &scratch.b, &scratch.c)?;
-    scratch.b.set_wire(flag);
+    scratch.b.clear();
+    scratch.b.plus_terms(other);
     scratch.c.clear();
-    s.put(&scratch.a, &scratch.b, &scratch.c)?;
-    Ok(flag)
+    s.put(&scratch.a, &scratch.b, &scratch.c)
 }
 
 /// Assigns the values of the wires that `zero` makes, `x` being that of its combination.

@@ -13,10 +13,11 @@ use Rattle.tv_inputs.specs.Operand.{upper_of}
 use Rattle.tv_inputs.specs.Tapes.{if_zero_of, left_in, primary_of, auxiliary_of, tapes_of}
 use Rattle.tv_inputs.specs.declared.records.OperandWires.{OperandWires}
 use Rattle.tv_inputs.specs.declared.records.StateWires.{StateWires}
+use Rattle.tv_bits.specs.Zero.{zero_cases_of}
 
 -- ---- a number where another is 0
 pub if_zero_normal : (g x : Combination) (next : ℕ) → IsNormal g → top g ≤ next → IsNormal x → AreNormal (if_zero_of g x next).list
-unfolding if_zero_of fresh put pure ◌>>=◌
+unfolding if_zero_of zero_cases_of fresh put pure ◌>>=◌
 if_zero_normal g x next n below nx =
     let rest = normal_append 0 next g ((P - 1, next) ∷ []) n below (omega arith) (omega arith, omega arith, omega arith, tt) in
     (record { a = nx; b = search arith; c = rest }, (record { a = nx; b = search arith; c = tt }, tt))
@@ -30,7 +31,7 @@ left_normal n before short some = elim (cases_eq n 0) [
 
 pub primary_normal : (n before reads aux next : ℕ) → n < 2 ^ 29 → 0 < before → before < reads → reads < aux → aux < next
     → AreNormal (primary_of n before reads aux next).list
-unfolding primary_of fresh put pure ◌>>=◌
+unfolding primary_of zero_cases_of fresh put pure ◌>>=◌
 primary_normal n before reads aux next short some h k l =
     let left = left_normal n before short some in
     (record { a = left; b = search arith; c = search arith }, (record { a = left; b = search arith; c = tt }, tt))
@@ -43,7 +44,7 @@ auxiliary_normal taken aux before next some h =
 pub tapes_normal : (w : ℕ) → IsWidth w → (n : ℕ) (state : StateWires) (op : ℕ) (a : OperandWires) (next : ℕ) → n < 2 ^ 29 → 0 < state.taken_of_primary
     → state.taken_of_primary < next
     → 0 < state.aux_ended → state.aux_ended < next → op + 29 ≤ next → a.word < a.bits.first → AreNormal (tapes_of w n state op a next).list
-unfolding tapes_of if_zero_of times_of primary_of auxiliary_of fresh put pure ◌>>=◌
+unfolding tapes_of if_zero_of zero_cases_of times_of primary_of auxiliary_of fresh put pure ◌>>=◌
 tapes_normal w width n state op a next short some within ended_some ended_within row rise =
     let read = opcode_sum op (READ ∷ []) in
     let upper = upper_of 1 a 1 in

@@ -16,6 +16,7 @@ use Rattle.tv_inputs.specs.Tapes.{if_zero_of, primary_of, auxiliary_of, tapes_of
 use Rattle.tv_inputs.specs.declared.records.OperandWires.{OperandWires}
 use Rattle.tv_inputs.specs.declared.records.StateWires.{StateWires}
 use Rattle.tv_inputs.specs.declared.records.TapeWires.{TapeWires}
+use Rattle.tv_bits.specs.Zero.{zero_cases_of}
 
 pub flag_test : (b : Bool) → (flag_of b == 1) ≡ b
 flag_test true = refl
@@ -29,7 +30,7 @@ same_wires a b c d e f p q r = ap (λ x. wires_from x b c) p ∙ ap (λ x. wires
 
 tapes_answer : (w n : ℕ) (state : StateWires) (op : ℕ) (a : OperandWires) (next : ℕ)
     → (tapes_of w n state op a next).answer ≡ record { taken = next + 3; takes = next + 5; ended = next + 6 }
-unfolding tapes_of if_zero_of times_of primary_of auxiliary_of fresh put pure ◌>>=◌
+unfolding tapes_of if_zero_of zero_cases_of times_of primary_of auxiliary_of fresh put pure ◌>>=◌
 tapes_answer w n state op a next = same_wires _ _ _ _ _ _ (omega arith) (omega arith) (omega arith)
 
 -- where one is asked for, a word of the auxiliary tape may be taken
@@ -41,7 +42,7 @@ tapes_filled w width z next n state op a v i o takes has asked values =
     ((tapes_settled w width z n state op a v i o takes has asked).complete next values, ap (λ t. t == 1) is ∙ flag_test takes)
 
 tapes_next : (w n : ℕ) (state : StateWires) (op : ℕ) (a : OperandWires) (next : ℕ) → (tapes_of w n state op a next).next ≡ next + 7
-unfolding tapes_of if_zero_of times_of primary_of auxiliary_of fresh put pure ◌>>=◌
+unfolding tapes_of if_zero_of zero_cases_of times_of primary_of auxiliary_of fresh put pure ◌>>=◌
 tapes_next w n state op a next = omega arith
 
 tapes_in_field : (w n : ℕ) (v : View) (i : Instr) (o : ℕ) (takes : Bool) → n < 2 ^ 29 → v.taken ≤ n → v.ended < 2 → InField (tapes_values w n v i o takes)
@@ -71,7 +72,7 @@ tapes_sizes = record {
 }
 
 tapes_count : (w n : ℕ) (state : StateWires) (op : ℕ) (a : OperandWires) (next : ℕ) → length (tapes_of w n state op a next).list ≡ 7
-unfolding tapes_of if_zero_of times_of primary_of auxiliary_of fresh put pure ◌>>=◌
+unfolding tapes_of if_zero_of zero_cases_of times_of primary_of auxiliary_of fresh put pure ◌>>=◌
 tapes_count w n state op a next = refl
 
 -- what is left of the words has one term, or two
@@ -81,7 +82,7 @@ length-left false x y one two = omega (arith, two)
 
 terms_put : (w : ℕ) → IsWidth w → (n : ℕ) (state : StateWires) (op : ℕ) (a : OperandWires) (next : ℕ)
     → terms_in (tapes_of w n state op a next).list ≡ tapes_terms n
-unfolding tapes_of if_zero_of times_of primary_of auxiliary_of fresh put pure ◌>>=◌
+unfolding tapes_of if_zero_of zero_cases_of times_of primary_of auxiliary_of fresh put pure ◌>>=◌
 terms_put w width n state op a next =
     let before = state.taken_of_primary in
     let left = length-left (n == 0) ((P - 1, before) ∷ []) ((n, 0) ∷ (P - 1, before) ∷ []) refl refl in

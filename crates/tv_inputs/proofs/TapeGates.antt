@@ -14,6 +14,7 @@ use Rattle.tv_core.proofs.Residues.{mul-mod_undone}
 use Rattle.tv_core.specs.Inverse.{inverse_of}
 use Rattle.tv_core.specs.declared.field.TheConstants.{P}
 use Rattle.tv_inputs.specs.Tapes.{if_zero_of, left_in, primary_of, auxiliary_of}
+use Rattle.tv_bits.specs.Zero.{zero_cases_of}
 
 -- ---- values of short combinations
 pub value-two : (z : List ℕ) (b c v w : ℕ) → value ((b, v) ∷ (c, w) ∷ []) z ≡ (b * slice_index z v + c * slice_index z w) % P
@@ -53,14 +54,14 @@ if_zero_by x h g w xs gs ws first second = elim (cases_eq x 0) [
 
 pub if_zero_sound : (z : List ℕ) (next : ℕ) (g x : Combination) → Assigns z → Meets z (if_zero_of g x next).list
     → slice_index z (if_zero_of g x next).answer ≡ (if value x z == 0 then value g z else 0)
-unfolding if_zero_of fresh put pure ◌>>=◌
+unfolding if_zero_of zero_cases_of fresh put pure ◌>>=◌
 if_zero_sound z next g x assigns meets =
     if_zero_by (value x z) (value (wire (next + 1)) z) (value g z) (slice_index z next) (value-below x z) (value-below g z) (wire-below assigns next)
     (meets.0 ∙ value-less g (wire next) z ∙ ap (λ n. (value g z + (P - n)) % P) (value-wire assigns next))
     (ap (λ n. value x z * n % P) (sym (value-wire assigns next)) ∙ meets.1.0)
 
 pub if_zero_next : (g x : Combination) (next : ℕ) → (if_zero_of g x next).next ≡ next + 2
-unfolding if_zero_of fresh put pure ◌>>=◌
+unfolding if_zero_of zero_cases_of fresh put pure ◌>>=◌
 if_zero_next g x next = omega arith
 
 pub unless_zero_by : (x h g w : ℕ) → x < P → g < P → w < P → x * h % P ≡ w → x * ((g + (P - w)) % P) % P ≡ 0 → w ≡ (if x == 0 then 0 else g)
@@ -88,7 +89,7 @@ less_none a b h e = omega arith
 
 pub if_zero_complete : (z : List ℕ) (next : ℕ) (g x : Combination) → Assigns z → slice_index z next ≡ (if value x z == 0 then value g z else 0)
     → slice_index z (next + 1) ≡ inverse_of (value x z) * value g z % P → Meets z (if_zero_of g x next).list
-unfolding if_zero_of fresh put pure ◌>>=◌
+unfolding if_zero_of zero_cases_of fresh put pure ◌>>=◌
 if_zero_complete z next g x assigns w h =
     let gate = value-less g (wire next) z ∙ ap (λ n. (value g z + (P - n)) % P) (value-wire assigns next) in
     let both = by_cases in
@@ -173,7 +174,7 @@ module _ (z : List ℕ) (n before reads aux g : ℕ) (assigns : Assigns z) (shor
 
   pub primary_sound : (next : ℕ) → Meets z (primary_of n before reads aux next).list
       → slice_index z (primary_of n before reads aux next).answer ≡ slice_index z before + (if n - slice_index z before == 0 then 0 else g)
-  unfolding primary_of fresh put pure ◌>>=◌
+  unfolding primary_of zero_cases_of fresh put pure ◌>>=◌
   primary_sound next meets =
       let t = slice_index z next in
       let first = ap (λ m. m * value (wire (next + 1)) z % P) (sym left) ∙ meets.0 ∙ rise next in
@@ -187,7 +188,7 @@ module _ (z : List ℕ) (n before reads aux g : ℕ) (assigns : Assigns z) (shor
 
   pub primary_complete : (next : ℕ) → slice_index z next ≡ slice_index z before + (if n - slice_index z before == 0 then 0 else g)
       → slice_index z (next + 1) ≡ inverse_of (n - slice_index z before) * g % P → Meets z (primary_of n before reads aux next).list
-  unfolding primary_of fresh put pure ◌>>=◌
+  unfolding primary_of zero_cases_of fresh put pure ◌>>=◌
   primary_complete next e hint =
       let t = slice_index z next in
       let d : (t + (P - b)) % P ≡ more = forth t more more_bit e in

@@ -22,6 +22,7 @@ use Rattle.tv_inputs.proofs.UpperLaws.{upper_once}
 use Rattle.tv_inputs.specs.OpcodeSums.{opcode_sum}
 use Rattle.tv_inputs.specs.Operand.{upper_of}
 use Rattle.tv_inputs.specs.Tapes.{primary_of, auxiliary_of, tapes_of, TapesAreSound, HasTapes, tapes_values, AreTapes}
+use Rattle.tv_bits.specs.Zero.{zero_cases_of}
 
 -- ---- tests
 pub among_one : (j k : ℕ) → among (j ∷ []) k ≡ (k == j)
@@ -120,7 +121,7 @@ one_tape v i n true asked p =
 one_tape v i n false asked p = refl
 
 primary_next : (n before reads aux next : ℕ) → (primary_of n before reads aux next).next ≡ next + 2
-unfolding primary_of fresh put pure ◌>>=◌
+unfolding primary_of zero_cases_of fresh put pure ◌>>=◌
 primary_next n before reads aux next = omega arith
 
 -- ---- the tapes

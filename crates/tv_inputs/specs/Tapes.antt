@@ -2,6 +2,7 @@
 use Rattle.std.specs.Prelude.{◌≡◌, ℕ, ◌+◌, ◌-◌, ◌*◌, ◌/◌, ◌%◌, ◌^◌, ◌<◌, ◌≤◌, Bool, true, not, ◌&&◌, ◌==◌, if◌then◌else◌, List, [], ◌∷◌, length, slice_index}
 use Rattle.tv_bits.specs.Bit.{IsBit}
 use Rattle.tv_bits.specs.Times.{times_of}
+use Rattle.tv_bits.specs.Zero.{zero_cases_of}
 use Rattle.tv_core.specs.Circuits.{Circuit, fresh, put, pure, ◌>>=◌}
 use Rattle.tv_core.specs.Combinations.{wire, less, one_less}
 use Rattle.tv_core.specs.Constraints.{Combination}
@@ -26,9 +27,7 @@ use Rattle.tv_word.specs.Word.{flag_of}
 unfoldable pub if_zero_of : Combination → Combination → Circuit ℕ
 if_zero_of g x = do
   w ← fresh
-  hint ← fresh
-  _ ← put x (wire hint) (less g (wire w))
-  _ ← put x (wire w) []
+  _ ← zero_cases_of x (less g (wire w)) (wire w)
   pure w
 
 -- how many of n words are left after `before` of them; the constant has no term where n is 0
@@ -40,9 +39,7 @@ left_in n before = if n == 0 then (P - 1, before) ∷ [] else (n, 0) ∷ (P - 1,
 unfoldable pub primary_of : ℕ → ℕ → ℕ → ℕ → Circuit ℕ
 primary_of n before reads aux = do
   taken ← fresh
-  hint ← fresh
-  _ ← put (left_in n before) (wire hint) ((P - 1, before) ∷ (1, taken) ∷ [])
-  _ ← put (left_in n before) ((1, before) ∷ (1, reads) ∷ (P - 1, aux) ∷ (P - 1, taken) ∷ []) []
+  _ ← zero_cases_of (left_in n before) ((P - 1, before) ∷ (1, taken) ∷ []) ((1, before) ∷ (1, reads) ∷ (P - 1, aux) ∷ (P - 1, taken) ∷ [])
   pure taken
 
 -- two new wires: whether a word of tape 1 is taken, and the ended bit after the step. Where the step reads tape 1 and

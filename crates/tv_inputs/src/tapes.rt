@@ -24,8 +24,8 @@ use crate::opcode_sums::opcode_wire;
 use crate::operand::plus_upper;
 use crate::records::{OperandWires, StateWires, TapeWires};
 use crate::step_numbers::StepNumbers;
-use crate::terms::{set_rise, set_terms};
-use tv_bits::times_by;
+use crate::terms::set_rise;
+use tv_bits::{times_by, zero_cases};
 use tv_core::{F, Lc, Put, Scratch, Sink, Values, Wire, give_values};
 use tv_isa::opcode::READ;
 use tv_step::TraceState;
@@ -92,15 +92,10 @@ pub fn if_zero<S: Sink>(s: &mut S, scratch: &mut Scratch, g: &[(F, Wire)]) -> Pu
     ensures a { scratch.new.a ≡ scratch.old.a }
 {
     let w = s.fresh();
-    let hint = s.fresh();
-    scratch.b.set_wire(hint);
     scratch.c.clear();
     scratch.c.plus_terms(g);
     scratch.c.plus(-F::ONE, w);
-    s.put(&scratch.a, &scratch.b, &scratch.c)?;
-    scratch.b.set_wire(w);
-    scratch.c.clear();
-    s.put(&scratch.a, &scratch.b, &scratch.c)?;
+    zero_cases(s, scratch, &[(F::ONE, w)])?;
     Ok(w)
 }
 
@@ -123,22 +118,15 @@ fn primary<S: Sink>(
 {
     let minus = -F::ONE;
     let taken = s.fresh();
-    let hint = s.fresh();
     set_left(&mut scratch.a, n, before);
-    scratch.b.set_wire(hint);
     set_rise(&mut scratch.c, before, taken);
-    s.put(&scratch.a, &scratch.b, &scratch.c)?;
-    set_terms(
-        &mut scratch.b,
-        &[
-            (F::ONE, before),
-            (F::ONE, reads),
-            (minus, aux),
-            (minus, taken),
-        ],
-    );
-    scratch.c.clear();
-    s.put(&scratch.a, &scratch.b, &scratch.c)?;
+    let other = [
+        (F::ONE, before),
+        (F::ONE, reads),
+        (minus, aux),
+        (minus, taken),
+    ];
+    zero_cases(s, scratch, &other)?;
     Ok(taken)
 }
 

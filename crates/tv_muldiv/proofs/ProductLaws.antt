@@ -20,6 +20,7 @@ use Rattle.tv_bits.specs.Nonzero.{nonzero_of, nonzero_flag, nonzero_values}
 use Rattle.tv_muldiv.specs.Product.{product_bits_of, product_of, ProductIsSound, ProductIsComplete, ProductSizes}
 use Rattle.tv_muldiv.specs.Weighed.{halves_values}
 use Rattle.tv_bits.proofs.BitLaws.{product_bit}
+use Rattle.tv_bits.specs.Zero.{zero_cases_of}
 
 -- ---- numbers
 -- a number below P, and one below 2 P that is the same modulo P and as odd, are one
@@ -100,11 +101,11 @@ product_bits_next w width x y next = new_bits_next (2 * w - 1) (next + 1) ∙ gr
 -- ---- the product
 pub product_answer : (w : ℕ) → IsWidth w → (x y : Bits) (next : ℕ)
     → (product_of w x y next).answer ≡ record { low = record { first = next; n = w }; high = record { first = next + w; n = w }; over = next + 2 * w }
-unfolding product_of nonzero_of fresh put pure ◌>>=◌
+unfolding product_of nonzero_of zero_cases_of fresh put pure ◌>>=◌
 product_answer w width x y next = rw (product_bits_answer, product_bits_next w width x y next) refl
 
 pub product_next : (w : ℕ) → IsWidth w → (x y : Bits) (next : ℕ) → (product_of w x y next).next ≡ next + (2 * w + 2)
-unfolding product_of nonzero_of fresh put pure ◌>>=◌
+unfolding product_of nonzero_of zero_cases_of fresh put pure ◌>>=◌
 product_next w width x y next = omega (arith, product_bits_next w width x y next)
 
 -- the circuit in two parts

@@ -21,6 +21,7 @@ use Rattle.tv_muldiv.specs.SignedHigh.{SignedHighIsComplete, SignedHighSizes}
 use Rattle.tv_muldiv.specs.Weighed.{signed_combination, halves_values}
 use Rattle.tv_word.specs.Operations.{signed_product, product_twos}
 use Rattle.tv_word.specs.Word.{signed}
+use Rattle.tv_bits.specs.Zero.{zero_cases_of}
 
 -- ---- values
 -- bits, and one wire more with a coefficient of its own
@@ -90,11 +91,11 @@ module _ (w : ℕ) (width : IsWidth w) (z : List ℕ) (assigns : Assigns z) (nex
 -- ---- the high word
 pub signed_high_answer : (w : ℕ) (x y : Bits) (next : ℕ)
     → (signed_high_of w x y next).answer ≡ record { high = record { first = next + w; n = w }; over = next + 2 * w }
-unfolding signed_high_of nonzero_of fresh put pure ◌>>=◌
+unfolding signed_high_of nonzero_of zero_cases_of fresh put pure ◌>>=◌
 signed_high_answer w x y next = rw (signed_bits_answer, signed_bits_next) refl
 
 pub signed_high_next : (w : ℕ) (x y : Bits) (next : ℕ) → (signed_high_of w x y next).next ≡ next + (2 * w + 2)
-unfolding signed_high_of nonzero_of fresh put pure ◌>>=◌
+unfolding signed_high_of nonzero_of zero_cases_of fresh put pure ◌>>=◌
 signed_high_next w x y next = omega (arith, signed_bits_next w x y next)
 
 -- the circuit in two parts

@@ -16,6 +16,7 @@ use Rattle.tv_results.specs.Pc.{from_last, goes_in, after_in, jump_in, pc_of}
 use Rattle.tv_inputs.specs.Tapes.{if_zero_of}
 use Rattle.tv_inputs.specs.declared.records.OperandWires.{OperandWires}
 use Rattle.tv_inputs.specs.declared.records.StateWires.{StateWires}
+use Rattle.tv_bits.specs.Zero.{zero_cases_of}
 
 -- ---- what depends on the width
 abbrev LastIsNormal : ℕ → Type 0
@@ -58,7 +59,7 @@ jump_normal = for_widths JumpIsNormal jump_16 jump_32
 -- ---- all of it
 pub pc_normal : (w : ℕ) → IsWidth w → (state : StateWires) (op : ℕ) (a : OperandWires) (next : ℕ) → 0 < state.pc → state.pc < op → op + 29 ≤ a.word
     → a.word < a.bits.first → a.bits.first + w ≤ next → AreNormal (pc_of w state op a next).list
-unfolding pc_of if_zero_of times_of closed_of fresh put pure ◌>>=◌
+unfolding pc_of if_zero_of zero_cases_of times_of closed_of fresh put pure ◌>>=◌
 pc_normal w width state op a next some before row rise within =
     let answers : ℕ = op + place_of ANSWER in
     let flags = (1, op + place_of CJMP) ∷ (P - 1, op + place_of CNJMP) ∷ [] in

@@ -27,6 +27,7 @@ use Rattle.tv_results.specs.Pc.{from_last, goes_in, after_in, jump_in, pc_of, pc
 use Rattle.tv_inputs.specs.Tapes.{if_zero_of}
 use Rattle.tv_inputs.specs.declared.records.OperandWires.{OperandWires}
 use Rattle.tv_inputs.specs.declared.records.StateWires.{StateWires}
+use Rattle.tv_bits.specs.Zero.{zero_cases_of}
 
 -- ---- the combinations' values
 folded_four : (k l m n : ℕ) → (k + (l + (m + n % P) % P) % P) % P ≡ (k + l + m + n % P) % P
@@ -143,7 +144,7 @@ pc_complete w width z next state op a v i has = (pc_settled w width z state op a
 
 pc_shape : (w : ℕ) (state : StateWires) (op : ℕ) (a : OperandWires) (next : ℕ) → let made = pc_of w state op a next in
     (made.answer ≡ next + 3) × (made.next ≡ next + 4) × (length made.list ≡ 4)
-unfolding pc_of if_zero_of times_of closed_of fresh put pure ◌>>=◌
+unfolding pc_of if_zero_of zero_cases_of times_of closed_of fresh put pure ◌>>=◌
 pc_shape w state op a next = (omega arith, omega arith, refl)
 
 pc_below : (w : ℕ) → IsWidth w → (pc a f k : ℕ) → pc < 2 ^ w → a < 2 ^ w → chosen (pcs w pc a f) k < P
@@ -178,7 +179,7 @@ pc_sizes = record {
 }
 
 pc_terms : (w : ℕ) → IsWidth w → (state : StateWires) (op : ℕ) (a : OperandWires) (next : ℕ) → terms_in (pc_of w state op a next).list ≡ w / 16 + 27
-unfolding pc_of if_zero_of times_of closed_of fresh put pure ◌>>=◌
+unfolding pc_of if_zero_of zero_cases_of times_of closed_of fresh put pure ◌>>=◌
 pc_terms w width state op a next =
     let upper = upper_of (w / 4) a (w / 16 + 1) in
     omega (arith, length-append upper ((2 ^ w, next) ∷ []), length-upper (w / 4) a (w / 16 + 1))

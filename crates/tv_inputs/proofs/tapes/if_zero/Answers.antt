@@ -2,23 +2,14 @@ use Rattle.tv_core.proofs.Common.{all_then, some_then, some_first, all_pure, ref
 use Rattle.tv_inputs.specs.Tapes.{if_zero_of}
 use Rattle.tv_inputs.proofs.tapes.if_zero.Goals as goal
 
-pub returns-in_err-put-clause-puts : goal.returns-in_err-put-clause-puts
+pub returns-in_err-zero_cases-clause-puts : goal.returns-in_err-zero_cases-clause-puts
 unfolding if_zero_of
-returns-in_err-put-clause-puts g c =
-    let first = rw (c.set_wire.ensures.terms, c.plus.ensures.terms, c.plus_terms.ensures.terms, c.clear.ensures, c.neg.ensures) at c.in_err-put.ensures.puts in
-    refused _ _ _ _ _ c.from_residual.ensures.1 (some_then _ c.fresh-w.ensures.puts (some_then _ c.fresh-hint.ensures.puts (some_first _ first)))
-
-pub returns-in_err-put-2-clause-puts : goal.returns-in_err-put-2-clause-puts
-unfolding if_zero_of
-returns-in_err-put-2-clause-puts g c =
-    let first = rw (c.set_wire.ensures.terms, c.plus.ensures.terms, c.plus_terms.ensures.terms, c.clear.ensures, c.neg.ensures) at c.in_ok-put.ensures.puts in
-    let second = rw (c.set_wire-2.ensures.terms, c.clear-2.ensures) at c.in_err-put-2.ensures.puts in
-    refused _ _ _ _ _ c.from_residual-in_err-put-2.ensures.1 (some_then _ c.fresh-w.ensures.puts (some_then _ c.fresh-hint.ensures.puts (some_then _ first
-    (some_first _ second))))
+returns-in_err-zero_cases-clause-puts g c =
+    let cases = rw (c.plus.ensures.terms, c.plus_terms.ensures.terms, c.clear.ensures, c.neg.ensures) at c.in_err-zero_cases.ensures.puts in
+    refused _ _ _ _ _ c.from_residual.ensures.1 (some_then _ c.fresh-w.ensures.puts (some_first _ cases))
 
 pub returns-clause-puts : goal.returns-clause-puts
 unfolding if_zero_of
 returns-clause-puts g c =
-    let first = rw (c.set_wire.ensures.terms, c.plus.ensures.terms, c.plus_terms.ensures.terms, c.clear.ensures, c.neg.ensures) at c.in_ok-put.ensures.puts in
-    let second = rw (c.set_wire-2.ensures.terms, c.clear-2.ensures) at c.in_ok-put-2.ensures.puts in
-    all_then _ c.fresh-w.ensures.puts (all_then _ c.fresh-hint.ensures.puts (all_then _ first (all_then _ second all_pure)))
+    let cases = rw (c.plus.ensures.terms, c.plus_terms.ensures.terms, c.clear.ensures, c.neg.ensures) at c.in_ok-zero_cases.ensures.puts in
+    all_then _ c.fresh-w.ensures.puts (all_then _ cases all_pure)
