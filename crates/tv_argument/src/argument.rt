@@ -1,10 +1,10 @@
 //! The argument's constraints, and its laws.
-ghost use Rattle.std.specs.Prelude.{◌≡◌, ◌^◌, ◌≤◌, length, All, IfOk};
+ghost use Rattle.std.specs.Prelude.{◌≡◌, ◌^◌, ◌≤◌, length, All};
 ghost use Rattle.tv_benes.specs.Places.{output, AreBelow};
 ghost use Rattle.tv_benes.specs.declared.shape.Net.{Net};
 ghost use Rattle.tv_core.specs.Below.{sum_below};
 ghost use Rattle.tv_core.specs.Loops.{sequence};
-ghost use Rattle.tv_core.specs.Sinks.{PutsIn, Grows, Room};
+ghost use Rattle.tv_core.specs.Sinks.{Emits, Room};
 ghost use Rattle.tv_lines.specs.Placed.{line_in};
 ghost use Rattle.tv_lines.specs.Predecessor.{IsLineMade, IsItemMade};
 ghost use Rattle.tv_lines.specs.Compact.{line_lc};
@@ -35,10 +35,10 @@ pub fn memory<S: Sink, L: CompactLines>(s: &mut S, net: Net, k: u32, lines: &L) 
     requires room { Room S.meaning s.old (argument_made net (L.checks lines.now) k)
         (argument_added net (L.checks lines.now) k) }
     requires made { All (IsMade (S.meaning.wires s.old)) (L.lines lines.now) }
-    ensures puts { PutsIn S.meaning s.old s.new
-        (argument_of net (L.checks lines.now) k (L.lines lines.now)) result }
-    ensures grows { IfOk result (λ _. Grows S.meaning s.old s.new
-        (argument_made net (L.checks lines.now) k) (argument_added net (L.checks lines.now) k)) }
+    ensures emits { Emits S.meaning s.old s.new
+        (argument_of net (L.checks lines.now) k (L.lines lines.now))
+        (argument_made net (L.checks lines.now) k) (argument_added net (L.checks lines.now) k)
+        result }
 {
     let last = routing_network(s, net, k, &LineItems { lines })?;
     check_all(s, lines, &last)
@@ -52,12 +52,12 @@ fn check_all<S: Sink, L: CompactLines>(s: &mut S, lines: &L, last: &Outputs) -> 
         (sum_below (L.checks lines.now).count (λ i. check_added ((L.checks lines.now).kind i))) }
     requires made { All (IsMade (S.meaning.wires s.old)) (L.lines lines.now) }
     requires below { AreBelow last.now (length (L.lines lines.now)) (S.meaning.wires s.old) }
-    ensures puts { PutsIn S.meaning s.old s.new (sequence (L.checks lines.now).count
-        (λ i. check_of ((L.checks lines.now).kind i) (output last.now i)
-        (line_in (L.lines lines.now) i))) result }
-    ensures grows { IfOk result (λ _. Grows S.meaning s.old s.new
+    ensures emits { Emits S.meaning s.old s.new
+        (sequence (L.checks lines.now).count (λ i. check_of ((L.checks lines.now).kind i)
+        (output last.now i) (line_in (L.lines lines.now) i)))
         (sum_below (L.checks lines.now).count (λ i. check_made ((L.checks lines.now).kind i)))
-        (sum_below (L.checks lines.now).count (λ i. check_added ((L.checks lines.now).kind i)))) }
+        (sum_below (L.checks lines.now).count (λ i. check_added ((L.checks lines.now).kind i)))
+        result }
 {
     let mut scratch = Scratch::new();
     let mut item = Pair::empty();
@@ -80,9 +80,8 @@ fn check<S: Sink>(
     requires room { Room S.meaning s.old (check_made kind) (check_added kind) }
     requires line { IsLineMade (S.meaning.wires s.old) line.now }
     requires item { IsItemMade (S.meaning.wires s.old) item.now }
-    ensures puts { PutsIn S.meaning s.old s.new (check_of kind item.now (line_lc line.now)) result }
-    ensures grows { IfOk result
-        (λ _. Grows S.meaning s.old s.new (check_made kind) (check_added kind)) }
+    ensures emits { Emits S.meaning s.old s.new
+        (check_of kind item.now (line_lc line.now)) (check_made kind) (check_added kind) result }
 {
     match kind {
         Kind::ZeroOld => Ok(()),

@@ -2,7 +2,7 @@
 ghost use Rattle.std.specs.Prelude.{◌≡◌, ◌+◌, ◌-◌, ◌*◌, ◌/◌, ◌%◌, ◌≤◌, ◌<◌, ◌^◌, [], ◌∷◌};
 ghost use Rattle.std.specs.Prelude.{false, max, IfOk, OnOk};
 ghost use Rattle.tv_core.specs.Values.{GivesIn};
-ghost use Rattle.tv_core.specs.Sinks.{PutsIn, Grows, Room};
+ghost use Rattle.tv_core.specs.Sinks.{Emits, Room};
 ghost use Rattle.tv_rows.specs.RowDifference.{comparing, row_difference_of};
 ghost use Rattle.tv_arithmetic.specs.Arithmetic.{difference_ops, strict_ops};
 ghost use Rattle.tv_arithmetic.specs.Arithmetic.{signed_ops, decomposed_word};
@@ -59,9 +59,8 @@ pub fn put_arithmetic<const W: u32, S: Sink>(
     requires operation_made { OperationUnder W (S.meaning.wires s.old) op a.now }
     requires other_made { other < S.meaning.wires s.old }
     requires f_made { f < S.meaning.wires s.old }
-    ensures puts { PutsIn S.meaning s.old s.new (arithmetic_of W op other f a.now) result }
-    ensures grows { IfOk result (λ _. Grows S.meaning s.old s.new (3 * W + W / 16 + 12)
-        (3 * W + W / 16 + 22)) }
+    ensures emits { Emits S.meaning s.old s.new
+        (arithmetic_of W op other f a.now) (3 * W + W / 16 + 12) (3 * W + W / 16 + 22) result }
     ensures below { IfOk result (λ made. ArithmeticUnder W (S.meaning.wires s.new) made) }
 {
     let mut gates = Scratch::new();
@@ -78,8 +77,7 @@ fn put_rows<const W: u32, S: Sink>(s: &mut S, scratch: &mut Scratch, op: Wire) -
     requires width { IsWidth W }
     requires room { Room S.meaning s.old (3 * W + 3) (3 * W + 3) }
     requires op_made { op + 29 ≤ S.meaning.wires s.old }
-    ensures puts { PutsIn S.meaning s.old s.new (rows_of W op) result }
-    ensures grows { IfOk result (λ _. Grows S.meaning s.old s.new (3 * W + 3) (3 * W + 3)) }
+    ensures emits { Emits S.meaning s.old s.new (rows_of W op) (3 * W + 3) (3 * W + 3) result }
     ensures below { IfOk result (λ made. RowUnder W (S.meaning.wires s.new) made) }
 {
     let x = new_bits_by(s, scratch, W)?;
@@ -104,8 +102,7 @@ fn put_sums<const W: u32, S: Sink>(
     requires other_made { other < S.meaning.wires s.old }
     requires a_made { OperandUnder W (S.meaning.wires s.old) a.now }
     requires rows_made { RowUnder W (S.meaning.wires s.old) rows.now }
-    ensures puts { PutsIn S.meaning s.old s.new (sums_of W op other a.now rows.now) result }
-    ensures grows { IfOk result (λ _. Grows S.meaning s.old s.new 1 5) }
+    ensures emits { Emits S.meaning s.old s.new (sums_of W op other a.now rows.now) 1 5 result }
 {
     set_opcodes(&mut gates.a, op, &[ADD]);
     row_sum::<W, S>(s, scratch, &gates.a, other, a.word, &rows.row)?;
@@ -130,11 +127,12 @@ fn put_difference<const W: u32, S: Sink>(
     requires other_made { other < S.meaning.wires s.old }
     requires a_made { OperandUnder W (S.meaning.wires s.old) a.now }
     requires rows_made { RowUnder W (S.meaning.wires s.old) rows.now }
-    ensures puts { PutsIn S.meaning s.old s.new (row_difference_of W (opcode_sum op difference_ops)
+    ensures emits { Emits S.meaning s.old s.new
+        (row_difference_of W (opcode_sum op difference_ops)
         (comparing (opcode_sum op signed_ops) (opcode_sum op strict_ops))
-        (with_sign W other rows.now.x.first) (with_sign W a.now.word a.now.bits.first) rows.now.row)
-        result }
-    ensures grows { IfOk result (λ _. Grows S.meaning s.old s.new 1 2) }
+        (with_sign W other rows.now.x.first) (with_sign W a.now.word a.now.bits.first)
+        rows.now.row)
+        1 2 result }
 {
     let left = with_sign::<W>(other, rows.x.first);
     let right = with_sign::<W>(a.word, a.bits.first);
@@ -177,8 +175,7 @@ fn put_products<const W: u32, S: Sink>(
     requires other_made { other < S.meaning.wires s.old }
     requires a_made { OperandUnder W (S.meaning.wires s.old) a.now }
     requires rows_made { RowUnder W (S.meaning.wires s.old) rows.now }
-    ensures puts { PutsIn S.meaning s.old s.new (products_of W op other a.now rows.now) result }
-    ensures grows { IfOk result (λ _. Grows S.meaning s.old s.new 2 4) }
+    ensures emits { Emits S.meaning s.old s.new (products_of W op other a.now rows.now) 2 4 result }
 {
     set_opcodes(&mut gates.a, op, &[MULL, UMULH]);
     row_product::<W, S>(s, scratch, &gates.a, other, a.word, &rows.row)?;
@@ -205,8 +202,8 @@ fn put_shifts<const W: u32, S: Sink>(
     requires operation_made { OperationUnder W (S.meaning.wires s.old) op a.now }
     requires wires_made { max other f < S.meaning.wires s.old }
     requires rows_made { RowUnder W (S.meaning.wires s.old) rows.now }
-    ensures puts { PutsIn S.meaning s.old s.new (shifts_of W op other f a.now rows.now) result }
-    ensures grows { IfOk result (λ _. Grows S.meaning s.old s.new (W / 16 + 6) (W / 16 + 10)) }
+    ensures emits { Emits S.meaning s.old s.new
+        (shifts_of W op other f a.now rows.now) (W / 16 + 6) (W / 16 + 10) result }
     ensures below { IfOk result (λ both. both < S.meaning.wires s.new) }
 {
     set_opcodes(&mut gates.a, op, &[UDIV, UMOD]);
@@ -233,9 +230,8 @@ fn put_left<const W: u32, S: Sink>(
     requires op_made { op + 29 ≤ S.meaning.wires s.old }
     requires wires_made { max word power < S.meaning.wires s.old }
     requires rows_made { RowUnder W (S.meaning.wires s.old) rows.now }
-    ensures puts { PutsIn S.meaning s.old s.new
-        (row_product_of W (opcode_sum op (SHL ∷ [])) word power rows.now.row) result }
-    ensures grows { IfOk result (λ _. Grows S.meaning s.old s.new 1 2) }
+    ensures emits { Emits S.meaning s.old s.new
+        (row_product_of W (opcode_sum op (SHL ∷ [])) word power rows.now.row) 1 2 result }
 {
     set_opcodes(&mut gates.a, op, &[SHL]);
     row_product::<W, S>(s, scratch, &gates.a, word, power, &rows.row)
@@ -257,9 +253,8 @@ fn put_right<const W: u32, S: Sink>(
     requires op_made { op + 29 ≤ S.meaning.wires s.old }
     requires wires_made { max word power < S.meaning.wires s.old }
     requires rows_made { RowUnder W (S.meaning.wires s.old) rows.now }
-    ensures puts { PutsIn S.meaning s.old s.new
-        (right_shift_of W (opcode_sum op (SHR ∷ [])) word power rows.now.row) result }
-    ensures grows { IfOk result (λ _. Grows S.meaning s.old s.new 1 2) }
+    ensures emits { Emits S.meaning s.old s.new
+        (right_shift_of W (opcode_sum op (SHR ∷ [])) word power rows.now.row) 1 2 result }
 {
     set_opcodes(&mut gates.a, op, &[SHR]);
     right_shift::<W, S>(s, scratch, &gates.a, word, power, &rows.row)

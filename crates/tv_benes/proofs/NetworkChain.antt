@@ -1,10 +1,9 @@
--- The parts of a network, put one after another.
-use Rattle.tv_core.proofs.Common.{◌≡◌, ℕ, zero, suc, ◌+◌, ◌-◌, ◌*◌, ◌^◌, ◌≤◌, Result, Ok, Err, refl, sym, ap, ◌∙◌, subst, arith, all_then, all_pure, some_then}
-use Rattle.tv_core.proofs.Common.{some_first, puts_in_then, Circuit, here, ◌>>=◌, PutsAll, Grows}
+-- The parts of a network, emitted one after another.
+use Rattle.tv_core.proofs.Common.{◌≡◌, ℕ, zero, suc, ◌+◌, ◌-◌, ◌*◌, ◌^◌, ◌≤◌, Result, Ok, Err, refl, sym, ap, ◌∙◌, subst, arith, false}
+use Rattle.tv_core.proofs.Common.{all_last, all_then, emits_as, emits_here, emits_in, some_first, some_then, then_in, Circuit, here, ◌>>=◌, EmitsAll}
 use Rattle.std.specs.Prelude.{IfOk}
 use Rattle.std.proofs.lemmas.Nat.{pow_pos}
 use Rattle.tv_benes.proofs.NetworkLaws.{bound-suc, less_missing, one_wires}
-use Rattle.tv_core.proofs.Rooms.{both}
 use Rattle.tv_benes.proofs.Sizes.{HasItems, HasEnds, level_below}
 use Rattle.tv_benes.proofs.ThroughLaws.{missing_small, above}
 use Rattle.tv_benes.specs.Levels.{width, other, innermost, level_wires}
@@ -16,9 +15,7 @@ use Rattle.tv_benes.specs.declared.shape.Form.{Form}
 use Rattle.tv_benes.specs.declared.shape.Form.TheVariants.{Bound, Open}
 use Rattle.tv_benes.specs.declared.shape.Net.{Net}
 use Rattle.tv_benes.specs.declared.shape.Net.TheVariants.{Benes, Waksman}
-use Rattle.tv_core.proofs.Chain.{puts_here}
-use Rattle.tv_core.proofs.LoopLaws.{puts_here_as}
-use Rattle.tv_core.specs.Sinks.{Meaning, PutsSome, PutsIn}
+use Rattle.tv_core.specs.Sinks.{Meaning, PutsSome, Emits}
 use Rattle.tv_core.specs.declared.lines.Pair.{Pair}
 use Rattle.tv_core.specs.declared.sink.SinkFault.{SinkFault}
 
@@ -47,66 +44,54 @@ bound_innermost Waksman = refl
 pub bound_lowest : (net : Net) (h : ℕ) → h ≡ 0 → level_wires net Bound h ≡ 5 * 2 ^ h
 bound_lowest net h none = ap (level_wires net Bound) none ∙ one_wires net Bound ∙ ap width (bound_innermost net) ∙ ap (λ k. 5 * 2 ^ k) (sym none)
 
--- a last call, after which a network is made
-pub grows_then : {S : Type 0} {m : Meaning S} {A : Type 0} (result : Result A SinkFault) {old mid : S} (new : S) {a : ℕ} (b c : ℕ) → Grows m old mid a a
-    → IfOk result (λ _. Grows m mid new b b) → a + b ≡ c → IfOk result (λ _. Grows m old new c c)
-grows_then {m = m} (Ok x) {old} new b c g k e = subst (λ n. Grows m old new n n) e (both g k)
-grows_then (Err fault) new b c g k e = tt
-
 -- ---- a network
 module _ {S : Type 0} (m : Meaning S) (net : Net) (form : Form) where
-  -- on two items, by its one switch
-  pub two_refused : (items : ItemsOf form) (old new : S) (fault : SinkFault) → PutsSome m old new (column_of (innermost net form) 1 (item_in form items)) fault
-      → PutsSome m old new (level_of net form 0 items) fault
-  unfolding level_of
-  two_refused items old new fault p = some_then _ (puts_here m old) (some_first _ p)
-
-  pub two_put : (items : ItemsOf form) (old new : S) (first : ℕ) → first ≡ m.wires old
-      → PutsAll m old new (column_of (innermost net form) 1 (item_in form items)) tt
-      → PutsAll m old new (level_of net form 0 items) (two_ends net form first items)
-  unfolding level_of
-  two_put items old new first at p = all_then _ (puts_here_as m old first at) (all_then _ p all_pure)
-
-  module _ (h n : ℕ) (same : n ≡ 2 ^ h) (items : ItemsOf form) (old : S) where
-    -- where the one switch on two items has the level's form
-    pub lowest_put : h ≡ 0 → innermost net form ≡ form → (new : S) (first : ℕ) → first ≡ m.wires old
-        → PutsAll m old new (column_of form n (item_in form items)) tt → PutsAll m old new (level_of net form h items) (two_ends net form first items)
-    lowest_put none is new first at p =
-        subst (λ k. PutsAll m old new (level_of net form k items) (two_ends net form first items)) (sym none) (two_put items old new first at
-        (subst (λ f. PutsAll m old new (column_of f 1 (item_in form items)) tt) (sym is)
-        (subst (λ k. PutsAll m old new (column_of form k (item_in form items)) tt) (same ∙ ap (λ k. 2 ^ k) none) p)))
-
-    pub first_column_refused : (h ≡ 0 → innermost net form ≡ form) → (new : S) (fault : SinkFault)
-        → PutsSome m old new (column_of form n (item_in form items)) fault → PutsSome m old new (level_of net form h items) fault
+  module _ (items : ItemsOf form) {old : S} (whole : m.broken old ≡ false) where
+    -- on two items, by its one switch
+    pub two_refused : {new : S} {fault : SinkFault} → PutsSome m old new (column_of (innermost net form) 1 (item_in form items)) fault
+        → PutsSome m old new (level_of net form 0 items) fault
     unfolding level_of
-    first_column_refused lowest new fault p = by h lowest (subst (λ k. PutsSome m old new (column_of form k (item_in form items)) fault) same p)
-      where
-        by : (h : ℕ) → (h ≡ 0 → innermost net form ≡ form) → PutsSome m old new (column_of form (2 ^ h) (item_in form items)) fault
-            → PutsSome m old new (level_of net form h items) fault
-        by zero lowest p = two_refused items old new fault
-            (subst (λ f. PutsSome m old new (column_of f 1 (item_in form items)) fault) (sym (lowest (omega arith))) p)
-        by (suc h) lowest p = some_then _ (puts_here m old) (some_first _ p)
+    two_refused p = some_then _ (emits_here whole refl) (some_first _ p)
+
+    pub two_put : {new : S} {first k : ℕ} → first ≡ m.wires old → EmitsAll m old new (column_of (innermost net form) 1 (item_in form items)) k k tt
+        → EmitsAll m old new (level_of net form 0 items) k k (two_ends net form first items)
+    unfolding level_of
+    two_put at p = emits_as (omega arith) (omega arith) (all_then _ (emits_here whole at) (all_last _ p refl))
+
+    module _ {h n : ℕ} (same : n ≡ 2 ^ h) {new : S} where
+      -- where the one switch on two items has the level's form
+      pub lowest_put : h ≡ 0 → innermost net form ≡ form → {first k : ℕ} → first ≡ m.wires old
+          → EmitsAll m old new (column_of form n (item_in form items)) k k tt
+          → EmitsAll m old new (level_of net form h items) k k (two_ends net form first items)
+      lowest_put none is {k = k} at p = rw none (two_put at
+          (subst (λ f. EmitsAll m old new (column_of f 1 (item_in form items)) k k tt) (sym is)
+          (subst (λ n. EmitsAll m old new (column_of form n (item_in form items)) k k tt) (same ∙ ap (λ k. 2 ^ k) none) p)))
+
+      pub first_column_refused : (h ≡ 0 → innermost net form ≡ form) → {fault : SinkFault}
+          → PutsSome m old new (column_of form n (item_in form items)) fault → PutsSome m old new (level_of net form h items) fault
+      unfolding level_of
+      first_column_refused lowest {fault} p = by h lowest (subst (λ k. PutsSome m old new (column_of form k (item_in form items)) fault) same p)
+        where
+          by : (h : ℕ) → (h ≡ 0 → innermost net form ≡ form) → PutsSome m old new (column_of form (2 ^ h) (item_in form items)) fault
+              → PutsSome m old new (level_of net form h items) fault
+          by zero lowest p = two_refused (subst (λ f. PutsSome m old new (column_of f 1 (item_in form items)) fault) (sym (lowest (omega arith))) p)
+          by (suc h) lowest p = some_then _ (emits_here whole refl) (some_first _ p)
 
   -- the outputs of the emitted network are of wires that there are
-  pub put_ends : (h : ℕ) (items : ItemsOf form) (old new : S) (e : EndsOf form) → HasItems form items h (m.wires old)
-      → PutsAll m old new (level_of net form h items) e → HasEnds net form e (2 ^ suc h) (m.wires new)
-  put_ends h items old new e has p =
-      subst (λ o. HasEnds net form o (2 ^ suc h) (m.wires new)) (sym p.answers)
-      (subst (λ end. HasEnds net form (level_of net form h items (m.wires old)).answer (2 ^ suc h) end) (sym p.next)
+  pub put_ends : (h : ℕ) (items : ItemsOf form) {old new : S} {e : EndsOf form} {k l : ℕ} → HasItems form items h (m.wires old)
+      → EmitsAll m old new (level_of net form h items) k l e → HasEnds net form e (2 ^ suc h) (m.wires new)
+  put_ends h items {old} {new} has p =
+      subst (λ o. HasEnds net form o (2 ^ suc h) (m.wires new)) (sym p.puts.answers)
+      (subst (λ end. HasEnds net form (level_of net form h items (m.wires old)).answer (2 ^ suc h) end) (sym p.puts.next)
       (level_below net form h (m.wires old) items has))
 
 -- what a call put, where a circuit is another
 module _ {S : Type 0} {m : Meaning S} {A : Type 0} {a b : Circuit A} (same : a ≡ b) {old new : S} where
-  pub all_at : {r : A} → PutsAll m old new a r → PutsAll m old new b r
-  all_at {r} p = subst (λ c. PutsAll m old new c r) same p
+  pub all_at : {r : A} {k l : ℕ} → EmitsAll m old new a k l r → EmitsAll m old new b k l r
+  all_at {r} {k} {l} p = subst (λ c. EmitsAll m old new c k l r) same p
 
   pub some_at : {fault : SinkFault} → PutsSome m old new a fault → PutsSome m old new b fault
   some_at {fault} p = subst (λ c. PutsSome m old new c fault) same p
-
--- a last call, whose result is the whole's
-in_then : {S : Type 0} {m : Meaning S} {A B : Type 0} {first : Circuit A} (second : A → Circuit B) {old mid : S} {a : A} (new : S)
-    (result : Result B SinkFault) → PutsAll m old mid first a → PutsIn m mid new (second a) result → PutsIn m old new (first >>= second) result
-in_then second new result p q = puts_in_then _ _ second _ _ _ _ _ p q
 
 -- above the lowest level: the first column, of n switches, the two networks within and the last column
 abbrev parts_of : (net : Net) (form : Form) → ℕ → ℕ → ℕ → ItemsOf form → Circuit (EndsOf form)
@@ -123,29 +108,33 @@ parts_are net form h k n items level same =
     ap (λ m. parts_of net form h k m items) same ∙ ap (λ l. parts_of net form l k (2 ^ l) items) level ∙ ap (λ l. level_of net form l items) (sym level)
 
 -- above the lowest level: the first column of n switches was put, and the networks within at places from `first` on
-module _ {S : Type 0} (m : Meaning S) (net : Net) (form : Form) {h n : ℕ} (items : ItemsOf form) {old mid : S} {first : ℕ} (same : n ≡ 2 ^ h)
-    (some : h ≡ 0 → ⊥) (at : first ≡ m.wires old) (column : PutsAll m old mid (column_of form n (item_in form items)) tt) where
+module _ {S : Type 0} (m : Meaning S) (net : Net) (form : Form) {h n : ℕ} (items : ItemsOf form) {old mid : S} {first k : ℕ} (same : n ≡ 2 ^ h)
+    (some : h ≡ 0 → ⊥) (whole : m.broken old ≡ false) (at : first ≡ m.wires old)
+    (column : EmitsAll m old mid (column_of form n (item_in form items)) k k tt) where
   is : parts_of net form h (h - 1) n items ≡ level_of net form h items
   is = parts_are net form h (h - 1) n items (above net h some).level same
 
   module _ {u : S} where
     pub upper_refused : {fault : SinkFault} → PutsSome m mid u (level_of net (other form) (h - 1) (to_upper_of form first items)) fault
         → PutsSome m old u (level_of net form h items) fault
-    upper_refused p = some_at is (some_then _ (puts_here_as m old first at) (some_then _ column (some_first _ p)))
+    upper_refused p = some_at is (some_then _ (emits_here whole at) (some_then _ column (some_first _ p)))
 
-    module _ {upper : EndsOf (other form)} (p : PutsAll m mid u (level_of net (other form) (h - 1) (to_upper_of form first items)) upper) {l : S} where
+    module _ {upper : EndsOf (other form)} {w : ℕ} (p : EmitsAll m mid u (level_of net (other form) (h - 1) (to_upper_of form first items)) w w upper)
+        {l : S} where
       pub lower_refused : {fault : SinkFault} → PutsSome m u l (level_of net (other form) (h - 1) (to_lower_of form first items)) fault
           → PutsSome m old l (level_of net form h items) fault
-      lower_refused q = some_at is (some_then _ (puts_here_as m old first at) (some_then _ column (some_then _ p (some_first _ q))))
+      lower_refused q = some_at is (some_then _ (emits_here whole at) (some_then _ column (some_then _ p (some_first _ q))))
 
-      pub level_put : {lower : EndsOf (other form)} → PutsAll m u l (level_of net (other form) (h - 1) (to_lower_of form first items)) lower → (new : S)
-          (result : Result (EndsOf form) SinkFault) → PutsIn m l new (last_column_of net form h upper lower) result
-          → PutsIn m old new (level_of net form h items) result
-      level_put q new result r = subst (λ c. PutsIn m old new c result) is (in_then _ _ _ (puts_here_as m old first at) (in_then _ _ _ column
-          (in_then _ _ _ p (in_then _ _ _ q r))))
+      pub level_put : {lower : EndsOf (other form)} → EmitsAll m u l (level_of net (other form) (h - 1) (to_lower_of form first items)) w w lower → (new : S)
+          (r c : ℕ) (result : Result (EndsOf form) SinkFault) → k + w + w + r ≡ c → Emits m l new (last_column_of net form h upper lower) r r result
+          → Emits m old new (level_of net form h items) c c result
+      level_put q new r c result e last =
+          let all = 0 + (k + (w + (w + r))) in
+          emits_in _ _ _ _ _ (omega (arith, e)) (omega (arith, e)) (subst (λ c. Emits m old new c all all result) is
+          (then_in _ _ _ _ _ (emits_here whole at) (then_in _ _ _ _ _ column (then_in _ _ _ _ _ p (then_in _ _ _ _ _ q last)))))
 
-pub ends_below : {S : Type 0} (m : Meaning S) (net : Net) (item : ℕ → Pair) (h : ℕ) (old new : S) (result : Result Outputs SinkFault)
-    → PutsIn m old new (level_of net Bound h item) result
+pub ends_below : {S : Type 0} (m : Meaning S) (net : Net) (item : ℕ → Pair) (h : ℕ) (old new : S) (k l : ℕ) (result : Result Outputs SinkFault)
+    → Emits m old new (level_of net Bound h item) k l result
     → IfOk result (λ o. AreBelow o (2 ^ suc h) (m.wires new))
-ends_below m net item h old new (Ok o) p = put_ends m net Bound h item old new o tt p
-ends_below m net item h old new (Err fault) p = tt
+ends_below m net item h old new k l (Ok o) p = put_ends m net Bound h item tt p
+ends_below m net item h old new k l (Err fault) p = tt

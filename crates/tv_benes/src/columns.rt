@@ -1,7 +1,7 @@
 //! The columns of a network's switches, emitted into a sink.
-ghost use Rattle.std.specs.Prelude.{ℕ, ◌+◌, ◌*◌, ◌<◌, ◌≤◌, length, IfOk};
+ghost use Rattle.std.specs.Prelude.{ℕ, ◌+◌, ◌*◌, ◌<◌, ◌≤◌, length};
 ghost use Rattle.tv_core.specs.Combinations.{top};
-ghost use Rattle.tv_core.specs.Sinks.{PutsIn, Grows, Room};
+ghost use Rattle.tv_core.specs.Sinks.{Emits, Room};
 ghost use Rattle.tv_benes.specs.Network.{remainder_of, switch_of, column_of};
 ghost use Rattle.tv_benes.specs.Places.{wires_at, ArePairsMade, IsPairMade};
 ghost use Rattle.tv_benes.specs.declared.shape.Form.TheVariants.{Bound, Open};
@@ -20,8 +20,7 @@ fn remainder<S: Sink>(s: &mut S, scratch: &mut Scratch, x: &Lc, y: &Lc, p: Wire)
     requires y_made { top y.now ≤ S.meaning.wires s.old }
     requires x_short { length x.now ≤ 64 }
     requires y_short { length y.now ≤ 64 }
-    ensures puts { PutsIn S.meaning s.old s.new (remainder_of x.now y.now p) result }
-    ensures grows { IfOk result (λ _. Grows S.meaning s.old s.new 1 1) }
+    ensures emits { Emits S.meaning s.old s.new (remainder_of x.now y.now p) 1 1 result }
 {
     let q = s.fresh();
     scratch.a.clear();
@@ -40,8 +39,7 @@ pub(crate) fn bound_switch<S: Sink>(s: &mut S, scratch: &mut Scratch, x: &Pair, 
     requires room { Room S.meaning s.old 5 5 }
     requires x_made { IsPairMade x.now (S.meaning.wires s.old) }
     requires y_made { IsPairMade y.now (S.meaning.wires s.old) }
-    ensures puts { PutsIn S.meaning s.old s.new (switch_of Bound x.now y.now) result }
-    ensures grows { IfOk result (λ _. Grows S.meaning s.old s.new 5 5) }
+    ensures emits { Emits S.meaning s.old s.new (switch_of Bound x.now y.now) 5 5 result }
 {
     let b = s.fresh();
     bit_by(s, scratch, b)?;
@@ -61,9 +59,8 @@ pub(crate) fn open_column<S: Sink, P: Places>(
 ) -> Put<()>
     requires room { Room S.meaning s.old (3 * n) (3 * n) }
     requires made { (i : ℕ) → i < 2 * n → P.place items.now i + 1 < S.meaning.wires s.old }
-    ensures puts { PutsIn S.meaning s.old s.new
-        (column_of Open n (λ i. wires_at (P.place items.now i))) result }
-    ensures grows { IfOk result (λ _. Grows S.meaning s.old s.new (3 * n) (3 * n)) }
+    ensures emits { Emits S.meaning s.old s.new
+        (column_of Open n (λ i. wires_at (P.place items.now i))) (3 * n) (3 * n) result }
 {
     for j in 0..n {
         let x = items.at(2 * j);
@@ -83,8 +80,8 @@ pub(crate) fn bound_column<S: Sink, T: Pairs>(
     requires room { Room S.meaning s.old (5 * n) (5 * n) }
     requires count { 2 * n ≤ T.count items.now }
     requires made { ArePairsMade (T.pair items.now) (2 * n) (S.meaning.wires s.old) }
-    ensures puts { PutsIn S.meaning s.old s.new (column_of Bound n (T.pair items.now)) result }
-    ensures grows { IfOk result (λ _. Grows S.meaning s.old s.new (5 * n) (5 * n)) }
+    ensures emits { Emits S.meaning s.old s.new
+        (column_of Bound n (T.pair items.now)) (5 * n) (5 * n) result }
 {
     for j in 0..n {
         items.set_item(2 * j, &mut buffers.x);

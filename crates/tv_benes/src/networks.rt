@@ -7,7 +7,7 @@ ghost use Rattle.tv_benes.specs.Places.{AreBelow};
 ghost use Rattle.tv_benes.specs.Through.{missing};
 ghost use Rattle.tv_benes.specs.declared.shape.Form.TheVariants.{Bound, Open};
 ghost use Rattle.tv_benes.specs.declared.shape.Net.TheVariants.{Benes};
-ghost use Rattle.tv_core.specs.Sinks.{PutsIn, Grows, Room};
+ghost use Rattle.tv_core.specs.Sinks.{Emits, Room};
 
 use crate::columns::{Buffers, bound_column, open_column};
 use crate::places::{
@@ -28,10 +28,9 @@ pub fn network<S: Sink, I: Inputs>(s: &mut S, k: u32, inputs: &I) -> Put<Outputs
         (network_wires Benes (k - 1)) }
     requires count { I.count inputs.now ≡ 2 ^ k }
     requires made { ArePairsMade (I.pair inputs.now) (2 ^ k) (S.meaning.wires s.old) }
-    ensures puts { PutsIn S.meaning s.old s.new (network_of Benes (k - 1) (I.pair inputs.now))
-        result }
-    ensures grows { IfOk result (λ _. Grows S.meaning s.old s.new (network_wires Benes (k - 1))
-        (network_wires Benes (k - 1))) }
+    ensures emits { Emits S.meaning s.old s.new
+        (network_of Benes (k - 1) (I.pair inputs.now))
+        (network_wires Benes (k - 1)) (network_wires Benes (k - 1)) result }
     ensures below { IfOk result (λ outputs. AreBelow outputs (2 ^ k) (S.meaning.wires s.new)) }
 {
     routing_network(s, Net::Benes, k, inputs)
@@ -44,10 +43,9 @@ pub fn routing_network<S: Sink, I: Inputs>(s: &mut S, net: Net, k: u32, inputs: 
     requires room { Room S.meaning s.old (network_wires net (k - 1)) (network_wires net (k - 1)) }
     requires count { I.count inputs.now ≡ 2 ^ k }
     requires made { ArePairsMade (I.pair inputs.now) (2 ^ k) (S.meaning.wires s.old) }
-    ensures puts { PutsIn S.meaning s.old s.new (network_of net (k - 1) (I.pair inputs.now))
-        result }
-    ensures grows { IfOk result (λ _. Grows S.meaning s.old s.new (network_wires net (k - 1))
-        (network_wires net (k - 1))) }
+    ensures emits { Emits S.meaning s.old s.new
+        (network_of net (k - 1) (I.pair inputs.now))
+        (network_wires net (k - 1)) (network_wires net (k - 1)) result }
     ensures below { IfOk result (λ outputs. AreBelow outputs (2 ^ k) (S.meaning.wires s.new)) }
 {
     bound_network(
@@ -73,10 +71,9 @@ fn bound_network<S: Sink, I: Inputs>(
     requires count { 2 * 2 ^ h ≤ bound_count I.count items.now }
     requires made { ArePairsMade (bound_pair I.pair items.now) (2 * 2 ^ h)
         (S.meaning.wires s.old) }
-    ensures puts { PutsIn S.meaning s.old s.new (level_of net Bound h (bound_pair I.pair items.now))
-        result }
-    ensures grows { IfOk result (λ _. Grows S.meaning s.old s.new (level_wires net Bound h)
-        (level_wires net Bound h)) }
+    ensures emits { Emits S.meaning s.old s.new
+        (level_of net Bound h (bound_pair I.pair items.now))
+        (level_wires net Bound h) (level_wires net Bound h) result }
 {
     let first = Wire(s.wires());
     bound_column(s, buffers, power(h), items)?;
@@ -101,9 +98,8 @@ fn open_network<S: Sink, I: Inputs>(
     requires level { h < 30 }
     requires room { Room S.meaning s.old (level_wires net Open h) (level_wires net Open h) }
     requires made { from + 10 * 2 ^ h ≤ S.meaning.wires s.old + 3 }
-    ensures puts { PutsIn S.meaning s.old s.new (level_of net Open h from) result }
-    ensures grows { IfOk result (λ _. Grows S.meaning s.old s.new (level_wires net Open h)
-        (level_wires net Open h)) }
+    ensures emits { Emits S.meaning s.old s.new
+        (level_of net Open h from) (level_wires net Open h) (level_wires net Open h) result }
 {
     if h == 0 {
         return open_two(s, buffers, net, from);
@@ -121,9 +117,8 @@ fn open_network<S: Sink, I: Inputs>(
 fn open_two<S: Sink>(s: &mut S, buffers: &mut Buffers, net: Net, from: Wire) -> Put<Sums>
     requires room { Room S.meaning s.old (level_wires net Open 0) (level_wires net Open 0) }
     requires made { from + 7 ≤ S.meaning.wires s.old }
-    ensures puts { PutsIn S.meaning s.old s.new (level_of net Open 0 from) result }
-    ensures grows { IfOk result (λ _. Grows S.meaning s.old s.new (level_wires net Open 0)
-        (level_wires net Open 0)) }
+    ensures emits { Emits S.meaning s.old s.new
+        (level_of net Open 0 from) (level_wires net Open 0) (level_wires net Open 0) result }
 {
     let first = Wire(s.wires());
     match net {
@@ -160,10 +155,9 @@ fn bound_last<S: Sink>(
     requires room { Room S.meaning s.old (5 * (2 ^ h - missing net)) (5 * (2 ^ h - missing net)) }
     requires upper { ArePairsMade (sum_at net upper.now) (2 ^ h) (S.meaning.wires s.old) }
     requires lower { ArePairsMade (sum_at net lower.now) (2 ^ h) (S.meaning.wires s.old) }
-    ensures puts { PutsIn S.meaning s.old s.new (last_column_of net Bound h upper.now lower.now)
-        result }
-    ensures grows { IfOk result (λ _. Grows S.meaning s.old s.new (5 * (2 ^ h - missing net))
-        (5 * (2 ^ h - missing net))) }
+    ensures emits { Emits S.meaning s.old s.new
+        (last_column_of net Bound h upper.now lower.now)
+        (5 * (2 ^ h - missing net)) (5 * (2 ^ h - missing net)) result }
 {
     let n = power(h) - net.missing();
     let first = Wire(s.wires());
@@ -185,10 +179,9 @@ fn open_last<S: Sink>(
     requires room { Room S.meaning s.old (3 * (2 ^ h - missing net)) (3 * (2 ^ h - missing net)) }
     requires upper { AreBelow upper.now (2 ^ h) (S.meaning.wires s.old) }
     requires lower { AreBelow lower.now (2 ^ h) (S.meaning.wires s.old) }
-    ensures puts { PutsIn S.meaning s.old s.new (last_column_of net Open h upper.now lower.now)
-        result }
-    ensures grows { IfOk result (λ _. Grows S.meaning s.old s.new (3 * (2 ^ h - missing net))
-        (3 * (2 ^ h - missing net))) }
+    ensures emits { Emits S.meaning s.old s.new
+        (last_column_of net Open h upper.now lower.now)
+        (3 * (2 ^ h - missing net)) (3 * (2 ^ h - missing net)) result }
 {
     let n = power(h) - net.missing();
     let first = Wire(s.wires());

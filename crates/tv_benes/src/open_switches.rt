@@ -1,7 +1,7 @@
 //! One open switch, between two items that are two wires each.
-ghost use Rattle.std.specs.Prelude.{◌+◌, ◌<◌, IfOk};
+ghost use Rattle.std.specs.Prelude.{◌+◌, ◌<◌};
 ghost use Rattle.tv_core.specs.Combinations.{wire};
-ghost use Rattle.tv_core.specs.Sinks.{PutsIn, Grows, Room};
+ghost use Rattle.tv_core.specs.Sinks.{Emits, Room};
 ghost use Rattle.tv_benes.specs.Network.{product_of, switch_of};
 ghost use Rattle.tv_benes.specs.Places.{wires_at};
 ghost use Rattle.tv_benes.specs.declared.shape.Form.TheVariants.{Open};
@@ -16,8 +16,7 @@ fn product<S: Sink>(s: &mut S, scratch: &mut Scratch, b: Wire, x: Wire, y: Wire)
     requires b_made { b < S.meaning.wires s.old }
     requires x_made { x < S.meaning.wires s.old }
     requires y_made { y < S.meaning.wires s.old }
-    ensures puts { PutsIn S.meaning s.old s.new (product_of b (wire x) (wire y)) result }
-    ensures grows { IfOk result (λ _. Grows S.meaning s.old s.new 1 1) }
+    ensures emits { Emits S.meaning s.old s.new (product_of b (wire x) (wire y)) 1 1 result }
 {
     let m = s.fresh();
     scratch.a.set_wire(b);
@@ -34,8 +33,8 @@ pub(crate) fn open_switch<S: Sink>(s: &mut S, scratch: &mut Scratch, x: Wire, y:
     requires room { Room S.meaning s.old 3 3 }
     requires x_made { x + 1 < S.meaning.wires s.old }
     requires y_made { y + 1 < S.meaning.wires s.old }
-    ensures puts { PutsIn S.meaning s.old s.new (switch_of Open (wires_at x) (wires_at y)) result }
-    ensures grows { IfOk result (λ _. Grows S.meaning s.old s.new 3 3) }
+    ensures emits { Emits S.meaning s.old s.new
+        (switch_of Open (wires_at x) (wires_at y)) 3 3 result }
 {
     let b = s.fresh();
     bit_by(s, scratch, b)?;

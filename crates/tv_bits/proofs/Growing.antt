@@ -1,15 +1,13 @@
 -- What stands below the next wire, and the room that is left, after calls one after another. Where the numbers are
 -- numerals, `refl` proves that there is room.
-use Rattle.tv_core.proofs.Common.{◌≡◌, ℕ, ◌+◌, ◌-◌, ◌^◌, ◌≤◌, ◌<◌, true, Result, Ok, Err, arith, Circuit, turns, PutsAll, Grows}
-use Rattle.std.proofs.Common.{leb, IfOk}
+use Rattle.tv_core.proofs.Common.{◌≡◌, ℕ, ◌+◌, ◌-◌, ◌^◌, ◌≤◌, ◌<◌, true, arith, Grows}
+use Rattle.std.proofs.Common.{leb}
 use Rattle.std.proofs.lemmas.Bool.{leb-true}
 use Rattle.tv_bits.specs.Bits.{AreBitsBelow}
 use Rattle.tv_bits.specs.declared.bit_wires.Bits.{Bits}
-use Rattle.tv_core.proofs.Chain.{puts_turn, turn_refused}
 pub use Rattle.tv_core.proofs.Rooms.{both}
 use Rattle.tv_core.proofs.Rooms.{room_here, room_left}
-use Rattle.tv_core.specs.Sinks.{Meaning, PutsSome, Room}
-use Rattle.tv_core.specs.declared.sink.SinkFault.{SinkFault}
+use Rattle.tv_core.specs.Sinks.{Meaning, Room}
 
 module _ {S : Type 0} {m : Meaning S} {a : S} {x y : ℕ} (r : Room m a x y) where
   pub less_room : {p q : ℕ} → p ≤ x → q ≤ y → Room m a p q
@@ -34,14 +32,6 @@ module _ {S : Type 0} {m : Meaning S} {a b : S} {k l : ℕ} (g : Grows m a b k l
   pub bits_within : {n : ℕ} {x : Bits} → AreBitsBelow (m.wires a) n x → AreBitsBelow (m.wires b) n x
   bits_within h = record { size = h.size; below = within h.below }
 
-  -- `both` for a last call, whose result is the whole's
-  pub both_in : {T E : Type 0} (c : S) (p q : ℕ) (result : Result T E) → IfOk result (λ _. Grows m b c p q) → IfOk result (λ _. Grows m a c (k + p) (l + q))
-  both_in c p q (Ok done) h = both g h
-  both_in c p q (Err why) h = tt
-
-  pub grows_as : {p q : ℕ} → k ≡ p → l ≡ q → Grows m a b p q
-  grows_as e f = record { wires = omega (arith, g.wires, e); constraints = omega (arith, g.constraints, f); whole = g.whole }
-
   module _ {x y : ℕ} (r : Room m a x y) where
     pub room_after : {p q : ℕ} → k + p ≤ x → l + q ≤ y → Room m b p q
     room_after e f = room_left r g (e, f)
@@ -58,15 +48,6 @@ module _ {S : Type 0} {m : Meaning S} {a b : S} {k l : ℕ} (g : Grows m a b k l
 -- a new wire
 pub made_by : {S : Type 0} {m : Meaning S} {a b : S} {l w : ℕ} → Grows m a b 1 l → w ≡ m.wires a → w < m.wires b
 made_by g e = omega (arith, g.wires, e)
-
--- ---- a loop: one more turn, and a turn that is refused
-module _ {S : Type 0} {m : Meaning S} (piece : ℕ → Unit {0} → Circuit (Unit {0})) (i : ℕ) {old mid new : S}
-    (p : PutsAll m old mid (turns i piece tt) tt) where
-  pub one_turn : PutsAll m mid new (piece i tt) tt → PutsAll m old new (turns (i + 1) piece tt) tt
-  one_turn q = puts_turn m i piece tt tt tt old mid new p q
-
-  pub turn_some : {n : ℕ} {fault : SinkFault} → i < n → PutsSome m mid new (piece i tt) fault → PutsSome m old new (turns n piece tt) fault
-  turn_some h q = turn_refused m _ i piece tt tt old mid new _ h p q
 
 -- ---- combinations of wires
 pub top_wire : {t w n : ℕ} → t ≡ w + 1 → w < n → t ≤ n

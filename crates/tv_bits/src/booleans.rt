@@ -1,8 +1,8 @@
 //! A wire that is constrained to 0 or 1.
-ghost use Rattle.std.specs.Prelude.{◌≡◌, ◌<◌, [], false, IfOk, OnOk};
+ghost use Rattle.std.specs.Prelude.{◌≡◌, ◌<◌, [], false, OnOk};
 ghost use Rattle.tv_bits.specs.Bit.{bit_of, BitIsSound, BitIsComplete, BitSizes};
 ghost use Rattle.tv_core.specs.Values.{GivesIn};
-ghost use Rattle.tv_core.specs.Sinks.{PutsIn, Grows, Room};
+ghost use Rattle.tv_core.specs.Sinks.{Emits, Room};
 
 use tv_core::{F, Put, Scratch, Sink, Values, Wire};
 
@@ -10,8 +10,7 @@ use tv_core::{F, Put, Scratch, Sink, Values, Wire};
 pub fn bit<S: Sink>(s: &mut S, w: Wire) -> Put<()>
     requires room { Room S.meaning s.old 0 1 }
     requires made { w < S.meaning.wires s.old }
-    ensures puts { PutsIn S.meaning s.old s.new (bit_of w) result }
-    ensures grows { IfOk result (λ _. Grows S.meaning s.old s.new 0 1) }
+    ensures emits { Emits S.meaning s.old s.new (bit_of w) 0 1 result }
 {
     bit_by(s, &mut Scratch::new(), w)
 }
@@ -20,8 +19,7 @@ pub fn bit<S: Sink>(s: &mut S, w: Wire) -> Put<()>
 pub fn bit_by<S: Sink>(s: &mut S, scratch: &mut Scratch, w: Wire) -> Put<()>
     requires room { Room S.meaning s.old 0 1 }
     requires made { w < S.meaning.wires s.old }
-    ensures puts { PutsIn S.meaning s.old s.new (bit_of w) result }
-    ensures grows { IfOk result (λ _. Grows S.meaning s.old s.new 0 1) }
+    ensures emits { Emits S.meaning s.old s.new (bit_of w) 0 1 result }
 {
     scratch.a.set_wire(w);
     s.put(&scratch.a, &scratch.a, &scratch.a)

@@ -6,7 +6,7 @@ ghost use Rattle.tv_bits.specs.Bits.{NewBitsAreComplete, BitsAreSound, BitsAreCo
 ghost use Rattle.tv_bits.specs.Bits.{NewBitsSizes, BitsSizes};
 ghost use Rattle.tv_core.specs.Combinations.{top};
 ghost use Rattle.tv_core.specs.Values.{GivesIn};
-ghost use Rattle.tv_core.specs.Sinks.{PutsIn, Grows, Room};
+ghost use Rattle.tv_core.specs.Sinks.{Emits, Room};
 
 use crate::bit_wires::Bits;
 use crate::booleans::bit_by;
@@ -15,8 +15,7 @@ use tv_core::{F, Lc, Put, Scratch, Sink, Values, Wire};
 /// Makes new wires, each constrained to 0 or 1. It makes `n` wires and `n` constraints.
 pub fn new_bits_by<S: Sink>(s: &mut S, scratch: &mut Scratch, n: u32) -> Put<Bits>
     requires room { Room S.meaning s.old n n }
-    ensures puts { PutsIn S.meaning s.old s.new (new_bits_of n) result }
-    ensures grows { IfOk result (λ _. Grows S.meaning s.old s.new n n) }
+    ensures emits { Emits S.meaning s.old s.new (new_bits_of n) n n result }
     ensures size { IfOk result (λ bits. bits.n ≡ n) }
     ensures below { IfOk result (λ bits. bits.first + bits.n ≤ S.meaning.wires s.new) }
 {
@@ -37,8 +36,7 @@ pub fn bits<S: Sink>(s: &mut S, x: &Lc, n: u32) -> Put<Bits>
     requires room { Room S.meaning s.old n (n + 1) }
     requires x_made { top x.now ≤ S.meaning.wires s.old }
     requires short { n ≤ 63 }
-    ensures puts { PutsIn S.meaning s.old s.new (bits_of x.now n) result }
-    ensures grows { IfOk result (λ _. Grows S.meaning s.old s.new n (n + 1)) }
+    ensures emits { Emits S.meaning s.old s.new (bits_of x.now n) n (n + 1) result }
     ensures size { IfOk result (λ bits. bits.n ≡ n) }
     ensures below { IfOk result (λ bits. bits.first + bits.n ≤ S.meaning.wires s.new) }
 {
@@ -50,8 +48,7 @@ pub fn bits_by<S: Sink>(s: &mut S, scratch: &mut Scratch, x: &Lc, n: u32) -> Put
     requires room { Room S.meaning s.old n (n + 1) }
     requires x_made { top x.now ≤ S.meaning.wires s.old }
     requires short { n ≤ 63 }
-    ensures puts { PutsIn S.meaning s.old s.new (bits_of x.now n) result }
-    ensures grows { IfOk result (λ _. Grows S.meaning s.old s.new n (n + 1)) }
+    ensures emits { Emits S.meaning s.old s.new (bits_of x.now n) n (n + 1) result }
     ensures size { IfOk result (λ bits. bits.n ≡ n) }
     ensures below { IfOk result (λ bits. bits.first + bits.n ≤ S.meaning.wires s.new) }
 {

@@ -9,7 +9,7 @@ ghost use Rattle.tv_bits.specs.Ratio.{ratio};
 ghost use Rattle.tv_bits.specs.Times.{kept_of};
 ghost use Rattle.tv_core.specs.Combinations.{top};
 ghost use Rattle.tv_core.specs.Values.{GivesIn};
-ghost use Rattle.tv_core.specs.Sinks.{PutsIn, Grows, Room};
+ghost use Rattle.tv_core.specs.Sinks.{Emits, Room};
 ghost use Rattle.tv_word.specs.Widths.{IsWidth};
 
 use crate::bit_wires::Bits;
@@ -52,8 +52,8 @@ pub fn double_row<const W: u32, S: Sink>(
     requires room { Room S.meaning s.old (2 * W + 3) (2 * W + 3) }
     requires signed_made { top signed.now ≤ S.meaning.wires s.old }
     requires short { length signed.now ≤ 64 }
-    ensures puts { PutsIn S.meaning s.old s.new (double_row_of W signed.now) result }
-    ensures grows { IfOk result (λ _. Grows S.meaning s.old s.new (2 * W + 3) (2 * W + 3)) }
+    ensures emits { Emits S.meaning s.old s.new
+        (double_row_of W signed.now) (2 * W + 3) (2 * W + 3) result }
     ensures bits_below { IfOk result (λ row. row.first + 2 * W ≤ S.meaning.wires s.new) }
     ensures words_below { IfOk result (λ row. max row.low row.high < S.meaning.wires s.new) }
 {
@@ -68,8 +68,7 @@ pub fn double_row<const W: u32, S: Sink>(
 fn row_wires<const W: u32, S: Sink>(s: &mut S, scratch: &mut Scratch) -> Put<DoubleRow>
     requires width { IsWidth W }
     requires room { Room S.meaning s.old (2 * W + 2) (2 * W + 2) }
-    ensures puts { PutsIn S.meaning s.old s.new (row_wires_of W) result }
-    ensures grows { IfOk result (λ _. Grows S.meaning s.old s.new (2 * W + 2) (2 * W + 2)) }
+    ensures emits { Emits S.meaning s.old s.new (row_wires_of W) (2 * W + 2) (2 * W + 2) result }
     ensures bits_below { IfOk result (λ row. row.first + 2 * W ≤ S.meaning.wires s.new) }
     ensures words_below { IfOk result (λ row. max row.low row.high < S.meaning.wires s.new) }
 {
@@ -84,8 +83,7 @@ fn word<const W: u32, S: Sink>(s: &mut S, scratch: &mut Scratch, first: Wire) ->
     requires width { IsWidth W }
     requires room { Room S.meaning s.old 1 1 }
     requires made { first + W ≤ S.meaning.wires s.old }
-    ensures puts { PutsIn S.meaning s.old s.new (kept_of (bits_combination first W)) result }
-    ensures grows { IfOk result (λ _. Grows S.meaning s.old s.new 1 1) }
+    ensures emits { Emits S.meaning s.old s.new (kept_of (bits_combination first W)) 1 1 result }
     ensures below { IfOk result (λ w. w < S.meaning.wires s.new) }
 {
     Bits { first, n: W }.set_number(&mut scratch.a);

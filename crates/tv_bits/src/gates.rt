@@ -1,9 +1,9 @@
 //! An equation that a gate turns on. A gate is a combination whose value is 0 or 1.
-ghost use Rattle.std.specs.Prelude.{◌+◌, ◌≤◌, length, IfOk};
+ghost use Rattle.std.specs.Prelude.{◌+◌, ◌≤◌, length};
 ghost use Rattle.tv_bits.specs.Gate.{gated_of, GatedIsSound, GatedIsComplete, GatedSizes};
 ghost use Rattle.tv_bits.specs.Gate.{GatedCosts};
 ghost use Rattle.tv_core.specs.Combinations.{top};
-ghost use Rattle.tv_core.specs.Sinks.{PutsIn, Grows, Room};
+ghost use Rattle.tv_core.specs.Sinks.{Emits, Room};
 
 use tv_core::{F, Lc, Put, Scratch, Sink, Wire};
 
@@ -22,8 +22,7 @@ pub fn gated<S: Sink>(
     requires x_made { top x.now ≤ S.meaning.wires s.old }
     requires y_made { top y.now ≤ S.meaning.wires s.old }
     requires short { length x.now + length y.now ≤ 128 }
-    ensures puts { PutsIn S.meaning s.old s.new (gated_of gate.now x.now y.now) result }
-    ensures grows { IfOk result (λ _. Grows S.meaning s.old s.new 0 1) }
+    ensures emits { Emits S.meaning s.old s.new (gated_of gate.now x.now y.now) 0 1 result }
 {
     scratch.b.clear();
     scratch.b.plus_terms(x);

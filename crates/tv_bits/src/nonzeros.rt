@@ -4,7 +4,7 @@ ghost use Rattle.tv_bits.specs.Nonzero.{nonzero_of, nonzero_values, NonzeroIsSou
 ghost use Rattle.tv_bits.specs.Nonzero.{NonzeroIsComplete, NonzeroSizes};
 ghost use Rattle.tv_core.specs.Combinations.{top};
 ghost use Rattle.tv_core.specs.Values.{GivesIn};
-ghost use Rattle.tv_core.specs.Sinks.{PutsIn, Grows, Room};
+ghost use Rattle.tv_core.specs.Sinks.{Emits, Room};
 
 use crate::zeros::zero_cases;
 use tv_core::{F, Put, Scratch, Sink, Values, Wire, give_values};
@@ -14,8 +14,7 @@ use tv_core::{F, Put, Scratch, Sink, Values, Wire, give_values};
 pub fn nonzero_by<S: Sink>(s: &mut S, scratch: &mut Scratch) -> Put<Wire>
     requires room { Room S.meaning s.old 2 2 }
     requires x_made { top scratch.old.a ≤ S.meaning.wires s.old }
-    ensures puts { PutsIn S.meaning s.old s.new (nonzero_of scratch.old.a) result }
-    ensures grows { IfOk result (λ _. Grows S.meaning s.old s.new 2 2) }
+    ensures emits { Emits S.meaning s.old s.new (nonzero_of scratch.old.a) 2 2 result }
     ensures below { IfOk result (λ flag. flag < S.meaning.wires s.new) }
     ensures a { scratch.new.a ≡ scratch.old.a }
 {

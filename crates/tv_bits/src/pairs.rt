@@ -1,9 +1,9 @@
 //! Two ands in one constraint.
-ghost use Rattle.std.specs.Prelude.{◌≡◌, ◌≤◌, length, max, IfOk};
+ghost use Rattle.std.specs.Prelude.{◌≡◌, ◌≤◌, length, max};
 ghost use Rattle.tv_bits.specs.Pairs.{side, two_ands_of, TwoAndsAreSound, TwoAndsAreComplete};
 ghost use Rattle.tv_bits.specs.Pairs.{TwoAndsSizes};
 ghost use Rattle.tv_core.specs.Combinations.{top};
-ghost use Rattle.tv_core.specs.Sinks.{PutsIn, Grows, Room};
+ghost use Rattle.tv_core.specs.Sinks.{Emits, Room};
 
 use tv_core::{F, Lc, Put, Scratch, Sink, Wire};
 
@@ -27,9 +27,8 @@ pub fn two_ands<S: Sink>(
     requires short { max (max (length x_a.now) (length y_a.now))
         (max (length x_b.now) (length y_b.now)) ≤ 8 }
     requires m_short { length m.now ≤ 64 }
-    ensures puts { PutsIn S.meaning s.old s.new
-        (two_ands_of x_a.now y_a.now x_b.now y_b.now gamma m.now) result }
-    ensures grows { IfOk result (λ _. Grows S.meaning s.old s.new 0 1) }
+    ensures emits { Emits S.meaning s.old s.new
+        (two_ands_of x_a.now y_a.now x_b.now y_b.now gamma m.now) 0 1 result }
 {
     set_side(&mut scratch.a, x_a, y_a, x_b, y_b, gamma, F::ONE);
     set_side(&mut scratch.b, x_a, y_a, x_b, y_b, -gamma, F::ONE);

@@ -1,5 +1,5 @@
 //! The order of two numbers, by a difference of their prefixes.
-ghost use Rattle.std.specs.Prelude.{◌≡◌, ◌+◌, ◌-◌, ◌*◌, ◌≤◌, ◌<◌, ◌^◌, false, length, max, IfOk};
+ghost use Rattle.std.specs.Prelude.{◌≡◌, ◌+◌, ◌-◌, ◌*◌, ◌≤◌, ◌<◌, ◌^◌, false, length, max};
 ghost use Rattle.std.specs.Prelude.{min, OnOk};
 ghost use Rattle.tv_bits.specs.Order.{first_difference};
 ghost use Rattle.tv_bits.specs.Prefixes.{prefix_less, prefix_less_in, prefix_difference_of};
@@ -7,7 +7,7 @@ ghost use Rattle.tv_bits.specs.Prefixes.{prefix_difference_values, PrefixDiffere
 ghost use Rattle.tv_bits.specs.Prefixes.{PrefixDifferenceIsComplete, PrefixDifferenceSizes};
 ghost use Rattle.tv_core.specs.Combinations.{top};
 ghost use Rattle.tv_core.specs.Values.{GivesIn};
-ghost use Rattle.tv_core.specs.Sinks.{PutsIn, Grows, Room};
+ghost use Rattle.tv_core.specs.Sinks.{Emits, Room};
 
 use crate::bit_wires::Bits;
 use crate::products::times_by;
@@ -35,9 +35,8 @@ pub fn prefix_difference_by<S: Sink>(
     requires d_short { x.now.n + y.now.n + length d.now ≤ 128 }
     requires made { max (max (x.now.first + x.now.n) (y.now.first + y.now.n)) (top d.now)
         ≤ S.meaning.wires s.old }
-    ensures puts { PutsIn S.meaning s.old s.new (prefix_difference_of x.now y.now d.now chunk count)
-        result }
-    ensures grows { IfOk result (λ _. Grows S.meaning s.old s.new (count - 2) (count - 1)) }
+    ensures emits { Emits S.meaning s.old s.new
+        (prefix_difference_of x.now y.now d.now chunk count) (count - 2) (count - 1) result }
 {
     set_prefix_less(&mut scratch.a, x, y, d, 0);
     for i in 0..count - 2 {

@@ -5,7 +5,7 @@ ghost use Rattle.tv_bits.specs.Ratio.{RatioSizes};
 ghost use Rattle.tv_bits.specs.Times.{times_of, TimesIsSound, TimesIsComplete, TimesSizes};
 ghost use Rattle.tv_bits.specs.Times.{kept_of, KeptIsSound, KeptIsComplete, KeptSizes};
 ghost use Rattle.tv_core.specs.Combinations.{top};
-ghost use Rattle.tv_core.specs.Sinks.{PutsIn, Grows, Room};
+ghost use Rattle.tv_core.specs.Sinks.{Emits, Room};
 
 use tv_core::{Put, Scratch, Sink, Wire};
 
@@ -15,8 +15,7 @@ pub fn times_by<S: Sink>(s: &mut S, scratch: &mut Scratch) -> Put<Wire>
     requires room { Room S.meaning s.old 1 1 }
     requires x_made { top scratch.old.a ≤ S.meaning.wires s.old }
     requires y_made { top scratch.old.b ≤ S.meaning.wires s.old }
-    ensures puts { PutsIn S.meaning s.old s.new (times_of scratch.old.a scratch.old.b) result }
-    ensures grows { IfOk result (λ _. Grows S.meaning s.old s.new 1 1) }
+    ensures emits { Emits S.meaning s.old s.new (times_of scratch.old.a scratch.old.b) 1 1 result }
     ensures below { IfOk result (λ product. product < S.meaning.wires s.new) }
     ensures a { scratch.new.a ≡ scratch.old.a }
     ensures b { scratch.new.b ≡ scratch.old.b }
@@ -32,8 +31,7 @@ pub fn times_by<S: Sink>(s: &mut S, scratch: &mut Scratch) -> Put<Wire>
 pub fn kept_by<S: Sink>(s: &mut S, scratch: &mut Scratch) -> Put<Wire>
     requires room { Room S.meaning s.old 1 1 }
     requires x_made { top scratch.old.a ≤ S.meaning.wires s.old }
-    ensures puts { PutsIn S.meaning s.old s.new (kept_of scratch.old.a) result }
-    ensures grows { IfOk result (λ _. Grows S.meaning s.old s.new 1 1) }
+    ensures emits { Emits S.meaning s.old s.new (kept_of scratch.old.a) 1 1 result }
     ensures below { IfOk result (λ w. w < S.meaning.wires s.new) }
     ensures a { scratch.new.a ≡ scratch.old.a }
 {
@@ -47,8 +45,7 @@ pub fn ratio_by<S: Sink>(s: &mut S, scratch: &mut Scratch) -> Put<Wire>
     requires room { Room S.meaning s.old 1 1 }
     requires x_made { top scratch.old.a ≤ S.meaning.wires s.old }
     requires y_made { top scratch.old.b ≤ S.meaning.wires s.old }
-    ensures puts { PutsIn S.meaning s.old s.new (ratio_of scratch.old.a scratch.old.b) result }
-    ensures grows { IfOk result (λ _. Grows S.meaning s.old s.new 1 1) }
+    ensures emits { Emits S.meaning s.old s.new (ratio_of scratch.old.a scratch.old.b) 1 1 result }
     ensures below { IfOk result (λ ratio. ratio < S.meaning.wires s.new) }
     ensures a { scratch.new.a ≡ scratch.old.a }
     ensures b { scratch.new.b ≡ scratch.old.b }

@@ -6,7 +6,7 @@ ghost use Rattle.tv_bits.specs.OneHot.{row_sum, onehot_values, mark_of, onehot_o
 ghost use Rattle.tv_bits.specs.OneHot.{OneHotIsComplete, OneHotSizes};
 ghost use Rattle.tv_core.specs.Combinations.{top};
 ghost use Rattle.tv_core.specs.Values.{GivesIn};
-ghost use Rattle.tv_core.specs.Sinks.{PutsIn, Grows, Room};
+ghost use Rattle.tv_core.specs.Sinks.{Emits, Room};
 
 use crate::bit_wires::Bits;
 use tv_core::{F, Lc, Put, Scratch, Sink, Values, Wire};
@@ -31,8 +31,8 @@ pub fn onehot<S: Sink>(s: &mut S, x: &Bits) -> Put<Wire>
     requires room { Room S.meaning s.old (2 ^ x.now.n) (2 ^ x.now.n + 1) }
     requires short { x.now.n ≤ 5 }
     requires x_made { x.now.first + x.now.n ≤ S.meaning.wires s.old }
-    ensures puts { PutsIn S.meaning s.old s.new (onehot_of x.now) result }
-    ensures grows { IfOk result (λ _. Grows S.meaning s.old s.new (2 ^ x.now.n) (2 ^ x.now.n + 1)) }
+    ensures emits { Emits S.meaning s.old s.new
+        (onehot_of x.now) (2 ^ x.now.n) (2 ^ x.now.n + 1) result }
     ensures below { IfOk result (λ first. first + 2 ^ x.now.n ≤ S.meaning.wires s.new) }
 {
     onehot_by(s, &mut Scratch::new(), x)
@@ -43,8 +43,8 @@ pub fn onehot_by<S: Sink>(s: &mut S, scratch: &mut Scratch, x: &Bits) -> Put<Wir
     requires room { Room S.meaning s.old (2 ^ x.now.n) (2 ^ x.now.n + 1) }
     requires short { x.now.n ≤ 5 }
     requires x_made { x.now.first + x.now.n ≤ S.meaning.wires s.old }
-    ensures puts { PutsIn S.meaning s.old s.new (onehot_of x.now) result }
-    ensures grows { IfOk result (λ _. Grows S.meaning s.old s.new (2 ^ x.now.n) (2 ^ x.now.n + 1)) }
+    ensures emits { Emits S.meaning s.old s.new
+        (onehot_of x.now) (2 ^ x.now.n) (2 ^ x.now.n + 1) result }
     ensures below { IfOk result (λ first. first + 2 ^ x.now.n ≤ S.meaning.wires s.new) }
 {
     let first = Wire(s.wires());
@@ -64,9 +64,8 @@ fn mark<S: Sink>(s: &mut S, scratch: &mut Scratch, x: &Bits, i: u32) -> Put<()>
     requires room { Room S.meaning s.old 1 1 }
     requires short { x.now.n ≤ 5 }
     requires x_made { x.now.first + x.now.n ≤ S.meaning.wires s.old }
-    ensures puts { PutsIn S.meaning s.old s.new
-        (mark_of (bits_combination x.now.first x.now.n) i) result }
-    ensures grows { IfOk result (λ _. Grows S.meaning s.old s.new 1 1) }
+    ensures emits { Emits S.meaning s.old s.new
+        (mark_of (bits_combination x.now.first x.now.n) i) 1 1 result }
 {
     let w = s.fresh();
     scratch.a.set_wire(w);

@@ -6,7 +6,7 @@ ghost use Rattle.tv_bits.specs.Select.{wire_less, pick_of, PickIsSound, PickIsCo
 ghost use Rattle.tv_core.specs.Combinations.{wire, less, top};
 ghost use Rattle.tv_core.specs.Values.{GivesIn};
 ghost use Rattle.tv_core.specs.Normal.{normal};
-ghost use Rattle.tv_core.specs.Sinks.{PutsIn, Grows, Room};
+ghost use Rattle.tv_core.specs.Sinks.{Emits, Room};
 
 use tv_core::{F, Lc, Put, Scratch, Sink, Values, Wire};
 
@@ -17,8 +17,7 @@ pub fn select<S: Sink>(s: &mut S, b: Wire, x: &Lc, y: &Lc) -> Put<Wire>
     requires b_made { b < S.meaning.wires s.old }
     requires made { max (top x.now) (top y.now) ≤ S.meaning.wires s.old }
     requires short { max (length x.now) (length y.now) ≤ 64 }
-    ensures puts { PutsIn S.meaning s.old s.new (select_of b x.now y.now) result }
-    ensures grows { IfOk result (λ _. Grows S.meaning s.old s.new 1 1) }
+    ensures emits { Emits S.meaning s.old s.new (select_of b x.now y.now) 1 1 result }
     ensures below { IfOk result (λ chosen. chosen < S.meaning.wires s.new) }
 {
     select_terms(s, &mut Scratch::new(), b, x.terms(), y.terms())
@@ -36,8 +35,7 @@ pub fn select_terms<S: Sink>(
     requires b_made { b < S.meaning.wires s.old }
     requires made { max (top x.now) (top y.now) ≤ S.meaning.wires s.old }
     requires short { max (length x.now) (length y.now) ≤ 64 }
-    ensures puts { PutsIn S.meaning s.old s.new (select_of b x.now y.now) result }
-    ensures grows { IfOk result (λ _. Grows S.meaning s.old s.new 1 1) }
+    ensures emits { Emits S.meaning s.old s.new (select_of b x.now y.now) 1 1 result }
     ensures below { IfOk result (λ chosen. chosen < S.meaning.wires s.new) }
 {
     scratch.a.set_wire(b);
@@ -56,8 +54,7 @@ pub fn select_wires<S: Sink>(
     requires b_made { b < S.meaning.wires s.old }
     requires x_made { x < S.meaning.wires s.old }
     requires y_made { y < S.meaning.wires s.old }
-    ensures puts { PutsIn S.meaning s.old s.new (select_of b (wire x) (wire y)) result }
-    ensures grows { IfOk result (λ _. Grows S.meaning s.old s.new 1 1) }
+    ensures emits { Emits S.meaning s.old s.new (select_of b (wire x) (wire y)) 1 1 result }
     ensures below { IfOk result (λ chosen. chosen < S.meaning.wires s.new) }
 {
     select_terms(s, scratch, b, &[(F::ONE, x)], &[(F::ONE, y)])
@@ -76,8 +73,7 @@ pub fn pick_by<S: Sink>(
     requires b_made { top scratch.old.a ≤ S.meaning.wires s.old }
     requires made { max (top x.now) (top y.now) ≤ S.meaning.wires s.old }
     requires short { max (length x.now) (length y.now) ≤ 64 }
-    ensures puts { PutsIn S.meaning s.old s.new (pick_of scratch.old.a x.now y.now) result }
-    ensures grows { IfOk result (λ _. Grows S.meaning s.old s.new 1 1) }
+    ensures emits { Emits S.meaning s.old s.new (pick_of scratch.old.a x.now y.now) 1 1 result }
     ensures below { IfOk result (λ w. w < S.meaning.wires s.new) }
     ensures a { scratch.new.a ≡ scratch.old.a }
 {

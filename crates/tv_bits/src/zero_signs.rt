@@ -1,10 +1,10 @@
 //! A wire that is a sign where another is 0.
-ghost use Rattle.std.specs.Prelude.{◌≡◌, ◌≤◌, ◌<◌, false, length, IfOk, OnOk};
+ghost use Rattle.std.specs.Prelude.{◌≡◌, ◌≤◌, ◌<◌, false, length, OnOk};
 ghost use Rattle.tv_bits.specs.ZeroSign.{zero_sign_of, zero_sign_values, ZeroSignIsSound};
 ghost use Rattle.tv_bits.specs.ZeroSign.{ZeroSignIsComplete, ZeroSignSizes, ZeroSignCosts};
 ghost use Rattle.tv_core.specs.Combinations.{top};
 ghost use Rattle.tv_core.specs.Values.{GivesIn};
-ghost use Rattle.tv_core.specs.Sinks.{PutsIn, Grows, Room};
+ghost use Rattle.tv_core.specs.Sinks.{Emits, Room};
 
 use crate::zeros::zero_cases;
 use tv_core::{F, Put, Scratch, Sink, Values, Wire};
@@ -24,8 +24,7 @@ pub fn zero_sign<S: Sink>(
     requires f_made { f < S.meaning.wires s.old }
     requires sign_made { top sign.now ≤ S.meaning.wires s.old }
     requires sign_short { length sign.now ≤ 127 }
-    ensures puts { PutsIn S.meaning s.old s.new (zero_sign_of y f sign.now) result }
-    ensures grows { IfOk result (λ _. Grows S.meaning s.old s.new 1 2) }
+    ensures emits { Emits S.meaning s.old s.new (zero_sign_of y f sign.now) 1 2 result }
 {
     scratch.a.set_wire(y);
     scratch.c.clear();

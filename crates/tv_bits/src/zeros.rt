@@ -1,7 +1,7 @@
 //! Whether a combination is 0.
 ghost use Rattle.std.specs.Prelude.{◌≡◌, ◌≤◌, ◌<◌, false, length, max, IfOk, OnOk};
 ghost use Rattle.tv_core.specs.Combinations.{top};
-ghost use Rattle.tv_core.specs.Sinks.{PutsIn, Grows, Room};
+ghost use Rattle.tv_core.specs.Sinks.{Emits, Room};
 ghost use Rattle.tv_core.specs.Values.{GivesIn};
 ghost use Rattle.tv_bits.specs.Zero.{zero_cases_of, zero_of, zero_values};
 ghost use Rattle.tv_bits.specs.Zero.{ZeroIsSound, ZeroIsComplete, ZeroSizes};
@@ -12,8 +12,7 @@ use tv_core::{F, Lc, Put, Scratch, Sink, Values, Wire, give_values};
 pub fn zero<S: Sink>(s: &mut S, x: &Lc) -> Put<Wire>
     requires room { Room S.meaning s.old 2 2 }
     requires x_made { top x.now ≤ S.meaning.wires s.old }
-    ensures puts { PutsIn S.meaning s.old s.new (zero_of x.now) result }
-    ensures grows { IfOk result (λ _. Grows S.meaning s.old s.new 2 2) }
+    ensures emits { Emits S.meaning s.old s.new (zero_of x.now) 2 2 result }
     ensures below { IfOk result (λ flag. flag < S.meaning.wires s.new) }
 {
     let mut scratch = Scratch::new();
@@ -26,8 +25,7 @@ pub fn zero<S: Sink>(s: &mut S, x: &Lc) -> Put<Wire>
 pub fn zero_by<S: Sink>(s: &mut S, scratch: &mut Scratch) -> Put<Wire>
     requires room { Room S.meaning s.old 2 2 }
     requires x_made { top scratch.old.a ≤ S.meaning.wires s.old }
-    ensures puts { PutsIn S.meaning s.old s.new (zero_of scratch.old.a) result }
-    ensures grows { IfOk result (λ _. Grows S.meaning s.old s.new 2 2) }
+    ensures emits { Emits S.meaning s.old s.new (zero_of scratch.old.a) 2 2 result }
     ensures below { IfOk result (λ flag. flag < S.meaning.wires s.new) }
     ensures a { scratch.new.a ≡ scratch.old.a }
 {
@@ -45,9 +43,8 @@ pub fn zero_cases<S: Sink>(s: &mut S, scratch: &mut Scratch, other: &[(F, Wire)]
     requires made { max (top scratch.old.a) (max (top scratch.old.c) (top other.now))
         ≤ S.meaning.wires s.old }
     requires short { length other.now ≤ 128 }
-    ensures puts { PutsIn S.meaning s.old s.new
-        (zero_cases_of scratch.old.a scratch.old.c other.now) result }
-    ensures grows { IfOk result (λ _. Grows S.meaning s.old s.new 1 2) }
+    ensures emits { Emits S.meaning s.old s.new
+        (zero_cases_of scratch.old.a scratch.old.c other.now) 1 2 result }
     ensures a { scratch.new.a ≡ scratch.old.a }
 {
     let hint = s.fresh();

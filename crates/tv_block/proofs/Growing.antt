@@ -1,7 +1,6 @@
 -- What stands below the next wire, and the room that is left, call by call of a step.
-use Rattle.tv_core.proofs.Common.{◌≡◌, ℕ, ◌+◌, ◌-◌, ◌*◌, ◌/◌, ◌^◌, ◌≤◌, ◌<◌, Result, Ok, Err, ap, subst, sym, arith, Grows, IsWidth}
-use Rattle.std.proofs.Common.{IfOk}
-pub use Rattle.tv_bits.proofs.Growing.{grows_as, made_by}
+use Rattle.tv_core.proofs.Common.{◌≡◌, ℕ, ◌+◌, ◌-◌, ◌*◌, ◌/◌, ◌^◌, ◌≤◌, ◌<◌, ap, subst, sym, arith, Grows, IsWidth}
+pub use Rattle.tv_bits.proofs.Growing.{made_by}
 pub use Rattle.tv_core.proofs.Rooms.{both}
 use Rattle.tv_core.proofs.Rooms.{room_here, room_left}
 use Rattle.tv_core.specs.Sinks.{Meaning, Room}
@@ -31,12 +30,6 @@ module _ {S : Type 0} {m : Meaning S} where
   pub after : {a b : S} {k l x y : ℕ} → Grows m a b k l → Room m a (k + x) (l + y) → Room m b x y
   after g r = room_left r g (omega arith)
 
-  -- where the last call succeeds
-  pub if_ok : {T E : Type 0} {old mid new : S} (result : Result T E) {k l made added : ℕ}
-      → (Grows m mid new k l → Grows m old new made added) → IfOk result (λ _. Grows m mid new k l) → IfOk result (λ _. Grows m old new made added)
-  if_ok (Ok done) f h = f h
-  if_ok (Err why) f h = tt
-
   -- what the calls of a step's two parts need
   pub computed_room : (w : ℕ) {a : S} → Room m a (computed_made w) (computed_added w)
       → Room m a (2 * w + 26 + (31 + (w + 1 + (1 + (3 * w + w / 16 + 12))))) (2 * w + 27 + (28 + (w + 2 + (0 + (3 * w + w / 16 + 22)))))
@@ -45,14 +38,6 @@ module _ {S : Type 0} {m : Meaning S} where
   pub effects_room : (w : ℕ) {a : S} → Room m a (effects_made w) (effects_added w)
       → Room m a (7 + (w / 8 + 5 + (5 + (1 + 24)))) (7 + (w / 8 + 5 + (8 + (2 + 25))))
   effects_room w r = room_here r (omega arith)
-
-  pub computed_grows : (w : ℕ) {a b : S} → Grows m a b (2 * w + 26 + (31 + (w + 1 + (1 + (3 * w + w / 16 + 12))))) (2 * w + 27
-      + (28 + (w + 2 + (0 + (3 * w + w / 16 + 22))))) → Grows m a b (computed_made w) (computed_added w)
-  computed_grows w g = grows_as g (omega arith) (omega arith)
-
-  pub effects_grow : (w : ℕ) {a b : S} → Grows m a b (7 + (w / 8 + 5 + (5 + (1 + 24)))) (7 + (w / 8 + 5 + (8 + (2 + 25))))
-      → Grows m a b (effects_made w) (effects_added w)
-  effects_grow w g = grows_as g (omega arith) (omega arith)
 
   -- the next wire, and one below the next, have numbers of 32 bits
   pub next_fits : {a : S} (x : ℕ) {y : ℕ} → Room m a (1 + x) y → m.wires a < 2 ^ 32 - 1

@@ -7,7 +7,7 @@ ghost use Rattle.tv_block.specs.Complete.{computed_made, computed_added};
 ghost use Rattle.tv_block.specs.Complete.{effects_made, effects_added, block_made, block_added};
 ghost use Rattle.tv_block.specs.Under.{BlockUnder, InstructionUnder, ComputedUnder, BeforeUnder};
 ghost use Rattle.tv_block.specs.Under.{DoneUnder, EffectsUnder};
-ghost use Rattle.tv_core.specs.Sinks.{PutsIn, Grows, Room};
+ghost use Rattle.tv_core.specs.Sinks.{Emits, Room};
 ghost use Rattle.tv_parts.specs.Memory.{memory_of};
 ghost use Rattle.tv_inputs.specs.Results.{sign_of, results_of};
 ghost use Rattle.tv_inputs.specs.States.{StateUnder, TapesUnder, StoreUnder};
@@ -38,8 +38,8 @@ pub fn block<const W: u32, S: Sink>(s: &mut S, state: &StateWires, n: u32, time:
     requires room { Room S.meaning s.old (block_made W) (block_added W) }
     requires state_made { StateUnder (S.meaning.wires s.old) state.now }
     requires times { time + 2 < 2 ^ 32 }
-    ensures puts { PutsIn S.meaning s.old s.new (block_of W n state.now time) result }
-    ensures grows { IfOk result (λ _. Grows S.meaning s.old s.new (block_made W) (block_added W)) }
+    ensures emits { Emits S.meaning s.old s.new
+        (block_of W n state.now time) (block_made W) (block_added W) result }
     ensures below { IfOk result (λ made. BlockUnder (S.meaning.wires s.new) made) }
 {
     let first = Wire(s.wires());
@@ -53,9 +53,8 @@ pub fn step<const W: u32, S: Sink>(s: &mut S, state: &StateWires, n: u32) -> Put
     requires width { IsWidth W }
     requires room { Room S.meaning s.old (block_made W) (block_added W) }
     requires state_made { StateUnder (S.meaning.wires s.old) state.now }
-    ensures puts { (time : ℕ) →
-        PutsIn S.meaning s.old s.new (reached_of W n state.now time) result }
-    ensures grows { IfOk result (λ _. Grows S.meaning s.old s.new (block_made W) (block_added W)) }
+    ensures emits { (time : ℕ) → Emits S.meaning s.old s.new
+        (reached_of W n state.now time) (block_made W) (block_added W) result }
     ensures next_below { IfOk result (λ made. StateUnder (S.meaning.wires s.new) made.next) }
     ensures answers_below { IfOk result (λ made. made.answers < S.meaning.wires s.new) }
     ensures value_below { IfOk result (λ made. made.value < S.meaning.wires s.new) }
@@ -87,9 +86,8 @@ fn compute<const W: u32, S: Sink>(
     requires width { IsWidth W }
     requires room { Room S.meaning s.old (computed_made W) (computed_added W) }
     requires state_made { StateUnder (S.meaning.wires s.old) state.now }
-    ensures puts { PutsIn S.meaning s.old s.new (computed_of W state.now) result }
-    ensures grows { IfOk result (λ _. Grows S.meaning s.old s.new (computed_made W)
-        (computed_added W)) }
+    ensures emits { Emits S.meaning s.old s.new
+        (computed_of W state.now) (computed_made W) (computed_added W) result }
     ensures below { IfOk result (λ made. ComputedUnder W (S.meaning.wires s.new) made) }
 {
     let instruction = instruction::<W, S>(s, scratch)?;
@@ -118,8 +116,7 @@ fn registers<const W: u32, S: Sink>(
     requires room { Room S.meaning s.old 31 28 }
     requires state_made { StateUnder (S.meaning.wires s.old) state.now }
     requires instruction_made { InstructionUnder W (S.meaning.wires s.old) i.now }
-    ensures puts { PutsIn S.meaning s.old s.new (registers_of W state.now i.now) result }
-    ensures grows { IfOk result (λ _. Grows S.meaning s.old s.new 31 28) }
+    ensures emits { Emits S.meaning s.old s.new (registers_of W state.now i.now) 31 28 result }
     ensures below { IfOk result (λ regs. TripleUnder (S.meaning.wires s.new) regs) }
 {
     let stores = [
@@ -147,9 +144,8 @@ fn act<const W: u32, S: Sink>(
     requires room { Room S.meaning s.old (effects_made W) (effects_added W) }
     requires state_made { StateUnder (S.meaning.wires s.old) state.now }
     requires computed_made { ComputedUnder W (S.meaning.wires s.old) c.now }
-    ensures puts { PutsIn S.meaning s.old s.new (effects_of W n state.now c.now) result }
-    ensures grows { IfOk result (λ _. Grows S.meaning s.old s.new (effects_made W)
-        (effects_added W)) }
+    ensures emits { Emits S.meaning s.old s.new
+        (effects_of W n state.now c.now) (effects_made W) (effects_added W) result }
     ensures below { IfOk result (λ made. EffectsUnder (S.meaning.wires s.new) made) }
 {
     let op = c.instruction.op;
@@ -176,9 +172,8 @@ fn leave<const W: u32, S: Sink>(
     requires room { Room S.meaning s.old 24 25 }
     requires before_made { BeforeUnder W (S.meaning.wires s.old) state.now c.now }
     requires done_made { DoneUnder (S.meaning.wires s.old) tapes.now memory.now word }
-    ensures puts { PutsIn S.meaning s.old s.new
-        (left_of W state.now c.now tapes.now memory.now word) result }
-    ensures grows { IfOk result (λ _. Grows S.meaning s.old s.new 24 25) }
+    ensures emits { Emits S.meaning s.old s.new
+        (left_of W state.now c.now tapes.now memory.now word) 24 25 result }
     ensures below { IfOk result (λ made. EffectsUnder (S.meaning.wires s.new) made) }
 {
     let op = c.instruction.op;
@@ -207,9 +202,10 @@ fn store<const W: u32, S: Sink>(
     requires state_made { StateUnder (S.meaning.wires s.old) state.now }
     requires computed_made { ComputedUnder W (S.meaning.wires s.old) c.now }
     requires tapes_made { TapesUnder (S.meaning.wires s.old) tapes.now }
-    ensures puts { PutsIn S.meaning s.old s.new (memory_of W state.now c.now.instruction.op
-        c.now.operand (data_of c.now.made c.now.regs.other_word) tapes.now) result }
-    ensures grows { IfOk result (λ _. Grows S.meaning s.old s.new (W / 8 + 5) (W / 8 + 5)) }
+    ensures emits { Emits S.meaning s.old s.new
+        (memory_of W state.now c.now.instruction.op c.now.operand
+        (data_of c.now.made c.now.regs.other_word) tapes.now)
+        (W / 8 + 5) (W / 8 + 5) result }
     ensures below { IfOk result (λ made. StoreUnder (S.meaning.wires s.new) made) }
 {
     let data = DataWires {
@@ -237,9 +233,10 @@ fn results<const W: u32, S: Sink>(
     requires before_made { BeforeUnder W (S.meaning.wires s.old) state.now c.now }
     requires byte_made { byte < S.meaning.wires s.old }
     requires tapes_made { TapesUnder (S.meaning.wires s.old) tapes.now }
-    ensures puts { PutsIn S.meaning s.old s.new (results_of W state.now c.now.instruction.op
-        c.now.operand (sources_of W c.now.made byte) tapes.now) result }
-    ensures grows { IfOk result (λ _. Grows S.meaning s.old s.new 5 8) }
+    ensures emits { Emits S.meaning s.old s.new
+        (results_of W state.now c.now.instruction.op c.now.operand (sources_of W c.now.made byte)
+        tapes.now)
+        5 8 result }
     ensures below { IfOk result (λ made. ResultUnder (S.meaning.wires s.new) made) }
 {
     let sources = Sources {
@@ -265,8 +262,7 @@ fn put_test<S: Sink>(
     requires op_made { op + 29 ≤ S.meaning.wires s.old }
     requires tested_made { tested < S.meaning.wires s.old }
     requires test_made { test < S.meaning.wires s.old }
-    ensures puts { PutsIn S.meaning s.old s.new (zero_sign_of tested test (sign_of op)) result }
-    ensures grows { IfOk result (λ _. Grows S.meaning s.old s.new 1 2) }
+    ensures emits { Emits S.meaning s.old s.new (zero_sign_of tested test (sign_of op)) 1 2 result }
 {
     let mut sign = Lc::empty();
     set_sign(&mut sign, op);

@@ -6,7 +6,7 @@ ghost use Rattle.tv_cmp.specs.Compare.{sign, but_for_signs, order_flags_of, sign
 ghost use Rattle.tv_cmp.specs.Compare.{greater_of, compare_of, size, signed_size, compare_values};
 ghost use Rattle.tv_cmp.specs.Compare.{CompareIsSound, CompareIsComplete, CompareSizes};
 ghost use Rattle.tv_core.specs.Values.{GivesIn};
-ghost use Rattle.tv_core.specs.Sinks.{PutsIn, Grows, Room};
+ghost use Rattle.tv_core.specs.Sinks.{Emits, Room};
 ghost use Rattle.tv_word.specs.Widths.{IsWidth};
 ghost use Rattle.tv_word.specs.Word.{signed};
 
@@ -38,8 +38,8 @@ pub fn compare<const W: u32, S: Sink>(s: &mut S, x: &Bits, y: &Bits) -> Put<Cmp>
     requires room { Room S.meaning s.old (W / 4 + 6) (W / 4 + 8) }
     requires x_word { AreBitsBelow (S.meaning.wires s.old) W x.now }
     requires y_word { AreBitsBelow (S.meaning.wires s.old) W y.now }
-    ensures puts { PutsIn S.meaning s.old s.new (compare_of W x.now y.now) result }
-    ensures grows { IfOk result (λ _. Grows S.meaning s.old s.new (W / 4 + 6) (W / 4 + 8)) }
+    ensures emits { Emits S.meaning s.old s.new
+        (compare_of W x.now y.now) (W / 4 + 6) (W / 4 + 8) result }
     ensures below { IfOk result (λ cmp. max cmp.equal (max cmp.above cmp.greater)
         < S.meaning.wires s.new) }
 {
@@ -73,8 +73,8 @@ fn order_flags<const W: u32, S: Sink>(
     requires y_word { AreBitsBelow (S.meaning.wires s.old) W y.now }
     requires equal_made { equal < S.meaning.wires s.old }
     requires above_made { above < S.meaning.wires s.old }
-    ensures puts { PutsIn S.meaning s.old s.new (order_flags_of W equal above x.now y.now) result }
-    ensures grows { IfOk result (λ _. Grows S.meaning s.old s.new 0 3) }
+    ensures emits { Emits S.meaning s.old s.new
+        (order_flags_of W equal above x.now y.now) 0 3 result }
 {
     bit_by(s, scratch, above)?;
     scratch.a.set_wire(equal);
@@ -98,8 +98,8 @@ fn signed_size<const W: u32, S: Sink>(
     requires room { Room S.meaning s.old (W / 4 + 1) (W / 4 + 1) }
     requires equal_made { equal < S.meaning.wires s.old }
     requires above_made { above < S.meaning.wires s.old }
-    ensures puts { PutsIn S.meaning s.old s.new (signed_size_of (W / 4) equal above) result }
-    ensures grows { IfOk result (λ _. Grows S.meaning s.old s.new (W / 4 + 1) (W / 4 + 1)) }
+    ensures emits { Emits S.meaning s.old s.new
+        (signed_size_of (W / 4) equal above) (W / 4 + 1) (W / 4 + 1) result }
     ensures below { IfOk result (λ difference. difference < S.meaning.wires s.new) }
 {
     let size = new_bits_by(s, scratch, W / CHUNKS)?;
@@ -133,8 +133,7 @@ fn greater<const W: u32, S: Sink>(
     requires x_made { x.now.first + W ≤ S.meaning.wires s.old }
     requires y_made { y.now.first + W ≤ S.meaning.wires s.old }
     requires above_made { above < S.meaning.wires s.old }
-    ensures puts { PutsIn S.meaning s.old s.new (greater_of W above x.now y.now) result }
-    ensures grows { IfOk result (λ _. Grows S.meaning s.old s.new 1 1) }
+    ensures emits { Emits S.meaning s.old s.new (greater_of W above x.now y.now) 1 1 result }
     ensures below { IfOk result (λ greater. greater < S.meaning.wires s.new) }
 {
     let (x, y) = (x.first.offset(W - 1), y.first.offset(W - 1));

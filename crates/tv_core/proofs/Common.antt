@@ -14,11 +14,11 @@ pub use Rattle.tv_word.proofs.WidthLaws.{for_widths, width_short}
 pub use Rattle.tv_word.specs.Widths.{IsWidth}
 pub use Rattle.tv_word.specs.Word.{flag_of}
 pub use Rattle.tv_core.proofs.BelowLaws.{length-each_below}
-pub use Rattle.tv_core.proofs.Chain.{all_pure, all_then, puts_no_turn, refused, refused_whole, refused_wires, some_first, some_then}
+pub use Rattle.tv_core.proofs.Chain.{all_last, all_then, emits_as, emits_here, emits_in, emits_no_turn, emits_turn, refused, refused_whole}
+pub use Rattle.tv_core.proofs.Chain.{refused_wires, some_first, some_then, then_in, turn_some}
 pub use Rattle.tv_core.proofs.CombinationLaws.{value-append, value-below, value-cons, value-less, value-wire, wire-below}
 pub use Rattle.tv_core.proofs.FieldLaws.{InField-cons, InField-none}
 pub use Rattle.tv_core.proofs.MeetsLaws.{HasFrom-split, Meets-join, Meets-split}
-pub use Rattle.tv_core.proofs.TailCalls.{puts_in_then}
 pub use Rattle.tv_core.proofs.ValuesChain.{first_given, gives_refused, gives_refused_whole, in_given}
 unfoldable pub use Rattle.tv_core.specs.Below.{each_below, joined_below}
 pub use Rattle.tv_core.specs.Circuits.{Circuit}
@@ -31,5 +31,5 @@ pub use Rattle.tv_core.specs.Loops.{sequence}
 pub use Rattle.tv_core.specs.Meanings.{terms_in}
 pub use Rattle.tv_core.specs.Normal.{AreNormal, IsNormal, IsNormalFrom}
 unfoldable pub use Rattle.tv_core.specs.Normal.{normal}
-pub use Rattle.tv_core.specs.Sinks.{Grows, PutsAll}
+pub use Rattle.tv_core.specs.Sinks.{EmitsAll, Grows, PutsAll}
 pub use Rattle.tv_core.specs.Values.{GivesAll}

@@ -23,7 +23,6 @@ mod PrimeProof
 pub mod Residues
 pub mod Rooms
 mod RowLaws
-mod TailCalls
 mod TestLaws
 pub mod Unique
 pub mod ValuesChain

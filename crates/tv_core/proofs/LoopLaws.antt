@@ -2,14 +2,12 @@
 use Rattle.std.proofs.Common.{◌≡◌, ℕ, zero, suc, ◌+◌, ◌-◌, ◌*◌, ◌<◌, List, [], ◌∷◌, sym, ◌∙◌, subst, arith, inl, inr, add-one}
 use Rattle.std.proofs.lemmas.Bool.{cases_eq}
 use Rattle.tv_core.proofs.BelowLaws.{each_below-zero, each_below-suc}
-use Rattle.tv_core.proofs.Chain.{puts_here}
 use Rattle.tv_core.proofs.ValuesChain.{gives_then, gives_then_refused, gives_refused_then, gives_nothing}
 use Rattle.tv_core.proofs.MeetsLaws.{parts, whole}
 use Rattle.tv_core.specs.Below.{each_below}
-use Rattle.tv_core.specs.Circuits.{Circuit, here, turns, pure, ◌>>=◌}
+use Rattle.tv_core.specs.Circuits.{Circuit, turns, pure, ◌>>=◌}
 use Rattle.tv_core.specs.Values.{ValuesMeaning, GivesAll, GivesSome}
 use Rattle.tv_core.specs.Laws.{Meets}
-use Rattle.tv_core.specs.Sinks.{Meaning, PutsAll}
 use Rattle.tv_core.specs.declared.sink.SinkFault.{SinkFault}
 
 module _ {A : Type 0} (z : List ℕ) (piece : ℕ → A → Circuit A) (x : A) (next : ℕ) where
@@ -38,10 +36,6 @@ unfolding turns pure ◌>>=◌
 turns-next piece x next made zero each = omega arith
 turns-next piece x next made (suc n) each =
     each n (turns n piece x next).answer (turns n piece x next).next ∙ omega (arith, turns-next piece x next made n each)
-
--- the next wire's number, as a call returned it
-pub puts_here_as : {S : Type 0} (m : Meaning S) (s : S) (w : ℕ) → w ≡ m.wires s → PutsAll m s s here w
-puts_here_as m s w same = rw same (puts_here m s)
 
 -- each turn passes a number
 module _ {V : Type 0} (m : ValuesMeaning V) (f : ℕ → ℕ) where

@@ -32,6 +32,12 @@ IsCause Failed faults wants old new = Rose (faults old) (faults new)
 IsCause Memory faults wants old new = Rose (wants old) (wants new)
 
 module _ {S : Type 0} (m : Meaning S) where
+  -- after a call that succeeded: this many more wires and constraints, and the sink is not broken
+  pub record Grows (old new : S) (made added : ℕ) : Type 0 where
+    pub wires : m.wires new ≡ m.wires old + made
+    pub constraints : m.constraints new ≡ m.constraints old + added
+    pub whole : m.broken new ≡ false
+
   module _ {A : Type 0} where
     -- a call put a whole circuit: its result is the circuit's, the sink records the circuit's constraints after those
     -- before, and the next wire is the circuit's; no count fell
@@ -42,6 +48,11 @@ module _ {S : Type 0} (m : Meaning S) where
       pub keeps : m.Keeps old new
       pub faults : m.faults old ≤ m.faults new
       pub wants : m.wants old ≤ m.wants new
+
+    -- a call put a whole circuit, which has this many wires and constraints
+    pub record EmitsAll (old new : S) (circuit : Circuit A) (made added : ℕ) (answer : A) : Type 0 where
+      pub puts : PutsAll old new circuit answer
+      pub grows : Grows old new made added
 
     -- a call was refused at one of a circuit's constraints: the sink has tried the circuit's
     -- constraints up to that one after whatever it stood for, it is broken, and the count of the
@@ -62,11 +73,9 @@ module _ {S : Type 0} (m : Meaning S) where
     abbrev pub PutsIn : S → S → Circuit A → Result A SinkFault → Type 0
     PutsIn old new circuit result = MatchResult result (PutsAll old new circuit) (PutsSome old new circuit)
 
-  -- after a call that succeeded: this many more wires and constraints, and the sink is not broken
-  pub record Grows (old new : S) (made added : ℕ) : Type 0 where
-    pub wires : m.wires new ≡ m.wires old + made
-    pub constraints : m.constraints new ≡ m.constraints old + added
-    pub whole : m.broken new ≡ false
+    -- the same of a circuit that has this many wires and constraints
+    abbrev pub Emits : S → S → Circuit A → ℕ → ℕ → Result A SinkFault → Type 0
+    Emits old new circuit made added result = MatchResult result (EmitsAll old new circuit made added) (PutsSome old new circuit)
 
   -- before a call: there is room for this many more wires and constraints, wire 0 is there, and the sink is not broken
   pub record Room (sink : S) (made added : ℕ) : Type 0 where

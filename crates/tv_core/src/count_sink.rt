@@ -1,8 +1,8 @@
 //! A sink that counts constraints and terms.
-ghost use Rattle.std.specs.Prelude.{◌≡◌, ◌-◌, ◌*◌, ◌^◌, ◌<◌, ◌≤◌, IsOk, IfOk, refl};
+ghost use Rattle.std.specs.Prelude.{◌≡◌, ◌-◌, ◌*◌, ◌^◌, ◌<◌, ◌≤◌, IsOk, refl};
 ghost use Rattle.tv_core.specs.Circuits.{fresh, put};
 ghost use Rattle.tv_core.specs.Combinations.{top};
-ghost use Rattle.tv_core.specs.Sinks.{PutsIn, Grows};
+ghost use Rattle.tv_core.specs.Sinks.{Emits};
 ghost use Rattle.tv_core.specs.Meanings.{Counted, counted_meaning};
 
 use crate::combination::Lc;
@@ -74,8 +74,7 @@ impl Sink for CountSink {
         requires b_made { top b.now ≤ self.old.wires }
         requires c_made { top c.now ≤ self.old.wires }
         ensures ok { IsOk result }
-        ensures puts { PutsIn counted_meaning self.old self.new (put a.now b.now c.now) result }
-        ensures grows { IfOk result (λ _. Grows counted_meaning self.old self.new 0 1) }
+        ensures emits { Emits counted_meaning self.old self.new (put a.now b.now c.now) 0 1 result }
     {
         self.constraints += 1;
         self.terms += (a.terms().len() + b.terms().len() + c.terms().len()) as u64;

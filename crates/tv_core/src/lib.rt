@@ -4,9 +4,9 @@
 //! Contracts above see a field element as a number below P and a combination as the list of its
 //! terms. They cite `Holds`, `Sat` and `Extends`, and never carry "P is prime" as a premise: it is
 //! proved here. A gadget is first a circuit, a definition of its answer, constraints and wires. Its
-//! function says by `PutsIn` that it puts that circuit into any `Sink`, and by `Grows` how many
-//! wires and constraints that is; its generator, `fill_..`, says by `GivesIn` which values it
-//! assigns; its laws are about assignments that `Meets` the circuit's constraints.
+//! function says by `Emits` that it puts that circuit into any `Sink`, and how many wires and
+//! constraints that is; its generator, `fill_..`, says by `GivesIn` which values it assigns; its
+//! laws are about assignments that `Meets` the circuit's constraints.
 #![tactic(auto)]
 
 mod combination;

@@ -1,5 +1,5 @@
 //! The trait of what takes a system's wires and constraints.
-ghost use Rattle.std.specs.Prelude.{◌≡◌, ◌-◌, ◌^◌, ◌<◌, ◌≤◌, IfOk, false, List, length};
+ghost use Rattle.std.specs.Prelude.{◌≡◌, ◌-◌, ◌^◌, ◌<◌, ◌≤◌, false, List, length};
 ghost use Rattle.tv_core.specs.Constraints.{Constraint};
 ghost use Rattle.tv_core.specs.Combinations.{top};
 ghost use Rattle.tv_core.specs.Circuits.{fresh, put};
@@ -27,7 +27,7 @@ pub type Put<T> = Result<T, SinkFault>;
 /// A sink records the list of constraints that were put into it. A refusal breaks it: then it
 /// records no list, what it has tried is known, and no further call is made on it.
 pub trait Sink {
-    ghost use Rattle.tv_core.specs.Sinks.{Meaning, PutsAll, PutsIn, Grows, Quiet};
+    ghost use Rattle.tv_core.specs.Sinks.{Meaning, Emits, EmitsAll, Quiet};
 
     ghost meaning: { Meaning Self };
 
@@ -40,8 +40,7 @@ pub trait Sink {
         requires whole { meaning.broken self.old ≡ false }
         requires room { meaning.wires self.old < 2 ^ 32 - 1 }
         ensures next { result ≡ meaning.wires self.old }
-        ensures puts { PutsAll meaning self.old self.new fresh result }
-        ensures grows { Grows meaning self.old self.new 1 0 }
+        ensures emits { EmitsAll meaning self.old self.new fresh 1 0 result }
         ensures quiet { Quiet meaning self.old self.new };
 
     /// Appends the constraint that `a` times `b` is `c`. Returns `Failed` only where the sink's
@@ -52,8 +51,7 @@ pub trait Sink {
         requires a_made { top a.now ≤ meaning.wires self.old }
         requires b_made { top b.now ≤ meaning.wires self.old }
         requires c_made { top c.now ≤ meaning.wires self.old }
-        ensures puts { PutsIn meaning self.old self.new (put a.now b.now c.now) result }
-        ensures grows { IfOk result (λ _. Grows meaning self.old self.new 0 1) };
+        ensures emits { Emits meaning self.old self.new (put a.now b.now c.now) 0 1 result };
 
     // the list has as many constraints as were put
     ghost counted: { (sink : Self) (list : List Constraint) → meaning.stands sink list

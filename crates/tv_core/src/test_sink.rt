@@ -1,7 +1,7 @@
 //! A sink that tests each constraint against an assignment.
-ghost use Rattle.std.specs.Prelude.{◌≡◌, ◌-◌, ◌^◌, ◌<◌, ◌≤◌, IsOk, IfOk, None, refl};
+ghost use Rattle.std.specs.Prelude.{◌≡◌, ◌-◌, ◌^◌, ◌<◌, ◌≤◌, IsOk, None, refl};
 ghost use Rattle.tv_core.specs.Circuits.{fresh, put};
-ghost use Rattle.tv_core.specs.Sinks.{PutsIn, Grows};
+ghost use Rattle.tv_core.specs.Sinks.{Emits};
 ghost use Rattle.tv_core.specs.Meanings.{Tested, tested_meaning};
 
 use crate::combination::Lc;
@@ -106,8 +106,7 @@ impl<'a> Sink for TestSink<'a> {
     fn put(&mut self, a: &Lc, b: &Lc, c: &Lc) -> Put<()>
         requires { self.old.tested < 2 ^ 32 - 1 }
         ensures ok { IsOk result }
-        ensures puts { PutsIn tested_meaning self.old self.new (put a.now b.now c.now) result }
-        ensures grows { IfOk result (λ _. Grows tested_meaning self.old self.new 0 1) }
+        ensures emits { Emits tested_meaning self.old self.new (put a.now b.now c.now) 0 1 result }
     {
         let product = a.value_in(self.z) * b.value_in(self.z);
         let holds = product == c.value_in(self.z);

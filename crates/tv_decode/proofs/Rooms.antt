@@ -1,7 +1,7 @@
 -- What stands below the next wire, and the room that is left, after the calls of the gadgets.
 use Rattle.tv_core.proofs.Common.{◌≡◌, ℕ, ◌+◌, ◌-◌, ◌*◌, ◌^◌, ◌≤◌, ◌<◌, arith, Grows, IsWidth}
 use Rattle.std.proofs.Common.{max}
-use Rattle.tv_bits.proofs.Growing.{room_after, both, grows_as}
+use Rattle.tv_bits.proofs.Growing.{room_after}
 use Rattle.tv_core.specs.Sinks.{Meaning, Room}
 
 pub greatest : (a b c : ℕ) {n : ℕ} → a + 16 ≤ n → b + 16 ≤ n → c + 16 ≤ n → max a (max b c) + 16 ≤ n
@@ -11,9 +11,6 @@ greatest a b c h k l = omega arith
 module _ {S : Type 0} {m : Meaning S} {w : ℕ} (width : IsWidth w) {s0 s3 : S} (g : Grows m s0 s3 (w - 5 + 29 + w) (w - 5 + 29 + w)) where
   pub words_room : Room m s0 (2 * w + 26) (2 * w + 27) → Room m s3 2 3
   words_room room = room_after g room (omega (arith, width)) (omega (arith, width))
-
-  pub instruction_grow : {s : S} → Grows m s3 s 2 3 → Grows m s0 s (2 * w + 26) (2 * w + 27)
-  instruction_grow h = grows_as (both g h) (omega (arith, width)) (omega (arith, width))
 
 pub row_made : (op : ℕ) {k a : ℕ} → op + k ≤ a → k ≡ 29 → op + 29 ≤ a
 row_made op h e = omega arith

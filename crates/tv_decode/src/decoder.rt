@@ -3,7 +3,7 @@ ghost use Rattle.std.specs.Prelude.{◌≡◌, ◌+◌, ◌^◌, ◌≤◌, ◌<
 ghost use Rattle.tv_bits.specs.Bits.{AreBitsBelow, part};
 ghost use Rattle.tv_bits.specs.OneHot.{onehot_of};
 ghost use Rattle.tv_core.specs.Values.{GivesIn};
-ghost use Rattle.tv_core.specs.Sinks.{PutsIn, Grows, Room};
+ghost use Rattle.tv_core.specs.Sinks.{Emits, Room};
 ghost use Rattle.tv_decode.specs.Fields.{fields_of, fields_values, FieldsAreSound};
 ghost use Rattle.tv_decode.specs.Fields.{FieldsAreComplete, FieldsSizes};
 ghost use Rattle.tv_isa.specs.Instruction.{decode};
@@ -23,8 +23,7 @@ pub fn fields<const W: u32, S: Sink>(s: &mut S, h: &Bits, a: &Bits) -> Put<Field
     requires room { Room S.meaning s.old 80 84 }
     requires h_word { AreBitsBelow (S.meaning.wires s.old) W h.now }
     requires a_word { AreBitsBelow (S.meaning.wires s.old) W a.now }
-    ensures puts { PutsIn S.meaning s.old s.new (fields_of W h.now a.now) result }
-    ensures grows { IfOk result (λ _. Grows S.meaning s.old s.new 80 84) }
+    ensures emits { Emits S.meaning s.old s.new (fields_of W h.now a.now) 80 84 result }
     ensures op_below { IfOk result (λ made. max (made.op + 32) (made.imm + 1)
         ≤ S.meaning.wires s.new) }
     ensures registers_below { IfOk result (λ made. max made.dest (max made.source made.reg) + 16
@@ -56,8 +55,8 @@ fn row_of<const W: u32, S: Sink>(
     requires short { n ≤ 5 }
     requires enough { low + n ≤ W }
     requires word { AreBitsBelow (S.meaning.wires s.old) W word.now }
-    ensures puts { PutsIn S.meaning s.old s.new (onehot_of (part word.now low n)) result }
-    ensures grows { IfOk result (λ _. Grows S.meaning s.old s.new (2 ^ n) (2 ^ n + 1)) }
+    ensures emits { Emits S.meaning s.old s.new
+        (onehot_of (part word.now low n)) (2 ^ n) (2 ^ n + 1) result }
     ensures below { IfOk result (λ first. first + 2 ^ n ≤ S.meaning.wires s.new) }
 {
     onehot_by(s, scratch, &word.part(low, n))

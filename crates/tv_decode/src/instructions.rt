@@ -9,7 +9,7 @@ ghost use Rattle.tv_core.specs.Below.{weighted};
 ghost use Rattle.tv_core.specs.Circuits.{put};
 ghost use Rattle.tv_core.specs.Combinations.{constant, top};
 ghost use Rattle.tv_core.specs.Values.{GivesIn};
-ghost use Rattle.tv_core.specs.Sinks.{PutsIn, Grows, Room};
+ghost use Rattle.tv_core.specs.Sinks.{Emits, Room};
 ghost use Rattle.tv_decode.specs.Instructions.{opcode_weight};
 ghost use Rattle.tv_decode.specs.Instructions.{opcode_values, instruction_of};
 ghost use Rattle.tv_decode.specs.Instructions.{instruction_wires, instruction_values};
@@ -37,8 +37,8 @@ const OPCODES: u32 = USED.len() as u32;
 pub fn instruction<const W: u32, S: Sink>(s: &mut S, scratch: &mut Scratch) -> Put<InstructionWires>
     requires width { IsWidth W }
     requires room { Room S.meaning s.old (2 * W + 26) (2 * W + 27) }
-    ensures puts { PutsIn S.meaning s.old s.new (instruction_of W) result }
-    ensures grows { IfOk result (λ _. Grows S.meaning s.old s.new (2 * W + 26) (2 * W + 27)) }
+    ensures emits { Emits S.meaning s.old s.new
+        (instruction_of W) (2 * W + 26) (2 * W + 27) result }
     ensures places { IfOk result (λ made. made ≡ instruction_wires W (S.meaning.wires s.old)) }
 {
     let low = new_bits_by(s, scratch, W - 5)?;
@@ -63,9 +63,8 @@ pub fn instruction<const W: u32, S: Sink>(s: &mut S, scratch: &mut Scratch) -> P
 fn one_opcode<S: Sink>(s: &mut S, scratch: &mut Scratch, op: Wire) -> Put<()>
     requires room { Room S.meaning s.old 0 1 }
     requires op_made { op + opcodes ≤ S.meaning.wires s.old }
-    ensures puts { PutsIn S.meaning s.old s.new
-        (put (row_sum op opcodes) (constant 1) (constant 1)) result }
-    ensures grows { IfOk result (λ _. Grows S.meaning s.old s.new 0 1) }
+    ensures emits { Emits S.meaning s.old s.new
+        (put (row_sum op opcodes) (constant 1) (constant 1)) 0 1 result }
 {
     scratch.a.clear();
     plus_row(&mut scratch.a, op, OPCODES);

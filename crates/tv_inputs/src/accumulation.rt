@@ -1,7 +1,7 @@
 //! A product added to a sum, as a new wire.
 ghost use Rattle.std.specs.Prelude.{◌≡◌, ◌≤◌, ◌<◌, length, max, IfOk};
 ghost use Rattle.tv_core.specs.Combinations.{top};
-ghost use Rattle.tv_core.specs.Sinks.{PutsIn, Grows, Room};
+ghost use Rattle.tv_core.specs.Sinks.{Emits, Room};
 ghost use Rattle.tv_inputs.specs.Accumulation.{closed_of, AccumulatedIsSound};
 ghost use Rattle.tv_inputs.specs.Accumulation.{AccumulatedIsComplete, AccumulatedSizes};
 
@@ -15,9 +15,8 @@ pub fn accumulated<S: Sink>(s: &mut S, scratch: &mut Scratch) -> Put<Wire>
     requires made { max (top scratch.old.a) (max (top scratch.old.b) (top scratch.old.c))
         ≤ S.meaning.wires s.old }
     requires short { length scratch.old.c ≤ 64 }
-    ensures puts { PutsIn S.meaning s.old s.new
-        (closed_of scratch.old.c scratch.old.a scratch.old.b) result }
-    ensures grows { IfOk result (λ _. Grows S.meaning s.old s.new 1 1) }
+    ensures emits { Emits S.meaning s.old s.new
+        (closed_of scratch.old.c scratch.old.a scratch.old.b) 1 1 result }
     ensures below { IfOk result (λ sum. sum < S.meaning.wires s.new) }
     ensures a { scratch.new.a ≡ scratch.old.a }
     ensures b { scratch.new.b ≡ scratch.old.b }

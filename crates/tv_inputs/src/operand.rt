@@ -5,7 +5,7 @@ ghost use Rattle.tv_bits.specs.Bits.{bits_combination};
 ghost use Rattle.tv_core.specs.Circuits.{put};
 ghost use Rattle.tv_core.specs.Combinations.{constant, top, wire};
 ghost use Rattle.tv_core.specs.Values.{GivesIn};
-ghost use Rattle.tv_core.specs.Sinks.{PutsIn, Grows, Room};
+ghost use Rattle.tv_core.specs.Sinks.{Emits, Room};
 ghost use Rattle.tv_core.specs.declared.field.TheConstants.{P};
 ghost use Rattle.tv_inputs.specs.Accumulation.{accumulated_of};
 ghost use Rattle.tv_inputs.specs.Operand.{operand_of, operand_values, power_inverse, upper_of};
@@ -35,8 +35,8 @@ pub fn put_operand<const W: u32, S: Sink>(
     requires imm_made { imm < S.meaning.wires s.old }
     requires tail_made { tail < S.meaning.wires s.old }
     requires register_made { register < S.meaning.wires s.old }
-    ensures puts { PutsIn S.meaning s.old s.new (operand_of W imm tail register) result }
-    ensures grows { IfOk result (λ _. Grows S.meaning s.old s.new (W + 1) (W + 2)) }
+    ensures emits { Emits S.meaning s.old s.new
+        (operand_of W imm tail register) (W + 1) (W + 2) result }
     ensures below { IfOk result (λ made. OperandUnder W (S.meaning.wires s.new) made) }
 {
     let word = put_word(s, scratch, imm, tail, register)?;
@@ -52,9 +52,8 @@ fn put_number<S: Sink>(s: &mut S, scratch: &mut Scratch, bits: &Bits, word: Wire
     requires short { bits.now.n ≤ 63 }
     requires bits_made { bits.now.first + bits.now.n ≤ S.meaning.wires s.old }
     requires word_made { word < S.meaning.wires s.old }
-    ensures puts { PutsIn S.meaning s.old s.new
-        (put (bits_combination bits.now.first bits.now.n) (constant 1) (wire word)) result }
-    ensures grows { IfOk result (λ _. Grows S.meaning s.old s.new 0 1) }
+    ensures emits { Emits S.meaning s.old s.new
+        (put (bits_combination bits.now.first bits.now.n) (constant 1) (wire word)) 0 1 result }
 {
     bits.set_number(&mut scratch.a);
     scratch.b.set_wire(Wire(0));
@@ -72,9 +71,9 @@ fn put_word<S: Sink>(
 ) -> Put<Wire>
     requires room { Room S.meaning s.old 1 1 }
     requires wires_made { max imm (max tail register) < S.meaning.wires s.old }
-    ensures puts { PutsIn S.meaning s.old s.new (accumulated_of (wire register) (wire imm)
-        ((1, tail) ∷ (P - 1, register) ∷ [])) result }
-    ensures grows { IfOk result (λ _. Grows S.meaning s.old s.new 1 1) }
+    ensures emits { Emits S.meaning s.old s.new
+        (accumulated_of (wire register) (wire imm) ((1, tail) ∷ (P - 1, register) ∷ []))
+        1 1 result }
     ensures below { IfOk result (λ w. w < S.meaning.wires s.new) }
 {
     scratch.a.set_wire(imm);

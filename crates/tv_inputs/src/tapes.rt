@@ -6,7 +6,7 @@ ghost use Rattle.tv_core.specs.Combinations.{top, wire, one_less};
 ghost use Rattle.tv_core.specs.Values.{GivesIn};
 ghost use Rattle.tv_core.specs.Inverse.{inverse_of};
 ghost use Rattle.tv_core.specs.declared.field.TheConstants.{P};
-ghost use Rattle.tv_core.specs.Sinks.{PutsIn, Grows, Room};
+ghost use Rattle.tv_core.specs.Sinks.{Emits, Room};
 ghost use Rattle.tv_isa.specs.declared.opcode.TheConstants.{READ};
 ghost use Rattle.tv_inputs.specs.OpcodeSums.{opcode_sum};
 ghost use Rattle.tv_inputs.specs.Operand.{upper_of};
@@ -45,8 +45,7 @@ pub fn put_tapes<const W: u32, S: Sink>(
     requires state_made { StateUnder (S.meaning.wires s.old) state.now }
     requires op_made { op + 29 ≤ S.meaning.wires s.old }
     requires operand_made { OperandUnder W (S.meaning.wires s.old) a.now }
-    ensures puts { PutsIn S.meaning s.old s.new (tapes_of W n state.now op a.now) result }
-    ensures grows { IfOk result (λ _. Grows S.meaning s.old s.new 7 7) }
+    ensures emits { Emits S.meaning s.old s.new (tapes_of W n state.now op a.now) 7 7 result }
     ensures below { IfOk result (λ made. TapesUnder (S.meaning.wires s.new) made) }
 {
     let reads = put_reads::<W, S>(s, scratch, op, a)?;
@@ -68,9 +67,8 @@ fn put_reads<const W: u32, S: Sink>(
     requires room { Room S.meaning s.old 2 2 }
     requires op_made { op + 29 ≤ S.meaning.wires s.old }
     requires operand_made { OperandUnder W (S.meaning.wires s.old) a.now }
-    ensures puts { PutsIn S.meaning s.old s.new (if_zero_of (opcode_sum op (READ ∷ []))
-        (upper_of 1 a.now 1)) result }
-    ensures grows { IfOk result (λ _. Grows S.meaning s.old s.new 2 2) }
+    ensures emits { Emits S.meaning s.old s.new
+        (if_zero_of (opcode_sum op (READ ∷ [])) (upper_of 1 a.now 1)) 2 2 result }
     ensures below { IfOk result (λ w. w < S.meaning.wires s.new) }
 {
     scratch.a.clear();
@@ -86,8 +84,7 @@ pub fn if_zero<S: Sink>(s: &mut S, scratch: &mut Scratch, g: &[(F, Wire)]) -> Pu
     requires g_made { top g.now ≤ S.meaning.wires s.old }
     requires g_short { length g.now ≤ 64 }
     requires x_made { top scratch.old.a ≤ S.meaning.wires s.old }
-    ensures puts { PutsIn S.meaning s.old s.new (if_zero_of g.now scratch.old.a) result }
-    ensures grows { IfOk result (λ _. Grows S.meaning s.old s.new 2 2) }
+    ensures emits { Emits S.meaning s.old s.new (if_zero_of g.now scratch.old.a) 2 2 result }
     ensures below { IfOk result (λ w. w < S.meaning.wires s.new) }
     ensures a { scratch.new.a ≡ scratch.old.a }
 {
@@ -112,8 +109,7 @@ fn primary<S: Sink>(
     requires before_made { before < S.meaning.wires s.old }
     requires reads_made { reads < S.meaning.wires s.old }
     requires aux_made { aux < S.meaning.wires s.old }
-    ensures puts { PutsIn S.meaning s.old s.new (primary_of n before reads aux) result }
-    ensures grows { IfOk result (λ _. Grows S.meaning s.old s.new 2 2) }
+    ensures emits { Emits S.meaning s.old s.new (primary_of n before reads aux) 2 2 result }
     ensures below { IfOk result (λ w. w < S.meaning.wires s.new) }
 {
     let minus = -F::ONE;
@@ -154,8 +150,7 @@ fn auxiliary<S: Sink>(
     requires taken_made { taken < S.meaning.wires s.old }
     requires aux_made { aux < S.meaning.wires s.old }
     requires before_made { before < S.meaning.wires s.old }
-    ensures puts { PutsIn S.meaning s.old s.new (auxiliary_of taken aux before) result }
-    ensures grows { IfOk result (λ _. Grows S.meaning s.old s.new 2 2) }
+    ensures emits { Emits S.meaning s.old s.new (auxiliary_of taken aux before) 2 2 result }
     ensures below { IfOk result (λ made. TapesUnder (S.meaning.wires s.new) made) }
 {
     let takes = s.fresh();
@@ -183,9 +178,9 @@ fn put_asked<S: Sink>(
 ) -> Put<()>
     requires room { Room S.meaning s.old 0 1 }
     requires wires_made { max (max aux before) (max takes ended) < S.meaning.wires s.old }
-    ensures puts { PutsIn S.meaning s.old s.new (put (wire aux) (one_less before)
-        ((P - 1, before) ∷ (1, takes) ∷ (1, ended) ∷ [])) result }
-    ensures grows { IfOk result (λ _. Grows S.meaning s.old s.new 0 1) }
+    ensures emits { Emits S.meaning s.old s.new
+        (put (wire aux) (one_less before) ((P - 1, before) ∷ (1, takes) ∷ (1, ended) ∷ []))
+        0 1 result }
 {
     scratch.a.set_wire(aux);
     scratch.b.set_difference(Wire(0), before);

@@ -2,7 +2,7 @@
 ghost use Rattle.std.specs.Prelude.{◌≡◌, ◌+◌, ◌*◌, ◌^◌, ◌<◌, ◌≤◌, ℕ, IfOk};
 ghost use Rattle.tv_block.specs.Block.{block_of};
 ghost use Rattle.tv_block.specs.Complete.{block_made, block_added};
-ghost use Rattle.tv_core.specs.Sinks.{PutsIn, Grows, Room};
+ghost use Rattle.tv_core.specs.Sinks.{Emits, Room};
 ghost use Rattle.tv_layout.specs.Layout.{first_state, before_steps, steps_of};
 ghost use Rattle.tv_layout.specs.Reached.{ReachedUnder};
 ghost use Rattle.tv_word.specs.Widths.{IsWidth};
@@ -49,10 +49,8 @@ pub(crate) fn steps<const W: u32, S: Sink>(
     requires width { IsWidth W }
     requires room { Room S.meaning s.old (t * block_made W) (t * block_added W) }
     requires zeros_made { zero_wires + STATE_WIRES ≤ S.meaning.wires s.old }
-    ensures puts { (time : ℕ) → PutsIn S.meaning s.old s.new
-        (steps_of (block_of W) n time t zero_wires) result }
-    ensures grows { IfOk result (λ _. Grows S.meaning s.old s.new (t * block_made W)
-        (t * block_added W)) }
+    ensures emits { (time : ℕ) → Emits S.meaning s.old s.new
+        (steps_of (block_of W) n time t zero_wires) (t * block_made W) (t * block_added W) result }
     ensures below { IfOk result (λ last. ReachedUnder (S.meaning.wires s.new) last) }
 {
     let mut last = before_steps(zero_wires);

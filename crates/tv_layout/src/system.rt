@@ -1,7 +1,7 @@
 //! The system of a program, emitted into a sink.
 ghost use Rattle.std.specs.Prelude.{◌≡◌, ◌+◌, ◌*◌, ◌≤◌, ◌<◌, false, IfOk};
 ghost use Rattle.tv_block.specs.Block.{block_of};
-ghost use Rattle.tv_core.specs.Sinks.{PutsIn, Grows, Room};
+ghost use Rattle.tv_core.specs.Sinks.{Emits, Room};
 ghost use Rattle.tv_layout.specs.Layout.{word_of, words_of, zero_wire_of, zero_wires_of, tie_of};
 ghost use Rattle.tv_layout.specs.Layout.{layout_of};
 ghost use Rattle.tv_layout.specs.Places.{WithinLimits, runs_of};
@@ -36,11 +36,10 @@ pub fn emit_system<const W: u32, S: Sink>(
     requires begins { S.meaning.wires s.old ≡ 2 + n }
     requires empty { S.meaning.constraints s.old ≡ 0 }
     requires whole { S.meaning.broken s.old ≡ false }
-    ensures puts { PutsIn S.meaning s.old s.new
-        (layout_of (block_of W) net (runs_of W image.now n t)) result }
-    ensures grows { IfOk result (λ _. Grows S.meaning s.old s.new
-        (system_made net (runs_of W image.now n t))
-        (system_added net (runs_of W image.now n t))) }
+    ensures emits { Emits S.meaning s.old s.new
+        (layout_of (block_of W) net (runs_of W image.now n t))
+        (system_made net (runs_of W image.now n t)) (system_added net (runs_of W image.now n t))
+        result }
 {
     words::<W, S>(s, tape_wire(0), n)?;
     let zero_wires = zero_wires(s)?;
@@ -55,8 +54,7 @@ fn words<const W: u32, S: Sink>(s: &mut S, first: Wire, n: u32) -> Put<()>
     requires width { IsWidth W }
     requires room { Room S.meaning s.old (n * W) (n * (W + 1)) }
     requires made { first + n ≤ S.meaning.wires s.old }
-    ensures puts { PutsIn S.meaning s.old s.new (words_of W first n) result }
-    ensures grows { IfOk result (λ _. Grows S.meaning s.old s.new (n * W) (n * (W + 1))) }
+    ensures emits { Emits S.meaning s.old s.new (words_of W first n) (n * W) (n * (W + 1)) result }
 {
     for i in 0..n {
         word::<W, S>(s, first, i)?;
@@ -69,8 +67,7 @@ fn word<const W: u32, S: Sink>(s: &mut S, first: Wire, i: u32) -> Put<()>
     requires width { IsWidth W }
     requires room { Room S.meaning s.old W (W + 1) }
     requires made { first + i < S.meaning.wires s.old }
-    ensures puts { PutsIn S.meaning s.old s.new (word_of W first i) result }
-    ensures grows { IfOk result (λ _. Grows S.meaning s.old s.new W (W + 1)) }
+    ensures emits { Emits S.meaning s.old s.new (word_of W first i) W (W + 1) result }
 {
     bits(s, &Lc::wire(first.offset(i)), W)?;
     Ok(())
@@ -79,8 +76,7 @@ fn word<const W: u32, S: Sink>(s: &mut S, first: Wire, i: u32) -> Put<()>
 // Makes the wires of the first state, each constrained to 0.
 fn zero_wires<S: Sink>(s: &mut S) -> Put<Wire>
     requires room { Room S.meaning s.old STATE_WIRES STATE_WIRES }
-    ensures puts { PutsIn S.meaning s.old s.new zero_wires_of result }
-    ensures grows { IfOk result (λ _. Grows S.meaning s.old s.new STATE_WIRES STATE_WIRES) }
+    ensures emits { Emits S.meaning s.old s.new zero_wires_of STATE_WIRES STATE_WIRES result }
     ensures below { IfOk result (λ zero_wires. zero_wires + STATE_WIRES ≤ S.meaning.wires s.new) }
 {
     let zero_wires = Wire(s.wires());
@@ -93,8 +89,7 @@ fn zero_wires<S: Sink>(s: &mut S) -> Put<Wire>
 // Makes a wire that is constrained to 0.
 fn zero_wire<S: Sink>(s: &mut S) -> Put<()>
     requires room { Room S.meaning s.old 1 1 }
-    ensures puts { PutsIn S.meaning s.old s.new zero_wire_of result }
-    ensures grows { IfOk result (λ _. Grows S.meaning s.old s.new 1 1) }
+    ensures emits { Emits S.meaning s.old s.new zero_wire_of 1 1 result }
 {
     let w = s.fresh();
     s.put(&Lc::wire(w), &Lc::constant(F::ONE), &Lc::empty())
@@ -105,8 +100,7 @@ fn tie<S: Sink>(s: &mut S, last: &Reached) -> Put<()>
     requires room { Room S.meaning s.old 0 2 }
     requires last_made { ReachedUnder (S.meaning.wires s.old) last.now }
     requires answer_made { 1 < S.meaning.wires s.old }
-    ensures puts { PutsIn S.meaning s.old s.new (tie_of last.now) result }
-    ensures grows { IfOk result (λ _. Grows S.meaning s.old s.new 0 2) }
+    ensures emits { Emits S.meaning s.old s.new (tie_of last.now) 0 2 result }
 {
     let one = Lc::constant(F::ONE);
     s.put(&Lc::wire(last.answers), &one, &one)?;

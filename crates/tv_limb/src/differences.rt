@@ -3,7 +3,7 @@ ghost use Rattle.std.specs.Prelude.{◌≡◌, ◌+◌, ◌*◌, ◌^◌, ◌≤
 ghost use Rattle.tv_bits.specs.Bits.{AreBitsBelow};
 ghost use Rattle.tv_core.specs.Combinations.{top};
 ghost use Rattle.tv_core.specs.Values.{GivesIn};
-ghost use Rattle.tv_core.specs.Sinks.{PutsIn, Grows, Room};
+ghost use Rattle.tv_core.specs.Sinks.{Emits, Room};
 ghost use Rattle.tv_word.specs.Operations.{sub_result};
 ghost use Rattle.tv_word.specs.Widths.{IsWidth};
 ghost use Rattle.tv_limb.specs.Difference.{borrow, less_borrow, difference_of_words};
@@ -21,8 +21,7 @@ pub fn sub<const W: u32, S: Sink>(s: &mut S, x: &Bits, y: &Bits) -> Put<Split>
     requires room { Room S.meaning s.old (W + 1) (W + 2) }
     requires x_word { AreBitsBelow (S.meaning.wires s.old) W x.now }
     requires y_word { AreBitsBelow (S.meaning.wires s.old) W y.now }
-    ensures puts { PutsIn S.meaning s.old s.new (sub_of W x.now y.now) result }
-    ensures grows { IfOk result (λ _. Grows S.meaning s.old s.new (W + 1) (W + 2)) }
+    ensures emits { Emits S.meaning s.old s.new (sub_of W x.now y.now) (W + 1) (W + 2) result }
     ensures low { IfOk result (λ parts. AreBitsBelow (S.meaning.wires s.new) W parts.low) }
     ensures high { IfOk result (λ parts. AreBitsBelow (S.meaning.wires s.new) 1 parts.high) }
 {

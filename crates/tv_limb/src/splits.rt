@@ -3,7 +3,7 @@ ghost use Rattle.std.specs.Prelude.{◌≡◌, ◌+◌, ◌-◌, ◌≤◌, fals
 ghost use Rattle.tv_bits.specs.Bits.{AreBitsBelow};
 ghost use Rattle.tv_core.specs.Combinations.{top};
 ghost use Rattle.tv_core.specs.Values.{GivesIn};
-ghost use Rattle.tv_core.specs.Sinks.{PutsIn, Grows, Room};
+ghost use Rattle.tv_core.specs.Sinks.{Emits, Room};
 ghost use Rattle.tv_limb.specs.Split.{split_of, split_values, SplitIsSound, SplitIsComplete};
 ghost use Rattle.tv_limb.specs.Split.{SplitSizes};
 
@@ -19,8 +19,7 @@ pub fn split<const W: u32, S: Sink>(s: &mut S, x: &Lc, n: u32) -> Put<Split>
     requires x_made { top x.now ≤ S.meaning.wires s.old }
     requires long { W ≤ n }
     requires short { n ≤ 63 }
-    ensures puts { PutsIn S.meaning s.old s.new (split_of W x.now n) result }
-    ensures grows { IfOk result (λ _. Grows S.meaning s.old s.new n (n + 1)) }
+    ensures emits { Emits S.meaning s.old s.new (split_of W x.now n) n (n + 1) result }
     ensures low { IfOk result (λ parts. AreBitsBelow (S.meaning.wires s.new) W parts.low) }
     ensures high { IfOk result (λ parts. AreBitsBelow (S.meaning.wires s.new) (n - W) parts.high) }
 {

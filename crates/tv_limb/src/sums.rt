@@ -2,7 +2,7 @@
 ghost use Rattle.std.specs.Prelude.{◌≡◌, ◌+◌, false, IfOk, OnOk};
 ghost use Rattle.tv_bits.specs.Bits.{AreBitsBelow};
 ghost use Rattle.tv_core.specs.Values.{GivesIn};
-ghost use Rattle.tv_core.specs.Sinks.{PutsIn, Grows, Room};
+ghost use Rattle.tv_core.specs.Sinks.{Emits, Room};
 ghost use Rattle.tv_word.specs.Widths.{IsWidth};
 ghost use Rattle.tv_limb.specs.Sum.{add_of, add_values, AddIsSound, AddIsComplete, AddSizes};
 
@@ -18,8 +18,7 @@ pub fn add<const W: u32, S: Sink>(s: &mut S, x: &Bits, y: &Bits) -> Put<Split>
     requires room { Room S.meaning s.old (W + 1) (W + 2) }
     requires x_word { AreBitsBelow (S.meaning.wires s.old) W x.now }
     requires y_word { AreBitsBelow (S.meaning.wires s.old) W y.now }
-    ensures puts { PutsIn S.meaning s.old s.new (add_of W x.now y.now) result }
-    ensures grows { IfOk result (λ _. Grows S.meaning s.old s.new (W + 1) (W + 2)) }
+    ensures emits { Emits S.meaning s.old s.new (add_of W x.now y.now) (W + 1) (W + 2) result }
     ensures low { IfOk result (λ parts. AreBitsBelow (S.meaning.wires s.new) W parts.low) }
     ensures high { IfOk result (λ parts. AreBitsBelow (S.meaning.wires s.new) 1 parts.high) }
 {

@@ -1,12 +1,12 @@
 //! That the key of one line is above that of another, by prefixes.
 ghost use Rattle.std.specs.Prelude.{◌≡◌, ◌+◌, ◌-◌, ◌≤◌, ◌<◌, ◌^◌, [], ◌∷◌, ◌++◌, false, length};
-ghost use Rattle.std.specs.Prelude.{min, max, IfOk, OnOk};
+ghost use Rattle.std.specs.Prelude.{min, max, OnOk};
 ghost use Rattle.tv_bits.specs.Bits.{AreBitsBelow};
 ghost use Rattle.tv_bits.specs.Order.{first_difference, prefix_difference};
 ghost use Rattle.tv_bits.specs.Prefixes.{products_values, prefix};
 ghost use Rattle.tv_core.specs.Combinations.{less, top, wire};
 ghost use Rattle.tv_core.specs.Values.{GivesIn};
-ghost use Rattle.tv_core.specs.Sinks.{PutsIn, Grows, Room};
+ghost use Rattle.tv_core.specs.Sinks.{Emits, Room};
 ghost use Rattle.tv_lines.specs.PackedLines.{line_of_numbers};
 ghost use Rattle.tv_lines.specs.SortedPair.{prefix_less, prefix_less_in, factor_in};
 ghost use Rattle.tv_lines.specs.SortedPair.{rises_of, size};
@@ -41,9 +41,8 @@ pub(crate) fn rises<S: Sink>(
     requires after_line { IsLineBelow (S.meaning.wires s.old) after.now }
     requires apart_made { apart < S.meaning.wires s.old }
     requires size_made { size < S.meaning.wires s.old }
-    ensures puts { PutsIn S.meaning s.old s.new (rises_of apart size before.now after.now)
-        result }
-    ensures grows { IfOk result (λ _. Grows S.meaning s.old s.new 3 4) }
+    ensures emits { Emits S.meaning s.old s.new
+        (rises_of apart size before.now after.now) 3 4 result }
 {
     set_key_factor(&mut scratch.a, 0, apart, size, before, after);
     for i in 0..PREFIXES - 2 {

@@ -1,9 +1,9 @@
 //! A line checked, at its own place in time order, against its predecessor in address order.
 ghost use Rattle.std.specs.Prelude.{◌≡◌, ◌+◌, ◌-◌, ◌≤◌, ◌<◌, ◌^◌, [], false, length, max};
-ghost use Rattle.std.specs.Prelude.{IfOk, OnOk};
+ghost use Rattle.std.specs.Prelude.{OnOk};
 ghost use Rattle.tv_core.specs.Combinations.{top, wire};
 ghost use Rattle.tv_core.specs.Values.{GivesIn};
-ghost use Rattle.tv_core.specs.Sinks.{PutsIn, Grows, Room};
+ghost use Rattle.tv_core.specs.Sinks.{Emits, Room};
 ghost use Rattle.tv_lines.specs.PackedLines.{unpacked};
 ghost use Rattle.tv_lines.specs.Predecessor.{IsLineMade, IsItemMade, follows_of, follows_values};
 ghost use Rattle.tv_lines.specs.Predecessor.{cell_excess, excess, cell_difference};
@@ -39,9 +39,8 @@ pub fn follows<S: Sink>(
     requires room { Room S.meaning s.old (m + 1) (m + 3) }
     requires line { IsLineMade (S.meaning.wires s.old) line.now }
     requires item { IsItemMade (S.meaning.wires s.old) item.now }
-    ensures puts { PutsIn S.meaning s.old s.new (follows_of m (line_lc line.now) item.now)
-        result }
-    ensures grows { IfOk result (λ _. Grows S.meaning s.old s.new (m + 1) (m + 3)) }
+    ensures emits { Emits S.meaning s.old s.new
+        (follows_of m (line_lc line.now) item.now) (m + 1) (m + 3) result }
 {
     let reach = new_bits_by(s, scratch, m)?;
     set_excess(&mut scratch.a, &reach, line, item);
@@ -90,8 +89,8 @@ fn either<S: Sink>(
     requires e_made { e < S.meaning.wires s.old }
     requires line { IsLineMade (S.meaning.wires s.old) line.now }
     requires item { IsItemMade (S.meaning.wires s.old) item.now }
-    ensures puts { PutsIn S.meaning s.old s.new (either_of e (line_lc line.now) item.now) result }
-    ensures grows { IfOk result (λ _. Grows S.meaning s.old s.new 0 2) }
+    ensures emits { Emits S.meaning s.old s.new
+        (either_of e (line_lc line.now) item.now) 0 2 result }
 {
     set_either(scratch, e, line, item);
     s.put(&scratch.a, &scratch.b, &scratch.c)?;

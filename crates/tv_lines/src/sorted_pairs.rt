@@ -1,7 +1,7 @@
 //! Two lines that follow each other in address order.
 ghost use Rattle.std.specs.Prelude.{◌≡◌, ◌<◌, [], false, IfOk, OnOk};
 ghost use Rattle.tv_core.specs.Values.{GivesIn};
-ghost use Rattle.tv_core.specs.Sinks.{PutsIn, Grows, Room};
+ghost use Rattle.tv_core.specs.Sinks.{Emits, Room};
 ghost use Rattle.tv_lines.specs.PackedLines.{line_of_numbers};
 ghost use Rattle.tv_lines.specs.SortedPair.{apart_of, carried_of, size_of, size_values};
 ghost use Rattle.tv_lines.specs.SortedPair.{sorted_pair_of, sorted_pair_values, first_line_of};
@@ -22,8 +22,7 @@ pub fn sorted_pair<S: Sink>(s: &mut S, before: &LineBits, after: &LineBits) -> P
     requires room { Room S.meaning s.old 18 20 }
     requires before_line { IsLineBelow (S.meaning.wires s.old) before.now }
     requires after_line { IsLineBelow (S.meaning.wires s.old) after.now }
-    ensures puts { PutsIn S.meaning s.old s.new (sorted_pair_of before.now after.now) result }
-    ensures grows { IfOk result (λ _. Grows S.meaning s.old s.new 18 20) }
+    ensures emits { Emits S.meaning s.old s.new (sorted_pair_of before.now after.now) 18 20 result }
 {
     let mut scratch = Scratch::new();
     let apart = cells_apart(s, &mut scratch, before, after)?;
@@ -42,8 +41,7 @@ fn cells_apart<S: Sink>(
     requires room { Room S.meaning s.old 1 1 }
     requires before_line { IsLineBelow (S.meaning.wires s.old) before.now }
     requires after_line { IsLineBelow (S.meaning.wires s.old) after.now }
-    ensures puts { PutsIn S.meaning s.old s.new (apart_of before.now after.now) result }
-    ensures grows { IfOk result (λ _. Grows S.meaning s.old s.new 1 1) }
+    ensures emits { Emits S.meaning s.old s.new (apart_of before.now after.now) 1 1 result }
     ensures below { IfOk result (λ apart. apart < S.meaning.wires s.new) }
 {
     after.cell.set_number(&mut scratch.a);
@@ -63,8 +61,7 @@ fn carried<S: Sink>(
     requires before_line { IsLineBelow (S.meaning.wires s.old) before.now }
     requires after_line { IsLineBelow (S.meaning.wires s.old) after.now }
     requires apart_made { apart < S.meaning.wires s.old }
-    ensures puts { PutsIn S.meaning s.old s.new (carried_of apart before.now after.now) result }
-    ensures grows { IfOk result (λ _. Grows S.meaning s.old s.new 2 3) }
+    ensures emits { Emits S.meaning s.old s.new (carried_of apart before.now after.now) 2 3 result }
 {
     scratch.a.set_wire(apart);
     let same = zero_by(s, scratch)?;
@@ -77,8 +74,7 @@ fn carried<S: Sink>(
 // A new wire that is from 1 to 2^11.
 fn new_size<S: Sink>(s: &mut S, scratch: &mut Scratch) -> Put<Wire>
     requires room { Room S.meaning s.old 12 12 }
-    ensures puts { PutsIn S.meaning s.old s.new (size_of 11) result }
-    ensures grows { IfOk result (λ _. Grows S.meaning s.old s.new 12 12) }
+    ensures emits { Emits S.meaning s.old s.new (size_of 11) 12 12 result }
     ensures below { IfOk result (λ size. size < S.meaning.wires s.new) }
 {
     let bits = new_bits_by(s, scratch, CHUNK)?;
@@ -92,8 +88,7 @@ fn new_size<S: Sink>(s: &mut S, scratch: &mut Scratch) -> Put<Wire>
 pub fn first_line<S: Sink>(s: &mut S, line: &LineBits) -> Put<()>
     requires room { Room S.meaning s.old 0 1 }
     requires line { IsLineBelow (S.meaning.wires s.old) line.now }
-    ensures puts { PutsIn S.meaning s.old s.new (first_line_of line.now) result }
-    ensures grows { IfOk result (λ _. Grows S.meaning s.old s.new 0 1) }
+    ensures emits { Emits S.meaning s.old s.new (first_line_of line.now) 0 1 result }
 {
     s.put(&line.old.lc(), &Lc::constant(F::ONE), &Lc::empty())
 }

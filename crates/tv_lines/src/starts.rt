@@ -1,7 +1,7 @@
 //! Lines that begin a cell: boot lines, and the least line of all.
-ghost use Rattle.std.specs.Prelude.{◌≡◌, ◌^◌, ◌≤◌, length, max, IfOk};
+ghost use Rattle.std.specs.Prelude.{◌≡◌, ◌^◌, ◌≤◌, length, max};
 ghost use Rattle.tv_core.specs.Combinations.{top, constant};
-ghost use Rattle.tv_core.specs.Sinks.{PutsIn, Grows, Room};
+ghost use Rattle.tv_core.specs.Sinks.{Emits, Room};
 ghost use Rattle.tv_lines.specs.Predecessor.{IsLineMade, IsItemMade, less_above};
 ghost use Rattle.tv_lines.specs.Starts.{boot_line_of, BootLineIsSound, BootLineIsComplete};
 ghost use Rattle.tv_lines.specs.Starts.{BootLineSizes, boot_line_terms, least_line_of};
@@ -18,8 +18,7 @@ use tv_core::{Lc, Pair, Put, Scratch, Sink, Wire};
 pub fn boot_line<S: Sink>(s: &mut S, scratch: &mut Scratch, c: u32, item: &Pair) -> Put<()>
     requires room { Room S.meaning s.old 0 1 }
     requires item { IsItemMade (S.meaning.wires s.old) item.now }
-    ensures puts { PutsIn S.meaning s.old s.new (boot_line_of c item.now) result }
-    ensures grows { IfOk result (λ _. Grows S.meaning s.old s.new 0 1) }
+    ensures emits { Emits S.meaning s.old s.new (boot_line_of c item.now) 0 1 result }
 {
     set_cells(&mut scratch.a, c, item);
     scratch.b.set_wire(Wire(0));
@@ -54,8 +53,7 @@ pub fn boot_line_terms(scratch: &mut Lc, c: u32) -> u32
 pub fn least_line<S: Sink>(s: &mut S, scratch: &mut Scratch, line: &CompactLine) -> Put<()>
     requires room { Room S.meaning s.old 0 1 }
     requires line { IsLineMade (S.meaning.wires s.old) line.now }
-    ensures puts { PutsIn S.meaning s.old s.new (least_line_of (line_lc line.now)) result }
-    ensures grows { IfOk result (λ _. Grows S.meaning s.old s.new 0 1) }
+    ensures emits { Emits S.meaning s.old s.new (least_line_of (line_lc line.now)) 0 1 result }
 {
     scratch.a.clear();
     line.old.add_to(&mut scratch.a);

@@ -2,7 +2,7 @@
 ghost use Rattle.std.specs.Prelude.{◌≡◌, ◌+◌, ◌≤◌, ◌<◌, ◌^◌, false, IfOk, OnOk};
 ghost use Rattle.tv_core.specs.Combinations.{top};
 ghost use Rattle.tv_core.specs.Values.{GivesIn};
-ghost use Rattle.tv_core.specs.Sinks.{PutsIn, Grows, Room};
+ghost use Rattle.tv_core.specs.Sinks.{Emits, Room};
 ghost use Rattle.tv_lines.specs.PackedLines.{UnpackUndoesPack};
 ghost use Rattle.tv_lines.specs.UnpackedLines.{IsLineBelow, line_bits, unpack_of, unpack_values};
 ghost use Rattle.tv_lines.specs.UnpackedLines.{UnpackIsSound, UnpackIsComplete, UnpackSizes};
@@ -22,8 +22,7 @@ pub fn unpack<S: Sink>(s: &mut S, pair: &Pair) -> Put<LineBits>
     requires room { Room S.meaning s.old 115 117 }
     requires first_made { top pair.now.first ≤ S.meaning.wires s.old }
     requires second_made { top pair.now.second ≤ S.meaning.wires s.old }
-    ensures puts { PutsIn S.meaning s.old s.new (unpack_of pair.now) result }
-    ensures grows { IfOk result (λ _. Grows S.meaning s.old s.new 115 117) }
+    ensures emits { Emits S.meaning s.old s.new (unpack_of pair.now) 115 117 result }
     ensures below { IfOk result (λ line. IsLineBelow (S.meaning.wires s.new) line) }
 {
     let mut scratch = Scratch::new();

@@ -3,7 +3,7 @@ ghost use Rattle.std.specs.Prelude.{◌≡◌, ◌+◌, ◌-◌, ◌/◌, ◌^�
 ghost use Rattle.std.specs.Prelude.{OnOk};
 ghost use Rattle.tv_core.specs.Combinations.{top, wire};
 ghost use Rattle.tv_core.specs.Values.{GivesIn};
-ghost use Rattle.tv_core.specs.Sinks.{PutsIn, Grows, Room};
+ghost use Rattle.tv_core.specs.Sinks.{Emits, Room};
 ghost use Rattle.tv_logic.specs.Ands.{pair_in, and_pair_of, new_and_pair_of, lowest_pair, and_of};
 ghost use Rattle.tv_logic.specs.Ands.{and_values, pair_values};
 ghost use Rattle.tv_word.specs.Widths.{IsWidth};
@@ -23,8 +23,7 @@ pub(crate) fn and_word<const W: u32, S: Sink>(
     requires width { IsWidth W }
     requires room { Room S.meaning s.old (W / 2) (W / 2) }
     requires words_made { max (x.now.first + W) (y.now.first + W) ≤ S.meaning.wires s.old }
-    ensures puts { PutsIn S.meaning s.old s.new (and_of W x.now y.now) result }
-    ensures grows { IfOk result (λ _. Grows S.meaning s.old s.new (W / 2) (W / 2)) }
+    ensures emits { Emits S.meaning s.old s.new (and_of W x.now y.now) (W / 2) (W / 2) result }
     ensures below { IfOk result (λ word. word < S.meaning.wires s.new) }
 {
     let word = s.fresh();
@@ -49,8 +48,7 @@ fn new_pair<const W: u32, S: Sink>(
     requires room { Room S.meaning s.old 1 1 }
     requires within { i < W / 2 - 1 }
     requires words_made { max (x.now.first + W) (y.now.first + W) ≤ S.meaning.wires s.old }
-    ensures puts { PutsIn S.meaning s.old s.new (new_and_pair_of W x.now y.now i) result }
-    ensures grows { IfOk result (λ _. Grows S.meaning s.old s.new 1 1) }
+    ensures emits { Emits S.meaning s.old s.new (new_and_pair_of W x.now y.now i) 1 1 result }
 {
     let w = s.fresh();
     pair::<W, S>(s, scratch, x, y, i + 1, &[(F::ONE, w)])
@@ -72,8 +70,7 @@ fn pair<const W: u32, S: Sink>(
     requires words_made { max (x.now.first + W) (y.now.first + W) ≤ S.meaning.wires s.old }
     requires m_made { top m.now ≤ S.meaning.wires s.old }
     requires m_short { length m.now ≤ 64 }
-    ensures puts { PutsIn S.meaning s.old s.new (and_pair_of W x.now y.now i m.now) result }
-    ensures grows { IfOk result (λ _. Grows S.meaning s.old s.new 0 1) }
+    ensures emits { Emits S.meaning s.old s.new (and_pair_of W x.now y.now i m.now) 0 1 result }
 {
     two_ands(
         s,

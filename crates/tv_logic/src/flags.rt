@@ -3,7 +3,7 @@ ghost use Rattle.std.specs.Prelude.{◌≡◌, ◌<◌, false, max, IfOk, OnOk};
 ghost use Rattle.tv_bits.specs.Zero.{zero_of};
 ghost use Rattle.tv_core.specs.Combinations.{wire};
 ghost use Rattle.tv_core.specs.Values.{GivesIn};
-ghost use Rattle.tv_core.specs.Sinks.{PutsIn, Grows, Room};
+ghost use Rattle.tv_core.specs.Sinks.{Emits, Room};
 ghost use Rattle.tv_logic.specs.Flags.{logic_flags_of, flag_values};
 
 use crate::answers::{LogicFlags, LogicWords};
@@ -16,8 +16,7 @@ pub(crate) fn flags<S: Sink>(s: &mut S, words: &LogicWords) -> Put<LogicFlags>
     requires room { Room S.meaning s.old 7 7 }
     requires made { max words.now.and_word (max words.now.xor_word words.now.not_word)
         < S.meaning.wires s.old }
-    ensures puts { PutsIn S.meaning s.old s.new (logic_flags_of words.now) result }
-    ensures grows { IfOk result (λ _. Grows S.meaning s.old s.new 7 7) }
+    ensures emits { Emits S.meaning s.old s.new (logic_flags_of words.now) 7 7 result }
     ensures below { IfOk result (λ made. max (max made.and_zero made.or_zero)
         (max made.xor_zero made.not_zero) < S.meaning.wires s.new) }
 {
@@ -40,8 +39,7 @@ pub(crate) fn flags<S: Sink>(s: &mut S, words: &LogicWords) -> Put<LogicFlags>
 fn zero_flag<S: Sink>(s: &mut S, scratch: &mut Scratch, word: Wire) -> Put<Wire>
     requires room { Room S.meaning s.old 2 2 }
     requires made { word < S.meaning.wires s.old }
-    ensures puts { PutsIn S.meaning s.old s.new (zero_of (wire word)) result }
-    ensures grows { IfOk result (λ _. Grows S.meaning s.old s.new 2 2) }
+    ensures emits { Emits S.meaning s.old s.new (zero_of (wire word)) 2 2 result }
     ensures below { IfOk result (λ flag. flag < S.meaning.wires s.new) }
 {
     scratch.a.set_wire(word);

@@ -2,7 +2,7 @@
 ghost use Rattle.std.specs.Prelude.{◌≡◌, ◌<◌, ◌^◌, false, max, IfOk, OnOk};
 ghost use Rattle.tv_bits.specs.Bits.{AreBitsBelow};
 ghost use Rattle.tv_core.specs.Values.{GivesIn};
-ghost use Rattle.tv_core.specs.Sinks.{PutsIn, Grows, Room};
+ghost use Rattle.tv_core.specs.Sinks.{Emits, Room};
 ghost use Rattle.tv_logic.specs.Logic.{logic_of, logic_values, logic_made, LogicIsSound};
 ghost use Rattle.tv_logic.specs.Logic.{LogicIsComplete, LogicSizes};
 ghost use Rattle.tv_word.specs.Widths.{IsWidth};
@@ -22,8 +22,8 @@ pub fn logic<const W: u32, S: Sink>(s: &mut S, x: &Bits, y: &Bits) -> Put<Logic>
     requires room { Room S.meaning s.old (logic_made W) (logic_made W) }
     requires x_word { AreBitsBelow (S.meaning.wires s.old) W x.now }
     requires y_word { AreBitsBelow (S.meaning.wires s.old) W y.now }
-    ensures puts { PutsIn S.meaning s.old s.new (logic_of W x.now y.now) result }
-    ensures grows { IfOk result (λ _. Grows S.meaning s.old s.new (logic_made W) (logic_made W)) }
+    ensures emits { Emits S.meaning s.old s.new
+        (logic_of W x.now y.now) (logic_made W) (logic_made W) result }
     ensures words_below { IfOk result (λ made. max (max made.and_word made.or_word)
         (max made.xor_word made.not_word) < S.meaning.wires s.new) }
     ensures flags_below { IfOk result (λ made. max (max made.and_zero made.or_zero)

@@ -3,7 +3,7 @@ ghost use Rattle.std.specs.Prelude.{◌≡◌, ◌+◌, ◌-◌, ◌/◌, ◌^�
 ghost use Rattle.tv_bits.specs.Bits.{AreBitsBelow};
 ghost use Rattle.tv_core.specs.Combinations.{top};
 ghost use Rattle.tv_core.specs.Values.{GivesIn};
-ghost use Rattle.tv_core.specs.Sinks.{PutsIn, Grows, Room};
+ghost use Rattle.tv_core.specs.Sinks.{Emits, Room};
 ghost use Rattle.tv_logic.specs.Words.{sum_less, complement, logic_words_of};
 ghost use Rattle.tv_logic.specs.Words.{word_values};
 ghost use Rattle.tv_word.specs.Widths.{IsWidth};
@@ -21,8 +21,8 @@ pub(crate) fn words<const W: u32, S: Sink>(s: &mut S, x: &Bits, y: &Bits) -> Put
     requires room { Room S.meaning s.old (W / 2 + 3) (W / 2 + 3) }
     requires x_word { AreBitsBelow (S.meaning.wires s.old) W x.now }
     requires y_word { AreBitsBelow (S.meaning.wires s.old) W y.now }
-    ensures puts { PutsIn S.meaning s.old s.new (logic_words_of W x.now y.now) result }
-    ensures grows { IfOk result (λ _. Grows S.meaning s.old s.new (W / 2 + 3) (W / 2 + 3)) }
+    ensures emits { Emits S.meaning s.old s.new
+        (logic_words_of W x.now y.now) (W / 2 + 3) (W / 2 + 3) result }
     ensures below { IfOk result (λ made. max (max made.and_word made.or_word)
         (max made.xor_word made.not_word) < S.meaning.wires s.new) }
 {

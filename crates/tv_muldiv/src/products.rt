@@ -2,7 +2,7 @@
 ghost use Rattle.std.specs.Prelude.{◌≡◌, ◌+◌, ◌*◌, ◌^◌, ◌≤◌, ◌<◌, false, IfOk, OnOk};
 ghost use Rattle.tv_bits.specs.Bits.{AreBitsBelow};
 ghost use Rattle.tv_core.specs.Values.{GivesIn};
-ghost use Rattle.tv_core.specs.Sinks.{PutsIn, Grows, Room};
+ghost use Rattle.tv_core.specs.Sinks.{Emits, Room};
 ghost use Rattle.tv_word.specs.Widths.{IsWidth};
 ghost use Rattle.tv_muldiv.specs.Product.{product_bits_of, product_of, product_values};
 ghost use Rattle.tv_muldiv.specs.Product.{ProductIsSound, ProductIsComplete, ProductSizes};
@@ -20,8 +20,8 @@ pub fn product<const W: u32, S: Sink>(s: &mut S, x: &Bits, y: &Bits) -> Put<Prod
     requires room { Room S.meaning s.old (2 * W + 2) (2 * W + 3) }
     requires x_word { AreBitsBelow (S.meaning.wires s.old) W x.now }
     requires y_word { AreBitsBelow (S.meaning.wires s.old) W y.now }
-    ensures puts { PutsIn S.meaning s.old s.new (product_of W x.now y.now) result }
-    ensures grows { IfOk result (λ _. Grows S.meaning s.old s.new (2 * W + 2) (2 * W + 3)) }
+    ensures emits { Emits S.meaning s.old s.new
+        (product_of W x.now y.now) (2 * W + 2) (2 * W + 3) result }
     ensures words_below { IfOk result (λ made. AreBitsBelow (S.meaning.wires s.new) W made.low
         × AreBitsBelow (S.meaning.wires s.new) W made.high) }
     ensures over_below { IfOk result (λ made. made.over < S.meaning.wires s.new) }
@@ -50,8 +50,8 @@ fn product_bits<const W: u32, S: Sink>(
     requires room { Room S.meaning s.old (2 * W) (2 * W + 1) }
     requires x_word { AreBitsBelow (S.meaning.wires s.old) W x.now }
     requires y_word { AreBitsBelow (S.meaning.wires s.old) W y.now }
-    ensures puts { PutsIn S.meaning s.old s.new (product_bits_of W x.now y.now) result }
-    ensures grows { IfOk result (λ _. Grows S.meaning s.old s.new (2 * W) (2 * W + 1)) }
+    ensures emits { Emits S.meaning s.old s.new
+        (product_bits_of W x.now y.now) (2 * W) (2 * W + 1) result }
     ensures below { IfOk result (λ first. first + 2 * W ≤ S.meaning.wires s.new) }
 {
     let first = s.fresh();

@@ -3,7 +3,7 @@ ghost use Rattle.std.specs.Prelude.{◌≡◌, ◌+◌, ◌*◌, ◌/◌, ◌^�
 ghost use Rattle.tv_bits.specs.Bits.{AreBitsBelow};
 ghost use Rattle.tv_bits.specs.Zero.{zero_flag};
 ghost use Rattle.tv_core.specs.Values.{GivesIn};
-ghost use Rattle.tv_core.specs.Sinks.{PutsIn, Grows, Room};
+ghost use Rattle.tv_core.specs.Sinks.{Emits, Room};
 ghost use Rattle.tv_muldiv.specs.Quotient.{IsQuotientBelow};
 ghost use Rattle.tv_muldiv.specs.Quotient.{quotient_wires_of, gate_of, division_of};
 ghost use Rattle.tv_muldiv.specs.Quotient.{remainder_below_of, quotient_of, gate_in, words_values};
@@ -31,9 +31,8 @@ pub fn quotient<const W: u32, S: Sink>(s: &mut S, x: &Bits, y: &Bits) -> Put<Quo
     requires room { Room S.meaning s.old (2 * W + W / 4 + 4) (2 * W + W / 4 + 7) }
     requires x_word { AreBitsBelow (S.meaning.wires s.old) W x.now }
     requires y_word { AreBitsBelow (S.meaning.wires s.old) W y.now }
-    ensures puts { PutsIn S.meaning s.old s.new (quotient_of W x.now y.now) result }
-    ensures grows { IfOk result (λ _. Grows S.meaning s.old s.new (2 * W + W / 4 + 4)
-        (2 * W + W / 4 + 7)) }
+    ensures emits { Emits S.meaning s.old s.new
+        (quotient_of W x.now y.now) (2 * W + W / 4 + 4) (2 * W + W / 4 + 7) result }
     ensures below { IfOk result (IsQuotientBelow (S.meaning.wires s.new) W) }
 {
     let mut scratch = Scratch::new();
@@ -48,8 +47,8 @@ fn quotient_wires<const W: u32, S: Sink>(s: &mut S, scratch: &mut Scratch, y: &B
     requires width { IsWidth W }
     requires room { Room S.meaning s.old (2 * W + 1) (2 * W + 2) }
     requires y_word { AreBitsBelow (S.meaning.wires s.old) W y.now }
-    ensures puts { PutsIn S.meaning s.old s.new (quotient_wires_of W y.now) result }
-    ensures grows { IfOk result (λ _. Grows S.meaning s.old s.new (2 * W + 1) (2 * W + 2)) }
+    ensures emits { Emits S.meaning s.old s.new
+        (quotient_wires_of W y.now) (2 * W + 1) (2 * W + 2) result }
     ensures below { IfOk result (IsQuotientBelow (S.meaning.wires s.new) W) }
 {
     let first = new_bits_by(s, scratch, 2 * W + 1)?.first;
@@ -78,8 +77,7 @@ fn division<const W: u32, S: Sink>(
     requires x_word { AreBitsBelow (S.meaning.wires s.old) W x.now }
     requires y_word { AreBitsBelow (S.meaning.wires s.old) W y.now }
     requires made { IsQuotientBelow (S.meaning.wires s.old) W made.now }
-    ensures puts { PutsIn S.meaning s.old s.new (division_of W x.now y.now made.now) result }
-    ensures grows { IfOk result (λ _. Grows S.meaning s.old s.new 1 2) }
+    ensures emits { Emits S.meaning s.old s.new (division_of W x.now y.now made.now) 1 2 result }
 {
     let gate = gate::<W, S>(s, scratch, x, made)?;
     made.quot.set_number(&mut scratch.a);
@@ -96,8 +94,7 @@ fn gate<const W: u32, S: Sink>(s: &mut S, scratch: &mut Scratch, x: &Bits, made:
     requires room { Room S.meaning s.old 1 1 }
     requires x_word { AreBitsBelow (S.meaning.wires s.old) W x.now }
     requires made { IsQuotientBelow (S.meaning.wires s.old) W made.now }
-    ensures puts { PutsIn S.meaning s.old s.new (gate_of W x.now made.now) result }
-    ensures grows { IfOk result (λ _. Grows S.meaning s.old s.new 1 1) }
+    ensures emits { Emits S.meaning s.old s.new (gate_of W x.now made.now) 1 1 result }
     ensures below { IfOk result (λ gate. gate < S.meaning.wires s.new) }
 {
     scratch.a.set_wire(made.by_zero);
@@ -117,8 +114,8 @@ fn remainder_below<const W: u32, S: Sink>(
     requires room { Room S.meaning s.old (W / 4 + 2) (W / 4 + 3) }
     requires y_word { AreBitsBelow (S.meaning.wires s.old) W y.now }
     requires made { IsQuotientBelow (S.meaning.wires s.old) W made.now }
-    ensures puts { PutsIn S.meaning s.old s.new (remainder_below_of W y.now made.now) result }
-    ensures grows { IfOk result (λ _. Grows S.meaning s.old s.new (W / 4 + 2) (W / 4 + 3)) }
+    ensures emits { Emits S.meaning s.old s.new
+        (remainder_below_of W y.now made.now) (W / 4 + 2) (W / 4 + 3) result }
 {
     let above = new_bits_by(s, scratch, W / CHUNKS)?;
     let mut difference = above.plus_one();

@@ -3,7 +3,7 @@ ghost use Rattle.std.specs.Prelude.{◌≡◌, ◌+◌, ◌*◌, ◌≤◌, ◌<
 ghost use Rattle.tv_bits.specs.Bits.{AreBitsBelow};
 ghost use Rattle.tv_core.specs.Combinations.{top};
 ghost use Rattle.tv_core.specs.Values.{GivesIn};
-ghost use Rattle.tv_core.specs.Sinks.{PutsIn, Grows, Room};
+ghost use Rattle.tv_core.specs.Sinks.{Emits, Room};
 ghost use Rattle.tv_muldiv.specs.SignedHigh.{signed_bits_of, excess};
 ghost use Rattle.tv_row_products.specs.RowSignedProduct.{excess_in};
 ghost use Rattle.tv_muldiv.specs.SignedHigh.{signed_high_of, signed_high_values};
@@ -27,8 +27,8 @@ pub fn signed_high<const W: u32, S: Sink>(s: &mut S, x: &Bits, y: &Bits) -> Put<
     requires room { Room S.meaning s.old (2 * W + 2) (2 * W + 3) }
     requires x_word { AreBitsBelow (S.meaning.wires s.old) W x.now }
     requires y_word { AreBitsBelow (S.meaning.wires s.old) W y.now }
-    ensures puts { PutsIn S.meaning s.old s.new (signed_high_of W x.now y.now) result }
-    ensures grows { IfOk result (λ _. Grows S.meaning s.old s.new (2 * W + 2) (2 * W + 3)) }
+    ensures emits { Emits S.meaning s.old s.new
+        (signed_high_of W x.now y.now) (2 * W + 2) (2 * W + 3) result }
     ensures high_below { IfOk result (λ made. AreBitsBelow (S.meaning.wires s.new) W made.high) }
     ensures over_below { IfOk result (λ made. made.over < S.meaning.wires s.new) }
 {
@@ -51,8 +51,8 @@ fn signed_bits<const W: u32, S: Sink>(
     requires room { Room S.meaning s.old (2 * W) (2 * W + 1) }
     requires x_word { AreBitsBelow (S.meaning.wires s.old) W x.now }
     requires y_word { AreBitsBelow (S.meaning.wires s.old) W y.now }
-    ensures puts { PutsIn S.meaning s.old s.new (signed_bits_of W x.now y.now) result }
-    ensures grows { IfOk result (λ _. Grows S.meaning s.old s.new (2 * W) (2 * W + 1)) }
+    ensures emits { Emits S.meaning s.old s.new
+        (signed_bits_of W x.now y.now) (2 * W) (2 * W + 1) result }
     ensures below { IfOk result (AreBitsBelow (S.meaning.wires s.new) (2 * W)) }
 {
     let made = new_bits_by(s, scratch, 2 * W)?;

@@ -5,7 +5,7 @@ ghost use Rattle.std.specs.Int.{bit_at};
 ghost use Rattle.tv_bits.specs.Times.{times_of};
 ghost use Rattle.tv_core.specs.Combinations.{scaled, top, wire};
 ghost use Rattle.tv_core.specs.Values.{GivesIn};
-ghost use Rattle.tv_core.specs.Sinks.{PutsIn, Grows, Room};
+ghost use Rattle.tv_core.specs.Sinks.{Emits, Room};
 ghost use Rattle.tv_core.specs.declared.field.TheConstants.{P};
 ghost use Rattle.tv_parts.specs.Flag.{tested_in, next_flag_of, FlagIsSound, FlagIsComplete};
 ghost use Rattle.tv_parts.specs.Flag.{FlagSizes, FlagCosts, flag_values};
@@ -51,9 +51,8 @@ pub fn put_flag<const W: u32, S: Sink>(
       f = f;
       tapes = tapes.now;
     }) }
-    ensures puts { PutsIn S.meaning s.old s.new (next_flag_of W state.now op x.now f tapes.now)
-        result }
-    ensures grows { IfOk result (λ _. Grows S.meaning s.old s.new 3 3) }
+    ensures emits { Emits S.meaning s.old s.new
+        (next_flag_of W state.now op x.now f tapes.now) 3 3 result }
     ensures below { IfOk result (λ w. w < S.meaning.wires s.new) }
 {
     let highest = x.first.offset(W - 1);
@@ -89,9 +88,8 @@ fn put_shifted<S: Sink>(
 ) -> Put<Wire>
     requires room { Room S.meaning s.old 1 1 }
     requires wires_made { max opcode (max f bit) < S.meaning.wires s.old }
-    ensures puts { PutsIn S.meaning s.old s.new (times_of (wire opcode)
-        ((P - 1, f) ∷ (1, bit) ∷ [])) result }
-    ensures grows { IfOk result (λ _. Grows S.meaning s.old s.new 1 1) }
+    ensures emits { Emits S.meaning s.old s.new
+        (times_of (wire opcode) ((P - 1, f) ∷ (1, bit) ∷ [])) 1 1 result }
     ensures below { IfOk result (λ w. w < S.meaning.wires s.new) }
 {
     scratch.a.set_wire(opcode);

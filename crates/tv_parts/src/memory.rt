@@ -10,7 +10,7 @@ ghost use Rattle.tv_inputs.specs.Accumulation.{accumulated_of};
 ghost use Rattle.tv_inputs.specs.OpcodeSums.{opcode_sum};
 ghost use Rattle.tv_inputs.specs.Operand.{upper_of};
 ghost use Rattle.tv_core.specs.Values.{GivesIn};
-ghost use Rattle.tv_core.specs.Sinks.{PutsIn, Grows, Room};
+ghost use Rattle.tv_core.specs.Sinks.{Emits, Room};
 ghost use Rattle.tv_parts.specs.Memory.{located_line, byte_of_pair, byte_of_four, byte_at_of};
 ghost use Rattle.tv_parts.specs.Memory.{power_in, new_of, memory_of};
 ghost use Rattle.tv_parts.specs.Memory.{MemoryIsSound, MemoryIsComplete, MemorySizes, MemoryCosts};
@@ -57,9 +57,8 @@ pub fn put_memory<const W: u32, S: Sink>(
     requires step_made { TapedUnder W (S.meaning.wires s.old)
         (taped_of state.now op a.now tapes.now) }
     requires data_made { DataUnder W (S.meaning.wires s.old) d.now }
-    ensures puts { PutsIn S.meaning s.old s.new (memory_of W state.now op a.now d.now tapes.now)
-        result }
-    ensures grows { IfOk result (λ _. Grows S.meaning s.old s.new (W / 8 + 5) (W / 8 + 5)) }
+    ensures emits { Emits S.meaning s.old s.new
+        (memory_of W state.now op a.now d.now tapes.now) (W / 8 + 5) (W / 8 + 5) result }
     ensures below { IfOk result (λ made. StoreUnder (S.meaning.wires s.new) made) }
 {
     let line = put_line::<W, S>(s, scratch, state, op, a, d.word, tapes)?;
@@ -83,9 +82,8 @@ fn put_line<const W: u32, S: Sink>(
     requires step_made { TapedUnder W (S.meaning.wires s.old)
         (taped_of state.now op a.now tapes.now) }
     requires word_made { word < S.meaning.wires s.old }
-    ensures puts { PutsIn S.meaning s.old s.new (located_line W state.now op a.now word tapes.now)
-        result }
-    ensures grows { IfOk result (λ _. Grows S.meaning s.old s.new 3 3) }
+    ensures emits { Emits S.meaning s.old s.new
+        (located_line W state.now op a.now word tapes.now) 3 3 result }
     ensures below { IfOk result (λ made. LineUnder (S.meaning.wires s.new) made) }
 {
     let before = state.taken_of_primary;
@@ -108,9 +106,9 @@ fn put_old<S: Sink>(
     requires room { Room S.meaning s.old 1 1 }
     requires op_made { op + 29 ≤ S.meaning.wires s.old }
     requires wires_made { max before (max taken word) < S.meaning.wires s.old }
-    ensures puts { PutsIn S.meaning s.old s.new (times_of ((P - 1, before) ∷ (opcode_sum op
-        memory_ops ++ wire taken)) (wire word)) result }
-    ensures grows { IfOk result (λ _. Grows S.meaning s.old s.new 1 1) }
+    ensures emits { Emits S.meaning s.old s.new
+        (times_of ((P - 1, before) ∷ (opcode_sum op memory_ops ++ wire taken)) (wire word))
+        1 1 result }
     ensures below { IfOk result (λ w. w < S.meaning.wires s.new) }
 {
     set_minus(&mut scratch.a, before);
@@ -131,9 +129,10 @@ fn put_located<const W: u32, S: Sink>(
     requires room { Room S.meaning s.old 1 1 }
     requires op_made { op + 29 ≤ S.meaning.wires s.old }
     requires operand_made { OperandUnder W (S.meaning.wires s.old) a.now }
-    ensures puts { PutsIn S.meaning s.old s.new (accumulated_of (constant NULL_CELL)
-        (opcode_sum op memory_ops) ((P - NULL_CELL, 0) ∷ upper_of 1 a.now (W / 16))) result }
-    ensures grows { IfOk result (λ _. Grows S.meaning s.old s.new 1 1) }
+    ensures emits { Emits S.meaning s.old s.new
+        (accumulated_of (constant NULL_CELL) (opcode_sum op memory_ops)
+        ((P - NULL_CELL, 0) ∷ upper_of 1 a.now (W / 16)))
+        1 1 result }
     ensures below { IfOk result (λ w. w < S.meaning.wires s.new) }
 {
     let null = -F::from(NULL_CELL);
@@ -156,10 +155,10 @@ fn put_cell<S: Sink>(
 ) -> Put<Wire>
     requires room { Room S.meaning s.old 1 1 }
     requires wires_made { max before (max located taken) < S.meaning.wires s.old }
-    ensures puts { PutsIn S.meaning s.old s.new (accumulated_of (wire located)
-        ((P - 1, before) ∷ (1, taken) ∷ [])
-        ((TAPE_CELLS, 0) ∷ (1, before) ∷ (P - 1, located) ∷ [])) result }
-    ensures grows { IfOk result (λ _. Grows S.meaning s.old s.new 1 1) }
+    ensures emits { Emits S.meaning s.old s.new
+        (accumulated_of (wire located) ((P - 1, before) ∷ (1, taken) ∷ [])
+        ((TAPE_CELLS, 0) ∷ (1, before) ∷ (P - 1, located) ∷ []))
+        1 1 result }
     ensures below { IfOk result (λ w. w < S.meaning.wires s.new) }
 {
     set_rise(&mut scratch.a, before, taken);
@@ -182,8 +181,8 @@ fn byte_at<const W: u32, S: Sink>(
     requires room { Room S.meaning s.old (W / 8 - 1) (W / 8 - 1) }
     requires bits_made { bits + W ≤ S.meaning.wires s.old }
     requires a_made { a + W ≤ S.meaning.wires s.old }
-    ensures puts { PutsIn S.meaning s.old s.new (byte_at_of W bits a) result }
-    ensures grows { IfOk result (λ _. Grows S.meaning s.old s.new (W / 8 - 1) (W / 8 - 1)) }
+    ensures emits { Emits S.meaning s.old s.new
+        (byte_at_of W bits a) (W / 8 - 1) (W / 8 - 1) result }
     ensures below { IfOk result (λ w. w < S.meaning.wires s.new) }
 {
     if W == 16 {
@@ -198,8 +197,7 @@ fn byte_of_pair<S: Sink>(s: &mut S, scratch: &mut Scratch, bits: Wire, bit: Wire
     requires room { Room S.meaning s.old 1 1 }
     requires bits_made { bits + 16 ≤ S.meaning.wires s.old }
     requires bit_made { bit < S.meaning.wires s.old }
-    ensures puts { PutsIn S.meaning s.old s.new (byte_of_pair bits bit) result }
-    ensures grows { IfOk result (λ _. Grows S.meaning s.old s.new 1 1) }
+    ensures emits { Emits S.meaning s.old s.new (byte_of_pair bits bit) 1 1 result }
     ensures below { IfOk result (λ w. w < S.meaning.wires s.new) }
 {
     let minus = -F::ONE;
@@ -222,8 +220,7 @@ fn byte_of_four<S: Sink>(s: &mut S, scratch: &mut Scratch, bits: Wire, a: Wire) 
     requires room { Room S.meaning s.old 3 3 }
     requires bits_made { bits + 32 ≤ S.meaning.wires s.old }
     requires a_made { a + 2 ≤ S.meaning.wires s.old }
-    ensures puts { PutsIn S.meaning s.old s.new (byte_of_four bits a) result }
-    ensures grows { IfOk result (λ _. Grows S.meaning s.old s.new 3 3) }
+    ensures emits { Emits S.meaning s.old s.new (byte_of_four bits a) 3 3 result }
     ensures below { IfOk result (λ w. w < S.meaning.wires s.new) }
 {
     let low = byte_of_pair(s, scratch, bits, a)?;
@@ -249,8 +246,7 @@ fn put_new<const W: u32, S: Sink>(
     requires wires_made { max (op + 29) (a.now.bits.first + W) ≤ S.meaning.wires s.old }
     requires data_made { DataUnder W (S.meaning.wires s.old) d.now }
     requires read_made { max line.now.old byte < S.meaning.wires s.old }
-    ensures puts { PutsIn S.meaning s.old s.new (new_of W op d.now a.now line.now byte) result }
-    ensures grows { IfOk result (λ _. Grows S.meaning s.old s.new 3 3) }
+    ensures emits { Emits S.meaning s.old s.new (new_of W op d.now a.now line.now byte) 3 3 result }
     ensures below { IfOk result (λ w. w < S.meaning.wires s.new) }
 {
     let change = put_change::<W, S>(s, scratch, d, a.bits.first, byte)?;
@@ -264,9 +260,8 @@ fn put_changed<S: Sink>(s: &mut S, scratch: &mut Scratch, op: Wire, change: Wire
     requires room { Room S.meaning s.old 1 1 }
     requires op_made { op + 29 ≤ S.meaning.wires s.old }
     requires change_made { change < S.meaning.wires s.old }
-    ensures puts { PutsIn S.meaning s.old s.new (times_of (opcode_sum op (STORE_B ∷ []))
-        (wire change)) result }
-    ensures grows { IfOk result (λ _. Grows S.meaning s.old s.new 1 1) }
+    ensures emits { Emits S.meaning s.old s.new
+        (times_of (opcode_sum op (STORE_B ∷ [])) (wire change)) 1 1 result }
     ensures below { IfOk result (λ w. w < S.meaning.wires s.new) }
 {
     scratch.a.set_wire(opcode_wire(op, STORE_B));
@@ -288,9 +283,10 @@ fn put_after<S: Sink>(
     requires op_made { op + 29 ≤ S.meaning.wires s.old }
     requires wires_made { max (max d.now.other d.now.word) (max old changed)
         < S.meaning.wires s.old }
-    ensures puts { PutsIn S.meaning s.old s.new (accumulated_of (wire old ++ wire changed)
-        (opcode_sum op (STORE_W ∷ [])) ((1, d.now.other) ∷ (P - 1, d.now.word) ∷ [])) result }
-    ensures grows { IfOk result (λ _. Grows S.meaning s.old s.new 1 1) }
+    ensures emits { Emits S.meaning s.old s.new
+        (accumulated_of (wire old ++ wire changed) (opcode_sum op (STORE_W ∷ []))
+        ((1, d.now.other) ∷ (P - 1, d.now.word) ∷ []))
+        1 1 result }
     ensures below { IfOk result (λ w. w < S.meaning.wires s.new) }
 {
     scratch.a.set_wire(opcode_wire(op, STORE_W));
@@ -313,9 +309,10 @@ fn put_change<const W: u32, S: Sink>(
     requires data_made { DataUnder W (S.meaning.wires s.old) d.now }
     requires address_made { address + W ≤ S.meaning.wires s.old }
     requires byte_made { byte < S.meaning.wires s.old }
-    ensures puts { PutsIn S.meaning s.old s.new (times_of (power_in W address d.now.both)
-        (bits_combination d.now.x.first 8 ++ (P - 1, byte) ∷ [])) result }
-    ensures grows { IfOk result (λ _. Grows S.meaning s.old s.new 1 1) }
+    ensures emits { Emits S.meaning s.old s.new
+        (times_of (power_in W address d.now.both)
+        (bits_combination d.now.x.first 8 ++ (P - 1, byte) ∷ []))
+        1 1 result }
     ensures below { IfOk result (λ w. w < S.meaning.wires s.new) }
 {
     set_power::<W>(&mut scratch.a, address, d.both);

@@ -5,7 +5,7 @@ ghost use Rattle.tv_core.specs.Combinations.{wire};
 ghost use Rattle.tv_inputs.specs.Accumulation.{accumulated_of};
 ghost use Rattle.tv_inputs.specs.OpcodeSums.{opcode_sum};
 ghost use Rattle.tv_core.specs.Values.{GivesIn};
-ghost use Rattle.tv_core.specs.Sinks.{PutsIn, Grows, Room};
+ghost use Rattle.tv_core.specs.Sinks.{Emits, Room};
 ghost use Rattle.tv_parts.specs.Written.{written_of};
 ghost use Rattle.tv_inputs.specs.States.{StateUnder};
 ghost use Rattle.tv_parts.specs.Written.{TripleUnder};
@@ -48,9 +48,8 @@ pub fn put_written<S: Sink>(
     requires state_made { StateUnder (S.meaning.wires s.old) state.now }
     requires regs_made { TripleUnder (S.meaning.wires s.old) regs.now }
     requires result_made { result_word < S.meaning.wires s.old }
-    ensures puts { PutsIn S.meaning s.old s.new (written_of op state.now regs.now result_word)
-        result }
-    ensures grows { IfOk result (λ _. Grows S.meaning s.old s.new 17 18) }
+    ensures emits { Emits S.meaning s.old s.new
+        (written_of op state.now regs.now result_word) 17 18 result }
     ensures below { IfOk result (λ made. wires_top made ≤ S.meaning.wires s.new) }
 {
     let on = put_on(s, scratch, op, state.flag)?;
@@ -69,9 +68,9 @@ fn put_on<S: Sink>(s: &mut S, scratch: &mut Scratch, op: Wire, flag: Wire) -> Pu
     requires room { Room S.meaning s.old 1 1 }
     requires op_made { op + 29 ≤ S.meaning.wires s.old }
     requires flag_made { flag < S.meaning.wires s.old }
-    ensures puts { PutsIn S.meaning s.old s.new (accumulated_of (opcode_sum op writer_ops)
-        (opcode_sum op (CMOV ∷ [])) (wire flag)) result }
-    ensures grows { IfOk result (λ _. Grows S.meaning s.old s.new 1 1) }
+    ensures emits { Emits S.meaning s.old s.new
+        (accumulated_of (opcode_sum op writer_ops) (opcode_sum op (CMOV ∷ [])) (wire flag))
+        1 1 result }
     ensures below { IfOk result (λ w. w < S.meaning.wires s.new) }
 {
     scratch.a.set_wire(opcode_wire(op, CMOV));

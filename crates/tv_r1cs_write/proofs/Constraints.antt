@@ -7,7 +7,7 @@ use Rattle.std.specs.List.{All}
 use Rattle.std.specs.Prelude.{false, is_err}
 use Rattle.tv_container.specs.Taking.{PassesOn}
 use Rattle.tv_container.specs.Writing.{Adds, Passes}
-use Rattle.tv_core.specs.Sinks.{PutsIn}
+use Rattle.tv_core.specs.Sinks.{Emits}
 use Rattle.tv_core.specs.declared.sink.SinkFault.{SinkFault}
 use Rattle.tv_r1cs_write.specs.Bytes.{head_bytes, rows_bytes, constraint_bytes}
 use Rattle.tv_r1cs_write.specs.Narrow.{AreShort, IsNarrow, HasWiresBelow}
@@ -75,29 +75,37 @@ pub put_by : {S : Type 0} (seen : S → Stream) (old new : S) (row : Constraint)
     PassesOn (seen old).outside (seen new).outside (seen old).name ((seen old).progress.held ++ constraint_bytes row) (seen new).progress.held outcome →
     AreShort row → (seen new).progress ≡ record
     (seen old).progress { held = (seen new).progress.held; constraints = (seen old).progress.constraints + 1; outcome = outcome } →
-    is_err (seen old).progress.outcome ≡ false → PutsIn (stream_meaning seen) old new (put row.a row.b row.c) outcome
+    is_err (seen old).progress.outcome ≡ false → Emits (stream_meaning seen) old new (put row.a row.b row.c) 0 1 outcome
 unfolding put
 put_by seen old new row (Ok unit) borrow name a b c passes short is unbroken =
     let first = unrefused (seen old).progress.outcome unbroken in
+    let wires = ap (λ (p : SystemProgress). p.wires) is in
     let answered = ap (λ (p : SystemProgress). p.outcome) is in
     let same : (seen new).progress ≡ record (seen old).progress {
       held = (seen new).progress.held;
       constraints = (seen old).progress.constraints + 1;
     } = rw first is in
     record {
-      answers = refl;
-      stands = λ list s. stands_more (seen old) (seen new) list row s (narrow (seen old).progress.wires row short a b c) name same passes.done;
-      next = ap (λ (p : SystemProgress). p.wires) is;
-      keeps = record {
-        borrow = borrow;
-        name = name;
-        counts = ap (λ (p : SystemProgress). p.counts) is;
-        labels = ap (λ (p : SystemProgress). p.labels) is;
-        outside = passes.only;
-        cause = rw (first, answered) passes.cause;
+      puts = record {
+        answers = refl;
+        stands = λ list s. stands_more (seen old) (seen new) list row s (narrow (seen old).progress.wires row short a b c) name same passes.done;
+        next = wires;
+        keeps = record {
+          borrow = borrow;
+          name = name;
+          counts = ap (λ (p : SystemProgress). p.counts) is;
+          labels = ap (λ (p : SystemProgress). p.labels) is;
+          outside = passes.only;
+          cause = rw (first, answered) passes.cause;
+        };
+        faults = rw (first, answered) (omega arith);
+        wants = rw (first, answered) (omega arith);
       };
-      faults = rw (first, answered) (omega arith);
-      wants = rw (first, answered) (omega arith);
+      grows = record {
+        wires = omega (arith, wires);
+        constraints = ap (λ (p : SystemProgress). p.constraints) is;
+        whole = ap (λ (p : SystemProgress). is_err p.outcome) is;
+      };
     }
 put_by seen old new row (Err fault) borrow name a b c passes short is unbroken =
     let counts = ap (λ (p : SystemProgress). p.counts) is in

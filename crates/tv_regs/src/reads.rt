@@ -1,7 +1,7 @@
 //! A register, read by the row of its number.
 ghost use Rattle.std.specs.Prelude.{◌≡◌, ◌+◌, ◌≤◌, ◌<◌, false, IfOk, OnOk};
 ghost use Rattle.tv_core.specs.Values.{GivesIn};
-ghost use Rattle.tv_core.specs.Sinks.{PutsIn, Grows, Room};
+ghost use Rattle.tv_core.specs.Sinks.{Emits, Room};
 ghost use Rattle.tv_bits.specs.Wires.{wires_top};
 ghost use Rattle.tv_regs.specs.Reads.{read_of, read_reg_of, read_reg_values};
 ghost use Rattle.tv_regs.specs.Reads.{ReadRegIsSound, ReadRegIsComplete, ReadRegSizes};
@@ -14,8 +14,7 @@ pub fn read_reg<S: Sink>(s: &mut S, sel: Wire, regs: &[Wire; 16]) -> Put<Wire>
     requires room { Room S.meaning s.old 1 16 }
     requires sel_made { sel + 16 ≤ S.meaning.wires s.old }
     requires regs_made { wires_top regs.now ≤ S.meaning.wires s.old }
-    ensures puts { PutsIn S.meaning s.old s.new (read_reg_of sel regs.now) result }
-    ensures grows { IfOk result (λ _. Grows S.meaning s.old s.new 1 16) }
+    ensures emits { Emits S.meaning s.old s.new (read_reg_of sel regs.now) 1 16 result }
     ensures below { IfOk result (λ w. w < S.meaning.wires s.new) }
 {
     let mut scratch = Scratch::new();
@@ -32,8 +31,7 @@ fn read<S: Sink>(s: &mut S, scratch: &mut Scratch, w: Wire, sel: Wire, reg: Wire
     requires w_made { w < S.meaning.wires s.old }
     requires sel_made { sel < S.meaning.wires s.old }
     requires reg_made { reg < S.meaning.wires s.old }
-    ensures puts { PutsIn S.meaning s.old s.new (read_of w sel reg) result }
-    ensures grows { IfOk result (λ _. Grows S.meaning s.old s.new 0 1) }
+    ensures emits { Emits S.meaning s.old s.new (read_of w sel reg) 0 1 result }
 {
     scratch.a.set_wire(sel);
     scratch.b.set_difference(w, reg);

@@ -11,7 +11,7 @@ ghost use Rattle.tv_bits.specs.Number.{number_of};
 ghost use Rattle.tv_core.specs.Combinations.{top};
 ghost use Rattle.tv_core.specs.Values.{GivesIn};
 ghost use Rattle.tv_core.specs.Inverse.{inverse_of};
-ghost use Rattle.tv_core.specs.Sinks.{PutsIn, Grows, Room};
+ghost use Rattle.tv_core.specs.Sinks.{Emits, Room};
 ghost use Rattle.tv_core.specs.declared.field.TheConstants.{P};
 ghost use Rattle.tv_bits.specs.Wires.{wires_top};
 ghost use Rattle.tv_regs.specs.ProductPlus.{product_plus_of};
@@ -107,9 +107,10 @@ pub fn read_triple<S: Sink>(
     requires stores_made { top stores.now ≤ S.meaning.wires s.old }
     requires names_made { AreNames (S.meaning.wires s.old) names.now }
     requires regs_made { wires_top regs.now ≤ S.meaning.wires s.old }
-    ensures puts { PutsIn S.meaning s.old s.new (triple_of stores.now (number_of names.now.dest)
-        (number_of names.now.source) (number_of names.now.named) regs.now) result }
-    ensures grows { IfOk result (λ _. Grows S.meaning s.old s.new 31 28) }
+    ensures emits { Emits S.meaning s.old s.new
+        (triple_of stores.now (number_of names.now.dest) (number_of names.now.source)
+        (number_of names.now.named) regs.now)
+        31 28 result }
     ensures places { IfOk result (λ made. made ≡ triple_wires (S.meaning.wires s.old)) }
 {
     let roots = new_roots(s, scratch, stores, names)?;
@@ -141,9 +142,10 @@ fn new_roots<S: Sink>(
     requires stores_short { length stores.now ≤ 128 }
     requires stores_made { top stores.now ≤ S.meaning.wires s.old }
     requires names_made { AreNames (S.meaning.wires s.old) names.now }
-    ensures puts { PutsIn S.meaning s.old s.new (roots_of stores.now (number_of names.now.dest)
-        (number_of names.now.source) (number_of names.now.named)) result }
-    ensures grows { IfOk result (λ _. Grows S.meaning s.old s.new 6 6) }
+    ensures emits { Emits S.meaning s.old s.new
+        (roots_of stores.now (number_of names.now.dest) (number_of names.now.source)
+        (number_of names.now.named))
+        6 6 result }
     ensures below { IfOk result (λ made. AreRoots (S.meaning.wires s.new) made) }
 {
     names.dest.set_number(&mut scratch.a);
@@ -184,8 +186,8 @@ fn sums<S: Sink>(
     requires named_made { named.now.first + 4 ≤ S.meaning.wires s.old }
     requires dest_made { dest < S.meaning.wires s.old }
     requires other_made { other < S.meaning.wires s.old }
-    ensures puts { PutsIn S.meaning s.old s.new (sums_of dest other (number_of named.now)) result }
-    ensures grows { IfOk result (λ _. Grows S.meaning s.old s.new 4 4) }
+    ensures emits { Emits S.meaning s.old s.new
+        (sums_of dest other (number_of named.now)) 4 4 result }
     ensures below { IfOk result (λ made. AreRoots (S.meaning.wires s.new) made) }
 {
     named.set_number(&mut scratch.a);
@@ -216,9 +218,8 @@ fn product_plus<S: Sink>(s: &mut S, scratch: &mut Scratch, old: Wire) -> Put<Wir
     requires x_made { top scratch.old.a ≤ S.meaning.wires s.old }
     requires y_made { top scratch.old.b ≤ S.meaning.wires s.old }
     requires old_made { old < S.meaning.wires s.old }
-    ensures puts { PutsIn S.meaning s.old s.new
-        (product_plus_of scratch.old.a scratch.old.b old) result }
-    ensures grows { IfOk result (λ _. Grows S.meaning s.old s.new 1 1) }
+    ensures emits { Emits S.meaning s.old s.new
+        (product_plus_of scratch.old.a scratch.old.b old) 1 1 result }
     ensures below { IfOk result (λ new. new < S.meaning.wires s.new) }
 {
     let new = s.fresh();
@@ -240,8 +241,7 @@ fn new_curve<S: Sink>(
     requires room { Room S.meaning s.old 19 16 }
     requires roots_made { AreRoots (S.meaning.wires s.old) roots.now }
     requires regs_made { wires_top regs.now ≤ S.meaning.wires s.old }
-    ensures puts { PutsIn S.meaning s.old s.new (curve_of roots.now regs.now) result }
-    ensures grows { IfOk result (λ _. Grows S.meaning s.old s.new 19 16) }
+    ensures emits { Emits S.meaning s.old s.new (curve_of roots.now regs.now) 19 16 result }
     ensures below { IfOk result (λ curve. curve + 3 ≤ S.meaning.wires s.new) }
 {
     let curve = s.fresh();
@@ -267,8 +267,7 @@ fn passes<S: Sink>(
     requires roots_made { AreRoots (S.meaning.wires s.old) roots.now }
     requires curve_made { curve + 3 ≤ S.meaning.wires s.old }
     requires reg_made { reg < S.meaning.wires s.old }
-    ensures puts { PutsIn S.meaning s.old s.new (passes_of roots.now curve reg i) result }
-    ensures grows { IfOk result (λ _. Grows S.meaning s.old s.new 1 1) }
+    ensures emits { Emits S.meaning s.old s.new (passes_of roots.now curve reg i) 1 1 result }
 {
     set_cubic(&mut scratch.a, roots, i);
     set_departure(&mut scratch.b, reg, curve, i);
@@ -310,8 +309,7 @@ fn point<S: Sink>(s: &mut S, scratch: &mut Scratch, curve: Wire) -> Put<Wire>
     requires room { Room S.meaning s.old 2 2 }
     requires n_made { top scratch.old.a ≤ S.meaning.wires s.old }
     requires curve_made { curve + 3 ≤ S.meaning.wires s.old }
-    ensures puts { PutsIn S.meaning s.old s.new (point_of scratch.old.a curve) result }
-    ensures grows { IfOk result (λ _. Grows S.meaning s.old s.new 2 2) }
+    ensures emits { Emits S.meaning s.old s.new (point_of scratch.old.a curve) 2 2 result }
     ensures below { IfOk result (λ word. word < S.meaning.wires s.new) }
 {
     scratch.b.set_wire(curve.offset(2));

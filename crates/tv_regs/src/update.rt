@@ -4,7 +4,7 @@ ghost use Rattle.std.specs.Prelude.{max, IfOk, OnOk};
 ghost use Rattle.tv_bits.specs.OneHot.{row_sum};
 ghost use Rattle.tv_core.specs.Combinations.{scaled, top};
 ghost use Rattle.tv_core.specs.Values.{GivesIn};
-ghost use Rattle.tv_core.specs.Sinks.{PutsIn, Grows, Room};
+ghost use Rattle.tv_core.specs.Sinks.{Emits, Room};
 ghost use Rattle.tv_core.specs.declared.field.TheConstants.{P};
 ghost use Rattle.tv_bits.specs.Wires.{wires_top};
 ghost use Rattle.tv_regs.specs.Update.{number_less, rise, stays_of, update_of, IsWriteMade};
@@ -40,9 +40,9 @@ pub fn update_register<S: Sink>(
     requires room { Room S.meaning s.old 16 17 }
     requires made { IsWriteMade (S.meaning.wires s.old) write.now }
     requires regs_made { wires_top regs.now ≤ S.meaning.wires s.old }
-    ensures puts { PutsIn S.meaning s.old s.new
-        (update_of write.now.on write.now.dest write.now.word write.now.value regs.now) result }
-    ensures grows { IfOk result (λ _. Grows S.meaning s.old s.new 16 17) }
+    ensures emits { Emits S.meaning s.old s.new
+        (update_of write.now.on write.now.dest write.now.word write.now.value regs.now)
+        16 17 result }
     ensures below { IfOk result (λ made. wires_top made ≤ S.meaning.wires s.new) }
 {
     let first = Wire(s.wires());
@@ -63,8 +63,7 @@ fn stays<S: Sink>(s: &mut S, scratch: &mut Scratch, dest: Wire, reg: Wire, i: u3
     requires within { i < 16 }
     requires dest_made { dest < S.meaning.wires s.old }
     requires reg_made { reg < S.meaning.wires s.old }
-    ensures puts { PutsIn S.meaning s.old s.new (stays_of dest reg i) result }
-    ensures grows { IfOk result (λ _. Grows S.meaning s.old s.new 1 1) }
+    ensures emits { Emits S.meaning s.old s.new (stays_of dest reg i) 1 1 result }
 {
     let new = s.fresh();
     set_number_less(&mut scratch.a, dest, i);

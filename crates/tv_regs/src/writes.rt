@@ -4,7 +4,7 @@ ghost use Rattle.std.specs.Prelude.{OnOk};
 ghost use Rattle.std.specs.List.{range_with_len};
 ghost use Rattle.tv_core.specs.Combinations.{top};
 ghost use Rattle.tv_core.specs.Values.{GivesIn};
-ghost use Rattle.tv_core.specs.Sinks.{PutsIn, Grows, Room};
+ghost use Rattle.tv_core.specs.Sinks.{Emits, Room};
 ghost use Rattle.tv_bits.specs.Wires.{wires_top};
 ghost use Rattle.tv_regs.specs.Writes.{tie_of, regs_sum, written_regs, write_reg_of};
 ghost use Rattle.tv_regs.specs.Writes.{write_reg_values, WriteRegIsSound, WriteRegIsComplete};
@@ -28,8 +28,7 @@ pub fn write_reg<S: Sink>(
     requires on_made { on < S.meaning.wires s.old }
     requires x_short { length x.now ≤ 64 }
     requires made { max (top x.now) (wires_top regs.now) ≤ S.meaning.wires s.old }
-    ensures puts { PutsIn S.meaning s.old s.new (write_reg_of sel on x.now regs.now) result }
-    ensures grows { IfOk result (λ _. Grows S.meaning s.old s.new 17 17) }
+    ensures emits { Emits S.meaning s.old s.new (write_reg_of sel on x.now regs.now) 17 17 result }
     ensures below { IfOk result (λ made. wires_top made ≤ S.meaning.wires s.new) }
 {
     let mut scratch = Scratch::new();
@@ -58,8 +57,7 @@ fn tie<S: Sink>(
     requires x_short { length x.now ≤ 64 }
     requires new_made { first + 16 ≤ S.meaning.wires s.old }
     requires made { max (top x.now) (wires_top regs.now) ≤ S.meaning.wires s.old }
-    ensures puts { PutsIn S.meaning s.old s.new (tie_of on x.now v first regs.now) result }
-    ensures grows { IfOk result (λ _. Grows S.meaning s.old s.new 0 1) }
+    ensures emits { Emits S.meaning s.old s.new (tie_of on x.now v first regs.now) 0 1 result }
 {
     set_sum(&mut scratch.a, regs);
     scratch.c.clear();

@@ -3,7 +3,7 @@ ghost use Rattle.std.specs.Prelude.{◌≡◌, ◌+◌, ◌-◌, ◌*◌, ◌/�
 ghost use Rattle.std.specs.Prelude.{[], ◌∷◌, if◌then◌else◌, false, length, max, IfOk, OnOk};
 ghost use Rattle.tv_bits.specs.Times.{times_of};
 ghost use Rattle.tv_core.specs.Combinations.{scaled, top, wire};
-ghost use Rattle.tv_core.specs.Sinks.{PutsIn, Grows, Room};
+ghost use Rattle.tv_core.specs.Sinks.{Emits, Room};
 ghost use Rattle.tv_core.specs.declared.field.TheConstants.{P};
 ghost use Rattle.tv_results.specs.Pc.{from_last, after_in, jump_in, pc_of, PcIsSound};
 ghost use Rattle.tv_results.specs.Pc.{PcIsComplete, PcSizes, PcCosts, pc_values};
@@ -41,8 +41,7 @@ pub fn put_pc<const W: u32, S: Sink>(
     requires state_made { StateUnder (S.meaning.wires s.old) state.now }
     requires op_made { op + 29 ≤ S.meaning.wires s.old }
     requires operand_made { OperandUnder W (S.meaning.wires s.old) a.now }
-    ensures puts { PutsIn S.meaning s.old s.new (pc_of W state.now op a.now) result }
-    ensures grows { IfOk result (λ _. Grows S.meaning s.old s.new 4 4) }
+    ensures emits { Emits S.meaning s.old s.new (pc_of W state.now op a.now) 4 4 result }
     ensures below { IfOk result (λ w. w < S.meaning.wires s.new) }
 {
     let answers = opcode_wire(op, ANSWER);
@@ -64,9 +63,8 @@ fn put_wraps<const W: u32, S: Sink>(
     requires width { IsWidth W }
     requires room { Room S.meaning s.old 2 2 }
     requires wires_made { max pc answers < S.meaning.wires s.old }
-    ensures puts { PutsIn S.meaning s.old s.new (if_zero_of ((1, 0) ∷ (P - 1, answers) ∷ [])
-        (from_last W pc)) result }
-    ensures grows { IfOk result (λ _. Grows S.meaning s.old s.new 2 2) }
+    ensures emits { Emits S.meaning s.old s.new
+        (if_zero_of ((1, 0) ∷ (P - 1, answers) ∷ []) (from_last W pc)) 2 2 result }
     ensures below { IfOk result (λ w. w < S.meaning.wires s.new) }
 {
     let goes = [(F::ONE, Wire(0)), (-F::ONE, answers)];
@@ -79,9 +77,9 @@ fn put_by_flag<S: Sink>(s: &mut S, scratch: &mut Scratch, op: Wire, flag: Wire) 
     requires room { Room S.meaning s.old 1 1 }
     requires op_made { op + 29 ≤ S.meaning.wires s.old }
     requires flag_made { flag < S.meaning.wires s.old }
-    ensures puts { PutsIn S.meaning s.old s.new (times_of (wire flag)
-        ((1, op + place_of CJMP) ∷ (P - 1, op + place_of CNJMP) ∷ [])) result }
-    ensures grows { IfOk result (λ _. Grows S.meaning s.old s.new 1 1) }
+    ensures emits { Emits S.meaning s.old s.new
+        (times_of (wire flag) ((1, op + place_of CJMP) ∷ (P - 1, op + place_of CNJMP) ∷ []))
+        1 1 result }
     ensures below { IfOk result (λ w. w < S.meaning.wires s.new) }
 {
     scratch.a.set_wire(flag);

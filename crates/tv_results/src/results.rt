@@ -4,7 +4,7 @@ ghost use Rattle.std.specs.Prelude.{[], ◌∷◌, ◌++◌, if◌then◌else◌
 ghost use Rattle.std.specs.Int.{bit_at};
 ghost use Rattle.tv_core.specs.Circuits.{put};
 ghost use Rattle.tv_core.specs.Combinations.{scaled, top, wire};
-ghost use Rattle.tv_core.specs.Sinks.{PutsIn, Grows, Room};
+ghost use Rattle.tv_core.specs.Sinks.{Emits, Room};
 ghost use Rattle.tv_core.specs.declared.field.TheConstants.{P};
 ghost use Rattle.tv_inputs.specs.Results.{parts_in, signs_in, result_of, tested_of, results_of};
 ghost use Rattle.tv_inputs.specs.Results.{sign_of};
@@ -54,9 +54,8 @@ pub fn put_results<const W: u32, S: Sink>(
     requires step_made { TapedUnder W (S.meaning.wires s.old)
         (taped_of state.now op a.now tapes.now) }
     requires from_made { SourcesUnder (S.meaning.wires s.old) from.now }
-    ensures puts { PutsIn S.meaning s.old s.new (results_of W state.now op a.now from.now tapes.now)
-        result }
-    ensures grows { IfOk result (λ _. Grows S.meaning s.old s.new 5 8) }
+    ensures emits { Emits S.meaning s.old s.new
+        (results_of W state.now op a.now from.now tapes.now) 5 8 result }
     ensures below { IfOk result (λ made. ResultUnder (S.meaning.wires s.new) made) }
 {
     let word = put_result::<W, S>(s, scratch, state, op, a, from, tapes)?;
@@ -79,9 +78,8 @@ fn put_result<const W: u32, S: Sink>(
     requires step_made { TapedUnder W (S.meaning.wires s.old)
         (taped_of state.now op a.now tapes.now) }
     requires from_made { SourcesUnder (S.meaning.wires s.old) from.now }
-    ensures puts { PutsIn S.meaning s.old s.new (result_of W state.now op a.now from.now
-        tapes.now) result }
-    ensures grows { IfOk result (λ _. Grows S.meaning s.old s.new 4 4) }
+    ensures emits { Emits S.meaning s.old s.new
+        (result_of W state.now op a.now from.now tapes.now) 4 4 result }
     ensures below { IfOk result (λ w. w < S.meaning.wires s.new) }
 {
     let not = opcode_wire(op, NOT);
@@ -181,8 +179,7 @@ fn put_tested<const W: u32, S: Sink>(
     requires operation_made { OperationUnder W (S.meaning.wires s.old) op a.now }
     requires from_made { SourcesUnder (S.meaning.wires s.old) from.now }
     requires result_made { word < S.meaning.wires s.old }
-    ensures puts { PutsIn S.meaning s.old s.new (tested_of W op a.now from.now word) result }
-    ensures grows { IfOk result (λ _. Grows S.meaning s.old s.new 1 4) }
+    ensures emits { Emits S.meaning s.old s.new (tested_of W op a.now from.now word) 1 4 result }
     ensures below { IfOk result (λ w. w < S.meaning.wires s.new) }
 {
     let y = s.fresh();
@@ -208,9 +205,8 @@ fn put_same<S: Sink>(
     requires wires_made { max x y < S.meaning.wires s.old }
     requires opcodes { All (λ k. k < 32) ops.now }
     requires few { length ops.now ≤ 32 }
-    ensures puts { PutsIn S.meaning s.old s.new (put (opcode_sum op ops.now)
-        ((P - 1, x) ∷ (1, y) ∷ []) []) result }
-    ensures grows { IfOk result (λ _. Grows S.meaning s.old s.new 0 1) }
+    ensures emits { Emits S.meaning s.old s.new
+        (put (opcode_sum op ops.now) ((P - 1, x) ∷ (1, y) ∷ []) []) 0 1 result }
 {
     set_opcodes(&mut scratch.a, op, ops);
     set_rise(&mut scratch.b, x, y);
@@ -231,9 +227,8 @@ fn put_signs<const W: u32, S: Sink>(
     requires op_made { op + 29 ≤ S.meaning.wires s.old }
     requires from_made { SourcesUnder (S.meaning.wires s.old) from.now }
     requires y_made { y < S.meaning.wires s.old }
-    ensures puts { PutsIn S.meaning s.old s.new (put (opcode_sum op (SMULH ∷ []))
-        (signs_in W from.now.top from.now.high y) []) result }
-    ensures grows { IfOk result (λ _. Grows S.meaning s.old s.new 0 1) }
+    ensures emits { Emits S.meaning s.old s.new
+        (put (opcode_sum op (SMULH ∷ [])) (signs_in W from.now.top from.now.high y) []) 0 1 result }
 {
     scratch.a.set_wire(opcode_wire(op, SMULH));
     set_signs::<W>(&mut scratch.b, from.top, from.high, y);
@@ -253,9 +248,9 @@ fn put_places<const W: u32, S: Sink>(
     requires room { Room S.meaning s.old 0 1 }
     requires operation_made { OperationUnder W (S.meaning.wires s.old) op a.now }
     requires y_made { y < S.meaning.wires s.old }
-    ensures puts { PutsIn S.meaning s.old s.new (put (opcode_sum op (SHL ∷ SHR ∷ []))
-        (upper_of (P - 1) a.now (place_bits W) ++ wire y) []) result }
-    ensures grows { IfOk result (λ _. Grows S.meaning s.old s.new 0 1) }
+    ensures emits { Emits S.meaning s.old s.new
+        (put (opcode_sum op (SHL ∷ SHR ∷ [])) (upper_of (P - 1) a.now (place_bits W) ++ wire y) [])
+        0 1 result }
 {
     set_opcodes(&mut scratch.a, op, &[SHL, SHR]);
     scratch.b.clear();

@@ -5,7 +5,7 @@ ghost use Rattle.tv_bits.specs.DoubleRow.{row_number};
 ghost use Rattle.tv_bits.specs.Times.{times_of};
 ghost use Rattle.tv_core.specs.Combinations.{wire, top};
 ghost use Rattle.tv_core.specs.Values.{GivesIn};
-ghost use Rattle.tv_core.specs.Sinks.{PutsIn, Grows, Room};
+ghost use Rattle.tv_core.specs.Sinks.{Emits, Room};
 ghost use Rattle.tv_row_products.specs.RowDivision.{below_divisor, room_below, bits_less};
 ghost use Rattle.tv_row_products.specs.RowDivision.{dividing, row_division_of, row_division_values};
 ghost use Rattle.tv_row_products.specs.RowDivision.{RowDivisionIsSound, RowDivisionIsComplete};
@@ -37,9 +37,8 @@ pub fn row_division<const W: u32, S: Sink>(
     requires terms_made { max (top gate.now) (top (row_number W row.now)) ≤ S.meaning.wires s.old }
     requires words_made { max (max x y) by_zero < S.meaning.wires s.old }
     requires bits_made { AreBitsBelow (S.meaning.wires s.old) W bits.now }
-    ensures puts { PutsIn S.meaning s.old s.new
-        (row_division_of W gate.now (dividing x y by_zero) bits.now row.now) result }
-    ensures grows { IfOk result (λ _. Grows S.meaning s.old s.new 2 4) }
+    ensures emits { Emits S.meaning s.old s.new
+        (row_division_of W gate.now (dividing x y by_zero) bits.now row.now) 2 4 result }
     ensures below { IfOk result (λ kept. kept < S.meaning.wires s.new) }
 {
     let kept = product_of_wires(s, scratch, by_zero, x)?;
@@ -64,9 +63,8 @@ fn product_of_quotient<S: Sink>(
     requires high_made { high < S.meaning.wires s.old }
     requires y_made { y < S.meaning.wires s.old }
     requires by_zero_made { by_zero < S.meaning.wires s.old }
-    ensures puts { PutsIn S.meaning s.old s.new
-        (times_of (wire high) (wire y ++ wire by_zero)) result }
-    ensures grows { IfOk result (λ _. Grows S.meaning s.old s.new 1 1) }
+    ensures emits { Emits S.meaning s.old s.new
+        (times_of (wire high) (wire y ++ wire by_zero)) 1 1 result }
     ensures below { IfOk result (λ product. product < S.meaning.wires s.new) }
 {
     scratch.a.set_wire(high);

@@ -4,7 +4,7 @@ ghost use Rattle.tv_bits.specs.DoubleRow.{row_number};
 ghost use Rattle.tv_bits.specs.Times.{times_of};
 ghost use Rattle.tv_core.specs.Combinations.{wire, top};
 ghost use Rattle.tv_core.specs.Values.{GivesIn};
-ghost use Rattle.tv_core.specs.Sinks.{PutsIn, Grows, Room};
+ghost use Rattle.tv_core.specs.Sinks.{Emits, Room};
 ghost use Rattle.tv_row_products.specs.RowProduct.{row_product_of, row_product_values};
 ghost use Rattle.tv_row_products.specs.RowProduct.{RowProductIsSound, RowProductIsComplete};
 ghost use Rattle.tv_row_products.specs.RowProduct.{RowProductSizes, RowProductCosts};
@@ -30,8 +30,7 @@ pub fn row_product<const W: u32, S: Sink>(
     requires x_made { x < S.meaning.wires s.old }
     requires y_made { y < S.meaning.wires s.old }
     requires row_made { top (row_number W row.now) ≤ S.meaning.wires s.old }
-    ensures puts { PutsIn S.meaning s.old s.new (row_product_of W gate.now x y row.now) result }
-    ensures grows { IfOk result (λ _. Grows S.meaning s.old s.new 1 2) }
+    ensures emits { Emits S.meaning s.old s.new (row_product_of W gate.now x y row.now) 1 2 result }
 {
     let product = product_of_wires(s, scratch, x, y)?;
     gated(s, scratch, gate, &row.number::<W>(), &[(F::ONE, product)])
@@ -47,8 +46,7 @@ pub(crate) fn product_of_wires<S: Sink>(
     requires room { Room S.meaning s.old 1 1 }
     requires x_made { x < S.meaning.wires s.old }
     requires y_made { y < S.meaning.wires s.old }
-    ensures puts { PutsIn S.meaning s.old s.new (times_of (wire x) (wire y)) result }
-    ensures grows { IfOk result (λ _. Grows S.meaning s.old s.new 1 1) }
+    ensures emits { Emits S.meaning s.old s.new (times_of (wire x) (wire y)) 1 1 result }
     ensures below { IfOk result (λ product. product < S.meaning.wires s.new) }
 {
     scratch.a.set_wire(x);

@@ -7,7 +7,7 @@ ghost use Rattle.tv_bits.specs.SignedWords.{top_signed};
 ghost use Rattle.tv_bits.specs.Times.{times_of};
 ghost use Rattle.tv_core.specs.Combinations.{less, wire, top};
 ghost use Rattle.tv_core.specs.Values.{GivesIn};
-ghost use Rattle.tv_core.specs.Sinks.{PutsIn, Grows, Room};
+ghost use Rattle.tv_core.specs.Sinks.{Emits, Room};
 ghost use Rattle.tv_row_products.specs.RowSignedProduct.{signed_word, signed_in, signed_row};
 ghost use Rattle.tv_row_products.specs.RowSignedProduct.{row_signed_product_of};
 ghost use Rattle.tv_row_products.specs.RowSignedProduct.{row_signed_product_values};
@@ -41,9 +41,8 @@ pub fn row_signed_product<const W: u32, S: Sink>(
     requires words_made { max (top_signed x.now) (top_signed y.now) ≤ S.meaning.wires s.old }
     requires bits_made { row.now.first + 2 * W ≤ S.meaning.wires s.old }
     requires row_made { top (row_number W row.now) ≤ S.meaning.wires s.old }
-    ensures puts { PutsIn S.meaning s.old s.new
-        (row_signed_product_of W gate.now x.now y.now row.now) result }
-    ensures grows { IfOk result (λ _. Grows S.meaning s.old s.new 1 2) }
+    ensures emits { Emits S.meaning s.old s.new
+        (row_signed_product_of W gate.now x.now y.now row.now) 1 2 result }
 {
     let product = product_of_words::<W, S>(s, scratch, x, y)?;
     set_product_less::<W>(&mut scratch.b, row, product);
@@ -62,9 +61,8 @@ fn product_of_words<const W: u32, S: Sink>(
     requires room { Room S.meaning s.old 1 1 }
     requires x_made { top_signed x.now ≤ S.meaning.wires s.old }
     requires y_made { top_signed y.now ≤ S.meaning.wires s.old }
-    ensures puts { PutsIn S.meaning s.old s.new
-        (times_of (signed_word W x.now) (signed_word W y.now)) result }
-    ensures grows { IfOk result (λ _. Grows S.meaning s.old s.new 1 1) }
+    ensures emits { Emits S.meaning s.old s.new
+        (times_of (signed_word W x.now) (signed_word W y.now)) 1 1 result }
     ensures below { IfOk result (λ product. product < S.meaning.wires s.new) }
 {
     set_signed_word::<W>(&mut scratch.a, x);

@@ -1,8 +1,8 @@
 //! The bitwise operations as digits: of two bits the sum is twice their and, plus their exclusive
 //! or.
-ghost use Rattle.std.specs.Prelude.{◌≡◌, ◌+◌, ◌*◌, ◌/◌, ◌^◌, ◌++◌, ◌≤◌, ◌<◌, length, max, IfOk};
+ghost use Rattle.std.specs.Prelude.{◌≡◌, ◌+◌, ◌*◌, ◌/◌, ◌^◌, ◌++◌, ◌≤◌, ◌<◌, length, max};
 ghost use Rattle.tv_core.specs.Combinations.{top};
-ghost use Rattle.tv_core.specs.Sinks.{PutsIn, Grows, Room};
+ghost use Rattle.tv_core.specs.Sinks.{Emits, Room};
 ghost use Rattle.tv_rows.specs.Digits.{digits_combination, digits_of, bitwise_of};
 ghost use Rattle.tv_rows.specs.Digits.{BitwiseIsSound, BitwiseIsComplete, BitwiseSizes};
 ghost use Rattle.tv_rows.specs.Digits.{BitwiseCosts};
@@ -33,8 +33,8 @@ pub fn bitwise<const W: u32, S: Sink>(
     requires x_made { x.now.first + W ≤ S.meaning.wires s.old }
     requires y_made { y.now.first + W ≤ S.meaning.wires s.old }
     requires row_made { row.now.first + 2 * W ≤ S.meaning.wires s.old }
-    ensures puts { PutsIn S.meaning s.old s.new (bitwise_of W gate.now x.now y.now row.now) result }
-    ensures grows { IfOk result (λ _. Grows S.meaning s.old s.new 0 2) }
+    ensures emits { Emits S.meaning s.old s.new
+        (bitwise_of W gate.now x.now y.now row.now) 0 2 result }
 {
     let half = W / 2;
     digits::<W, S>(s, scratch, half, gate, x.first, y.first, row.first)?;
@@ -65,8 +65,7 @@ fn digits<const W: u32, S: Sink>(
     requires x_made { x + n ≤ S.meaning.wires s.old }
     requires y_made { y + n ≤ S.meaning.wires s.old }
     requires row_made { row + W + n ≤ S.meaning.wires s.old }
-    ensures puts { PutsIn S.meaning s.old s.new (digits_of W n gate.now x y row) result }
-    ensures grows { IfOk result (λ _. Grows S.meaning s.old s.new 0 1) }
+    ensures emits { Emits S.meaning s.old s.new (digits_of W n gate.now x y row) 0 1 result }
 {
     scratch.b.clear();
     plus_digits(&mut scratch.b, F::ONE, y, n);

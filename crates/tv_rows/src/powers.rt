@@ -3,7 +3,7 @@ ghost use Rattle.std.specs.Prelude.{◌≡◌, ◌+◌, ◌*◌, ◌/◌, ◌%�
 ghost use Rattle.std.specs.Prelude.{max};
 ghost use Rattle.tv_core.specs.Combinations.{top};
 ghost use Rattle.tv_core.specs.Values.{GivesIn};
-ghost use Rattle.tv_core.specs.Sinks.{PutsIn, Grows, Room};
+ghost use Rattle.tv_core.specs.Sinks.{Emits, Room};
 ghost use Rattle.tv_rows.specs.Power.{factor_by, pair_power, low_power_of, wide_power_of};
 ghost use Rattle.tv_rows.specs.Power.{shift_power_of, shift_power_made, shift_power_values};
 ghost use Rattle.tv_rows.specs.Power.{low_power_values, wide_power_values, ShiftPowerIsSound};
@@ -33,9 +33,8 @@ pub fn shift_power<const W: u32, S: Sink>(
     requires width { IsWidth W }
     requires room { Room S.meaning s.old (shift_power_made W) (shift_power_made W) }
     requires y_made { y.now.first + W ≤ S.meaning.wires s.old }
-    ensures puts { PutsIn S.meaning s.old s.new (shift_power_of W y.now) result }
-    ensures grows { IfOk result (λ _. Grows S.meaning s.old s.new (shift_power_made W)
-        (shift_power_made W)) }
+    ensures emits { Emits S.meaning s.old s.new
+        (shift_power_of W y.now) (shift_power_made W) (shift_power_made W) result }
     ensures both_below { IfOk result (λ made. made.both < S.meaning.wires s.new) }
     ensures power_below { IfOk result (λ made. made.power < S.meaning.wires s.new) }
 {
@@ -50,8 +49,7 @@ pub fn shift_power<const W: u32, S: Sink>(
 fn low_power<S: Sink>(s: &mut S, scratch: &mut Scratch, y: Wire) -> Put<ShiftPower>
     requires room { Room S.meaning s.old 3 3 }
     requires y_made { y + 4 ≤ S.meaning.wires s.old }
-    ensures puts { PutsIn S.meaning s.old s.new (low_power_of y) result }
-    ensures grows { IfOk result (λ _. Grows S.meaning s.old s.new 3 3) }
+    ensures emits { Emits S.meaning s.old s.new (low_power_of y) 3 3 result }
     ensures both_below { IfOk result (λ made. made.both < S.meaning.wires s.new) }
     ensures power_below { IfOk result (λ made. made.power < S.meaning.wires s.new) }
 {
@@ -71,8 +69,7 @@ fn low_power<S: Sink>(s: &mut S, scratch: &mut Scratch, y: Wire) -> Put<ShiftPow
 fn wide_power<S: Sink>(s: &mut S, scratch: &mut Scratch, y: Wire) -> Put<ShiftPower>
     requires room { Room S.meaning s.old 4 4 }
     requires y_made { y + 5 ≤ S.meaning.wires s.old }
-    ensures puts { PutsIn S.meaning s.old s.new (wide_power_of y) result }
-    ensures grows { IfOk result (λ _. Grows S.meaning s.old s.new 4 4) }
+    ensures emits { Emits S.meaning s.old s.new (wide_power_of y) 4 4 result }
     ensures both_below { IfOk result (λ made. made.both < S.meaning.wires s.new) }
     ensures power_below { IfOk result (λ made. made.power < S.meaning.wires s.new) }
 {

@@ -6,7 +6,7 @@ ghost use Rattle.tv_bits.specs.SignedWords.{top_signed};
 ghost use Rattle.tv_bits.specs.Times.{times_of};
 ghost use Rattle.tv_core.specs.Combinations.{less, top};
 ghost use Rattle.tv_core.specs.Values.{GivesIn};
-ghost use Rattle.tv_core.specs.Sinks.{PutsIn, Grows, Room};
+ghost use Rattle.tv_core.specs.Sinks.{Emits, Room};
 ghost use Rattle.tv_rows.specs.RowDifference.{is_above, difference_low, difference_high};
 ghost use Rattle.tv_rows.specs.RowDifference.{sign_difference, minuend, subtrahend};
 ghost use Rattle.tv_rows.specs.RowDifference.{comparing, row_difference_of, RowDifferenceEqual};
@@ -42,10 +42,9 @@ pub fn row_difference<const W: u32, S: Sink>(
     requires strict_short { length strict.now ≤ 64 }
     requires words_made { max (top_signed x.now) (top_signed y.now) ≤ S.meaning.wires s.old }
     requires row_made { top (row_number W row.now) ≤ S.meaning.wires s.old }
-    ensures puts { PutsIn S.meaning s.old s.new
+    ensures emits { Emits S.meaning s.old s.new
         (row_difference_of W gate.now (comparing by_sign.now strict.now) x.now y.now row.now)
-        result }
-    ensures grows { IfOk result (λ _. Grows S.meaning s.old s.new 1 2) }
+        1 2 result }
 {
     let signs = sign_difference(s, scratch, by_sign, x, y)?;
     set_row_difference::<W>(&mut scratch.b, strict, x.word, y.word, row, signs);
@@ -65,9 +64,8 @@ fn sign_difference<S: Sink>(
     requires by_sign_made { top by_sign.now ≤ S.meaning.wires s.old }
     requires x_made { top_signed x.now ≤ S.meaning.wires s.old }
     requires y_made { top_signed y.now ≤ S.meaning.wires s.old }
-    ensures puts { PutsIn S.meaning s.old s.new
-        (times_of by_sign.now (sign_difference x.now y.now)) result }
-    ensures grows { IfOk result (λ _. Grows S.meaning s.old s.new 1 1) }
+    ensures emits { Emits S.meaning s.old s.new
+        (times_of by_sign.now (sign_difference x.now y.now)) 1 1 result }
     ensures below { IfOk result (λ signs. signs < S.meaning.wires s.new) }
 {
     scratch.b.clear();

@@ -4,7 +4,7 @@ ghost use Rattle.tv_bits.specs.DoubleRow.{row_number};
 ghost use Rattle.tv_bits.specs.Times.{times_of};
 ghost use Rattle.tv_core.specs.Combinations.{wire, top};
 ghost use Rattle.tv_core.specs.Values.{GivesIn};
-ghost use Rattle.tv_core.specs.Sinks.{PutsIn, Grows, Room};
+ghost use Rattle.tv_core.specs.Sinks.{Emits, Room};
 ghost use Rattle.tv_rows.specs.RowShift.{right_shift_of, right_shift_values};
 ghost use Rattle.tv_rows.specs.RowShift.{RightShiftIsSound, RightShiftIsComplete};
 ghost use Rattle.tv_rows.specs.RowShift.{RightShiftSizes, RightShiftCosts};
@@ -33,8 +33,8 @@ pub fn right_shift<const W: u32, S: Sink>(
     requires v_made { v < S.meaning.wires s.old }
     requires power_made { power < S.meaning.wires s.old }
     requires row_made { top (row_number W row.now) ≤ S.meaning.wires s.old }
-    ensures puts { PutsIn S.meaning s.old s.new (right_shift_of W gate.now v power row.now) result }
-    ensures grows { IfOk result (λ _. Grows S.meaning s.old s.new 1 2) }
+    ensures emits { Emits S.meaning s.old s.new
+        (right_shift_of W gate.now v power row.now) 1 2 result }
 {
     let product = row_times::<W, S>(s, scratch, power, row)?;
     gated(
@@ -58,9 +58,8 @@ fn row_times<const W: u32, S: Sink>(
     requires room { Room S.meaning s.old 1 1 }
     requires power_made { power < S.meaning.wires s.old }
     requires row_made { top (row_number W row.now) ≤ S.meaning.wires s.old }
-    ensures puts { PutsIn S.meaning s.old s.new (times_of (row_number W row.now) (wire power))
-        result }
-    ensures grows { IfOk result (λ _. Grows S.meaning s.old s.new 1 1) }
+    ensures emits { Emits S.meaning s.old s.new
+        (times_of (row_number W row.now) (wire power)) 1 1 result }
     ensures below { IfOk result (λ product. product < S.meaning.wires s.new) }
 {
     scratch.a.clear();

@@ -1,8 +1,8 @@
 //! The sum of two words in a row of twice their width.
-ghost use Rattle.std.specs.Prelude.{◌≤◌, ◌<◌, IfOk};
+ghost use Rattle.std.specs.Prelude.{◌≤◌, ◌<◌};
 ghost use Rattle.tv_bits.specs.DoubleRow.{row_number};
 ghost use Rattle.tv_core.specs.Combinations.{top};
-ghost use Rattle.tv_core.specs.Sinks.{PutsIn, Grows, Room};
+ghost use Rattle.tv_core.specs.Sinks.{Emits, Room};
 ghost use Rattle.tv_rows.specs.RowSum.{row_sum_of, RowSumIsSound, RowSumIsComplete};
 ghost use Rattle.tv_rows.specs.RowSum.{RowSumSizes, RowSumCosts};
 ghost use Rattle.tv_word.specs.Widths.{IsWidth};
@@ -27,8 +27,7 @@ pub fn row_sum<const W: u32, S: Sink>(
     requires x_made { x < S.meaning.wires s.old }
     requires y_made { y < S.meaning.wires s.old }
     requires row_made { top (row_number W row.now) ≤ S.meaning.wires s.old }
-    ensures puts { PutsIn S.meaning s.old s.new (row_sum_of W gate.now x y row.now) result }
-    ensures grows { IfOk result (λ _. Grows S.meaning s.old s.new 0 1) }
+    ensures emits { Emits S.meaning s.old s.new (row_sum_of W gate.now x y row.now) 0 1 result }
 {
     gated(
         s,

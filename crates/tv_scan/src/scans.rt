@@ -4,7 +4,7 @@ ghost use Rattle.std.specs.Prelude.{if◌then◌else◌, length, map, All, IfOk,
 ghost use Rattle.tv_bits.specs.Zero.{zero_values};
 ghost use Rattle.tv_core.specs.Combinations.{top};
 ghost use Rattle.tv_core.specs.Values.{GivesIn};
-ghost use Rattle.tv_core.specs.Sinks.{PutsIn, Grows, Room};
+ghost use Rattle.tv_core.specs.Sinks.{Emits, Room};
 ghost use Rattle.tv_lines.specs.PackedLines.{line_of_numbers};
 ghost use Rattle.tv_scan.specs.Scan.{IsMade, look_of, scan_of, scan_values, ScanIsSound};
 ghost use Rattle.tv_scan.specs.Scan.{ScanIsComplete, ScanSizes};
@@ -19,9 +19,9 @@ pub fn scan<S: Sink>(s: &mut S, earlier: &[LineLc], line: &LineLc) -> Put<()>
     requires room { Room S.meaning s.old (3 * length earlier.now) (3 * length earlier.now + 1) }
     requires earlier_made { All (IsMade (S.meaning.wires s.old)) earlier.now }
     requires line_made { IsMade (S.meaning.wires s.old) line.now }
-    ensures puts { PutsIn S.meaning s.old s.new (scan_of earlier.now line.now) result }
-    ensures grows { IfOk result (λ _. Grows S.meaning s.old s.new (3 * length earlier.now)
-        (3 * length earlier.now + 1)) }
+    ensures emits { Emits S.meaning s.old s.new
+        (scan_of earlier.now line.now)
+        (3 * length earlier.now) (3 * length earlier.now + 1) result }
 {
     let mut word = Lc::empty();
     for before in earlier {
@@ -38,8 +38,7 @@ fn look<S: Sink>(s: &mut S, before: &LineLc, line: &LineLc, word: &Lc) -> Put<Wi
     requires line_made { IsMade (S.meaning.wires s.old) line.now }
     requires word_made { top word.now ≤ S.meaning.wires s.old }
     requires word_short { length word.now ≤ 64 }
-    ensures puts { PutsIn S.meaning s.old s.new (look_of before.now line.now word.now) result }
-    ensures grows { IfOk result (λ _. Grows S.meaning s.old s.new 3 3) }
+    ensures emits { Emits S.meaning s.old s.new (look_of before.now line.now word.now) 3 3 result }
     ensures below { IfOk result (λ w. w < S.meaning.wires s.new) }
 {
     let mut apart = Lc::from_terms(line.cell.terms());

@@ -2,7 +2,7 @@
 ghost use Rattle.std.specs.Prelude.{◌≡◌, ◌+◌, ◌/◌, ◌%◌, ◌≤◌, ◌<◌, ◌^◌, length, max, IfOk};
 ghost use Rattle.tv_bits.specs.Bits.{bits_combination};
 ghost use Rattle.tv_core.specs.Combinations.{top, scaled};
-ghost use Rattle.tv_core.specs.Sinks.{PutsIn, Grows, Room};
+ghost use Rattle.tv_core.specs.Sinks.{Emits, Room};
 ghost use Rattle.tv_core.specs.declared.field.TheConstants.{P};
 ghost use Rattle.tv_shift.specs.Masks.{ArePlacesMade};
 ghost use Rattle.tv_shift.specs.Shift.{by_half_of, by_rest_of, ends_of};
@@ -33,8 +33,7 @@ pub(crate) fn by_half<const W: u32, S: Sink>(
     requires room { Room S.meaning s.old 2 2 }
     requires b_made { b < S.meaning.wires s.old }
     requires word_made { word + W ≤ S.meaning.wires s.old }
-    ensures puts { PutsIn S.meaning s.old s.new (by_half_of W b word) result }
-    ensures grows { IfOk result (λ _. Grows S.meaning s.old s.new 2 2) }
+    ensures emits { Emits S.meaning s.old s.new (by_half_of W b word) 2 2 result }
     ensures below { IfOk result (λ half. max half.left half.right < S.meaning.wires s.new) }
 {
     let x = Bits { first: word, n: W }.lc();
@@ -75,8 +74,7 @@ pub(crate) fn by_rest<const W: u32, S: Sink>(
     requires places_made { ArePlacesMade W parts.now.places (S.meaning.wires s.old) }
     requires parts_made { max parts.now.low parts.now.high + W / 4 ≤ S.meaning.wires s.old }
     requires half_made { max half.left half.right < S.meaning.wires s.old }
-    ensures puts { PutsIn S.meaning s.old s.new (by_rest_of W parts.now half) result }
-    ensures grows { IfOk result (λ _. Grows S.meaning s.old s.new 2 2) }
+    ensures emits { Emits S.meaning s.old s.new (by_rest_of W parts.now half) 2 2 result }
     ensures below { IfOk result (λ near. max near.left near.right < S.meaning.wires s.new) }
 {
     let marks = parts.places.marks();
@@ -105,8 +103,7 @@ pub(crate) fn ends<S: Sink>(
     requires room { Room S.meaning s.old 2 2 }
     requires in_range_made { in_range < S.meaning.wires s.old }
     requires near_made { max near.left near.right < S.meaning.wires s.old }
-    ensures puts { PutsIn S.meaning s.old s.new (ends_of in_range near) result }
-    ensures grows { IfOk result (λ _. Grows S.meaning s.old s.new 2 2) }
+    ensures emits { Emits S.meaning s.old s.new (ends_of in_range near) 2 2 result }
     ensures below { IfOk result (λ end. max end.left end.right < S.meaning.wires s.new) }
 {
     scratch.a.set_wire(in_range);

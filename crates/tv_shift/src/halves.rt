@@ -1,6 +1,6 @@
 //! The half of a word that a bit chooses.
 ghost use Rattle.std.specs.Prelude.{◌+◌, ◌≤◌, ◌<◌, IfOk};
-ghost use Rattle.tv_core.specs.Sinks.{PutsIn, Grows, Room};
+ghost use Rattle.tv_core.specs.Sinks.{Emits, Room};
 ghost use Rattle.tv_shift.specs.Halves.{halves_of};
 
 use tv_bits::select_wires;
@@ -19,8 +19,7 @@ pub(crate) fn halves<S: Sink>(
     requires b_made { b < S.meaning.wires s.old }
     requires word_made { word + (n + n) ≤ S.meaning.wires s.old }
     requires short { n < 64 }
-    ensures puts { PutsIn S.meaning s.old s.new (halves_of n b word) result }
-    ensures grows { IfOk result (λ _. Grows S.meaning s.old s.new n n) }
+    ensures emits { Emits S.meaning s.old s.new (halves_of n b word) n n result }
     ensures below { IfOk result (λ first. first + n ≤ S.meaning.wires s.new) }
 {
     let first = Wire(s.wires());

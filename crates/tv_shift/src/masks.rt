@@ -4,7 +4,7 @@ ghost use Rattle.std.specs.Prelude.{false, IfOk, OnOk};
 ghost use Rattle.std.specs.Int.{bit_at};
 ghost use Rattle.tv_core.specs.Combinations.{top};
 ghost use Rattle.tv_core.specs.Values.{GivesIn};
-ghost use Rattle.tv_core.specs.Sinks.{PutsIn, Grows, Room};
+ghost use Rattle.tv_core.specs.Sinks.{Emits, Room};
 ghost use Rattle.tv_shift.specs.declared.masks.Part.TheVariants.{Low, High};
 ghost use Rattle.tv_shift.specs.Masks.{half_log, mask_at, mask_value, digit_at, masked_pair_of};
 ghost use Rattle.tv_shift.specs.Masks.{masked_of, masked_value, masked_values, ArePlacesMade};
@@ -114,9 +114,9 @@ pub(crate) fn masked<const W: u32, S: Sink>(
     requires width { IsWidth W }
     requires room { Room S.meaning s.old (W / 4) (W / 4) }
     requires made { ArePlacesMade W places.now (S.meaning.wires s.old) }
-    ensures puts { PutsIn S.meaning s.old s.new
-        (masked_of (mask_at W places.now part) (digit_at W places.now part) (W / 4)) result }
-    ensures grows { IfOk result (λ _. Grows S.meaning s.old s.new (W / 4) (W / 4)) }
+    ensures emits { Emits S.meaning s.old s.new
+        (masked_of (mask_at W places.now part) (digit_at W places.now part) (W / 4))
+        (W / 4) (W / 4) result }
     ensures below { IfOk result (λ first. first + W / 4 ≤ S.meaning.wires s.new) }
 {
     let first = Wire(s.wires());
@@ -143,9 +143,9 @@ fn pair<const W: u32, S: Sink>(
     requires room { Room S.meaning s.old 1 1 }
     requires there { i < W / 4 }
     requires made { ArePlacesMade W places.now (S.meaning.wires s.old) }
-    ensures puts { PutsIn S.meaning s.old s.new
-        (masked_pair_of (mask_at W places.now part) (digit_at W places.now part) (W / 4) i) result }
-    ensures grows { IfOk result (λ _. Grows S.meaning s.old s.new 1 1) }
+    ensures emits { Emits S.meaning s.old s.new
+        (masked_pair_of (mask_at W places.now part) (digit_at W places.now part) (W / 4) i)
+        1 1 result }
 {
     let m = [(F::ONE, s.fresh())];
     places.set_mask::<W>(mask, part, i);

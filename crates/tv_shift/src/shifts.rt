@@ -1,7 +1,7 @@
 //! The shift of a word by another.
 ghost use Rattle.std.specs.Prelude.{◌+◌, ◌/◌, ◌≤◌, ◌<◌, max, IfOk};
 ghost use Rattle.tv_bits.specs.Bits.{AreBitsBelow};
-ghost use Rattle.tv_core.specs.Sinks.{PutsIn, Grows, Room};
+ghost use Rattle.tv_core.specs.Sinks.{Emits, Room};
 ghost use Rattle.tv_shift.specs.Masks.{ArePlacesMade};
 ghost use Rattle.tv_shift.specs.Shift.{parts_of, shift_of, parts_made};
 ghost use Rattle.tv_shift.specs.Shift.{shift_made, ShiftIsSound, ShiftIsComplete, ShiftSizes};
@@ -22,8 +22,8 @@ pub fn shift<const W: u32, S: Sink>(s: &mut S, x: &Bits, y: &Bits) -> Put<Shift>
     requires room { Room S.meaning s.old (shift_made W) (shift_made W) }
     requires x_made { x.now.first + W ≤ S.meaning.wires s.old }
     requires y_word { AreBitsBelow (S.meaning.wires s.old) W y.now }
-    ensures puts { PutsIn S.meaning s.old s.new (shift_of W x.now y.now) result }
-    ensures grows { IfOk result (λ _. Grows S.meaning s.old s.new (shift_made W) (shift_made W)) }
+    ensures emits { Emits S.meaning s.old s.new
+        (shift_of W x.now y.now) (shift_made W) (shift_made W) result }
     ensures below { IfOk result (λ shift. max shift.left shift.right < S.meaning.wires s.new) }
 {
     let k = half_log::<W>();
@@ -47,8 +47,8 @@ fn parts<const W: u32, S: Sink>(
     requires room { Room S.meaning s.old (parts_made W) (parts_made W) }
     requires word_made { word + W ≤ S.meaning.wires s.old }
     requires distance_made { distance + W ≤ S.meaning.wires s.old }
-    ensures puts { PutsIn S.meaning s.old s.new (parts_of W word distance) result }
-    ensures grows { IfOk result (λ _. Grows S.meaning s.old s.new (parts_made W) (parts_made W)) }
+    ensures emits { Emits S.meaning s.old s.new
+        (parts_of W word distance) (parts_made W) (parts_made W) result }
     ensures made { IfOk result (λ parts. ArePlacesMade W parts.places (S.meaning.wires s.new)) }
     ensures below { IfOk result (λ parts. max parts.low parts.high + W / 4
         ≤ S.meaning.wires s.new) }

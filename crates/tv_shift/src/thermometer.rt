@@ -3,7 +3,7 @@ ghost use Rattle.std.specs.Prelude.{◌≡◌, ◌+◌, ◌-◌, ◌*◌, ◌≤
 ghost use Rattle.std.specs.Prelude.{false, IfOk, OnOk};
 ghost use Rattle.tv_core.specs.Combinations.{top};
 ghost use Rattle.tv_core.specs.Values.{GivesIn};
-ghost use Rattle.tv_core.specs.Sinks.{PutsIn, Grows, Room};
+ghost use Rattle.tv_core.specs.Sinks.{Emits, Room};
 ghost use Rattle.tv_shift.specs.Thermometer.{products_below, both, mark, bit_level_of};
 ghost use Rattle.tv_shift.specs.Thermometer.{thermometer_of};
 ghost use Rattle.tv_shift.specs.Thermometer.{level_value, level_values, thermometer_values};
@@ -106,9 +106,8 @@ pub(crate) fn thermometer<S: Sink>(
     requires room { Room S.meaning s.old (products_below k) (products_below k) }
     requires few { k ≤ 4 }
     requires bits_made { bits + k ≤ S.meaning.wires s.old }
-    ensures puts { PutsIn S.meaning s.old s.new (thermometer_of k bits) result }
-    ensures grows { IfOk result (λ _. Grows S.meaning s.old s.new (products_below k)
-        (products_below k)) }
+    ensures emits { Emits S.meaning s.old s.new
+        (thermometer_of k bits) (products_below k) (products_below k) result }
     ensures below { IfOk result (λ products. products + products_below k ≤ S.meaning.wires s.new) }
 {
     let marks = Marks {
@@ -127,9 +126,8 @@ fn level<S: Sink>(s: &mut S, scratch: &mut Scratch, marks: &Marks, k: u32) -> Pu
     requires few { k ≤ 4 }
     requires bits_made { marks.now.bits + k < S.meaning.wires s.old }
     requires products_made { marks.now.products + products_below k ≤ S.meaning.wires s.old }
-    ensures puts { PutsIn S.meaning s.old s.new (bit_level_of marks.now.bits marks.now.products k)
-        result }
-    ensures grows { IfOk result (λ _. Grows S.meaning s.old s.new (2 ^ k - 1) (2 ^ k - 1)) }
+    ensures emits { Emits S.meaning s.old s.new
+        (bit_level_of marks.now.bits marks.now.products k) (2 ^ k - 1) (2 ^ k - 1) result }
 {
     for j in 0..power(k) - 1 {
         scratch.a.set_wire(marks.bits.offset(k));

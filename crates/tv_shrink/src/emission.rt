@@ -1,7 +1,7 @@
 //! A shrunk system's constraints, put into a sink.
 
 ghost use Rattle.std.specs.Prelude.{◌≡◌, ◌≤◌, false, length, IfOk};
-ghost use Rattle.tv_core.specs.Sinks.{PutsAll, PutsIn, Grows, Room};
+ghost use Rattle.tv_core.specs.Sinks.{Emits, EmitsAll, PutsIn, Room};
 ghost use Rattle.tv_shrink.specs.Emission.{row_circuit, row_count, rows_circuit, wires_circuit};
 ghost use Rattle.tv_shrink.specs.Tidy.{RowIsWithin, AreWithin};
 
@@ -12,8 +12,7 @@ use tv_core::{F, Lc, Put, Scratch, Sink, Wire};
 /// Makes this many wires.
 pub(crate) fn make_wires<S: Sink>(s: &mut S, n: u32)
     requires room { Room S.meaning s.old n 0 }
-    ensures puts { PutsAll S.meaning s.old s.new (wires_circuit n) tt }
-    ensures grows { Grows S.meaning s.old s.new n 0 }
+    ensures emits { EmitsAll S.meaning s.old s.new (wires_circuit n) n 0 tt }
 {
     for _ in 0..n {
         s.fresh();
@@ -33,8 +32,7 @@ fn refill(lc: &mut Lc, terms: &[(F, Wire)])
 fn put_row<S: Sink>(s: &mut S, scratch: &mut Scratch, row: &Option<Row<'_>>) -> Put<()>
     requires room { Room S.meaning s.old 0 1 }
     requires within { RowIsWithin (S.meaning.wires s.old) row.now }
-    ensures puts { PutsIn S.meaning s.old s.new (row_circuit row.now) result }
-    ensures grows { IfOk result (λ _. Grows S.meaning s.old s.new 0 (row_count row.now)) }
+    ensures emits { Emits S.meaning s.old s.new (row_circuit row.now) 0 (row_count row.now) result }
 {
     let Some(row) = row else {
         return Ok(());

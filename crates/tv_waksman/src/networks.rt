@@ -7,7 +7,7 @@ ghost use Rattle.tv_benes.specs.Places.{ArePairsMade, AreBelow};
 ghost use Rattle.tv_benes.specs.Through.{switches};
 ghost use Rattle.tv_benes.specs.declared.shape.Net.TheVariants.{Waksman};
 ghost use Rattle.tv_core.specs.Values.{GivesIn};
-ghost use Rattle.tv_core.specs.Sinks.{PutsIn, Grows, Room};
+ghost use Rattle.tv_core.specs.Sinks.{Emits, Room};
 
 use tv_benes::{Inputs, Net, Outputs, fill_routing_network, routing_network, routing_switches};
 use tv_core::{PairNum, Put, Sink, Values};
@@ -31,10 +31,9 @@ pub fn network_w<S: Sink, I: Inputs>(s: &mut S, k: u32, inputs: &I) -> Put<Outpu
         (network_wires Waksman (k - 1)) }
     requires count { I.count inputs.now ≡ 2 ^ k }
     requires made { ArePairsMade (I.pair inputs.now) (2 ^ k) (S.meaning.wires s.old) }
-    ensures puts { PutsIn S.meaning s.old s.new (network_of Waksman (k - 1) (I.pair inputs.now))
-        result }
-    ensures grows { IfOk result (λ _. Grows S.meaning s.old s.new (network_wires Waksman (k - 1))
-        (network_wires Waksman (k - 1))) }
+    ensures emits { Emits S.meaning s.old s.new
+        (network_of Waksman (k - 1) (I.pair inputs.now))
+        (network_wires Waksman (k - 1)) (network_wires Waksman (k - 1)) result }
     ensures below { IfOk result (λ outputs. AreBelow outputs (2 ^ k) (S.meaning.wires s.new)) }
 {
     routing_network(s, Net::Waksman, k, inputs)

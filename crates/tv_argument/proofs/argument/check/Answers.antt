@@ -1,5 +1,6 @@
-use Rattle.tv_core.proofs.Chain.{puts_nothing}
+use Rattle.tv_core.proofs.Common.{emits_no_turn, pure, turns}
 use Rattle.tv_argument.proofs.argument.check.Goals as goal
 
-pub returns-in-ZeroOld-clause-puts : goal.returns-in-ZeroOld-clause-puts
-returns-in-ZeroOld-clause-puts g c = rw c.in-ZeroOld.is (puts_nothing g.S.Sink.meaning c.args.s.now tt)
+pub returns-in-ZeroOld : goal.returns-in-ZeroOld
+unfolding turns
+returns-in-ZeroOld g c = record { emits = rw c.in-ZeroOld.is (emits_no_turn (λ i a. pure a) tt c.requires.room.whole) }

@@ -1,22 +1,12 @@
-use Rattle.tv_core.proofs.Common.{◌≡◌, ◌<◌, ap, arith, puts_no_turn, refused_whole}
+use Rattle.tv_core.proofs.Common.{◌≡◌, ◌<◌, sym, ap, arith, refused_whole, emits_as, emits_no_turn, emits_turn, turn_some}
 use Rattle.tv_core.proofs.BelowLaws.{sum_below-zero}
-use Rattle.tv_core.proofs.Chain.{puts_turn, turn_refused}
 use Rattle.tv_argument.proofs.Parts.{sum_next, sum_most}
 use Rattle.tv_core.proofs.Rooms.{room_left}
 use Rattle.tv_argument.specs.Checks.{check_made, check_added}
 use Rattle.tv_argument.proofs.argument.check_all.Goals as goal
 
 pub loop-i-init : goal.loop-i-init
-loop-i-init g c =
-    let checks = g.L.CompactLines.checks c.args.lines.now in
-    record {
-      puts = puts_no_turn _ _ _ tt;
-      grows = record {
-        wires = omega (arith, sum_below-zero (λ i. check_made (checks.kind i)));
-        constraints = omega (arith, sum_below-zero (λ i. check_added (checks.kind i)));
-        whole = c.requires.room.whole;
-      };
-    }
+loop-i-init g c = record { emits = emits_as (sym (sum_below-zero _)) (sym (sum_below-zero _)) (emits_no_turn _ _ c.requires.room.whole) }
 
 pub check-requires-clause-room : goal.check-requires-clause-room
 check-requires-clause-room g c =
@@ -25,7 +15,7 @@ check-requires-clause-room g c =
     let below : i < checks.count = omega (arith, c.loop-i-test.true, c.checked-i-end.ensures) in
     let made : check_made c.kind.result ≡ check_made (checks.kind i) = ap check_made c.kind.ensures in
     let added : check_added c.kind.result ≡ check_added (checks.kind i) = ap check_added c.kind.ensures in
-    room_left c.requires.room c.loop-i.invariant.grows (omega (
+    room_left c.requires.room c.loop-i.invariant.emits.grows (omega (
       arith,
       made,
       added,
@@ -35,25 +25,12 @@ check-requires-clause-room g c =
 
 pub loop-i-preserved : goal.loop-i-preserved
 loop-i-preserved g c =
-    let checks = g.L.CompactLines.checks c.args.lines.now in
-    let i = c.loop-i.i in
-    let before = c.loop-i.invariant.grows in
-    let grown = c.in_ok-check.ensures.grows in
-    let made : check_made c.kind.result ≡ check_made (checks.kind i) = ap check_made c.kind.ensures in
-    let added : check_added c.kind.result ≡ check_added (checks.kind i) = ap check_added c.kind.ensures in
-    let one = rw (c.kind.ensures, c.set_item.ensures, c.line.ensures.is) at c.in_ok-check.ensures.puts in
-    record {
-      puts = puts_turn _ _ _ _ _ _ _ _ _ c.loop-i.invariant.puts one;
-      grows = record {
-        wires = omega (arith, before.wires, grown.wires, made, sum_next i (λ i. check_made (checks.kind i)));
-        constraints = omega (arith, before.constraints, grown.constraints, added, sum_next i (λ i. check_added (checks.kind i)));
-        whole = grown.whole;
-      };
-    }
+    let one = rw (c.kind.ensures, c.set_item.ensures, c.line.ensures.is) at c.in_ok-check.ensures.emits in
+    record { emits = emits_as (sym (sum_next c.loop-i.i _)) (sym (sum_next c.loop-i.i _)) (emits_turn _ _ _ c.loop-i.invariant.emits one) }
 
 pub returns-in_err-check : goal.returns-in_err-check
 returns-in_err-check g c =
     let checks = g.L.CompactLines.checks c.args.lines.now in
     let below : c.loop-i.i < checks.count = omega (arith, c.loop-i-test.true, c.checked-i-end.ensures) in
-    let one = rw (c.kind.ensures, c.set_item.ensures, c.line.ensures.is) at c.in_err-check.ensures.puts in
-    refused_whole _ _ _ _ _ _ c.from_residual.ensures (turn_refused _ _ _ _ _ _ _ _ _ _ below c.loop-i.invariant.puts one)
+    let one = rw (c.kind.ensures, c.set_item.ensures, c.line.ensures.is) at c.in_err-check.ensures.emits in
+    refused_whole _ _ _ c.from_residual.ensures (turn_some _ _ _ c.loop-i.invariant.emits below one)

@@ -1,4 +1,4 @@
 use Rattle.tv_arithmetic.proofs.arithmetic.put_right.Goals as goal
 
-pub returns-clause-puts : goal.returns-clause-puts
-returns-clause-puts g c = rw c.set_opcodes.ensures.terms at c.right_shift.ensures.puts
+pub returns : goal.returns
+returns g c = record { emits = rw c.set_opcodes.ensures.terms at c.right_shift.ensures.emits }

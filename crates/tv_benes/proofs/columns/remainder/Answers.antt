@@ -1,4 +1,4 @@
-use Rattle.tv_core.proofs.Common.{arith, all_then, all_pure, some_then, some_first, refused_whole}
+use Rattle.tv_core.proofs.Common.{arith, all_then, some_then, some_first, refused_whole, all_last, refl}
 use Rattle.tv_core.proofs.Unique.{normal-front}
 use Rattle.tv_benes.specs.Network.{remainder_of}
 use Rattle.tv_benes.proofs.columns.remainder.Goals as goal
@@ -8,20 +8,20 @@ unfolding remainder_of
 returns-in_err-put g c =
     let first = rw (c.terms.ensures.terms, c.clear.ensures) at c.add_terms.ensures.terms in
     let sum = rw (c.terms-2.ensures.terms, first, normal-front c.args.x.now c.args.y.now) at c.add_terms-2.ensures.terms in
-    let put = rw (sum, c.set_wire.ensures.terms, c.plus.ensures.terms, c.set_wire-2.ensures.terms) at c.in_err-put.ensures.puts in
-    refused_whole _ _ _ _ _ _ c.from_residual.ensures (some_then _ c.fresh-q.ensures.puts (some_first _ put))
+    let put = rw (sum, c.set_wire.ensures.terms, c.plus.ensures.terms, c.set_wire-2.ensures.terms) at c.in_err-put.ensures.emits in
+    refused_whole _ _ _ c.from_residual.ensures (some_then _ c.fresh-q.ensures.emits (some_first _ put))
 
-pub returns-clause-puts : goal.returns-clause-puts
+pub returns : goal.returns
 unfolding remainder_of
-returns-clause-puts g c =
+returns g c =
     let first = rw (c.terms.ensures.terms, c.clear.ensures) at c.add_terms.ensures.terms in
     let sum = rw (c.terms-2.ensures.terms, first, normal-front c.args.x.now c.args.y.now) at c.add_terms-2.ensures.terms in
-    let put = rw (sum, c.set_wire.ensures.terms, c.plus.ensures.terms, c.set_wire-2.ensures.terms) at c.in_ok-put.ensures.puts in
-    all_then _ c.fresh-q.ensures.puts (all_then _ put all_pure)
+    let put = rw (sum, c.set_wire.ensures.terms, c.plus.ensures.terms, c.set_wire-2.ensures.terms) at c.in_ok-put.ensures.emits in
+    record { emits = all_then _ c.fresh-q.ensures.emits (all_last _ put refl) }
 
 pub put-requires : goal.put-requires
 put-requires g c =
-    let made = c.fresh-q.ensures.grows in
+    let made = c.fresh-q.ensures.emits.grows in
     let first = rw (c.terms.ensures.terms, c.clear.ensures) at c.add_terms.ensures.top in
     let both = rw c.terms-2.ensures.terms at c.add_terms-2.ensures.top in
     record {

@@ -1,9 +1,7 @@
-use Rattle.tv_core.proofs.Common.{◌-◌, ◌^◌, arith, ap₂, all_then, all_pure, some_then, some_first, refused_whole}
+use Rattle.tv_core.proofs.Common.{◌-◌, ◌^◌, arith, ap₂, all_then, some_then, some_first, refused_whole, all_last, emits_as, emits_here, refl}
 use Rattle.tv_benes.proofs.Sizes.{last_made}
 use Rattle.tv_benes.proofs.ThroughLaws.{missing_small, above}
 use Rattle.tv_benes.specs.Network.{last_column_of}
-use Rattle.tv_core.proofs.Chain.{puts_here}
-use Rattle.tv_core.proofs.LoopLaws.{puts_here_as}
 use Rattle.tv_benes.proofs.networks.bound_last.Goals as goal
 
 pub bound_column-requires-clause-count : goal.bound_column-requires-clause-count
@@ -18,16 +16,19 @@ bound_column-requires-clause-made g c =
 pub returns-in_err-bound_column : goal.returns-in_err-bound_column
 unfolding last_column_of
 returns-in_err-bound_column g c =
-    refused_whole _ _ _ _ _ _ c.from_residual.ensures (some_then _ (puts_here _ _) (some_first _
-    (rw (ap₂ (λ a b. a - b) c.power.ensures c.missing.ensures) at c.in_err-bound_column.ensures.puts)))
+    refused_whole _ _ _ c.from_residual.ensures (some_then _ (emits_here c.requires.room.whole c.wires.ensures) (some_first _
+    (rw (ap₂ (λ a b. a - b) c.power.ensures c.missing.ensures) at c.in_err-bound_column.ensures.emits)))
 
 pub last_outputs-requires : goal.last_outputs-requires
 last_outputs-requires g c =
     let below = above c.args.net c.args.h (λ none. omega (arith, c.requires.some)) in
     omega (arith, c.wires.ensures, c.requires.room.wires, missing_small c.args.net, below.size, below.some)
 
-pub returns-clause-puts : goal.returns-clause-puts
+pub returns : goal.returns
 unfolding last_column_of
-returns-clause-puts g c =
-    rw c.last_outputs.ensures (all_then _ (puts_here_as _ _ _ c.wires.ensures)
-    (all_then _ (rw (ap₂ (λ a b. a - b) c.power.ensures c.missing.ensures) at c.in_ok-bound_column.ensures.puts) all_pure))
+returns g c =
+    let column = rw (ap₂ (λ a b. a - b) c.power.ensures c.missing.ensures) at c.in_ok-bound_column.ensures.emits in
+    record {
+      emits = rw c.last_outputs.ensures (emits_as (omega arith) (omega arith) (all_then _ (emits_here c.requires.room.whole c.wires.ensures)
+          (all_last _ column refl)));
+    }

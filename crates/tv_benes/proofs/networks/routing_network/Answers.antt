@@ -13,4 +13,4 @@ returns-clause-below g c =
     let m = g.S.Sink.meaning in
     let level : suc (c.args.k - 1) ≡ c.args.k = omega (arith, c.requires.some) in
     subst (λ k. IfOk c.bound_network.result (λ o. AreBelow o (2 ^ k) (m.wires c.bound_network.new.s))) level
-    (ends_below m c.args.net (g.I.Inputs.pair c.args.inputs.now) (c.args.k - 1) _ _ c.bound_network.result c.bound_network.ensures.puts)
+    (ends_below m c.args.net (g.I.Inputs.pair c.args.inputs.now) (c.args.k - 1) _ _ _ _ c.bound_network.result c.bound_network.ensures.emits)

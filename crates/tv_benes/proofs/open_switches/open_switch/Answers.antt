@@ -1,4 +1,4 @@
-use Rattle.tv_core.proofs.Common.{◌<◌, refl, sym, ap₂, subst, all_then, all_pure, some_then, some_first, refused_whole}
+use Rattle.tv_core.proofs.Common.{◌<◌, refl, sym, ap₂, subst, all_then, some_then, some_first, refused_whole, all_last}
 use Rattle.tv_bits.proofs.Growing.{both, kept, left, made_by}
 use Rattle.tv_benes.proofs.Bounds.{less_one}
 use Rattle.tv_benes.proofs.NetworkChain.{all_at, some_at}
@@ -9,37 +9,38 @@ use Rattle.tv_benes.proofs.open_switches.open_switch.Goals as goal
 pub returns-in_err-bit_by : goal.returns-in_err-bit_by
 unfolding switch_of
 returns-in_err-bit_by g c =
-    refused_whole _ _ _ _ _ _ c.from_residual.ensures (some_then _ c.fresh-b.ensures.puts (some_first _ c.in_err-bit_by.ensures.puts))
+    refused_whole _ _ _ c.from_residual.ensures (some_then _ c.fresh-b.ensures.emits (some_first _ c.in_err-bit_by.ensures.emits))
 
 pub returns-in_err-product : goal.returns-in_err-product
 unfolding switch_of
 returns-in_err-product g c =
-    refused_whole _ _ _ _ _ _ c.from_residual-in_err-product.ensures (some_then _ c.fresh-b.ensures.puts (some_then _ c.in_ok-bit_by.ensures.puts
-    (some_first _ c.in_err-product.ensures.puts)))
+    refused_whole _ _ _ c.from_residual-in_err-product.ensures (some_then _ c.fresh-b.ensures.emits (some_then _ c.in_ok-bit_by.ensures.emits
+    (some_first _ c.in_err-product.ensures.emits)))
 
 pub returns-in_err-product-2 : goal.returns-in_err-product-2
 unfolding switch_of
 returns-in_err-product-2 g c =
-    refused_whole _ _ _ _ _ _ c.from_residual-in_err-product-2.ensures (some_then _ c.fresh-b.ensures.puts (some_then _ c.in_ok-bit_by.ensures.puts
-    (some_then _ c.in_ok-product.ensures.puts (some_first _ (some_at
-    (ap₂ (λ x y. product_of c.fresh-b.result (wire x) (wire y)) c.offset.ensures c.offset-2.ensures) c.in_err-product-2.ensures.puts)))))
+    refused_whole _ _ _ c.from_residual-in_err-product-2.ensures (some_then _ c.fresh-b.ensures.emits (some_then _ c.in_ok-bit_by.ensures.emits
+    (some_then _ c.in_ok-product.ensures.emits (some_first _ (some_at
+    (ap₂ (λ x y. product_of c.fresh-b.result (wire x) (wire y)) c.offset.ensures c.offset-2.ensures) c.in_err-product-2.ensures.emits)))))
 
-pub returns-clause-puts : goal.returns-clause-puts
+pub returns : goal.returns
 unfolding switch_of
-returns-clause-puts g c =
-    all_then _ c.fresh-b.ensures.puts (all_then _ c.in_ok-bit_by.ensures.puts (all_then _ c.in_ok-product.ensures.puts
-    (all_then _ (all_at (ap₂ (λ x y. product_of c.fresh-b.result (wire x) (wire y)) c.offset.ensures c.offset-2.ensures)
-    c.in_ok-product-2.ensures.puts) all_pure)))
+returns g c = record {
+  emits = all_then _ c.fresh-b.ensures.emits (all_then _ c.in_ok-bit_by.ensures.emits (all_then _ c.in_ok-product.ensures.emits
+      (all_last _ (all_at (ap₂ (λ x y. product_of c.fresh-b.result (wire x) (wire y)) c.offset.ensures c.offset-2.ensures)
+      c.in_ok-product-2.ensures.emits) refl)));
+}
 
 pub bit_by-requires : goal.bit_by-requires
 bit_by-requires g c =
-    let made = c.fresh-b.ensures.grows in
+    let made = c.fresh-b.ensures.emits.grows in
     record { room = left made c.requires.room refl refl; made = made_by made c.fresh-b.ensures.next }
 
 pub product-requires : goal.product-requires
 product-requires g c =
-    let made = c.fresh-b.ensures.grows in
-    let bit = c.in_ok-bit_by.ensures.grows in
+    let made = c.fresh-b.ensures.emits.grows in
+    let bit = c.in_ok-bit_by.ensures.emits.grows in
     let grown = both made bit in
     record {
       room = left grown c.requires.room refl refl;
@@ -50,8 +51,8 @@ product-requires g c =
 
 pub product-requires-2 : goal.product-requires-2
 product-requires-2 g c =
-    let made = c.fresh-b.ensures.grows in
-    let more = both c.in_ok-bit_by.ensures.grows c.in_ok-product.ensures.grows in
+    let made = c.fresh-b.ensures.emits.grows in
+    let more = both c.in_ok-bit_by.ensures.emits.grows c.in_ok-product.ensures.emits.grows in
     let grown = both made more in
     record {
       room = left grown c.requires.room refl refl;

@@ -2,12 +2,14 @@ use Rattle.tv_core.proofs.Common.{arith, ◌++◌, ◌∙◌, ap, ap₂, scaled}
 use Rattle.tv_bits.specs.Gate.{gated_of}
 use Rattle.tv_bits.proofs.gates.gated.Goals as goal
 
-pub returns-clause-puts : goal.returns-clause-puts
+pub returns : goal.returns
 unfolding gated_of
-returns-clause-puts g c =
-    let first = c.plus_terms.ensures.terms ∙ ap (λ l. l ++ c.args.x.now) c.clear.ensures in
-    let both = c.plus_scaled.ensures.terms ∙ ap₂ (λ l k. l ++ scaled k c.args.y.now) first c.neg.ensures in
-    rw (both, c.clear-2.ensures) at c.put.ensures.puts
+returns g c = record {
+  emits =
+      let first = c.plus_terms.ensures.terms ∙ ap (λ l. l ++ c.args.x.now) c.clear.ensures in
+      let both = c.plus_scaled.ensures.terms ∙ ap₂ (λ l k. l ++ scaled k c.args.y.now) first c.neg.ensures in
+      rw (both, c.clear-2.ensures) at c.put.ensures.emits;
+}
 
 pub put-requires : goal.put-requires
 put-requires g c =

@@ -1,4 +1,4 @@
-use Rattle.tv_core.proofs.Common.{◌≡◌, ℕ, ◌-◌, ◌*◌, ◌%◌, ◌<◌, arith, puts_in_then}
+use Rattle.tv_core.proofs.Common.{◌≡◌, ℕ, ◌-◌, ◌*◌, ◌%◌, ◌<◌, arith, then_in}
 use Rattle.tv_core.specs.declared.field.TheConstants.{P}
 use Rattle.tv_bits.specs.OneHot.{mark_of}
 use Rattle.tv_bits.proofs.rows.mark.Goals as goal
@@ -7,24 +7,26 @@ use Rattle.tv_bits.proofs.rows.mark.Goals as goal
 negated : (i : ℕ) → i < P → (P - i) % P ≡ (P - 1) * (i % P) % P
 negated i below = omega arith
 
-pub returns-clause-puts : goal.returns-clause-puts
+pub returns : goal.returns
 unfolding mark_of
-returns-clause-puts g c =
-    let minus = negated c.args.i (omega arith) in
-    let zero = rw (
-      c.set_wire.ensures.terms,
-      c.plus.ensures.terms,
-      c.set_number.ensures.terms,
-      c.clear.ensures,
-      c.neg.ensures,
-      c.from.ensures,
-      minus,
-    ) at c.put.ensures.puts in
-    puts_in_then g.S.Sink.meaning _ _ _ _ _ _ _ c.fresh-w.ensures.puts zero
+returns g c = record {
+  emits =
+      let minus = negated c.args.i (omega arith) in
+      let zero = rw (
+        c.set_wire.ensures.terms,
+        c.plus.ensures.terms,
+        c.set_number.ensures.terms,
+        c.clear.ensures,
+        c.neg.ensures,
+        c.from.ensures,
+        minus,
+      ) at c.put.ensures.emits in
+      then_in _ _ _ _ _ c.fresh-w.ensures.emits zero;
+}
 
 pub put-requires : goal.put-requires
 put-requires g c =
-    let made = c.fresh-w.ensures.grows in
+    let made = c.fresh-w.ensures.emits.grows in
     record {
       whole = made.whole;
       room = omega (arith, c.requires.room.constraints, made.constraints);

@@ -1,8 +1,8 @@
 use Rattle.tv_core.proofs.Common.{arith}
 use Rattle.tv_bits.proofs.selection.select_terms.Goals as goal
 
-pub returns-clause-puts : goal.returns-clause-puts
-returns-clause-puts g c = rw c.set_wire.ensures.terms at c.pick_by.ensures.puts
+pub returns-clause-emits : goal.returns-clause-emits
+returns-clause-emits g c = rw c.set_wire.ensures.terms at c.pick_by.ensures.emits
 
 pub pick_by-requires : goal.pick_by-requires
 pick_by-requires g c = record {

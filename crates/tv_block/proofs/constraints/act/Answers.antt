@@ -1,41 +1,40 @@
-use Rattle.tv_core.proofs.Common.{some_then, some_first, puts_in_then, refused_wires}
-use Rattle.tv_block.proofs.Growing.{rises, both, now, after, effects_room, effects_grow, if_ok, one_up, state_under, computed_under, before_under}
+use Rattle.tv_core.proofs.Common.{some_then, some_first, refused_wires, then_in, arith, emits_in}
+use Rattle.tv_block.proofs.Growing.{rises, both, now, after, effects_room, one_up, state_under, computed_under, before_under}
 use Rattle.tv_block.proofs.Growing.{tapes_under, store_under}
 use Rattle.tv_block.specs.Block.{effects_of}
 use Rattle.tv_block.proofs.constraints.act.Goals as goal
 
 pub returns-in_err-tapes : goal.returns-in_err-tapes
 unfolding effects_of
-returns-in_err-tapes g c = refused_wires _ _ _ _ _ _ _ c.from_residual.ensures (some_first _ c.in_err-tapes.ensures.puts)
+returns-in_err-tapes g c = refused_wires _ _ _ _ c.from_residual.ensures (some_first _ c.in_err-tapes.ensures.emits)
 
 pub returns-in_err-memory : goal.returns-in_err-memory
 unfolding effects_of
 returns-in_err-memory g c =
-    refused_wires _ _ _ _ _ _ _ c.from_residual-in_err-memory.ensures (some_then _ c.in_ok-tapes.ensures.puts (some_first _ c.in_err-memory.ensures.puts))
+    refused_wires _ _ _ _ c.from_residual-in_err-memory.ensures (some_then _ c.in_ok-tapes.ensures.emits (some_first _ c.in_err-memory.ensures.emits))
 
 pub returns-in_err-results : goal.returns-in_err-results
 unfolding effects_of
 returns-in_err-results g c =
-    refused_wires _ _ _ _ _ _ _ c.from_residual-in_err-results.ensures (some_then _ c.in_ok-tapes.ensures.puts (some_then _ c.in_ok-memory.ensures.puts
-    (some_first _ c.in_err-results.ensures.puts)))
+    refused_wires _ _ _ _ c.from_residual-in_err-results.ensures (some_then _ c.in_ok-tapes.ensures.emits (some_then _ c.in_ok-memory.ensures.emits
+    (some_first _ c.in_err-results.ensures.emits)))
 
 pub returns-in_err-put_test : goal.returns-in_err-put_test
 unfolding effects_of
 returns-in_err-put_test g c =
-    refused_wires _ _ _ _ _ _ _ c.from_residual-in_err-put_test.ensures (some_then _ c.in_ok-tapes.ensures.puts (some_then _ c.in_ok-memory.ensures.puts
-    (some_then _ c.in_ok-results.ensures.puts (some_first _ c.in_err-put_test.ensures.puts))))
+    refused_wires _ _ _ _ c.from_residual-in_err-put_test.ensures (some_then _ c.in_ok-tapes.ensures.emits (some_then _ c.in_ok-memory.ensures.emits
+    (some_then _ c.in_ok-results.ensures.emits (some_first _ c.in_err-put_test.ensures.emits))))
 
-pub returns-clause-puts : goal.returns-clause-puts
+pub returns-clause-emits : goal.returns-clause-emits
 unfolding effects_of
-returns-clause-puts g c =
-    let m = g.S.Sink.meaning in
-    puts_in_then m _ _ _ _ _ _ _ c.in_ok-tapes.ensures.puts (puts_in_then m _ _ _ _ _ _ _ c.in_ok-memory.ensures.puts
-    (puts_in_then m _ _ _ _ _ _ _ c.in_ok-results.ensures.puts (puts_in_then m _ _ _ _ _ _ _ c.in_ok-put_test.ensures.puts c.leave.ensures.puts)))
+returns-clause-emits g c =
+    emits_in _ _ _ _ _ (omega arith) (omega arith) (then_in _ _ _ _ _ c.in_ok-tapes.ensures.emits (then_in _ _ _ _ _ c.in_ok-memory.ensures.emits
+    (then_in _ _ _ _ _ c.in_ok-results.ensures.emits (then_in _ _ _ _ _ c.in_ok-put_test.ensures.emits c.leave.ensures.emits))))
 
 pub store-requires : goal.store-requires
 store-requires g c =
     let r = c.requires in
-    let g1 = c.in_ok-tapes.ensures.grows in
+    let g1 = c.in_ok-tapes.ensures.emits.grows in
     record {
       width = r.width;
       room = now _ _ (after g1 (effects_room _ r.room));
@@ -47,8 +46,8 @@ store-requires g c =
 pub results-requires : goal.results-requires
 results-requires g c =
     let r = c.requires in
-    let g1 = c.in_ok-tapes.ensures.grows in
-    let g2 = c.in_ok-memory.ensures.grows in
+    let g1 = c.in_ok-tapes.ensures.emits.grows in
+    let g2 = c.in_ok-memory.ensures.emits.grows in
     record {
       width = r.width;
       room = now 25 27 (after g2 (after g1 (effects_room _ r.room)));
@@ -59,15 +58,16 @@ results-requires g c =
 
 pub put_test-requires-clause-room : goal.put_test-requires-clause-room
 put_test-requires-clause-room g c =
-    now 24 25 (after c.in_ok-results.ensures.grows (after c.in_ok-memory.ensures.grows (after c.in_ok-tapes.ensures.grows (effects_room _ c.requires.room))))
+    let g1 = c.in_ok-tapes.ensures.emits.grows in
+    now 24 25 (after c.in_ok-results.ensures.emits.grows (after c.in_ok-memory.ensures.emits.grows (after g1 (effects_room _ c.requires.room))))
 
 pub leave-requires : goal.leave-requires
 leave-requires g c =
     let r = c.requires in
-    let g1 = c.in_ok-tapes.ensures.grows in
-    let g2 = c.in_ok-memory.ensures.grows in
-    let g3 = c.in_ok-results.ensures.grows in
-    let g4 = c.in_ok-put_test.ensures.grows in
+    let g1 = c.in_ok-tapes.ensures.emits.grows in
+    let g2 = c.in_ok-memory.ensures.emits.grows in
+    let g3 = c.in_ok-results.ensures.emits.grows in
+    let g4 = c.in_ok-put_test.ensures.emits.grows in
     let g34 = both g3 g4 in
     record {
       width = r.width;
@@ -79,8 +79,3 @@ leave-requires g c =
         word = one_up (rises g4) c.in_ok-results.ensures.below.word;
       };
     }
-
-pub returns-clause-grows : goal.returns-clause-grows
-returns-clause-grows g c =
-    if_ok c.leave.result (λ last. effects_grow _ (both c.in_ok-tapes.ensures.grows (both c.in_ok-memory.ensures.grows (both c.in_ok-results.ensures.grows
-    (both c.in_ok-put_test.ensures.grows last))))) c.leave.ensures.grows

@@ -1,27 +1,27 @@
-use Rattle.tv_core.proofs.Common.{all_then, some_then, some_first, all_pure, refused_wires}
+use Rattle.tv_core.proofs.Common.{all_then, some_then, some_first, refused_wires, all_last, refl}
 use Rattle.tv_block.proofs.Growing.{rises, both, now, after, up, one_up, state_under, computed_under, tapes_under, store_under}
 use Rattle.tv_block.proofs.constraints.leave.Goals as goal
 
 pub returns-in_err-regs : goal.returns-in_err-regs
-returns-in_err-regs g c = refused_wires _ _ _ _ _ _ _ c.from_residual.ensures (some_first _ c.in_err-regs.ensures.puts)
+returns-in_err-regs g c = refused_wires _ _ _ _ c.from_residual.ensures (some_first _ c.in_err-regs.ensures.emits)
 
 pub returns-in_err-flag : goal.returns-in_err-flag
 returns-in_err-flag g c =
-    refused_wires _ _ _ _ _ _ _ c.from_residual-in_err-flag.ensures (some_then _ c.in_ok-regs.ensures.puts (some_first _ c.in_err-flag.ensures.puts))
+    refused_wires _ _ _ _ c.from_residual-in_err-flag.ensures (some_then _ c.in_ok-regs.ensures.emits (some_first _ c.in_err-flag.ensures.emits))
 
 pub returns-in_err-pc : goal.returns-in_err-pc
 returns-in_err-pc g c =
-    refused_wires _ _ _ _ _ _ _ c.from_residual-in_err-pc.ensures (some_then _ c.in_ok-regs.ensures.puts (some_then _ c.in_ok-flag.ensures.puts
-    (some_first _ c.in_err-pc.ensures.puts)))
+    refused_wires _ _ _ _ c.from_residual-in_err-pc.ensures (some_then _ c.in_ok-regs.ensures.emits (some_then _ c.in_ok-flag.ensures.emits
+    (some_first _ c.in_err-pc.ensures.emits)))
 
-pub returns-clause-puts : goal.returns-clause-puts
-returns-clause-puts g c =
-    all_then _ c.in_ok-regs.ensures.puts (all_then _ c.in_ok-flag.ensures.puts (all_then _ c.in_ok-pc.ensures.puts all_pure))
+pub returns-clause-emits : goal.returns-clause-emits
+returns-clause-emits g c =
+    all_then _ c.in_ok-regs.ensures.emits (all_then _ c.in_ok-flag.ensures.emits (all_last _ c.in_ok-pc.ensures.emits refl))
 
 pub put_flag-requires : goal.put_flag-requires
 put_flag-requires g c =
     let r = c.requires in
-    let g5 = c.in_ok-regs.ensures.grows in
+    let g5 = c.in_ok-regs.ensures.emits.grows in
     let now_ = computed_under (rises g5) r.before_made.computed in
     record {
       width = r.width;
@@ -38,7 +38,7 @@ put_flag-requires g c =
 pub put_pc-requires : goal.put_pc-requires
 put_pc-requires g c =
     let r = c.requires in
-    let g6 = both c.in_ok-regs.ensures.grows c.in_ok-flag.ensures.grows in
+    let g6 = both c.in_ok-regs.ensures.emits.grows c.in_ok-flag.ensures.emits.grows in
     let now_ = computed_under (rises g6) r.before_made.computed in
     record {
       width = r.width;
@@ -48,14 +48,11 @@ put_pc-requires g c =
       operand_made = now_.operand;
     }
 
-pub returns-clause-grows : goal.returns-clause-grows
-returns-clause-grows g c = both c.in_ok-regs.ensures.grows (both c.in_ok-flag.ensures.grows c.in_ok-pc.ensures.grows)
-
 pub returns-clause-below : goal.returns-clause-below
 returns-clause-below g c =
-    let g7 = c.in_ok-pc.ensures.grows in
-    let g67 = both c.in_ok-flag.ensures.grows g7 in
-    let all = rises (both c.in_ok-regs.ensures.grows g67) in
+    let g7 = c.in_ok-pc.ensures.emits.grows in
+    let g67 = both c.in_ok-flag.ensures.emits.grows g7 in
+    let all = rises (both c.in_ok-regs.ensures.emits.grows g67) in
     record {
       tapes = tapes_under all c.requires.done_made.tapes;
       memory = store_under all c.requires.done_made.memory;

@@ -1,5 +1,5 @@
 use Rattle.tv_block.proofs.constraints.registers.Goals as goal
 
-pub returns-clause-puts : goal.returns-clause-puts
-returns-clause-puts g c =
-    rw (c.opcode_wire.ensures, c.opcode_wire-2.ensures, c.dest.ensures, c.source.ensures, c.register.ensures) at c.read_triple.ensures.puts
+pub returns-clause-emits : goal.returns-clause-emits
+returns-clause-emits g c =
+    rw (c.opcode_wire.ensures, c.opcode_wire-2.ensures, c.dest.ensures, c.source.ensures, c.register.ensures) at c.read_triple.ensures.emits

@@ -8,4 +8,4 @@ none_counted sink wires e = record { constraints = ap (λ (s : Counted). s.const
 pub returns-clause-counted : goal.returns-clause-counted
 returns-clause-counted g c =
     let begins : c.new-s.result.wires ≡ 2 + c.args.n = ap (λ (s : Counted). s.wires) c.new-s.ensures ∙ c.public_wires.ensures in
-    rw begins at (c.in-Ok.ensures.puts.stands [] (none_counted c.new-s.result _ c.new-s.ensures))
+    rw begins at (c.in-Ok.ensures.emits.puts.stands [] (none_counted c.new-s.result _ c.new-s.ensures))

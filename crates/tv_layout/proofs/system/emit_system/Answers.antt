@@ -1,6 +1,5 @@
-use Rattle.tv_core.proofs.Common.{◌≡◌, ◌+◌, ◌*◌, ◌<◌, ◌^◌, All, sym, ap, ◌∙◌, subst, arith, some_then, some_first, puts_in_then, refused_whole}
+use Rattle.tv_core.proofs.Common.{◌≡◌, ◌+◌, ◌*◌, ◌<◌, ◌^◌, All, sym, ap, ◌∙◌, subst, arith, some_then, some_first, refused_whole, then_in, emits_in}
 use Rattle.tv_block.specs.Block.{block_of}
-use Rattle.tv_block.proofs.Growing.{both, grows_as, if_ok}
 use Rattle.tv_block.specs.Complete.{block_made}
 use Rattle.tv_layout.proofs.LinePlaces.{line_number, lines_made}
 use Rattle.tv_layout.proofs.MemoryCosts.{wires_are, constraints_are}
@@ -12,6 +11,24 @@ use Rattle.tv_layout.specs.Layout.{system_lines, layout_of}
 use Rattle.tv_layout.specs.Places.{boot_count, first_at, runs_of}
 use Rattle.tv_layout.proofs.system.emit_system.Goals as goal
 
+pub tie-requires-clause-room : goal.tie-requires-clause-room
+tie-requires-clause-room g c =
+    let words = c.in_ok-words.ensures.emits.grows in
+    let zero_wires = c.in_ok-zero_wires.ensures.emits.grows in
+    let steps = (c.in_ok-last.ensures.emits 0).grows in
+    let fits = system_fits c.args.net _ c.requires.fits in
+    record {
+      whole = steps.whole;
+      constant = omega (arith, steps.wires, zero_wires.wires, words.wires, c.requires.begins);
+      wires = omega (arith, fits.wires, steps.wires, zero_wires.wires, words.wires, c.requires.begins);
+      constraints = omega (arith, fits.constraints, steps.constraints, zero_wires.constraints, words.constraints, c.requires.empty);
+    }
+
+pub tie-requires-clause-answer_made : goal.tie-requires-clause-answer_made
+tie-requires-clause-answer_made g c =
+    let zero_wires = c.in_ok-zero_wires.ensures.emits.grows in
+    omega (arith, (c.in_ok-last.ensures.emits 0).grows.wires, zero_wires.wires, c.in_ok-words.ensures.emits.grows.wires, c.requires.begins)
+
 pub memory-requires-clause-many : goal.memory-requires-clause-many
 memory-requires-clause-many g c = line_number _ c.requires.fits ∙ ap (λ k. 2 ^ k) (sym c.log_of-k.ensures.is)
 
@@ -22,10 +39,10 @@ memory-requires-clause-checks g c =
 
 pub memory-requires-clause-room : goal.memory-requires-clause-room
 memory-requires-clause-room g c =
-    let words = c.in_ok-words.ensures.grows in
-    let zero_wires = c.in_ok-zero_wires.ensures.grows in
-    let steps = c.in_ok-last.ensures.grows in
-    let tie = c.in_ok-tie.ensures.grows in
+    let words = c.in_ok-words.ensures.emits.grows in
+    let zero_wires = c.in_ok-zero_wires.ensures.emits.grows in
+    let steps = (c.in_ok-last.ensures.emits 0).grows in
+    let tie = c.in_ok-tie.ensures.emits.grows in
     let fits = system_fits c.args.net _ c.requires.fits in
     let is = sym c.log_of-k.ensures.is in
     let checks = checks_of (runs_of g.row.W c.args.image.now c.args.n c.args.t) in
@@ -42,10 +59,10 @@ memory-requires-clause-room g c =
 
 pub memory-requires-clause-made : goal.memory-requires-clause-made
 memory-requires-clause-made g c =
-    let words = c.in_ok-words.ensures.grows in
-    let zero_wires = c.in_ok-zero_wires.ensures.grows in
-    let steps = c.in_ok-last.ensures.grows in
-    let tie = c.in_ok-tie.ensures.grows in
+    let words = c.in_ok-words.ensures.emits.grows in
+    let zero_wires = c.in_ok-zero_wires.ensures.emits.grows in
+    let steps = (c.in_ok-last.ensures.emits 0).grows in
+    let tie = c.in_ok-tie.ensures.emits.grows in
     let wires : first_at g.row.W c.args.n + c.args.t * block_made g.row.W
     ≡ g.S.Sink.meaning.wires c.tie.new.s = omega (arith, tie.wires, steps.wires, zero_wires.wires, words.wires, c.requires.begins) in
     subst (λ wires. All (IsMade wires) (system_lines (block_of g.row.W) (runs_of g.row.W c.args.image.now c.args.n c.args.t))) wires
@@ -53,45 +70,37 @@ memory-requires-clause-made g c =
 
 pub returns-in_err-words : goal.returns-in_err-words
 unfolding layout_of
-returns-in_err-words g c = refused_whole _ _ _ _ _ _ c.from_residual.ensures (some_first _ (rw c.tape_wire.ensures at c.in_err-words.ensures.puts))
+returns-in_err-words g c = refused_whole _ _ _ c.from_residual.ensures (some_first _ (rw c.tape_wire.ensures at c.in_err-words.ensures.emits))
 
 pub returns-in_err-zero_wires : goal.returns-in_err-zero_wires
 unfolding layout_of
 returns-in_err-zero_wires g c =
-    let words = rw c.tape_wire.ensures at c.in_ok-words.ensures.puts in
-    refused_whole _ _ _ _ _ _ c.from_residual-in_err-zero_wires.ensures (some_then _ words (some_first _ c.in_err-zero_wires.ensures.puts))
+    let words = rw c.tape_wire.ensures at c.in_ok-words.ensures.emits in
+    refused_whole _ _ _ c.from_residual-in_err-zero_wires.ensures (some_then _ words (some_first _ c.in_err-zero_wires.ensures.emits))
 
 pub returns-in_err-last : goal.returns-in_err-last
 unfolding layout_of
 returns-in_err-last g c =
-    let words = rw c.tape_wire.ensures at c.in_ok-words.ensures.puts in
-    refused_whole _ _ _ _ _ _ c.from_residual-in_err-last.ensures (some_then _ words (some_then _ c.in_ok-zero_wires.ensures.puts
-    (some_first _ (c.in_err-last.ensures.puts (boot_count c.args.image.now c.args.n)))))
+    let words = rw c.tape_wire.ensures at c.in_ok-words.ensures.emits in
+    refused_whole _ _ _ c.from_residual-in_err-last.ensures (some_then _ words (some_then _ c.in_ok-zero_wires.ensures.emits
+    (some_first _ (c.in_err-last.ensures.emits (boot_count c.args.image.now c.args.n)))))
 
 pub returns-in_err-tie : goal.returns-in_err-tie
 unfolding layout_of
 returns-in_err-tie g c =
-    let words = rw c.tape_wire.ensures at c.in_ok-words.ensures.puts in
-    refused_whole _ _ _ _ _ _ c.from_residual-in_err-tie.ensures (some_then _ words (some_then _ c.in_ok-zero_wires.ensures.puts
-    (some_then _ (c.in_ok-last.ensures.puts (boot_count c.args.image.now c.args.n)) (some_first _ c.in_err-tie.ensures.puts))))
+    let words = rw c.tape_wire.ensures at c.in_ok-words.ensures.emits in
+    refused_whole _ _ _ c.from_residual-in_err-tie.ensures (some_then _ words (some_then _ c.in_ok-zero_wires.ensures.emits
+    (some_then _ (c.in_ok-last.ensures.emits (boot_count c.args.image.now c.args.n)) (some_first _ c.in_err-tie.ensures.emits))))
 
-pub returns-clause-puts : goal.returns-clause-puts
+pub returns : goal.returns
 unfolding layout_of
-returns-clause-puts g c =
-    let m = g.S.Sink.meaning in
-    let words = rw c.tape_wire.ensures at c.in_ok-words.ensures.puts in
-    let last = rw (c.log_of-k.ensures.is) at c.memory.ensures.puts in
-    puts_in_then m _ _ _ _ _ _ _ words (puts_in_then m _ _ _ _ _ _ _ c.in_ok-zero_wires.ensures.puts
-    (puts_in_then m _ _ _ _ _ _ _ (c.in_ok-last.ensures.puts (boot_count c.args.image.now c.args.n))
-    (puts_in_then m _ _ _ _ _ _ _ c.in_ok-tie.ensures.puts last)))
-
-pub returns-clause-grows : goal.returns-clause-grows
-returns-clause-grows g c =
-    let checks = checks_of (runs_of g.row.W c.args.image.now c.args.n c.args.t) in
+returns g c =
     let wires = wires_are c.args.net (runs_of g.row.W c.args.image.now c.args.n c.args.t) in
     let constraints = constraints_are c.args.net (runs_of g.row.W c.args.image.now c.args.n c.args.t) in
-    let made = ap (argument_made c.args.net checks) c.log_of-k.ensures.is in
-    let added = ap (argument_added c.args.net checks) c.log_of-k.ensures.is in
-    if_ok c.memory.result (λ last. grows_as
-    (both c.in_ok-words.ensures.grows (both c.in_ok-zero_wires.ensures.grows (both c.in_ok-last.ensures.grows (both c.in_ok-tie.ensures.grows last))))
-    (omega (arith, made, wires)) (omega (arith, added, constraints))) c.memory.ensures.grows
+    let words = rw c.tape_wire.ensures at c.in_ok-words.ensures.emits in
+    let last = rw (c.log_of-k.ensures.is) at c.memory.ensures.emits in
+    record {
+      emits = emits_in _ _ _ _ _ (omega (arith, wires)) (omega (arith, constraints)) (then_in _ _ _ _ _ words
+          (then_in _ _ _ _ _ c.in_ok-zero_wires.ensures.emits (then_in _ _ _ _ _ (c.in_ok-last.ensures.emits (boot_count c.args.image.now c.args.n))
+          (then_in _ _ _ _ _ c.in_ok-tie.ensures.emits last))));
+    }

@@ -1,12 +1,12 @@
-use Rattle.tv_core.proofs.Common.{refused, all_then, all_pure, some_first}
+use Rattle.tv_core.proofs.Common.{refused, some_first, all_last, refl}
 use Rattle.tv_limb.specs.Split.{split_of}
 use Rattle.tv_limb.proofs.splits.split.Goals as goal
 
-pub returns-in_err-made-clause-puts : goal.returns-in_err-made-clause-puts
+pub returns-in_err-made-clause-emits : goal.returns-in_err-made-clause-emits
 unfolding split_of
-returns-in_err-made-clause-puts g c =
-    refused _ _ _ _ _ c.from_residual.ensures.1 (some_first _ c.in_err-made.ensures.puts)
+returns-in_err-made-clause-emits g c =
+    refused _ _ _ c.from_residual.ensures.1 (some_first _ c.in_err-made.ensures.emits)
 
-pub returns-clause-puts : goal.returns-clause-puts
+pub returns-clause-emits : goal.returns-clause-emits
 unfolding split_of
-returns-clause-puts g c = rw c.split_at_word.ensures (all_then _ c.in_ok-made.ensures.puts all_pure)
+returns-clause-emits g c = rw c.split_at_word.ensures (all_last _ c.in_ok-made.ensures.emits refl)

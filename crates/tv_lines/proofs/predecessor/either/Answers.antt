@@ -1,19 +1,19 @@
-use Rattle.tv_core.proofs.Common.{arith, some_first, puts_in_then, refused_whole}
+use Rattle.tv_core.proofs.Common.{arith, some_first, refused_whole, then_in}
 use Rattle.tv_lines.specs.Predecessor.{either_of}
 use Rattle.tv_lines.proofs.predecessor.either.Goals as goal
 
 pub returns-in_err-put : goal.returns-in_err-put
 unfolding either_of
 returns-in_err-put g c =
-    let cells = rw (c.set_either.ensures.a, c.set_either.ensures.b, c.set_either.ensures.c) at c.in_err-put.ensures.puts in
-    refused_whole _ _ _ _ _ _ c.from_residual.ensures (some_first _ cells)
+    let cells = rw (c.set_either.ensures.a, c.set_either.ensures.b, c.set_either.ensures.c) at c.in_err-put.ensures.emits in
+    refused_whole _ _ _ c.from_residual.ensures (some_first _ cells)
 
-pub returns-clause-puts : goal.returns-clause-puts
+pub returns : goal.returns
 unfolding either_of
-returns-clause-puts g c =
-    let cells = rw (c.set_either.ensures.a, c.set_either.ensures.b, c.set_either.ensures.c) at c.in_ok-put.ensures.puts in
-    let times = rw (c.set_either.ensures.a, c.set_times.ensures.terms, c.set_either.ensures.c) at c.put-2.ensures.puts in
-    puts_in_then g.S.Sink.meaning _ _ _ _ _ _ _ cells times
+returns g c =
+    let cells = rw (c.set_either.ensures.a, c.set_either.ensures.b, c.set_either.ensures.c) at c.in_ok-put.ensures.emits in
+    let times = rw (c.set_either.ensures.a, c.set_times.ensures.terms, c.set_either.ensures.c) at c.put-2.ensures.emits in
+    record { emits = then_in _ _ _ _ _ cells times }
 
 pub put-requires : goal.put-requires
 put-requires g c = record {
@@ -26,7 +26,7 @@ put-requires g c = record {
 
 pub put-requires-2 : goal.put-requires-2
 put-requires-2 g c =
-    let added = c.in_ok-put.ensures.grows in
+    let added = c.in_ok-put.ensures.emits.grows in
     record {
       whole = added.whole;
       room = omega (arith, c.requires.room.constraints, added.constraints);

@@ -2,9 +2,9 @@ use Rattle.tv_core.proofs.Common.{arith}
 use Rattle.tv_lines.specs.Starts.{least_line_of}
 use Rattle.tv_lines.proofs.starts.least_line.Goals as goal
 
-pub returns-clause-puts : goal.returns-clause-puts
+pub returns : goal.returns
 unfolding least_line_of
-returns-clause-puts g c = rw (c.add_to.ensures.terms, c.set_wire.ensures.terms, c.clear-2.ensures) at c.put.ensures.puts
+returns g c = record { emits = rw (c.add_to.ensures.terms, c.set_wire.ensures.terms, c.clear-2.ensures) at c.put.ensures.emits }
 
 pub put-requires : goal.put-requires
 put-requires g c = record {

@@ -1,9 +1,8 @@
-use Rattle.tv_core.proofs.Common.{sequence, PutsAll, Grows}
+use Rattle.tv_core.proofs.Common.{sequence, EmitsAll}
 use Rattle.tv_logic.specs.Ands.{new_and_pair_of}
 use Rattle.tv_logic.proofs.ands.and_word.Given as goal
 
 abbrev pub invariant-loop-i : goal.invariant-loop-i
 invariant-loop-i g l = record {
-  puts : PutsAll g.S.Sink.meaning l.initial.s l.s (sequence l.i (new_and_pair_of g.row.W l.x l.y)) tt;
-  grows : Grows g.S.Sink.meaning l.initial.s l.s l.i l.i;
+  emits : EmitsAll g.S.Sink.meaning l.initial.s l.s (sequence l.i (new_and_pair_of g.row.W l.x l.y)) l.i l.i tt;
 }

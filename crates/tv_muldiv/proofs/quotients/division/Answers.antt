@@ -1,15 +1,15 @@
-use Rattle.tv_core.proofs.Common.{arith, some_first, puts_in_then, refused_whole}
+use Rattle.tv_core.proofs.Common.{arith, some_first, refused_whole, then_in}
 use Rattle.tv_muldiv.specs.Quotient.{division_of}
 use Rattle.tv_muldiv.proofs.quotients.division.Goals as goal
 
 pub returns-in_err-gate : goal.returns-in_err-gate
 unfolding division_of
 returns-in_err-gate g c =
-    refused_whole _ _ _ _ _ _ c.from_residual.ensures (some_first _ c.in_err-gate.ensures.puts)
+    refused_whole _ _ _ c.from_residual.ensures (some_first _ c.in_err-gate.ensures.emits)
 
-pub returns-clause-puts : goal.returns-clause-puts
+pub returns : goal.returns
 unfolding division_of
-returns-clause-puts g c =
+returns g c =
     let whole = rw (
       c.plus.ensures.terms,
       c.neg-2.ensures,
@@ -22,13 +22,13 @@ returns-clause-puts g c =
       c.requires.made.rem.size,
       c.requires.made.quot.size,
       c.requires.y_word.size,
-    ) at c.put.ensures.puts in
-    puts_in_then g.S.Sink.meaning _ _ _ _ _ _ _ c.in_ok-gate.ensures.puts whole
+    ) at c.put.ensures.emits in
+    record { emits = then_in _ _ _ _ _ c.in_ok-gate.ensures.emits whole }
 
 pub put-requires : goal.put-requires
 put-requires g c =
     let gate = c.in_ok-gate.ensures in
-    let grown = gate.grows in
+    let grown = gate.emits.grows in
     record {
       whole = grown.whole;
       room = omega (arith, c.requires.room.constraints, grown.constraints);

@@ -3,9 +3,9 @@ use Rattle.tv_bits.proofs.BitNumbers.{scaled-bits-once}
 use Rattle.tv_parts.specs.Memory.{byte_of_pair}
 use Rattle.tv_parts.proofs.memory.byte_of_pair.Goals as goal
 
-pub returns-clause-puts : goal.returns-clause-puts
+pub returns-clause-emits : goal.returns-clause-emits
 unfolding byte_of_pair
-returns-clause-puts g c = rw (
+returns-clause-emits g c = rw (
   c.set_wire.ensures.terms,
   c.plus_to-2.ensures.terms,
   c.plus_to.ensures.terms,
@@ -15,4 +15,4 @@ returns-clause-puts g c = rw (
   c.neg-minus.ensures,
   c.offset.ensures,
   scaled-bits-once (c.args.bits + 8) 8,
-) at c.accumulated.ensures.puts
+) at c.accumulated.ensures.emits

@@ -1,4 +1,4 @@
-use Rattle.tv_core.proofs.Common.{refl, refused_wires, all_then, all_pure, some_then, some_first}
+use Rattle.tv_core.proofs.Common.{refl, refused_wires, all_then, some_then, some_first, all_last}
 use Rattle.tv_bits.proofs.Growing.{fewer, within, kept, both, left, top_wire}
 use Rattle.tv_regs.specs.ProductPlus.{product_plus_of}
 use Rattle.tv_regs.specs.Triple.{pairs_of, sums_of}
@@ -8,41 +8,41 @@ use Rattle.tv_regs.proofs.triple.sums.Goals as goal
 pub returns-in_err-sum : goal.returns-in_err-sum
 unfolding sums_of pairs_of product_plus_of
 returns-in_err-sum g c =
-    let sum = rw (c.plus-2.ensures.terms, c.plus.ensures.terms, c.set_number.ensures.terms) at c.in_err-sum.ensures.puts in
-    refused_wires _ _ _ _ _ _ _ c.from_residual.ensures (some_first _ sum)
+    let sum = rw (c.plus-2.ensures.terms, c.plus.ensures.terms, c.set_number.ensures.terms) at c.in_err-sum.ensures.emits in
+    refused_wires _ _ _ _ c.from_residual.ensures (some_first _ sum)
 
 pub returns-in_err-pair : goal.returns-in_err-pair
 unfolding sums_of pairs_of product_plus_of
 returns-in_err-pair g c =
-    let sum = rw (c.plus-2.ensures.terms, c.plus.ensures.terms, c.set_number.ensures.terms) at c.in_ok-sum.ensures.puts in
-    let pair = rw (c.set_wire.ensures.terms, c.set_number-2.ensures.terms) at c.in_err-pair.ensures.puts in
-    refused_wires _ _ _ _ _ _ _ c.from_residual-in_err-pair.ensures (some_then _ sum (some_first _ pair))
+    let sum = rw (c.plus-2.ensures.terms, c.plus.ensures.terms, c.set_number.ensures.terms) at c.in_ok-sum.ensures.emits in
+    let pair = rw (c.set_wire.ensures.terms, c.set_number-2.ensures.terms) at c.in_err-pair.ensures.emits in
+    refused_wires _ _ _ _ c.from_residual-in_err-pair.ensures (some_then _ sum (some_first _ pair))
 
 pub returns-in_err-pairs : goal.returns-in_err-pairs
 unfolding sums_of pairs_of product_plus_of
 returns-in_err-pairs g c =
-    let sum = rw (c.plus-2.ensures.terms, c.plus.ensures.terms, c.set_number.ensures.terms) at c.in_ok-sum.ensures.puts in
-    let pair = rw (c.set_wire.ensures.terms, c.set_number-2.ensures.terms) at c.in_ok-pair.ensures.puts in
-    let pairs = rw (c.set_wire-2.ensures.terms, c.plus-3.ensures.terms, c.in_ok-pair.ensures.b, c.set_number-2.ensures.terms) at c.in_err-pairs.ensures.puts in
-    refused_wires _ _ _ _ _ _ _ c.from_residual-in_err-pairs.ensures (some_then _ sum (some_then _ pair (some_first _ pairs)))
+    let sum = rw (c.plus-2.ensures.terms, c.plus.ensures.terms, c.set_number.ensures.terms) at c.in_ok-sum.ensures.emits in
+    let pair = rw (c.set_wire.ensures.terms, c.set_number-2.ensures.terms) at c.in_ok-pair.ensures.emits in
+    let pairs = rw (c.set_wire-2.ensures.terms, c.plus-3.ensures.terms, c.in_ok-pair.ensures.b, c.set_number-2.ensures.terms) at c.in_err-pairs.ensures.emits in
+    refused_wires _ _ _ _ c.from_residual-in_err-pairs.ensures (some_then _ sum (some_then _ pair (some_first _ pairs)))
 
 pub returns-in_err-product : goal.returns-in_err-product
 unfolding sums_of pairs_of product_plus_of
 returns-in_err-product g c =
-    let sum = rw (c.plus-2.ensures.terms, c.plus.ensures.terms, c.set_number.ensures.terms) at c.in_ok-sum.ensures.puts in
-    let pair = rw (c.set_wire.ensures.terms, c.set_number-2.ensures.terms) at c.in_ok-pair.ensures.puts in
-    let pairs = rw (c.set_wire-2.ensures.terms, c.plus-3.ensures.terms, c.in_ok-pair.ensures.b, c.set_number-2.ensures.terms) at c.in_ok-pairs.ensures.puts in
-    let product = rw (c.set_wire-3.ensures.terms, c.set_wire-4.ensures.terms) at c.in_err-product.ensures.puts in
-    refused_wires _ _ _ _ _ _ _ c.from_residual-in_err-product.ensures (some_then _ sum (some_then _ pair (some_then _ pairs (some_first _ product))))
+    let sum = rw (c.plus-2.ensures.terms, c.plus.ensures.terms, c.set_number.ensures.terms) at c.in_ok-sum.ensures.emits in
+    let pair = rw (c.set_wire.ensures.terms, c.set_number-2.ensures.terms) at c.in_ok-pair.ensures.emits in
+    let pairs = rw (c.set_wire-2.ensures.terms, c.plus-3.ensures.terms, c.in_ok-pair.ensures.b, c.set_number-2.ensures.terms) at c.in_ok-pairs.ensures.emits in
+    let product = rw (c.set_wire-3.ensures.terms, c.set_wire-4.ensures.terms) at c.in_err-product.ensures.emits in
+    refused_wires _ _ _ _ c.from_residual-in_err-product.ensures (some_then _ sum (some_then _ pair (some_then _ pairs (some_first _ product))))
 
-pub returns-clause-puts : goal.returns-clause-puts
+pub returns-clause-emits : goal.returns-clause-emits
 unfolding sums_of pairs_of product_plus_of
-returns-clause-puts g c =
-    let sum = rw (c.plus-2.ensures.terms, c.plus.ensures.terms, c.set_number.ensures.terms) at c.in_ok-sum.ensures.puts in
-    let pair = rw (c.set_wire.ensures.terms, c.set_number-2.ensures.terms) at c.in_ok-pair.ensures.puts in
-    let pairs = rw (c.set_wire-2.ensures.terms, c.plus-3.ensures.terms, c.in_ok-pair.ensures.b, c.set_number-2.ensures.terms) at c.in_ok-pairs.ensures.puts in
-    let product = rw (c.set_wire-3.ensures.terms, c.set_wire-4.ensures.terms) at c.in_ok-product.ensures.puts in
-    all_then _ sum (all_then _ pair (all_then _ pairs (all_then _ product all_pure)))
+returns-clause-emits g c =
+    let sum = rw (c.plus-2.ensures.terms, c.plus.ensures.terms, c.set_number.ensures.terms) at c.in_ok-sum.ensures.emits in
+    let pair = rw (c.set_wire.ensures.terms, c.set_number-2.ensures.terms) at c.in_ok-pair.ensures.emits in
+    let pairs = rw (c.set_wire-2.ensures.terms, c.plus-3.ensures.terms, c.in_ok-pair.ensures.b, c.set_number-2.ensures.terms) at c.in_ok-pairs.ensures.emits in
+    let product = rw (c.set_wire-3.ensures.terms, c.set_wire-4.ensures.terms) at c.in_ok-product.ensures.emits in
+    all_then _ sum (all_then _ pair (all_then _ pairs (all_last _ product refl)))
 
 pub plus-requires : goal.plus-requires
 plus-requires g c = short_number c.set_number.ensures.len c.requires.named_short
@@ -59,7 +59,7 @@ kept_by-requires g c =
 pub times_by-requires : goal.times_by-requires
 times_by-requires g c =
     let r = c.requires in
-    let g1 = c.in_ok-sum.ensures.grows in
+    let g1 = c.in_ok-sum.ensures.emits.grows in
     record {
       room = left g1 r.room refl refl;
       x_made = top_wire c.set_wire.ensures.top (kept g1 r.other_made);
@@ -72,7 +72,7 @@ plus-requires-3 g c = rw c.in_ok-pair.ensures.b (short_number c.set_number-2.ens
 pub product_plus-requires : goal.product_plus-requires
 product_plus-requires g c =
     let r = c.requires in
-    let g2 = both c.in_ok-sum.ensures.grows c.in_ok-pair.ensures.grows in
+    let g2 = both c.in_ok-sum.ensures.emits.grows c.in_ok-pair.ensures.emits.grows in
     let number = top_number _ c.set_number-2.ensures.top r.named_short (within g2 r.named_made) in
     record {
       room = left g2 r.room refl refl;
@@ -83,26 +83,23 @@ product_plus-requires g c =
 
 pub times_by-requires-2 : goal.times_by-requires-2
 times_by-requires-2 g c =
-    let pairs = c.in_ok-pairs.ensures.grows in
-    let g3 = both (both c.in_ok-sum.ensures.grows c.in_ok-pair.ensures.grows) pairs in
+    let pairs = c.in_ok-pairs.ensures.emits.grows in
+    let g3 = both (both c.in_ok-sum.ensures.emits.grows c.in_ok-pair.ensures.emits.grows) pairs in
     record {
       room = left g3 c.requires.room refl refl;
       x_made = top_wire c.set_wire-3.ensures.top (kept pairs c.in_ok-pair.ensures.below);
       y_made = top_wire c.set_wire-4.ensures.top (kept g3 c.requires.dest_made);
     }
 
-pub returns-clause-grows : goal.returns-clause-grows
-returns-clause-grows g c = both (both (both c.in_ok-sum.ensures.grows c.in_ok-pair.ensures.grows) c.in_ok-pairs.ensures.grows) c.in_ok-product.ensures.grows
-
 pub returns-clause-below : goal.returns-clause-below
 returns-clause-below g c =
     let product = c.in_ok-product.ensures in
-    let after_sum = both (both c.in_ok-pair.ensures.grows c.in_ok-pairs.ensures.grows) product.grows in
-    let all = both c.in_ok-sum.ensures.grows after_sum in
+    let after_sum = both (both c.in_ok-pair.ensures.emits.grows c.in_ok-pairs.ensures.emits.grows) product.emits.grows in
+    let all = both c.in_ok-sum.ensures.emits.grows after_sum in
     record {
       dest = kept all c.requires.dest_made;
       other = kept all c.requires.other_made;
       sum = kept after_sum c.in_ok-sum.ensures.below;
-      pairs = kept product.grows c.in_ok-pairs.ensures.below;
+      pairs = kept product.emits.grows c.in_ok-pairs.ensures.below;
       product = product.below;
     }

@@ -6,9 +6,9 @@ use Rattle.tv_rows.proofs.digits.digits.Goals as goal
 joined : (a b c d : Combination) → ((a ++ b) ++ c) ++ d ≡ a ++ (b ++ (c ++ d))
 joined a b c d = append_assoc (a ++ b) c d ∙ append_assoc a b (c ++ d)
 
-pub returns-clause-puts : goal.returns-clause-puts
+pub returns : goal.returns
 unfolding digits_of
-returns-clause-puts g c =
+returns g c =
     let n = c.args.n in
     let x = digits_combination 1 c.args.x n in
     let y = digits_combination 1 c.args.y n in
@@ -18,4 +18,4 @@ returns-clause-puts g c =
     rw (c.plus_digits-3.ensures.terms, c.plus_digits-2.ensures.terms, c.plus_digits.ensures.terms, c.clear.ensures, c.neg.ensures, c.of.ensures)
     at (rw (c.neg-2.ensures, c.offset.ensures) at c.plus_digits-4.ensures.terms) in
     let sum : c.plus_digits-4.new.lc ≡ digit_sum g.row.W n c.args.x c.args.y c.args.row = terms ∙ joined y x both one in
-    rw (sum, c.clear-2.ensures) at c.put.ensures.puts
+    record { emits = rw (sum, c.clear-2.ensures) at c.put.ensures.emits }

@@ -1,4 +1,4 @@
-use Rattle.tv_core.proofs.Common.{all_then, all_pure, some_then, some_first, refused_wires}
+use Rattle.tv_core.proofs.Common.{all_then, some_then, some_first, refused_wires, all_last, refl}
 use Rattle.tv_shift.proofs.ShiftNumbers.{half_power}
 use Rattle.tv_shift.specs.Shift.{by_rest_of}
 use Rattle.tv_shift.proofs.ends.by_rest.Goals as goal
@@ -15,8 +15,8 @@ returns-in_err-left g c =
       c.minus.ensures.terms,
       c.set_wire.ensures.terms,
       c.set_times_half.ensures.terms,
-    ) at c.in_err-left.ensures.puts in
-    refused_wires _ _ _ _ _ _ _ c.from_residual.ensures (some_first _ left)
+    ) at c.in_err-left.ensures.emits in
+    refused_wires _ _ _ _ c.from_residual.ensures (some_first _ left)
 
 pub returns-in_err-right : goal.returns-in_err-right
 unfolding by_rest_of
@@ -30,7 +30,7 @@ returns-in_err-right g c =
       c.minus.ensures.terms,
       c.set_wire.ensures.terms,
       c.set_times_half.ensures.terms,
-    ) at c.in_ok-left.ensures.puts in
+    ) at c.in_ok-left.ensures.emits in
     let right = rw (
       c.in_ok-left.ensures.a,
       c.set_mark_power.ensures.terms,
@@ -41,12 +41,12 @@ returns-in_err-right g c =
       c.plus_to.ensures.terms,
       c.neg.ensures,
       c.set_wire-2.ensures.terms,
-    ) at c.in_err-right.ensures.puts in
-    refused_wires _ _ _ _ _ _ _ c.from_residual-in_err-right.ensures (some_then _ left (some_first _ right))
+    ) at c.in_err-right.ensures.emits in
+    refused_wires _ _ _ _ c.from_residual-in_err-right.ensures (some_then _ left (some_first _ right))
 
-pub returns-clause-puts : goal.returns-clause-puts
+pub returns-clause-emits : goal.returns-clause-emits
 unfolding by_rest_of
-returns-clause-puts g c =
+returns-clause-emits g c =
     let left = rw (
       c.set_mark_power.ensures.terms,
       c.half_log.ensures,
@@ -56,7 +56,7 @@ returns-clause-puts g c =
       c.minus.ensures.terms,
       c.set_wire.ensures.terms,
       c.set_times_half.ensures.terms,
-    ) at c.in_ok-left.ensures.puts in
+    ) at c.in_ok-left.ensures.emits in
     let right = rw (
       c.in_ok-left.ensures.a,
       c.set_mark_power.ensures.terms,
@@ -67,5 +67,5 @@ returns-clause-puts g c =
       c.plus_to.ensures.terms,
       c.neg.ensures,
       c.set_wire-2.ensures.terms,
-    ) at c.in_ok-right.ensures.puts in
-    all_then _ left (all_then _ right all_pure)
+    ) at c.in_ok-right.ensures.emits in
+    all_then _ left (all_last _ right refl)

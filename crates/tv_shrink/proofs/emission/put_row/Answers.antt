@@ -1,6 +1,4 @@
-use Rattle.tv_core.proofs.Common.{ap, arith, subst, sym, PutsAll}
-use Rattle.tv_core.proofs.Chain.{puts_nothing}
-use Rattle.tv_shrink.specs.Emission.{row_circuit}
+use Rattle.tv_core.proofs.Common.{ap, arith, emits_no_turn, pure, subst, turns}
 use Rattle.tv_shrink.specs.Tidy.{IsWithin, RowIsWithin}
 use Rattle.tv_shrink.proofs.Read.{top_put}
 use Rattle.tv_shrink.proofs.emission.put_row.Goals as goal
@@ -17,6 +15,6 @@ put-requires g c =
       c_made = top_put n _ _ c.in-Some.row.c c.refill-3.ensures (ap (λ row. row.c) c.row.view_is) within.c;
     }
 
-pub returns-in_default-clause-puts : goal.returns-in_default-clause-puts
-returns-in_default-clause-puts g c = subst (λ row. PutsAll g.S.Sink.meaning c.args.s.now c.args.s.now (row_circuit row) tt) (sym c.in_default.is)
-    (puts_nothing g.S.Sink.meaning c.args.s.now tt)
+pub returns-in_default : goal.returns-in_default
+unfolding turns
+returns-in_default g c = record { emits = rw c.in_default.is (emits_no_turn (λ _ _. pure tt) tt c.requires.room.whole) }

@@ -42,7 +42,7 @@ returns-in-Err g c =
 pub returns-in_err-emit_system : goal.returns-in_err-emit_system
 returns-in_err-emit_system g c =
     let is = streamed_some _ _ _ _ _ _ _ _ (range_with_len 0)
-    (begun g (goal.at.returns-in_err-emit_system g c).In-Ok) c.emit_system.new.s c.in_err-emit_system.field-0.0 c.in_err-emit_system.ensures.puts in
+    (begun g (goal.at.returns-in_err-emit_system g c).In-Ok) c.emit_system.new.s c.in_err-emit_system.field-0.0 c.in_err-emit_system.ensures.emits in
     let p = err_from_is_err_and c.from_residual.result c.from_residual.ensures.1 in
     rw (p.1, p.2) (writes_at (writes_system c.args.place.word _ _ _ _ _ is) (search rules))
 
@@ -50,5 +50,5 @@ pub returns : goal.returns
 returns g c =
     let is = streamed_all _ _ _ _ _ _ _ _ (range_with_len 0)
     (begun g (goal.at.returns g c).In-Ok) c.emit_system.new.s _ c.in_ok-emit_system.field-0 c.finish.result
-    (length-range_with_len 0 _) c.in_ok-emit_system.ensures.puts c.finish.ensures in
+    (length-range_with_len 0 _) c.in_ok-emit_system.ensures.emits.puts c.finish.ensures in
     writes_at (writes_system c.args.place.word _ _ _ _ c.finish.result is) (search rules)

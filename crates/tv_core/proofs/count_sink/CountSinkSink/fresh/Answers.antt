@@ -4,14 +4,17 @@ use Rattle.tv_core.proofs.Fits.{IsCounted-wire}
 use Rattle.tv_core.specs.Circuits.{fresh}
 use Rattle.tv_core.proofs.count_sink.CountSinkSink.fresh.Goals as goal
 
-pub returns-clause-puts : goal.returns-clause-puts
+pub returns-clause-emits : goal.returns-clause-emits
 unfolding fresh
-returns-clause-puts c =
+returns-clause-emits c =
     rw (← c.self.view_is) (record {
-      answers = refl;
-      stands = λ list before. rw append-nil (IsCounted-wire _ _ list refl refl refl before);
-      next = refl;
-      keeps = tt;
-      faults = omega arith;
-      wants = omega arith;
+      puts = record {
+        answers = refl;
+        stands = λ list before. rw append-nil (IsCounted-wire _ _ list refl refl refl before);
+        next = refl;
+        keeps = tt;
+        faults = omega arith;
+        wants = omega arith;
+      };
+      grows = record { wires = omega arith; constraints = omega arith; whole = refl };
     })

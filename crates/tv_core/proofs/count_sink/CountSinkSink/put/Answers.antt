@@ -6,9 +6,9 @@ use Rattle.tv_core.specs.Constraints.{Constraint}
 use Rattle.tv_core.specs.Meanings.{IsFit}
 use Rattle.tv_core.proofs.count_sink.CountSinkSink.put.Goals as goal
 
-pub returns-clause-puts : goal.returns-clause-puts
+pub returns-clause-emits : goal.returns-clause-emits
 unfolding put
-returns-clause-puts c =
+returns-clause-emits c =
     let inside = c.self.inside in
     let it : Constraint = record { a = c.args.a.now; b = c.args.b.now; c = c.args.c.now } in
     let sizes : length c.terms.result.now + length c.terms-2.result.now + length c.terms-3.result.now ≡ length it.a + length it.b + length it.c =
@@ -20,10 +20,13 @@ returns-clause-puts c =
       c = record { within = subst (λ s. top it.c ≤ s.wires) made c.requires.c_made; short = rw c.terms-3.ensures.terms at c.terms-3.ensures.fits };
     } in
     rw (← c.self.view_is) (record {
-      answers = refl;
-      stands = λ list before. IsCounted-push _ _ list it refl refl (ap (λ n. inside.terms + n) sizes) fits before;
-      next = refl;
-      keeps = tt;
-      faults = omega arith;
-      wants = omega arith;
+      puts = record {
+        answers = refl;
+        stands = λ list before. IsCounted-push _ _ list it refl refl (ap (λ n. inside.terms + n) sizes) fits before;
+        next = refl;
+        keeps = tt;
+        faults = omega arith;
+        wants = omega arith;
+      };
+      grows = record { wires = omega arith; constraints = omega arith; whole = refl };
     })

@@ -87,7 +87,7 @@ make_wires-requires g c =
 pub put_rows-requires-clause-room : goal.put_rows-requires-clause-room
 put_rows-requires-clause-room g c =
     let ok = (goal.at.put_rows-requires-clause-room g c).In-Ok in
-    let grown = c.make_wires.ensures.grows in
+    let grown = c.make_wires.ensures.emits.grows in
     record {
       whole = grown.whole;
       constant = omega (arith, first_wire g ok, grown.wires);
@@ -98,7 +98,7 @@ put_rows-requires-clause-room g c =
 pub put_rows-requires-clause-within : goal.put_rows-requires-clause-within
 put_rows-requires-clause-within g c =
     let ok = (goal.at.put_rows-requires-clause-within g c).In-Ok in
-    subst (λ n. AreWithin n c.self.inside.rows) (omega (arith, first_wire g ok, c.make_wires.ensures.grows.wires, c.self.invariant.0)) c.self.invariant.3
+    subst (λ n. AreWithin n c.self.inside.rows) (omega (arith, first_wire g ok, c.make_wires.ensures.emits.grows.wires, c.self.invariant.0)) c.self.invariant.3
 
 pub finish_without-requires-clause-whole : goal.finish_without-requires-clause-whole
 finish_without-requires-clause-whole g c = c.in_ok-put_rows.ensures.whole
@@ -118,7 +118,7 @@ returns g c =
     let rows = c.self.inside.rows in
     let more : PutsAll (stream_meaning seen) c.make_wires.new.s c.put_rows.new.s (rows_circuit rows (length rows)) tt = c.in_ok-put_rows.ensures.puts in
     let puts = puts_then (stream_meaning seen) (wires_circuit (private_in g ok))
-    (λ _. rows_circuit rows (length rows)) c.in-Ok.sink c.make_wires.new.s c.put_rows.new.s tt tt c.make_wires.ensures.puts more in
+    (λ _. rows_circuit rows (length rows)) c.in-Ok.sink c.make_wires.new.s c.put_rows.new.s tt tt c.make_wires.ensures.emits.puts more in
     let labels : c.put_rows.new.s.labels ≡ c.self.inside.wires = puts.keeps.labels
     ∙ ap (λ (p : SystemProgress). p.labels) c.in-Ok.ensures.begins.begun ∙ c.from-labels.ensures in
     let written = streamed_all _ _ _ _ _ _ _ _ (λ _. others c.self.inside.wires c.self.inside.gone.items) (is_begun g ok)
@@ -134,6 +134,6 @@ returns-in_err-put_rows g c =
     let fault = c.in_err-put_rows.field-0.0 in
     let more : PutsSome (stream_meaning seen) c.make_wires.new.s c.put_rows.new.s (rows_circuit rows (length rows)) fault = c.in_err-put_rows.ensures.puts in
     let some = puts_then_refused (stream_meaning seen) (wires_circuit (private_in g ok))
-    (λ _. rows_circuit rows (length rows)) c.in-Ok.sink c.make_wires.new.s c.put_rows.new.s tt fault c.make_wires.ensures.puts more in
+    (λ _. rows_circuit rows (length rows)) c.in-Ok.sink c.make_wires.new.s c.put_rows.new.s tt fault c.make_wires.ensures.emits.puts more in
     let written = streamed_some _ _ _ _ _ _ _ _ (λ _. others c.self.inside.wires c.self.inside.gone.items) (is_begun g ok) c.put_rows.new.s fault some in
     rw (err_is c.from_residual.result c.from_residual.ensures.1, ← c.self.view_is) (search (rules, written))
