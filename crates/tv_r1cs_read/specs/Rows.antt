@@ -1,10 +1,11 @@
--- What is kept of a constraint that was read, and of one that is being read.
-use Rattle.std.specs.Prelude.{◌≡◌, ℕ, ◌+◌, ◌<◌, List, ◌++◌, length, map, Result, Ok}
+-- What is kept of a constraint that was read, and the terms of one that is being read.
+use Rattle.std.specs.Prelude.{◌≡◌, ℕ, ◌+◌, ◌*◌, ◌<◌, ◌≤◌, List, [], ◌∷◌, length, map, Ok}
 use Rattle.std.specs.List.{All}
 use Rattle.tv_core.specs.Constraints.{Combination, Constraint}
 use Rattle.tv_r1cs_read.specs.declared.rows.Row.{Row}
-use Rattle.tv_container.specs.Places.{Fault, ◌>>=◌}
-use Rattle.tv_r1cs_read.specs.R1cs.{Read}
+use Rattle.tv_r1cs_read.specs.declared.terms.Bounds.{Bounds}
+use Rattle.tv_container.specs.Reading.{IsPiece, Piece}
+use Rattle.tv_r1cs_read.specs.R1cs.{Read, term_at}
 
 -- the combination that terms make: wires before coefficients there, after them here
 abbrev pub combination_of : List (ℕ × ℕ) → Combination
@@ -31,12 +32,22 @@ pub record IsOver (wires : ℕ) (row : Row) : Type 0 where
   pub b : All (λ t. t.0 < wires) row.b
   pub c : All (λ t. t.0 < wires) row.c
 
--- a combination whose first terms were read before the others
-unfoldable pub with_front : Combination → Result (Read Combination) Fault → Result (Read Combination) Fault
-with_front front others = do
-  read ← others
-  Ok (record { value = front ++ read.value; next = read.next })
+-- a file has these terms from a place on
+abbrev pub AreAt : List ℕ → Bounds → ℕ → List (ℕ × ℕ) → Type 0
+AreAt file bounds at [] = Unit {0}
+AreAt file bounds at (term ∷ others) = (term_at file bounds.wires bounds.end at ≡ Ok (term.1, term.0)) × AreAt file bounds (at + 12) others
 
--- a combination is these terms and, after them, the others
-pub record IsAhead (answer : Result (Read Combination) Fault) (terms : List (ℕ × ℕ)) (others : Result (Read Combination) Fault) : Type 0 where
-  pub same : answer ≡ with_front (combination_of terms) others
+-- terms from a place up to another, each of a wire below `wires`, were taken
+pub record IsTaken (Took : List (ℕ × ℕ) → Type 0) (wires at : ℕ) (terms : List (ℕ × ℕ)) (next : ℕ) : Type 0 where
+  pub size : next ≡ at + 12 * length terms
+  pub narrow : length terms ≤ 1048576
+  pub below : All (λ t. t.0 < wires) terms
+  pub took : Took terms
+
+-- a window has n terms from a place on, each of a wire that there is, and this is so of them
+pub record HasTerms (piece : Piece) (bounds : Bounds) (at n : ℕ) (So : List (ℕ × ℕ) → Type 0) : Type 0 where
+  pub terms : List (ℕ × ℕ)
+  pub count : length terms ≡ n
+  pub below : All (λ t. t.0 < bounds.wires) terms
+  pub there : (file : List ℕ) → IsPiece piece file → AreAt file bounds at terms
+  pub so : So terms

@@ -36,8 +36,8 @@ pub(crate) fn add_term<const PASS: bool>(
     requires values { AreValues PASS bounds.now.wires values.now }
     ensures same { OnFalse result (sum.new ≡ sum.old) }
     ensures small { sum.new ≤ sum.old + 2 ^ 128 }
-    ensures adds { OnTrue result (Adds window.now bounds.now values.now
-        (record { at = at; count = 1 }) sum.old sum.new) }
+    ensures adds { OnTrue result (Adds window.now bounds.now values.now at 1
+        sum.old sum.new) }
 {
     let Some(term) = held_term(window, bounds, at) else {
         return false;
@@ -67,8 +67,7 @@ pub(crate) fn add_terms<const PASS: bool>(
     requires values { AreValues PASS bounds.now.wires values.now }
     ensures most { result ≤ count }
     ensures small { sum.new ≤ sum.old + result * 2 ^ 128 }
-    ensures adds { Adds window.now bounds.now values.now
-        (record { at = at; count = result }) sum.old sum.new }
+    ensures adds { Adds window.now bounds.now values.now at result sum.old sum.new }
 {
     let mut at = at;
     for good in 0..count {
@@ -84,6 +83,7 @@ pub(crate) fn add_terms<const PASS: bool>(
 /// isn't inlined, and takes the sum by value, so that its loops have all registers, and nothing
 /// that they write can be what they read.
 #[inline(never)]
+#[tactic(auto, using(crate::proofs::Sums::adds_none))]
 pub(crate) fn add_far(
     window: &Window,
     bounds: &Bounds,
@@ -97,8 +97,7 @@ pub(crate) fn add_far(
     requires small { sum + count * 2 ^ 128 ≤ 2 ^ 150 }
     ensures most { result.0 ≤ count }
     ensures small { result.1 ≤ sum + result.0 * 2 ^ 128 }
-    ensures adds { Adds window.now bounds.now values.now
-        (record { at = at; count = result.0 }) sum result.1 }
+    ensures adds { Adds window.now bounds.now values.now at result.0 sum result.1 }
 {
     let mut sum = sum;
     let good = if values.is_empty() {

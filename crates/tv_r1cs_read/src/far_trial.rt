@@ -3,12 +3,14 @@
 ghost use Rattle.std.specs.Prelude.{◌≡◌, ◌+◌, ◌*◌, ◌≤◌, IfOk, MatchResult, slice_index};
 ghost use Rattle.tv_container.specs.Places.{places};
 ghost use Rattle.tv_container.specs.Reading.{ReadsIn, Refuses};
-ghost use Rattle.tv_r1cs_read.specs.R1cs.{combination_at, constraint_at};
-ghost use Rattle.tv_r1cs_read.specs.Sums.{IsTried, IsValued};
+ghost use Rattle.tv_r1cs_read.specs.R1cs.{constraint_at};
+ghost use Rattle.tv_r1cs_read.specs.Sums.{IsSum, IsTried};
 
 use crate::addition::add_far;
 use crate::sum::Sum;
-use crate::terms::{Bounds, TERM_BYTES, read_count, read_term};
+use crate::terms::{Bounds, TERM_BYTES, Taker, read_far};
+use std::alloc::AllocFailed;
+use std::mem;
 use tv_container::{ReadRefusal, Window};
 use tv_core::F;
 use tv_files::Files;
@@ -20,15 +22,6 @@ pub(crate) struct Tried {
     pub(crate) holds: bool,
     pub(crate) terms: u64,
     pub(crate) next: u64,
-}
-
-/// A combination that was read: its value under an assignment, how many terms it has, and the place
-/// after it.
-#[derive(Drop)]
-struct Valued {
-    value: F,
-    terms: u32,
-    next: u64,
 }
 
 /// Reads the constraint at a place, and tries it under an assignment.
@@ -51,13 +44,16 @@ pub(crate) fn try_far<D: Files>(
         tried.holds tried.terms tried.next)
         (λ why. Refuses why (constraint_at file bounds.now.wires bounds.now.end at))) }
 {
-    let a = sum_far(files, name, window, bounds, at, values)?;
-    let b = sum_far(files, name, window, bounds, a.next, values)?;
-    let c = sum_far(files, name, window, bounds, b.next, values)?;
+    let mut a = Sum::new();
+    let next = read_far(files, name, window, bounds, at, values, &mut a)?;
+    let mut b = Sum::new();
+    let next = read_far(files, name, window, bounds, next, values, &mut b)?;
+    let mut c = Sum::new();
+    let next = read_far(files, name, window, bounds, next, values, &mut c)?;
     Ok(Tried {
-        holds: a.value * b.value == c.value,
-        terms: u64::from(a.terms) + u64::from(b.terms) + u64::from(c.terms),
-        next: c.next,
+        holds: a.value() * b.value() == c.value(),
+        terms: (next - at) / TERM_BYTES - 1,
+        next,
     })
 }
 
@@ -71,44 +67,27 @@ fn value_at(wire: u32, values: &[F]) -> F
     }
 }
 
-// Reads the combination at a place, and takes its value under an assignment. A term is read, and
-// then as many as the window holds after it are summed at once, up to the first that isn't as it
-// should be.
-#[tactic(auto, unfolding(crate::specs::R1cs::combination_at))]
-fn sum_far<D: Files>(
-    files: &mut D,
-    name: &str,
-    window: &mut Window,
-    bounds: &Bounds,
-    at: u64,
-    values: &[F],
-) -> Result<Valued, ReadRefusal>
-    requires { at ≤ bounds.now.end }
-    ensures within { IfOk result (λ valued. valued.next ≤ bounds.now.end) }
-    ensures size { IfOk result (λ valued. valued.next ≡ at + 4 + 12 * valued.terms) }
-    ensures reads { ReadsIn (D.seen files.old) (D.seen files.new) name.now window.old window.new
-        result
-        (λ file. bounds.now.end ≤ places file → MatchResult result
-        (λ valued. IsValued (combination_at file bounds.now.wires bounds.now.end at) values.now
-        valued.value valued.terms valued.next)
-        (λ why. Refuses why (combination_at file bounds.now.wires bounds.now.end at))) }
-{
-    let terms = read_count(files, name, window, bounds, at)?;
-    let mut sum = Sum::new();
-    let mut at = at + 4;
-    let mut left = terms;
-    while left > 0 {
-        let (wire, coefficient) = read_term(files, name, window, bounds, at)?;
-        sum.add(coefficient, value_at(wire, values));
-        let some = (left - 1).min(window.whole_terms(at, bounds.end) - 1);
-        let (good, more) = add_far(window, bounds, at + TERM_BYTES, some, values, sum);
-        sum = more;
-        at += TERM_BYTES * u64::from(1 + good);
-        left -= 1 + good;
+impl Taker for Sum {
+    ghost Took = { λ sum z terms. IsSum z sum terms };
+
+    // After the term, as many as the window holds are summed at once, up to the first that isn't as
+    // it should be.
+    #[inline(always)]
+    fn take(
+        &mut self,
+        window: &Window,
+        bounds: &Bounds,
+        at: u64,
+        left: u32,
+        term: (u32, F),
+        values: &[F],
+    ) -> Result<u32, AllocFailed<(u32, F)>> {
+        let mut sum = mem::replace(self, Sum::new());
+        sum.add(term.1, value_at(term.0, values));
+        let end = bounds.end;
+        let some = (left - 1).min(window.whole_terms(at, end) - 1);
+        let (good, sum) = add_far(window, bounds, at + TERM_BYTES, some, values, sum);
+        *self = sum;
+        Ok(good)
     }
-    Ok(Valued {
-        value: sum.value(),
-        terms,
-        next: at,
-    })
 }

@@ -2,8 +2,8 @@
 //! one row at a time, each the next constraint of `r1cs_system` of the whole file, or the file's
 //! first fault.
 //!
-//! Two functions sum a combination: `sum_held` takes one that the window holds whole, with no call
-//! and no refusal for a term; `sum_far` takes any.
+//! Two functions read a combination: `sum_held` sums one that the window holds whole, with no call
+//! and no refusal for a term; `read_far` takes any, to sum it or to keep it.
 #![tactic(auto)]
 
 mod addition;

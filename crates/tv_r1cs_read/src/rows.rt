@@ -1,13 +1,11 @@
 //! Constraints as they are read: three combinations in vectors that are reused.
-ghost use Rattle.std.specs.Prelude.{◌≡◌, ◌+◌, ◌*◌, ◌≤◌, ◌<◌, [], ◌∷◌, ◌++◌, length};
-ghost use Rattle.std.specs.Prelude.{IfOk, OnOk};
-ghost use Rattle.std.specs.List.{All};
+ghost use Rattle.std.specs.Prelude.{◌≡◌, ◌+◌, ◌*◌, ◌≤◌, [], IfOk, OnOk};
 ghost use Rattle.tv_container.specs.Places.{places};
 ghost use Rattle.tv_container.specs.Reading.{ReadsAsBy, ReadsIn};
-ghost use Rattle.tv_r1cs_read.specs.R1cs.{combination_at, constraint_at};
-ghost use Rattle.tv_r1cs_read.specs.Rows.{combination_read, constraint_read, terms_in, IsOver};
+ghost use Rattle.tv_r1cs_read.specs.R1cs.{constraint_at};
+ghost use Rattle.tv_r1cs_read.specs.Rows.{constraint_read, terms_in, IsOver};
 
-use crate::terms::{Bounds, TERM_BYTES, read_count, read_term};
+use crate::terms::{Bounds, Taker, read_far};
 use std::alloc::{AllocFailed, Global};
 use std::marker::Model;
 use tv_container::{ReadRefusal, Window};
@@ -52,13 +50,23 @@ impl Terms {
     {
         self.items.clear();
     }
+}
 
-    // Puts a term after the others.
+impl Taker for Terms {
+    ghost Took = { λ kept _ terms. kept ≡ terms };
+
     #[inline(always)]
-    fn push(&mut self, wire: u32, coefficient: F) -> Result<(), AllocFailed<(u32, F)>>
-        ensures { OnOk result (self.new ≡ self.old ++ (wire, coefficient) ∷ []) }
-    {
-        self.items.push((wire, coefficient))
+    fn take(
+        &mut self,
+        _window: &Window,
+        _bounds: &Bounds,
+        _at: u64,
+        _left: u32,
+        term: (u32, F),
+        _values: &[F],
+    ) -> Result<u32, AllocFailed<(u32, F)>> {
+        self.items.push(term)?;
+        Ok(0)
     }
 }
 
@@ -108,40 +116,11 @@ pub(crate) fn read_row<D: Files>(
         ReadsAsBy result (constraint_read row.new)
         (constraint_at file bounds.now.wires bounds.now.end at)) }
 {
-    let next = read_combination(files, name, window, bounds, at, &mut row.a)?;
-    let next = read_combination(files, name, window, bounds, next, &mut row.b)?;
-    let next = read_combination(files, name, window, bounds, next, &mut row.c)?;
+    row.a.clear();
+    let next = read_far(files, name, window, bounds, at, &[], &mut row.a)?;
+    row.b.clear();
+    let next = read_far(files, name, window, bounds, next, &[], &mut row.b)?;
+    row.c.clear();
+    let next = read_far(files, name, window, bounds, next, &[], &mut row.c)?;
     Ok(next)
-}
-
-// Reads the combination at a place, and returns the place after it.
-#[inline(always)]
-#[tactic(auto, unfolding(crate::specs::R1cs::combination_at))]
-fn read_combination<D: Files>(
-    files: &mut D,
-    name: &str,
-    window: &mut Window,
-    bounds: &Bounds,
-    at: u64,
-    terms: &mut Terms,
-) -> Result<u64, ReadRefusal>
-    requires { at ≤ bounds.now.end }
-    ensures within { IfOk result (λ next. next ≤ bounds.now.end) }
-    ensures size { IfOk result (λ next. next ≡ at + 4 + 12 * length terms.new) }
-    ensures wires { OnOk result (All (λ t. t.0 < bounds.now.wires) terms.new) }
-    ensures reads { ReadsIn (D.seen files.old) (D.seen files.new) name.now window.old window.new
-        result
-        (λ file. bounds.now.end ≤ places file →
-        ReadsAsBy result (combination_read terms.new)
-        (combination_at file bounds.now.wires bounds.now.end at)) }
-{
-    let count = read_count(files, name, window, bounds, at)?;
-    terms.clear();
-    let mut at = at + 4;
-    for _ in 0..count {
-        let (wire, coefficient) = read_term(files, name, window, bounds, at)?;
-        terms.push(wire, coefficient)?;
-        at += TERM_BYTES;
-    }
-    Ok(at)
 }

@@ -1,10 +1,13 @@
-//! A count of terms, or a term, at a place of section 2.
+//! A count of terms, a term, or a combination, at a place of section 2.
 
-ghost use Rattle.std.specs.Prelude.{◌≡◌, ℕ, ◌+◌, ◌≤◌, ◌<◌, ◌^◌, List, Ok, OnOk, IfOk, IfSome};
+ghost use Rattle.std.specs.Prelude.{◌≡◌, ℕ, ◌+◌, ◌*◌, ◌≤◌, ◌<◌, ◌^◌, List, [], ◌∷◌, ◌++◌, length};
+ghost use Rattle.std.specs.Prelude.{Ok, OnOk, IfOk, IfSome};
 ghost use Rattle.tv_container.specs.Places.{fit, places};
 ghost use Rattle.tv_container.specs.Reading.{ReadsAs, ReadsAsBy, Holds, IsPiece, ReadsIn};
-ghost use Rattle.tv_r1cs_read.specs.R1cs.{count_at, term_at};
+ghost use Rattle.tv_r1cs_read.specs.R1cs.{combination_at, count_at, term_at};
+ghost use Rattle.tv_r1cs_read.specs.Rows.{combination_read, IsTaken, HasTerms};
 
+use std::alloc::AllocFailed;
 use tv_container::{ReadRefusal, ReadWhy, Window};
 use tv_core::F;
 use tv_files::Files;
@@ -140,4 +143,67 @@ pub(crate) fn held_term(window: &Window, bounds: &Bounds, at: u64) -> Option<(u3
     }
     let coefficient = F::canon(window.long(at + 4))?;
     Some((wire, coefficient))
+}
+
+/// What takes the terms of a combination as they are read: it keeps them, or sums them under the
+/// values of the wires, which it needs only then.
+pub(crate) trait Taker {
+    // under these values it took these terms, in order
+    ghost Took: { Self → List ℕ → List (ℕ × ℕ) → Type 0 };
+
+    /// Takes the term at a place, a wire and its coefficient, of `left` that are left, and returns
+    /// how many it took after it, of those that the window holds.
+    fn take(
+        &mut self,
+        window: &Window,
+        bounds: &Bounds,
+        at: u64,
+        left: u32,
+        term: (u32, F),
+        values: &[F],
+    ) -> Result<u32, AllocFailed<(u32, F)>>
+        requires held { Holds window.now at 12 }
+        requires within { at + 12 ≤ bounds.now.end }
+        requires some { 0 < left }
+        requires room { (before : List (ℕ × ℕ)) × Took self.old values.now before
+            × (length before + left ≤ WIDEST) }
+        ensures fewer { IfOk result (λ more. more < left) }
+        ensures within { IfOk result (λ more. at + 12 + 12 * more ≤ bounds.now.end) }
+        ensures took { (before : List (ℕ × ℕ)) → Took self.old values.now before → IfOk result
+            (λ more. HasTerms window.now bounds.now (at + 12) more
+            (λ terms. Took self.new values.now (before ++ term ∷ terms))) };
+}
+
+/// Reads the combination at a place, of which the window needn't hold anything, and returns the
+/// place after it. The taker, which took nothing before, takes its terms.
+#[inline(always)]
+#[tactic(auto, unfolding(crate::specs::R1cs::combination_at))]
+pub(crate) fn read_far<D: Files, T: Taker>(
+    files: &mut D,
+    name: &str,
+    window: &mut Window,
+    bounds: &Bounds,
+    at: u64,
+    values: &[F],
+    taker: &mut T,
+) -> Result<u64, ReadRefusal>
+    requires within { at ≤ bounds.now.end }
+    requires none { T.Took taker.old values.now [] }
+    ensures within { IfOk result (λ next. next ≤ bounds.now.end) }
+    ensures reads { (terms : List (ℕ × ℕ))
+        × IfOk result (IsTaken (T.Took taker.new values.now) bounds.now.wires (at + 4) terms)
+        × ReadsIn (D.seen files.old) (D.seen files.new) name.now window.old window.new result
+        (λ file. bounds.now.end ≤ places file → ReadsAsBy result (combination_read terms)
+        (combination_at file bounds.now.wires bounds.now.end at)) }
+{
+    let count = read_count(files, name, window, bounds, at)?;
+    let mut at = at + 4;
+    let mut left = count;
+    while left > 0 {
+        let term = read_term(files, name, window, bounds, at)?;
+        let more = taker.take(window, bounds, at, left, term, values)?;
+        at += TERM_BYTES * u64::from(1 + more);
+        left -= 1 + more;
+    }
+    Ok(at)
 }

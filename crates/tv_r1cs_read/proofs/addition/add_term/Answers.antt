@@ -7,8 +7,8 @@ pub returns-then-this-ne0-clause-adds : goal.returns-then-this-ne0-clause-adds
 returns-then-this-ne0-clause-adds g c =
     let none : c.args.sum.now + c.in-Some.term.1 * slice_index c.args.values.now c.in-Some.term.0
     ≡ c.args.sum.now = rw (c.requires.values.empty (search rules)) (grind arith) in
-    rw none at (adds_one _ c.args.bounds.now c.args.values.now _ c.args.sum.now _ _ c.in-Some.ensures.gives)
+    rw none at (adds_one _ c.args.bounds.now c.args.values.now _ c.args.sum.now _ _ c.in-Some.ensures.wire c.in-Some.ensures.gives)
 
 pub returns-clause-adds : goal.returns-clause-adds
 returns-clause-adds g c =
-    rw (c.add.ensures.sum, c.value_of.ensures) (adds_one _ c.args.bounds.now c.args.values.now _ _ _ _ c.in-Some.ensures.gives)
+    rw (c.add.ensures.sum, c.value_of.ensures) (adds_one _ c.args.bounds.now c.args.values.now _ _ _ _ c.in-Some.ensures.wire c.in-Some.ensures.gives)

@@ -1,6 +1,9 @@
 use Rattle.tv_core.proofs.Common.{arith}
-use Rattle.tv_r1cs_read.proofs.Sums.{adds_more}
+use Rattle.tv_r1cs_read.proofs.Sums.{adds_more, adds_none}
 use Rattle.tv_r1cs_read.proofs.addition.add_terms.Goals as goal
+
+pub loop-good-init : goal.loop-good-init
+loop-good-init g c = record { place = omega arith; small = omega arith; adds = adds_none _ _ _ _ _ }
 
 pub loop-good-preserved : goal.loop-good-preserved
 loop-good-preserved g c = record {

@@ -6,5 +6,5 @@ abbrev pub invariant-loop-good : goal.invariant-loop-good
 invariant-loop-good g l = record {
   place : l.at ≡ l.initial.at + 12 * l.good;
   small : l.sum ≤ l.initial.sum + l.good * 2 ^ 128;
-  adds : Adds l.window l.bounds l.values (record { at = l.initial.at; count = l.good }) l.initial.sum l.sum;
+  adds : Adds l.window l.bounds l.values l.initial.at l.good l.initial.sum l.sum;
 }
