@@ -1,6 +1,7 @@
 -- A step of reading, by its place in the file.
-use Rattle.tv_core.proofs.Common.{◌≡◌, ℕ, ◌+◌, ◌-◌, ◌*◌, ◌<◌, ◌≤◌, Bool, List, [], ◌∷◌, ◌++◌, Option, Some, None, Ok, Err, ap, refl, sym, ◌∙◌, arith}
+use Rattle.tv_core.proofs.Common.{◌≡◌, ℕ, ◌+◌, ◌-◌, ◌*◌, ◌<◌, ◌≤◌, Bool, List, [], ◌∷◌, ◌++◌, Option, Some, None, Ok, Err, refl, sym, ◌∙◌, arith}
 use Rattle.tv_core.proofs.Common.{Constraint}
+use Rattle.tv_core.specs.Meanings.{terms_of}
 use Rattle.tv_files.specs.Outside.{Outside}
 use Rattle.tv_container.specs.declared.why.ReadRefusal.{ReadRefusal}
 use Rattle.tv_container.specs.Places.{places}
@@ -35,14 +36,14 @@ never_stopped stopped why on is = let none : None ≡ Some why = sym on ∙ is i
 module _ (header : Header) (old new : Piece) (at left : ℕ) (stopped : Option ReadRefusal) (on : stopped ≡ None) (within : IsWithin header at left)
     (some : 0 < left) (bounds : Bounds) (wires : bounds.wires ≡ header.wires) (end : bounds.end ≡ header.rows.at + header.rows.size) where
   -- the next constraint was tried
-  pub one_tried : (z file : List ℕ) (rows : List Constraint) (holds : Bool) (terms next : ℕ) → next ≡ at + 12 + 12 * terms →
+  pub one_tried : (z file : List ℕ) (rows : List Constraint) (holds : Bool) (next : ℕ) →
       IsAt (reached_at header old at left stopped) file rows → IsPiece new file →
-      (tried : IsTried (constraint_at file bounds.wires bounds.end at) z holds terms next) →
+      (tried : IsTried (constraint_at file bounds.wires bounds.end at) z holds at next) →
       IsAt (reached_at header new next (left - 1) stopped) file (rows ++ tried.constraint ∷ [])
-  one_tried z file rows holds terms next size place piece tried =
+  one_tried z file rows holds next place piece tried =
       one_more file (reached_at header old at left stopped) (reached_at header new next (left - 1) stopped) rows tried.constraint place
       (record { piece = piece; within = place.follows.within; on = on }) refl
-      (rw size (terms_rise header at left terms within some) ∙ ap (λ n. terms_given header at left + n) tried.count)
+      (rw tried.size (terms_rise header at left (terms_of tried.constraint) within some))
       (constraints_from-next file header.wires left (left - 1) at header.rows _ (omega (arith, some)) (rw (wires, end) at tried.read))
 
   -- or put into a row
@@ -56,19 +57,19 @@ module _ (header : Header) (old new : Piece) (at left : ℕ) (stopped : Option R
       (rw size (terms_rise header at left (terms_in row) within some))
       (constraints_from-next file header.wires left (left - 1) at header.rows _ (omega (arith, some)) (rw (wires, end) at read))
 
-  pub tried_steps : {T : Type 0} {before after : Outside} {name : List ℕ} {value : T} (z : List ℕ) (holds : Bool) (terms next : ℕ) →
+  pub tried_steps : {T : Type 0} {before after : Outside} {name : List ℕ} {value : T} (z : List ℕ) (holds : Bool) (next : ℕ) →
       ReadsIn before after name old new (Ok value) (λ file. bounds.end ≤ places file → IsTried (constraint_at file bounds.wires bounds.end at) z holds
-      terms next) → next ≡ at + 12 + 12 * terms →
+      at next) →
       Steps before after name (reached_at header old at left stopped) (reached_at header new next (left - 1) stopped)
       (λ file rows. Tried holds z (reached_at header old at left stopped) (reached_at header new next (left - 1) stopped) file rows)
-  tried_steps z holds terms next reads size = record {
+  tried_steps z holds next reads = record {
     header = refl;
     again = λ why is. never_stopped stopped why on is;
     looks = λ _. rw on reads.looks;
     gives = λ rows file known place.
         let held = reads.piece file known place.follows.piece in
         let tried = reads.gives file known place.follows.piece (rw end place.follows.within) in
-        is_on file stopped on (over_one z _ _ file rows tried.constraint holds place (one_tried z file rows holds terms next size place held tried)
+        is_on file stopped on (over_one z _ _ file rows tried.constraint holds place (one_tried z file rows holds next place held tried)
         tried.is (omega (arith, some)));
   }
 

@@ -46,11 +46,11 @@ adds_more piece bounds z at count old sum new here before is one = record {
 }
 
 -- a combination that was read was added
-pub sums_to : (answer : Result (Read Combination) Fault) (z : List ℕ) (terms : List (ℕ × ℕ)) (first sum n next : ℕ) →
-    answer ≡ Ok (combination_read terms next) → sum ≡ first + sum_of z terms → length terms ≡ n → SumsTo answer z first sum n next
-sums_to answer z terms first sum n next is added count = record {
+pub sums_to : (answer : Result (Read Combination) Fault) (z : List ℕ) (terms : List (ℕ × ℕ)) (first sum at next : ℕ) →
+    answer ≡ Ok (combination_read terms next) → sum ≡ first + sum_of z terms → next ≡ at + 4 + 12 * length terms → SumsTo answer z first sum at next
+sums_to answer z terms first sum at next is added size = record {
   terms = combination_of terms;
-  count = sym count ∙ sym (length-map {B = ℕ × ℕ} terms (λ (t : ℕ × ℕ). (t.1, t.0)));
+  size = size ∙ ap (λ n. at + 4 + 12 * n) (sym (length-map {B = ℕ × ℕ} terms (λ (t : ℕ × ℕ). (t.1, t.0))));
   read = is;
   is = added ∙ ap (λ s. first + s) (sym (sum_by-map (λ (t : ℕ × ℕ). t.0 * slice_index z t.1) (λ (t : ℕ × ℕ). (t.1, t.0)) terms));
 }
@@ -58,21 +58,22 @@ sums_to answer z terms first sum n next is added count = record {
 -- so was one that a window holds
 pub held : (piece : Piece) (bounds : Bounds) (z file : List ℕ) (at count first sum : ℕ) → IsPiece piece file → at + 4 + 12 * count ≤ bounds.end →
     count ≡ number file 4 at → count ≤ 1048576 → Adds piece bounds z (at + 4) count first sum →
-    SumsTo (combination_at file bounds.wires bounds.end at) z first sum count (at + 4 + 12 * count)
+    SumsTo (combination_at file bounds.wires bounds.end at) z first sum at (at + 4 + 12 * count)
 held piece bounds z file at count first sum is_piece within is narrow added =
-    sums_to _ z added.terms first sum count _
+    let size : at + 4 + 12 * count ≡ at + 4 + 12 * length added.terms = omega (arith, added.count) in
+    sums_to _ z added.terms first sum at _
     (combination_at-read file bounds at count _ added.terms (count_at-good file _ _ _ (omega (arith, within)) (sym is) narrow) added.count
-    (omega (arith, added.count)) (added.there file is_piece)) added.so added.count
+    (omega (arith, added.count)) (added.there file is_piece)) added.so size
 
 -- a constraint is its three combinations
-pub three : (file : List ℕ) (wires end at : ℕ) (z : List ℕ) (a b c v r na nb nc first second third count : ℕ) (holds : Bool)
-    (is_a : SumsTo (combination_at file wires end at) z 0 a na first) (is_b : SumsTo (combination_at file wires end first) z 0 b nb second)
-    (is_c : SumsTo (combination_at file wires end second) z r c nc third) → holds ≡ (a % P * (b % P) % P == v) → v ≡ value is_c.terms z → count ≡ na + nb + nc →
-    IsTried (constraint_at file wires end at) z holds count third
+pub three : (file : List ℕ) (wires end at : ℕ) (z : List ℕ) (a b c v r first second third : ℕ) (holds : Bool)
+    (is_a : SumsTo (combination_at file wires end at) z 0 a at first) (is_b : SumsTo (combination_at file wires end first) z 0 b first second)
+    (is_c : SumsTo (combination_at file wires end second) z r c second third) → holds ≡ (a % P * (b % P) % P == v) → v ≡ value is_c.terms z →
+    IsTried (constraint_at file wires end at) z holds at third
 unfolding constraint_at
-three file wires end at z a b c v r na nb nc first second third count holds is_a is_b is_c is v_is sums = record {
+three file wires end at z a b c v r first second third holds is_a is_b is_c is v_is = record {
   constraint = record { a = is_a.terms; b = is_b.terms; c = is_c.terms };
-  count = omega (arith, sums, is_a.count, is_b.count, is_c.count);
+  size = omega (arith, is_a.size, is_b.size, is_c.size);
   read = rw (is_a.read, is_b.read, is_c.read) refl;
   is = is ∙ rw (v_is, is_a.is, is_b.is, zero-add, zero-add) refl;
 }
@@ -92,11 +93,11 @@ product_added rest x y s whole is =
     (λ same. add-mod_same rest rest s (x * y) P refl (sym same) ∙ ap (λ n. n % P) is)
 
 -- a constraint is its three combinations, the last added to what the product of the others leaves of a number
-pub three_added : (file : List ℕ) (wires end at : ℕ) (z : List ℕ) (a b c x y rest whole na nb nc first second third count : ℕ) (holds : Bool) →
-    SumsTo (combination_at file wires end at) z 0 a na first → SumsTo (combination_at file wires end first) z 0 b nb second →
-    SumsTo (combination_at file wires end second) z rest c nc third → x % P ≡ a % P → y % P ≡ b % P → rest + x * y ≡ whole →
-    holds ≡ (c % P == whole % P) → count ≡ na + nb + nc → IsTried (constraint_at file wires end at) z holds count third
-three_added file wires end at z a b c x y rest whole na nb nc first second third count holds is_a is_b is_c x_is y_is left is sums =
+pub three_added : (file : List ℕ) (wires end at : ℕ) (z : List ℕ) (a b c x y rest whole first second third : ℕ) (holds : Bool) →
+    SumsTo (combination_at file wires end at) z 0 a at first → SumsTo (combination_at file wires end first) z 0 b first second →
+    SumsTo (combination_at file wires end second) z rest c second third → x % P ≡ a % P → y % P ≡ b % P → rest + x * y ≡ whole →
+    holds ≡ (c % P == whole % P) → IsTried (constraint_at file wires end at) z holds at third
+three_added file wires end at z a b c x y rest whole first second third holds is_a is_b is_c x_is y_is left is =
     let product : x * y % P ≡ a % P * (b % P) % P = mul-mod_same x (a % P) y (b % P) P (x_is ∙ sym (mod-mod a P)) (y_is ∙ sym (mod-mod b P)) in
-    three file wires end at z a b c _ rest na nb nc first second third count holds is_a is_b is_c
-    (is ∙ ap (λ s. s % P == whole % P) is_c.is ∙ product_added rest x y _ whole left ∙ ap (λ n. n == value is_c.terms z) product) refl sums
+    three file wires end at z a b c _ rest first second third holds is_a is_b is_c
+    (is ∙ ap (λ s. s % P == whole % P) is_c.is ∙ product_added rest x y _ whole left ∙ ap (λ n. n == value is_c.terms z) product) refl

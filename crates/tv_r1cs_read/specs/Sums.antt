@@ -27,16 +27,16 @@ pub record AreValues (none : Bool) (wires : ℕ) (values : List ℕ) : Type 0 wh
   pub empty : none ≡ true → values ≡ []
   pub whole : none ≡ false → wires ≤ length values
 
--- the combination that was read was added to a first sum, has n terms, and ends before this place
-pub record SumsTo (answer : Result (Read Combination) Fault) (z : List ℕ) (first sum n next : ℕ) : Type 0 where
+-- the combination at a place was read and added to a first sum, and ends before the next
+pub record SumsTo (answer : Result (Read Combination) Fault) (z : List ℕ) (first sum at next : ℕ) : Type 0 where
   pub terms : Combination
-  pub count : n ≡ length terms
+  pub size : next ≡ at + 4 + 12 * length terms
   pub read : answer ≡ Ok (record { value = terms; next = next })
   pub is : sum ≡ first + sum_by (λ t. t.0 * slice_index z t.1) terms
 
--- the constraint that was read holds or not, has n terms, and ends before this place
-pub record IsTried (answer : Result (Read Constraint) Fault) (z : List ℕ) (test : Bool) (n next : ℕ) : Type 0 where
+-- the constraint at a place was read, holds or not, and ends before the next
+pub record IsTried (answer : Result (Read Constraint) Fault) (z : List ℕ) (test : Bool) (at next : ℕ) : Type 0 where
   pub constraint : Constraint
-  pub count : n ≡ terms_of constraint
+  pub size : next ≡ at + 12 + 12 * terms_of constraint
   pub read : answer ≡ Ok (record { value = constraint; next = next })
   pub is : test ≡ holds z constraint

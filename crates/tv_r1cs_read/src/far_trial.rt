@@ -15,12 +15,10 @@ use tv_container::{ReadRefusal, Window};
 use tv_core::F;
 use tv_files::Files;
 
-/// A constraint that was read: whether it holds under an assignment, how many terms it has, and the
-/// place after it.
+/// A constraint that was read: whether it holds under an assignment, and the place after it.
 #[derive(Drop)]
 pub(crate) struct Tried {
     pub(crate) holds: bool,
-    pub(crate) terms: u64,
     pub(crate) next: u64,
 }
 
@@ -36,12 +34,12 @@ pub(crate) fn try_far<D: Files>(
 ) -> Result<Tried, ReadRefusal>
     requires { at ≤ bounds.now.end }
     ensures within { IfOk result (λ tried. tried.next ≤ bounds.now.end) }
-    ensures size { IfOk result (λ tried. tried.next ≡ at + 12 + 12 * tried.terms) }
+    ensures after { IfOk result (λ tried. at + 12 ≤ tried.next) }
     ensures reads { ReadsIn (D.seen files.old) (D.seen files.new) name.now window.old window.new
         result
         (λ file. bounds.now.end ≤ places file → MatchResult result
         (λ tried. IsTried (constraint_at file bounds.now.wires bounds.now.end at) values.now
-        tried.holds tried.terms tried.next)
+        tried.holds at tried.next)
         (λ why. Refuses why (constraint_at file bounds.now.wires bounds.now.end at))) }
 {
     let mut a = Sum::new();
@@ -52,7 +50,6 @@ pub(crate) fn try_far<D: Files>(
     let next = read_far(files, name, window, bounds, next, values, &mut c)?;
     Ok(Tried {
         holds: a.value() * b.value() == c.value(),
-        terms: (next - at) / TERM_BYTES - 1,
         next,
     })
 }

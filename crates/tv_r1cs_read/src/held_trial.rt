@@ -17,12 +17,10 @@ use tv_core::F;
 /// Up to how many terms a combination isn't wide.
 const NARROW: u32 = 16;
 
-/// A combination that was added to a sum: the sum then, how many terms were added, and what the
-/// window holds after them.
+/// A combination that was added to a sum: the sum then, and what the window holds after it.
 #[derive(Drop)]
 struct Summed {
     sum: Sum,
-    terms: u32,
     remainder: Held,
 }
 
@@ -42,10 +40,10 @@ pub(crate) fn try_held<const PASS: bool>(
     requires held { IsHeld window.now bounds.now.end held }
     requires values { AreValues PASS bounds.now.wires values.now }
     ensures within { IfSome result (λ tried. tried.next ≤ held.to) }
-    ensures size { IfSome result (λ tried. tried.next ≡ held.from + 12 + 12 * tried.terms) }
+    ensures after { IfSome result (λ tried. held.from + 12 ≤ tried.next) }
     ensures gives { (file : List ℕ) → IsPiece window.now file → IfSome result
         (λ tried. IsTried (constraint_at file bounds.now.wires bounds.now.end held.from) values.now
-        tried.holds tried.terms tried.next) }
+        tried.holds held.from tried.next) }
 {
     let a = sum_held::<PASS, true>(window, bounds, held, values, Sum::new())?;
     let b = sum_held::<PASS, false>(window, bounds, a.remainder, values, Sum::new())?;
@@ -53,7 +51,6 @@ pub(crate) fn try_held<const PASS: bool>(
     let c = sum_held::<PASS, false>(window, bounds, b.remainder, values, rest)?;
     Some(Tried {
         holds: c.sum.value() == Sum::without(0, 0).value(),
-        terms: u64::from(a.terms) + u64::from(b.terms) + u64::from(c.terms),
         next: c.remainder.from,
     })
 }
@@ -75,12 +72,11 @@ fn sum_held<const PASS: bool, const FIRST: bool>(
     requires values { AreValues PASS bounds.now.wires values.now }
     ensures held { IfSome result (λ summed. IsHeld window.now bounds.now.end summed.remainder) }
     ensures ends { IfSome result (λ summed. summed.remainder.to ≡ held.to) }
-    ensures size { IfSome result
-        (λ summed. summed.remainder.from ≡ held.from + 4 + 12 * summed.terms) }
+    ensures after { IfSome result (λ summed. held.from + 4 ≤ summed.remainder.from) }
     ensures small { IfSome result (λ summed. summed.sum < 2 ^ 151) }
     ensures gives { (file : List ℕ) → IsPiece window.now file → IfSome result
         (λ summed. SumsTo (combination_at file bounds.now.wires bounds.now.end held.from)
-        values.now sum summed.sum summed.terms summed.remainder.from) }
+        values.now sum summed.sum held.from summed.remainder.from) }
 {
     if !held.has(4 + TERM_BYTES) {
         return None;
@@ -93,7 +89,6 @@ fn sum_held<const PASS: bool, const FIRST: bool>(
         }
         return Some(Summed {
             sum,
-            terms,
             remainder: held.remainder(1),
         });
     }
@@ -107,9 +102,5 @@ fn sum_held<const PASS: bool, const FIRST: bool>(
     if add_terms::<PASS>(window, bounds, held.from + 4, terms, values, &mut sum) < terms {
         return None;
     }
-    Some(Summed {
-        sum,
-        terms,
-        remainder,
-    })
+    Some(Summed { sum, remainder })
 }

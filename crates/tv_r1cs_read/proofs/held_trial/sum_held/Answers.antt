@@ -7,7 +7,7 @@ pub has-requires : goal.has-requires
 has-requires g c = c.requires.held.before
 
 pub returns-then-not-has : goal.returns-then-not-has
-returns-then-not-has g c = record { held = tt; ends = tt; size = tt; small = tt; gives = λ file piece. tt }
+returns-then-not-has g c = record { held = tt; ends = tt; after = tt; small = tt; gives = λ file piece. tt }
 
 pub word-terms-requires : goal.word-terms-requires
 word-terms-requires g c =
@@ -23,7 +23,7 @@ pub add_term-requires-clause-within : goal.add_term-requires-clause-within
 add_term-requires-clause-within g c = omega (arith, c.has.ensures.0 c.if-not-has.false, c.requires.held.within)
 
 pub returns-then-not-add_term : goal.returns-then-not-add_term
-returns-then-not-add_term g c = record { held = tt; ends = tt; size = tt; small = tt; gives = λ file piece. tt }
+returns-then-not-add_term g c = record { held = tt; ends = tt; after = tt; small = tt; gives = λ file piece. tt }
 
 pub remainder-requires : goal.remainder-requires
 remainder-requires g c = omega (arith, c.has.ensures.0 c.if-not-has.false)
@@ -36,10 +36,10 @@ returns-then-terms-eq1 g c =
     record {
       held = held_rest _ _ c.args.held _ c.requires.held (omega (arith, from)) (omega (arith, from, room)) c.remainder.ensures.to;
       ends = c.remainder.ensures.to;
-      size = omega (arith, from, one);
+      after = omega (arith, from);
       small = omega (arith, c.add_term.ensures.small, c.requires.small);
       gives = λ file piece.
-          rw (from, one)
+          rw from
           (held _ c.args.bounds.now c.args.values.now file _ 1 _ _ piece (omega (arith, room, c.requires.held.within))
           (rw one at (c.word-terms.ensures file piece)) (omega arith) (rw c.if-not-add_term.false at c.add_term.ensures.adds));
     }
@@ -48,7 +48,7 @@ pub has-requires-2 : goal.has-requires-2
 has-requires-2 g c = c.requires.held.before
 
 pub returns-then-not-has-2 : goal.returns-then-not-has-2
-returns-then-not-has-2 g c = record { held = tt; ends = tt; size = tt; small = tt; gives = λ file piece. tt }
+returns-then-not-has-2 g c = record { held = tt; ends = tt; after = tt; small = tt; gives = λ file piece. tt }
 
 pub remainder-remainder-requires : goal.remainder-remainder-requires
 remainder-remainder-requires g c = omega (arith, c.has-2.ensures.0 c.if-not-has-2.false, c.from.ensures)
@@ -62,7 +62,7 @@ has_two-requires g c =
     record { before = rest.before; short = rest.short; holds = rest.holds }
 
 pub returns-then-not-has_two : goal.returns-then-not-has_two
-returns-then-not-has_two g c = record { held = tt; ends = tt; size = tt; small = tt; gives = λ file piece. tt }
+returns-then-not-has_two g c = record { held = tt; ends = tt; after = tt; small = tt; gives = λ file piece. tt }
 
 pub add_terms-requires-clause-held : goal.add_terms-requires-clause-held
 add_terms-requires-clause-held g c =
@@ -77,7 +77,7 @@ add_terms-requires-clause-small g c =
     omega (arith, c.has-2.ensures.0 c.if-not-has-2.false, c.from.ensures, c.requires.held.short, c.requires.small)
 
 pub returns-then-add_terms-terms : goal.returns-then-add_terms-terms
-returns-then-add_terms-terms g c = record { held = tt; ends = tt; size = tt; small = tt; gives = λ file piece. tt }
+returns-then-add_terms-terms g c = record { held = tt; ends = tt; after = tt; small = tt; gives = λ file piece. tt }
 
 pub returns : goal.returns
 returns g c =
@@ -88,7 +88,7 @@ returns g c =
     record {
       held = held_rest _ _ c.args.held _ c.requires.held (omega (arith, from)) (omega (arith, from, room, c.from.ensures)) c.remainder-remainder.ensures.to;
       ends = c.remainder-remainder.ensures.to;
-      size = from;
+      after = omega (arith, from);
       small = omega (arith, c.add_terms.ensures.small, all, narrow, c.requires.small);
       gives = λ file piece.
           rw from

@@ -13,7 +13,7 @@ loop-holds-preserved g c =
       held = record {
         before = c.in-Some.ensures.within;
         within = c.loop-holds.invariant.held.within;
-        short = omega (arith, c.in-Some.ensures.size, c.loop-holds.invariant.held.short);
+        short = omega (arith, c.in-Some.ensures.after, c.loop-holds.invariant.held.short);
         holds = search rules;
       };
       within = search rules;
@@ -24,6 +24,6 @@ loop-holds-preserved g c =
           let tried = c.in-Some.ensures.gives file on.piece in
           over_more _ _ _ _ file rows tried.constraint _ over
           (one_tried c.self.inside.header c.self.inside.window c.self.inside.window c.loop-holds.held.from c.loop-holds.left c.self.inside.stopped on.on
-          c.loop-holds.invariant.within some c.bounds-bounds.result wires end c.args.values.now file (rows ++ over.more) _ _ _ c.in-Some.ensures.size
+          c.loop-holds.invariant.within some c.bounds-bounds.result wires end c.args.values.now file (rows ++ over.more) _ _
           over.place on.piece tried) tried.is left;
     }
