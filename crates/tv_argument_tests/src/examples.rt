@@ -17,7 +17,7 @@ pub fn a_line_is_two_numbers()
 
 /// How many switches networks on 8 and on 2^20 items have: (2 k - 1) 2^(k - 1) by Benes, and
 /// (k - 1) 2^k + 1 by Waksman.
-pub fn networks_have_so_many_switches()
+pub fn switches_of_networks()
     ensures benes_of_8 { switches Benes 2 ≡ 20 }
     ensures waksman_of_8 { switches Waksman 2 ≡ 17 }
     ensures benes { switches Benes 19 ≡ 20447232 }
@@ -27,7 +27,7 @@ pub fn networks_have_so_many_switches()
 /// How many wires they make, with a constraint for each: three a switch, and two more for one of a
 /// bound level, of which Benes' networks have k 2^(k - 1).
 #[tactic(auto, unfolding(tv_benes::specs::Levels::bound))]
-pub fn networks_make_so_many_wires()
+pub fn wires_of_networks()
     ensures benes_of_8 { network_wires Benes 2 ≡ 84 }
     ensures waksman_of_8 { network_wires Waksman 2 ≡ 73 }
     ensures benes { network_wires Benes 19 ≡ 82313216 }
@@ -36,7 +36,7 @@ pub fn networks_make_so_many_wires()
 
 /// How many terms their columns after the first have: 22 a switch, and in Waksman's networks a few
 /// more.
-pub fn inner_columns_have_so_many_terms()
+pub fn terms_of_inner_columns()
     ensures benes_of_8 { inner_terms Benes 2 ≡ 352 }
     ensures waksman_of_8 { inner_terms Waksman 2 ≡ 287 }
     ensures benes { inner_terms Benes 19 ≡ 438304768 }

@@ -39,7 +39,7 @@ fn rows_come_out_in_order(rt: HostRuntime) -> Result<(), Fail> {
 }
 
 #[test]
-fn networks_of_8_items_have_so_many_switches(rt: HostRuntime) {
+fn networks_of_8_items_have_20_or_17_switches(rt: HostRuntime) {
     assert_eq!(rt; (switches(3), switches_w(3)), (20, 17));
 }
 

@@ -6,7 +6,7 @@ ghost use Rattle.tv_block.specs.Costs.{block_terms};
 /// Says how many wires, constraints and terms a step has with words of 16 and of 32 bits; two terms
 /// fewer where the primary tape has no word. It is no test, so it is proved where the crate is
 /// proved without its tests too.
-pub fn steps_are_so_large()
+pub fn sizes_of_steps()
     ensures wires_of_16 { block_made 16 ≡ 212 }
     ensures wires_of_32 { block_made 32 ≡ 311 }
     ensures constraints_of_16 { block_added 16 ≡ 225 }

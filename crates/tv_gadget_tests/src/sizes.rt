@@ -73,7 +73,7 @@ fn steps<const W: u32>(n: u32) -> Put<Sizes>
 }
 
 #[test]
-fn a_step_is_as_large_as_said(rt: HostRuntime) -> Result<(), Fail> {
+fn steps_have_their_sizes(rt: HostRuntime) -> Result<(), Fail> {
     let wide = (steps::<32>(3)?, steps::<32>(0)?);
     let narrow = (steps::<16>(3)?, steps::<16>(0)?);
     let is_wide = wide == ((311, 324, 1760), (311, 324, 1758));

@@ -145,7 +145,7 @@ fn texts_have_their_images(rt: HostRuntime) -> Result<(), Fail> {
 
 // The instructions fill the memory, so the address after them is 0 again.
 #[test]
-fn a_label_behind_all_instructions_is_0(rt: HostRuntime) -> Result<(), Fail> {
+fn a_label_after_all_instructions_is_0(rt: HostRuntime) -> Result<(), Fail> {
     let jumps = "jmp _end\n".repeat(rt.alloc(), 16_384)?;
     let text = format!(in rt.alloc(); "; TinyRAM W=16\n{jumps}_end:")?;
     let words = [0xa400, 0].repeat(rt.alloc(), 16_384)?;

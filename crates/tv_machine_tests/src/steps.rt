@@ -155,7 +155,7 @@ fn each_instruction_does_what_it_should(rt: HostRuntime) -> Result<(), Fail> {
 
 // read r1, 0; read r1, 0; read r1, 2
 #[test]
-fn a_read_behind_the_end_gives_0_and_sets_the_flag(rt: HostRuntime) -> Result<(), Fail> {
+fn a_read_past_the_end_gives_0_and_sets_the_flag(rt: HostRuntime) -> Result<(), Fail> {
     let image = [0xf440_0000, 0, 0xf440_0000, 0, 0xf440_0000, 2];
     let mut machine = Machine::<32>::start_on(rt.alloc(), &image, &[u32::MAX], &[])?;
     for (word, flag) in [(u32::MAX, false), (0, true), (0, true)] {

@@ -207,7 +207,7 @@ pub none_added : (xs : Combination) (spans more : List (Option Span)) → AreLai
 none_added xs spans more h pushed = rw pushed (laid_none (length xs) spans h, map_push (option_map (row_at xs)) spans None)
 
 -- terms put after all others
-pub laid_behind : (start : ℕ) (put xs : Combination) → start ≡ length xs → xs ++ put ≡ laid start put xs
-laid_behind start put xs e =
+pub laid_after : (start : ℕ) (put xs : Combination) → start ≡ length xs → xs ++ put ≡ laid start put xs
+laid_after start put xs e =
     sym (ap₂ (λ front back. front ++ (put ++ back)) (take_all start xs (omega arith)) (drop_all (start + length put) xs (omega arith))
     ∙ ap (λ back. xs ++ back) (append-nil put))

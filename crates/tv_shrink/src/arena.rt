@@ -89,7 +89,7 @@ pub(crate) fn append_read(
     ensures narrow { OnOk result (wide_in (constraint_of row.now) ≡ None) }
     ensures err { IfErr result (λ fault. IsTooWide fault (wide_in (constraint_of row.now))) }
 {
-    let start = place_behind(out)?;
+    let start = place_after(out)?;
     let a = append_narrow(scratch, out, &row.a)?;
     let b = append_narrow(scratch, out, &row.b)?;
     let c = append_narrow(scratch, out, &row.c)?;
@@ -138,7 +138,7 @@ pub(crate) fn put_replaced(
 }
 
 /// Returns the place after these terms.
-pub(crate) fn place_behind(terms: &[(F, Wire)]) -> Result<u32, AllocError>
+pub(crate) fn place_after(terms: &[(F, Wire)]) -> Result<u32, AllocError>
     ensures { IfOk result (λ place. place ≡ length terms.now) }
 {
     match u32::try_from(terms.len()) {
@@ -166,7 +166,7 @@ pub(crate) fn lay(
         terms[start..start + new.len()].copy_from_slice(new);
         return Ok(span.start);
     }
-    let start = place_behind(terms)?;
+    let start = place_after(terms)?;
     terms.extend_from_slice(new)?;
     Ok(start)
 }
@@ -183,7 +183,7 @@ pub(crate) fn append_copy(
     ensures made { IfOk result (λ made. made
         ≡ span_of (length out.old.items) (row_at terms.now span.now)) }
 {
-    let start = place_behind(out)?;
+    let start = place_after(out)?;
     let Row { a, b, c } = span.row(terms);
     out.extend_from_slice(a)?;
     out.extend_from_slice(b)?;
