@@ -1,5 +1,5 @@
 //! Lines that are packed, unpacked and constrained to follow each other.
-ghost use Rattle.std.specs.Prelude.{◌≤◌, ◌<◌, ◌^◌};
+ghost use Rattle.std.specs.Prelude.{◌≤◌};
 ghost use Rattle.tv_core.specs.Combinations.{top};
 
 use crate::rows::{line, numbers};
@@ -8,7 +8,7 @@ use std::test::Fail;
 use tv_core::{F, Lc, Line, LineLc, ListValues, Pair, PairNum, Put, TestSink, Wire, give_values};
 use tv_lines::{
     Cell, CompactLine, Word, fill_first_line, fill_sorted_pair, fill_unpack, first_line, pack,
-    pack_item, pack_line, sorted_pair, unpack, unpack_item, unpack_line,
+    pack_item, sorted_pair, unpack, unpack_item,
 };
 
 #[test]
@@ -22,9 +22,8 @@ fn a_line_and_its_item_are_packed_by_powers_of_two(rt: HostRuntime) {
     let (whole, second) = (line(3, 5, 7, 9), F::of(21_474_836_489));
     let first = F::of(12_884_901_895);
     let packed = PairNum { first, second };
-    let is_packed = pack_line(&whole) == packed && unpack_line(&packed) == numbers(&whole);
     let z = [1, 3, 5, 7, 9].map(F::of);
-    assert!(rt; is_packed && values_in(&pack(&wires), &z) == packed);
+    assert!(rt; values_in(&pack(&wires), &z) == packed && pair_of(&whole) == packed);
     let first = F::of(12_884_901_888);
     let item = PairNum { first, second };
     assert!(rt; pack_item(&whole) == item && unpack_item(&item) == line(3, 5, 0, 9));
@@ -76,14 +75,18 @@ fn pair(first: u32) -> Pair
     }
 }
 
+// The numbers of a packed line: the cell above the old word, and the time above the new word.
+fn pair_of(line: &Line) -> PairNum {
+    let above = F::of(1 << 32);
+    PairNum {
+        first: above * F::from(line.cell) + F::from(line.old),
+        second: above * F::from(line.time) + F::from(line.new),
+    }
+}
+
 // 1, the packed numbers of two lines, and the values for the first line of a cell and one after it.
-fn sorted_values(alloc: Global, before: &Line, after: &Line) -> Put<ListValues>
-    requires before_cell { before.now.cell < 2 ^ 31 }
-    requires before_time { before.now.time < 2 ^ 20 }
-    requires after_cell { after.now.cell < 2 ^ 31 }
-    requires after_time { after.now.time < 2 ^ 20 }
-{
-    let (a, b) = (pack_line(before), pack_line(after));
+fn sorted_values(alloc: Global, before: &Line, after: &Line) -> Put<ListValues> {
+    let (a, b) = (pair_of(before), pair_of(after));
     let mut values = ListValues::new(alloc);
     give_values(&mut values, &[F::ONE, a.first, a.second, b.first, b.second])?;
     fill_unpack(&mut values, &a)?;

@@ -26,8 +26,7 @@ mod unpacked_lines;
 pub use compact::{Cell, CompactLine, Word};
 pub use honesty::{ordered_lines_are_honest, sorted_lines_are_ordered};
 pub use packed_lines::{
-    item_is_right, pack, pack_is_one_to_one, pack_is_right, pack_item, pack_line, unpack_item,
-    unpack_line,
+    item_is_right, pack, pack_is_one_to_one, pack_is_right, pack_item, unpack_item,
 };
 pub use predecessor::{
     fill_follows, follows, follows_laws, follows_reaches, follows_rises, follows_terms,

@@ -1,11 +1,11 @@
 //! Lines packed into pairs of combinations and of numbers.
 ghost use Rattle.std.specs.Prelude.{◌≡◌, ◌+◌, ◌*◌, ◌/◌, ◌%◌, ◌^◌, ◌<◌, ◌≤◌, length, max};
 ghost use Rattle.tv_core.specs.Combinations.{top};
-ghost use Rattle.tv_lines.specs.PackedLines.{packed_terms, line_of_numbers, pack};
-ghost use Rattle.tv_lines.specs.PackedLines.{packed, unpacked, PackIsRight};
+ghost use Rattle.tv_lines.specs.PackedLines.{packed_terms, pack};
+ghost use Rattle.tv_lines.specs.PackedLines.{unpacked, PackIsRight};
 ghost use Rattle.tv_lines.specs.PackedLines.{packed_item, ItemIsRight, PackIsOneToOne};
 
-use tv_core::{F, Lc, Line, LineLc, LineNum, Pair, PairNum};
+use tv_core::{F, Lc, Line, LineLc, Pair, PairNum};
 
 /// Returns a line as two combinations: the old word and 2^32 times the cell; the new word and 2^32
 /// times the time. The line has at most 32 terms in each combination, and the pair at most 64.
@@ -36,18 +36,6 @@ fn packed_terms(low: &Lc, high: &Lc) -> Lc
     let mut lc = Lc::from_terms(low.terms());
     lc.plus_scaled(F::of(1 << 32), high.terms());
     lc
-}
-
-/// Returns the numbers of a packed line, which is in range: a cell below 2^31, a time below 2^20.
-pub fn pack_line(line: &Line) -> PairNum
-    requires cell { line.now.cell < 2 ^ 31 }
-    requires time { line.now.time < 2 ^ 20 }
-    ensures { result ≡ packed line.now }
-{
-    PairNum {
-        first: joined_words(line.old, line.cell),
-        second: joined_words(line.new, line.time),
-    }
 }
 
 /// Returns the numbers of a line's item, for a line in range: 2^32 times the cell; the new word and
@@ -85,30 +73,7 @@ fn joined_words(low: u32, high: u32) -> F
     F::of(u64::from(high) << 32 | u64::from(low))
 }
 
-/// Returns the numbers of the line that a pair stands for.
-pub fn unpack_line(pair: &PairNum) -> LineNum
-    ensures { line_of_numbers result ≡ unpacked pair.now }
-{
-    let (old, cell) = split_words(pair.first);
-    let (new, time) = split_words(pair.second);
-    LineNum {
-        cell,
-        time,
-        old,
-        new,
-    }
-}
-
-// What is left of a number by 2^32, and how often 2^32 goes into it, as field elements.
-fn split_words(number: F) -> (F, F)
-    ensures low { result.0 ≡ number % 2 ^ 32 }
-    ensures high { result.1 ≡ number / 2 ^ 32 }
-{
-    let (low, high) = words(number);
-    (F::from(low), F::from(high))
-}
-
-// Like `split_words`, as words.
+// What is left of a number by 2^32, and how often 2^32 goes into it.
 fn words(number: F) -> (u32, u32)
     ensures low { result.0 ≡ number % 2 ^ 32 }
     ensures high { result.1 ≡ number / 2 ^ 32 }
