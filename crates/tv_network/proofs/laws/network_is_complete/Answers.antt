@@ -1,0 +1,5 @@
+use Rattle.tv_network.proofs.NetworkComplete.{network_complete}
+use Rattle.tv_network.proofs.laws.network_is_complete.Goals as goal
+
+pub returns : goal.returns
+returns c = network_complete
