@@ -1,0 +1,15 @@
+pub mod WithinNumbers
+pub mod WithinLaws
+pub mod Latest
+pub mod Next
+pub mod ChainLaws
+pub mod SinglesLaws
+pub mod Circle
+pub mod SuccessorLaws
+pub mod WholeLaws
+pub mod PartsLaws
+pub mod ExampleLaws
+pub mod Counts
+pub mod FromSorts
+pub mod Increase
+pub mod Places

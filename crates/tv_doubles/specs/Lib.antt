@@ -1,0 +1,10 @@
+pub mod Chain
+pub mod Doubles
+pub mod Example
+pub mod Parts
+pub mod Places
+pub mod Rising
+pub mod Singles
+pub mod Successors
+pub mod Whole
+pub mod Within
