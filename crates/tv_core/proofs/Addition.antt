@@ -1,7 +1,8 @@
 -- One term more in a normal combination, at its wire's place.
 use Rattle.std.proofs.Common.{◌≡◌, ℕ, zero, suc, ◌+◌, ◌*◌, ◌%◌, ◌<◌, ◌≤◌, [], ◌∷◌, ◌++◌, refl, sym, ◌∙◌, ap, arith, subst, append_assoc, append-nil, take}
-use Rattle.std.proofs.Common.{length-append, max, length, get_or, false, eqb, eq-eqb, ne_eqb, cond, inl, inr}
+use Rattle.std.proofs.Common.{length-append, max, length, set, get_or, false, eqb, eq-eqb, ne_eqb, cond, inl, inr}
 use Rattle.std.specs.List.{insert, remove}
+use Rattle.std.proofs.lemmas.List.{length-take-le, take_at, set_split, drop_at}
 use Rattle.std.proofs.lemmas.Bool.{cases_lt, cases_eq, cond_both, lt-ltb, le-ltb}
 use Rattle.tv_core.specs.Combinations.{scaled, top}
 use Rattle.tv_core.specs.Constraints.{Combination}
@@ -125,6 +126,13 @@ pub put_at-kept : (k w place : ℕ) (x : Combination) → k < P → eqb k 0 ≡ 
 put_at-kept k w place x below kept =
     let same : k % P ≡ k = omega arith in
     ap (λ m. cond (eqb m 0) x (insert x place (m, w))) same ∙ ap (λ b. cond b x (insert x place (k, w))) kept
+
+pub put_at-none : (w place : ℕ) (x : Combination) → put_at 0 w place x ≡ x
+put_at-none w place x = refl
+
+-- a term in the place of another
+pub replaced : (x : Combination) (at : ℕ) (t : ℕ × ℕ) → at < length x → set x at t ≡ insert (remove x at) at t
+replaced x at t within = grind (arith, set_split, take_at, drop_at, length-take-le, insert, remove)
 
 -- what a call of `add` leaves
 pub added_same : (k w at sum : ℕ) (u : ℕ × ℕ) (x out : Combination) → IsNormal x → at ≡ place w x → at < length x → u ≡ get_or x at u → u.1 ≡ w

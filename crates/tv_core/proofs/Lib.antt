@@ -1,7 +1,6 @@
 pub mod Addition
 pub mod ApartLaws
 pub mod BelowLaws
-mod Cells
 pub mod Chain
 pub mod CombinationLaws
 pub mod Common

@@ -5,6 +5,7 @@ pub mod Constraints
 pub mod Values
 pub mod Inverse
 pub mod Laws
+pub mod Limits
 pub mod Lines
 pub mod Loops
 pub mod Meanings

@@ -1,12 +1,13 @@
 //! Linear combinations of wires.
-ghost use Rattle.std.specs.Prelude.{◌≡◌, ℕ, ◌+◌, ◌<◌, ◌≤◌, List, [], ◌∷◌, ◌++◌, length, max, take};
-ghost use Rattle.std.specs.List.{insert, remove};
+ghost use Rattle.std.specs.Prelude.{◌≡◌, ℕ, ◌+◌, ◌*◌, ◌%◌, ◌<◌, ◌≤◌, List, [], ◌∷◌, ◌++◌, length, max};
 ghost use Rattle.tv_core.specs.Constraints.{value};
 ghost use Rattle.tv_core.specs.Combinations.{wire, constant, scaled, less, top};
-ghost use Rattle.tv_core.specs.Normal.{normal, place, put_at, IsNormal};
+ghost use Rattle.tv_core.specs.declared.field.TheConstants.{P};
+ghost use Rattle.tv_core.specs.Normal.{normal, place, IsNormal};
 
 use crate::field::F;
 use crate::wire::Wire;
+use arrayvec::ArrayVec;
 use std::marker::Model;
 
 /// The most terms that an `Lc` has room for.
@@ -18,17 +19,15 @@ pub const TERMS: usize = 128;
 /// The terms are stored in the value itself, about 2 KB: pass it by reference.
 #[derive(Drop)]
 pub struct Lc {
-    // The terms are the first `len`.
-    cells: [(F, Wire); TERMS],
-    len: usize,
+    terms: ArrayVec<(F, Wire), TERMS>,
 }
 
 impl Model for Lc {
     ghost Value = { List (ℕ × ℕ) };
 
-    ghost view = { λ l. take l.len l.cells };
+    ghost view = { λ l. l.terms.items };
 
-    ghost invariant = { λ l. l.len ≤ 128 };
+    ghost invariant = { λ l. length l.terms.items ≤ 128 };
 }
 
 impl Lc {
@@ -37,8 +36,7 @@ impl Lc {
         ensures { result ≡ [] }
     {
         Lc {
-            cells: [(F::ZERO, Wire(0)); TERMS],
-            len: 0,
+            terms: ArrayVec::new(),
         }
     }
 
@@ -71,10 +69,31 @@ impl Lc {
     }
 
     /// Drops all terms. To reuse a combination costs less than to make one.
+    #[inline]
     pub fn clear(&mut self)
         ensures { self.new ≡ [] }
     {
-        self.len = 0;
+        // The vector writes a blank over each term that it drops. A number of terms that is known
+        // takes a store each, and no call.
+        match self.terms.len() {
+            0 => {}
+            1 => self.drop_all(1),
+            2 => self.drop_all(2),
+            3 => self.drop_all(3),
+            4 => self.drop_all(4),
+            _ => self.terms.clear(),
+        }
+    }
+
+    // Drops all terms, of which there are `count`.
+    #[inline(always)]
+    fn drop_all(&mut self, count: usize)
+        requires { length self.old ≡ count }
+        ensures { self.new ≡ [] }
+    {
+        for _ in 0..count {
+            let _ = self.terms.pop();
+        }
     }
 
     /// Sets it to one wire, once.
@@ -82,8 +101,12 @@ impl Lc {
         ensures terms { self.new ≡ wire w }
         ensures top { top self.new ≡ w + 1 }
     {
-        self.clear();
-        self.plus(F::ONE, w);
+        if self.terms.len() == 1 {
+            self.terms[0] = (F::ONE, w);
+        } else {
+            self.clear();
+            self.plus(F::ONE, w);
+        }
     }
 
     /// Sets it to one wire minus another.
@@ -102,9 +125,7 @@ impl Lc {
         ensures len { length self.new ≡ length self.old + 1 }
         ensures top { top self.new ≡ max (top self.old) (wire + 1) }
     {
-        let len = self.len;
-        self.cells[len] = (coefficient, wire);
-        self.len = len + 1;
+        self.terms.push((coefficient, wire));
     }
 
     /// Appends these terms; all together are at most `TERMS`.
@@ -127,7 +148,7 @@ impl Lc {
         ensures top { top self.new ≡ max (top self.old) (top terms.now) }
     {
         for (coefficient, wire) in terms {
-            self.plus(factor * *coefficient, *wire);
+            self.plus(times(factor, *coefficient), *wire);
         }
     }
 
@@ -152,10 +173,10 @@ impl Lc {
         ensures top { top self.new ≤ max (top self.old) (wire + 1) }
     {
         let at = place(self.terms(), wire);
-        if at == self.len {
-            self.put_at(at, coefficient, wire);
-        } else {
+        if at < self.terms.len() {
             self.add_at(at, coefficient, wire);
+        } else if coefficient != F::ZERO {
+            self.terms.push((coefficient, wire));
         }
     }
 
@@ -168,14 +189,16 @@ impl Lc {
         requires room { length self.old < 128 }
         ensures { self.new ≡ normal (self.old ++ (coefficient, wire) ∷ []) }
     {
-        let (before, found) = self.cells[at];
+        let (before, found) = self.terms[at];
         let sum = coefficient + before;
         if found.0 != wire.0 {
-            self.put_at(at, coefficient, wire);
+            if coefficient != F::ZERO {
+                self.terms.insert(at, (coefficient, wire));
+            }
         } else if sum == F::ZERO {
-            self.remove(at);
+            let _ = self.terms.remove(at);
         } else {
-            self.cells[at] = (sum, wire);
+            self.terms[at] = (sum, wire);
         }
     }
 
@@ -203,43 +226,8 @@ impl Lc {
         ensures top { top self.new ≤ max (top self.old) (top terms.now) }
     {
         for (coefficient, wire) in terms {
-            self.add(factor * *coefficient, *wire);
+            self.add(times(factor, *coefficient), *wire);
         }
-    }
-
-    // Inserts a term at a place, unless its coefficient is 0.
-    #[inline]
-    fn put_at(&mut self, at: usize, coefficient: F, wire: Wire)
-        requires within { at ≤ length self.old }
-        requires room { length self.old < 128 }
-        ensures { self.new ≡ put_at coefficient wire at self.old }
-    {
-        if coefficient != F::ZERO {
-            self.insert(at, coefficient, wire);
-        }
-    }
-
-    // Inserts a term at a place.
-    #[inline]
-    fn insert(&mut self, at: usize, coefficient: F, wire: Wire)
-        requires within { at ≤ length self.old }
-        requires room { length self.old < 128 }
-        ensures { self.new ≡ insert self.old at (coefficient, wire) }
-    {
-        let len = self.len;
-        self.cells.copy_within(at..len, at + 1);
-        self.cells[at] = (coefficient, wire);
-        self.len = len + 1;
-    }
-
-    // Removes the term at a place.
-    fn remove(&mut self, at: usize)
-        requires { at < length self.old }
-        ensures { self.new ≡ remove self.old at }
-    {
-        let len = self.len;
-        self.cells.copy_within(at + 1..len, at);
-        self.len = len - 1;
     }
 
     /// The terms, in order.
@@ -247,7 +235,7 @@ impl Lc {
         ensures terms { result.now ≡ self.now }
         ensures fits { length result.now ≤ 128 }
     {
-        &self.cells[..self.len]
+        self.terms.as_slice()
     }
 
     /// The value under an assignment; a wire past its end counts as 0.
@@ -261,6 +249,19 @@ impl Lc {
             }
         }
         sum
+    }
+}
+
+// The product of two elements. Where the first is -1, as in a difference, it takes no
+// multiplication.
+#[inline(always)]
+fn times(factor: F, coefficient: F) -> F
+    ensures { result ≡ factor * coefficient % P }
+{
+    if factor == -F::ONE {
+        -coefficient
+    } else {
+        factor * coefficient
     }
 }
 

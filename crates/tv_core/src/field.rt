@@ -13,7 +13,7 @@ pub const P: u64 = 18_446_744_069_414_584_321;
 ///
 /// Every operation is exact and takes no memory. A multiplication costs one 64 by 64 bit product
 /// and a few additions, without a division.
-#[derive(Clone, Copy, PartialEq, Eq, Debug)]
+#[derive(Clone, Copy, PartialEq, Eq, Debug, Default)]
 pub struct F {
     word: u64,
 }

@@ -16,7 +16,8 @@ use Rattle.tv_plan.proofs.Common.{stop_status, finish_status, ending_status}
 use Rattle.tv_plan.specs.declared.refusal.Bad.TheVariants as bad
 use Rattle.tv_plan.specs.declared.refusal.Finish.TheVariants as finishes
 use Rattle.tv_plan.specs.declared.refusal.Refusal.TheVariants as refusal
-use Rattle.tv_plan.specs.Answers.{is_same, is_shared, plan_reading}
+use Rattle.tv_plan.specs.Answers.{is_over, is_shared, plan_reading}
+use Rattle.tv_plan.specs.Flaws.{Flaw, Flaw.{OverLimit}, flaw_of}
 use Rattle.tv_check.specs.declared.verdict.Verdict.TheVariants as verdict
 use Rattle.tv_plan.specs.declared.status.Status.TheVariants as status
 use Rattle.tv_step.specs.declared.end.End.TheVariants as end
@@ -144,22 +145,22 @@ none_of p x [] none at = absurd at
 none_of p x (y ∷ ys) none (inl is) = rw is (or_parts (p y) (list_any p ys) none).0
 none_of p x (y ∷ ys) none (inr at) = none_of p x ys (or_parts (p y) (list_any p ys) none).1 at
 
-apart_from : (amounts : List Amount) (sizes : List What) (what : What) → is_shared amounts sizes ≡ false → IsOneOf what (quantities_of amounts)
-    → IsOneOf what sizes → ⊥
-apart_from amounts sizes what apart known at =
-    let other = none_of (is_same what) what sizes (none_of (λ one. list_any (is_same one) sizes) what (quantities_of amounts) apart known) at in
+apart_from : (amounts : List Amount) (flaws : List Flaw) (what : What) → is_shared amounts flaws ≡ false → IsOneOf what (quantities_of amounts)
+    → IsOneOf (OverLimit what) flaws → ⊥
+apart_from amounts flaws what apart known at =
+    let other = none_of (is_over what) (OverLimit what) flaws (none_of (λ one. list_any (is_over one) flaws) what (quantities_of amounts) apart known) at in
     let same = (bytes_eq-Decides (what_text what) (what_text what)).1 refl in cc
 
--- a limit that looks were refused for is of one of these
-abbrev IsWithin : List What → Result Outcome Stop → Type 0
-IsWithin sizes found = (what : What) (has most : ℕ) → found ≡ Err (Contents (bad.Limit what has most)) → IsOneOf what sizes
+-- what looks were refused for is one of these
+abbrev IsWithin : List Flaw → Result Outcome Stop → Type 0
+IsWithin flaws found = (why : Bad) → found ≡ Err (Contents why) → IsOneOf (flaw_of why) flaws
 
 -- the answer to what was found
 abbrev found_answer : Plan → ℕ → Outcome → Answer
 found_answer plan at outcome = record { looked = at; writes = files_of plan.writes outcome.files; ending = Finished outcome.finish }
 
 -- what a look is answered that was refused isn't a refusal of words
-stop_refuses : (plan : Plan) (stop : Stop) (why : Refusal) → is_shared plan.amounts plan.sizes ≡ false → IsWithin plan.sizes (Err stop)
+stop_refuses : (plan : Plan) (stop : Stop) (why : Refusal) → is_shared plan.amounts plan.flaws ≡ false → IsWithin plan.flaws (Err stop)
     → IsOfWords (Ok plan) why
     → ¬ (stop_status stop ≡ refusal_status why)
 stop_refuses plan stop refusal.Usage apart limited known e = let none = stop_is stop in let some : is_plain (stop_status stop) ≡ true = ap is_plain e in cc
@@ -167,11 +168,11 @@ stop_refuses plan stop (refusal.SameName first second) apart limited known e = l
     let some : is_plain (stop_status stop) ≡ true = ap is_plain e in cc
 stop_refuses plan stop (refusal.Limit quantity has most) apart limited known e =
     let found = stop_limit stop quantity (ap limit_in e) in
-    apart_from plan.amounts plan.sizes quantity apart known (limited quantity found.0 found.1 (ap Err found.2))
+    apart_from plan.amounts plan.flaws quantity apart known (limited (bad.Limit quantity found.0 found.1) (ap Err found.2))
 
-may_stop : (sizes : List What) (stop : Stop) → IsWithin sizes (Err stop) → MayStop sizes stop
-may_stop sizes (Contents (bad.Limit what has most)) limited = limited what has most refl
-may_stop sizes _ limited = tt
+may_stop : (flaws : List Flaw) (stop : Stop) → IsWithin flaws (Err stop) → MayStop flaws stop
+may_stop flaws (Contents why) within = within why refl
+may_stop flaws _ within = tt
 
 -- ---- what was concluded
 
@@ -293,7 +294,7 @@ ends_found plan (Err Memory) words files old new result held known read any conc
     inr (inr (inr (inr (nothing.0, inl (record { contents = held; said = nothing.1 })))))
 
 -- what is answered isn't a refusal of words, and a fault only where one was found
-found_refuses : (plan : Plan) (found : Result Outcome Stop) (why : Refusal) → is_shared plan.amounts plan.sizes ≡ false → IsWithin plan.sizes found
+found_refuses : (plan : Plan) (found : Result Outcome Stop) (why : Refusal) → is_shared plan.amounts plan.flaws ≡ false → IsWithin plan.flaws found
     → IsOfWords (Ok plan) why → ¬ (ending_status (ending_by found) ≡ refusal_status why)
 found_refuses plan (Ok outcome) why apart within known e = let h : None ≡ Some why = sym (finish_good outcome.finish).0 ∙ ap of_words e ∙ words_is why in cc
 found_refuses plan (Err stop) why apart within known e = stop_refuses plan stop why apart within known e
@@ -302,10 +303,10 @@ found_faulty : (found : Result Outcome Stop) (word : ℕ) → ending_status (end
 found_faulty (Ok outcome) word e = absurd ((finish_good outcome.finish).1 word e)
 found_faulty (Err stop) word e = ap Err (stop_faulty stop word e)
 
-found_ends : (plan : Plan) (found : Result Outcome Stop) → IfOk found (λ outcome. plan.ends_by outcome.finish ≡ true) → IsWithin plan.sizes found
+found_ends : (plan : Plan) (found : Result Outcome Stop) → IfOk found (λ outcome. plan.ends_by outcome.finish ≡ true) → IsWithin plan.flaws found
     → MayEnd (Ok plan) (ending_by found)
 found_ends plan (Ok outcome) may within = may
-found_ends plan (Err stop) may within = may_stop plan.sizes stop within
+found_ends plan (Err stop) may within = may_stop plan.flaws stop within
 
 found_changed : (names : List Named) (found : Result Outcome Stop) (old : Option Names) → ChangedAt names old (files_with (writes_by names found) old)
 found_changed names (Ok outcome) old = changed_whole names outcome.files old
@@ -349,7 +350,7 @@ found_memory (Err stop) e = let same : stop ≡ Memory = cc in ap Err same
 
 -- what was found was written, and the line said
 answers_ended : (plan : Plan) (found : Result Outcome Stop) (words : ℕ) (old mid after new : Outside) (result : Status)
-    → is_shared plan.amounts plan.sizes ≡ false
+    → is_shared plan.amounts plan.flaws ≡ false
     → IfOk found (λ outcome. plan.ends_by outcome.finish ≡ true) →
     Finds (λ (o : Outcome). o) (plan_reading plan) old mid found → Writes {X = Unit {0}} (writes_by plan.writes found) mid after (Ok tt)
     → Concludes (ending_by found) words after new result → Answers (Ok plan) words old new result
@@ -365,7 +366,7 @@ answers_ended plan found words old mid after new result apart may finds writes c
         | inr missing ↦ inr (missing.0, ap ending_by missing.1)
       ];
       refused = λ why e. cc;
-      refuses = λ why known e. absurd (found_refuses plan found why apart finds.limits known
+      refuses = λ why known e. absurd (found_refuses plan found why apart finds.flaws known
           (refuses_concluded (ending_by found) words old new result why concluded e));
       caused = λ word e. elim (caused_concluded (ending_by found) words old new result word concluded e) [
         | inl is ↦ let cause = finds.caused word (found_faulty found word is) in inl (cause.0, omega (arith, cause.1))
@@ -376,7 +377,7 @@ answers_ended plan found words old mid after new result apart may finds writes c
         | inl is ↦ inl (record { contents = held ∙ ap (λ f. files_with (writes_by plan.writes f) old.contents) (found_memory found is.0); said = is.1 })
         | inr ran_out ↦ inr ran_out
       ];
-      said = (ending_by found, found_ends plan found may finds.limits, said_concluded (ending_by found) words old new result concluded);
+      said = (ending_by found, found_ends plan found may finds.flaws, said_concluded (ending_by found) words old new result concluded);
       contents = rw held (found_changed plan.writes found old.contents);
       later = search rules;
     }
@@ -440,7 +441,7 @@ nothing_written : {X : Type 0} {x : X} (outside : Outside) → Writes [] outside
 nothing_written outside = record { ended = (refl, tt); quiet = counts_stay outside; only = still outside }
 
 answers_halted : (plan : Plan) (outcome : Outcome) (stop : Stop) (words : ℕ) (old mid after new : Outside) (result : Status)
-    → is_shared plan.amounts plan.sizes ≡ false
+    → is_shared plan.amounts plan.flaws ≡ false
     → Finds (λ (o : Outcome). o) (plan_reading plan) old mid (Ok outcome) →
     OnlyWrites mid after → IsCut (files_of plan.writes outcome.files) mid after stop → Concludes (Stopped stop) words after new result
     → Answers (Ok plan) words old new result
@@ -455,7 +456,7 @@ answers_halted plan outcome Memory words old mid after new result apart finds on
 answers_halted plan outcome (Contents bad) words old mid after new result apart finds only cut concludes = absurd cut
 
 -- a plan was carried out, and the line of its end said
-pub answers_done : (plan : Plan) (done : Result Finish Stop) (words : ℕ) (old after new : Outside) (result : Status) → is_shared plan.amounts plan.sizes ≡ false
+pub answers_done : (plan : Plan) (done : Result Finish Stop) (words : ℕ) (old after new : Outside) (result : Status) → is_shared plan.amounts plan.flaws ≡ false
     → Does plan old after done → Concludes (ending_of done) words after new result → Answers (Ok plan) words old new result
 answers_done plan done words old after new result apart (inl (stop, is, finds)) concludes =
     answers_ended plan (Err stop) words old after after new result apart tt finds (nothing_written after) (rw is at concludes)
@@ -480,7 +481,7 @@ answers_done plan (Err stop) words old after new result apart (inr (outcome, mid
 -- a look was refused, and `?` passes that on
 pub does_stopped : {X A : Type 0} (plan : Plan) (view : X → A) (ends : A → Outcome) (due : Names → Look A) (stop : Stop) (old new : Outside)
     (result : Result Finish Stop) →
-    plan.leads_to ≡ (λ files. outcome_by ends (due files)) → Finds view (reading (words_of plan.reads) plan.sizes due) old new (Err stop)
+    plan.leads_to ≡ (λ files. outcome_by ends (due files)) → Finds view (reading (words_of plan.reads) plan.flaws due) old new (Err stop)
     → IsErrAnd result (λ e. e ≡ stop)
     → Does plan old new result
 does_stopped plan view ends due stop old new (Ok finish) is finds same = absurd same
@@ -490,7 +491,7 @@ does_stopped plan view ends due stop old new (Err other) is finds same = inl
 pub does_found : {X A : Type 0} (plan : Plan) (view : X → A) (ends : A → Outcome) (due : Names → Look A) (found : X) (old mid new : Outside)
     (result : Result Finish Stop) →
     plan.leads_to ≡ (λ files. outcome_by ends (due files)) → plan.ends_by (ends (view found)).finish ≡ true
-    → Finds view (reading (words_of plan.reads) plan.sizes due) old mid (Ok found) → Completes plan.writes (ends (view found)) mid new result
+    → Finds view (reading (words_of plan.reads) plan.flaws due) old mid (Ok found) → Completes plan.writes (ends (view found)) mid new result
     → Does plan old new result
 does_found plan view ends due found old mid new result is may finds completes = inr
     (ends (view found), mid, may, rw is (finds_comes ends (Ok found) finds), completes)

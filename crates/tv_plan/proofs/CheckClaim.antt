@@ -1,6 +1,6 @@
 -- `check`: reading the system twice is reading it once, and what the command promises.
-use Rattle.tv_core.proofs.Common.{◌≡◌, ◌<◌, ◌==◌, ℕ, Bool, true, false, if◌then◌else◌, List, [], ◌∷◌, length, take, All, Result, Ok, Err, refl, sym, ap, arith}
-use Rattle.tv_core.proofs.Common.{eqb-true, eq-eqb, ne_eqb}
+use Rattle.tv_core.proofs.Common.{◌≡◌, ◌<◌, ◌==◌, ℕ, Bool, true, false, if◌then◌else◌, List, [], ◌∷◌, ◌++◌, length, take, All}
+use Rattle.tv_core.proofs.Common.{Result, Ok, Err, refl, sym, ap, arith, eqb-true, eq-eqb, ne_eqb}
 use Rattle.std.proofs.Common.{◌↔◌, codes, max}
 use Rattle.std.proofs.lemmas.List.{take_all}
 use Rattle.tv_check.specs.Meaning.{VerdictMeans}
@@ -18,13 +18,13 @@ use Rattle.tv_r1cs_read.specs.R1cs.{r1cs_system}
 use Rattle.tv_r1cs_read.specs.Survey.{survey_of}
 use Rattle.tv_wtns.specs.Wtns.{Firsts, firsts_of, assignment_of}
 use Rattle.tv_wtns.proofs.ValueLaws.{assignments_below}
-use Rattle.tv_plan.specs.declared.refusal.What.TheVariants.{TapeWords}
 use Rattle.tv_plan.specs.declared.refusal.Stop.{Stop}
-use Rattle.tv_plan.specs.Check.{check_of, check_ends, check_form, check_plan, IsJudged, HasVerdict, OnCheck}
+use Rattle.tv_plan.specs.Check.{check_of, check_ends, check_flaws, check_form, check_plan, IsJudged, HasVerdict, OnCheck}
 use Rattle.tv_plan.specs.Containers.{system_bad, witness_bad, system_in, witness_in, firsts_in_witness, counts_in, verdict_in}
 use Rattle.tv_plan.specs.Finds.{Finds, reading, reading_of}
+use Rattle.tv_plan.specs.Flaws.{Flaw.{OfSystem}}
 use Rattle.tv_plan.specs.Plan.{Named, name_at, Look, ◌>>=◌, look_on, held_at, input, settled, map_ok}
-use Rattle.tv_plan.specs.Tapes.{publics_in, tape_sizes}
+use Rattle.tv_plan.specs.Tapes.{publics_in}
 use Rattle.tv_plan.proofs.ContainerReads.{part_held, read_of}
 use Rattle.tv_plan.proofs.LookLaws.{finds_as}
 use Rattle.tv_plan.proofs.ClaimLaws.{Form, FormOf, Promises, IsHeld, leads_to, made_is, shows_input, shows_then}
@@ -84,23 +84,23 @@ once system witness tape files =
 
 -- the last look: the verdict where there are as many values as wires, and else the wires
 pub finds_verdict : (system : Named) (wires : ℕ) (first : Firsts) (x : List ℕ) (old new : Outside) (found : Result Verdict Stop) → first.count ≡ wires →
-    Finds (λ v. v) (reading_of system [] (verdict_in first.values x)) old new found
-    → Finds (λ v. v) (reading (system.word ∷ []) [] (check_last system wires first x)) old new found
+    Finds (λ v. v) (reading_of system (OfSystem ∷ []) (verdict_in first.values x)) old new found
+    → Finds (λ v. v) (reading (system.word ∷ []) (OfSystem ∷ []) (check_last system wires first x)) old new found
 unfolding check_last
 finds_verdict system wires first x old new found same finds = finds_as (λ files. rw (eq-eqb first.count wires same) refl) finds
 
 pub finds_wires : (system : Named) (wires : ℕ) (first : Firsts) (x : List ℕ) (old new : Outside) (found : Result Verdict Stop) → ¬ (first.count ≡ wires) →
-    Finds (λ v. v) (reading (system.word ∷ []) [] (λ files. input system counts_in files >>= λ counts. settled (Ok (WireCount first.count wires))))
+    Finds (λ v. v) (reading (system.word ∷ []) (OfSystem ∷ []) (λ files. input system counts_in files >>= λ counts. settled (Ok (WireCount first.count wires))))
     old new found
-    → Finds (λ v. v) (reading (system.word ∷ []) [] (check_last system wires first x)) old new found
+    → Finds (λ v. v) (reading (system.word ∷ []) (OfSystem ∷ []) (check_last system wires first x)) old new found
 unfolding check_last
 finds_wires system wires first x old new found other finds = finds_as (λ files. rw (ne_eqb first.count wires other) refl) finds
 
 -- what was found is what the plan looks for
 pub finds_once : (system witness tape : Named) (old new : Outside) (found : Result Verdict Stop)
-    → Finds (λ v. v) (reading (system.word ∷ witness.word ∷ tape.word ∷ system.word ∷ []) (tape_sizes TapeWords) (check_twice system witness tape))
-    old new found →
-    Finds (λ v. v) (reading (system.word ∷ witness.word ∷ tape.word ∷ []) (tape_sizes TapeWords) (check_of system witness tape)) old new found
+    → Finds (λ v. v) (reading (system.word ∷ witness.word ∷ tape.word ∷ system.word ∷ []) (check_flaws tape.word ++ OfSystem ∷ [])
+    (check_twice system witness tape)) old new found →
+    Finds (λ v. v) (reading (system.word ∷ witness.word ∷ tape.word ∷ []) (check_flaws tape.word) (check_of system witness tape)) old new found
 finds_once system witness tape old new found finds =
     let same = finds_as (λ files. sym (once system witness tape files)) finds in
     record {
@@ -110,7 +110,7 @@ finds_once system witness tape old new found finds =
       leaves = same.leaves;
       caused = λ word e. let cause = same.caused word e in
           (grind (arith, cause.0), cause.1);
-      limits = same.limits;
+      flaws = λ why e. let flaw = same.flaws why e in grind (arith, flaw);
     }
 
 -- ---- verdicts

@@ -23,7 +23,7 @@ pub use Rattle.tv_plan.specs.Ends.{AreRead, files_with, IsCutAt, IsCutInWriting,
 pub use Rattle.tv_plan.specs.Ends.{IsCut, Completes, IsAnswered, sink_stop, streamed, HasPartOf}
 pub use Rattle.tv_plan.specs.Answers.{words_of, plan_reading, MayStop, MayEnd, quantities_of, IsOfWords, ChangedAt, IsSaid, Answers, Does, ending_of}
 pub use Rattle.tv_plan.specs.Claims.{Call, Holds, Then, IsStopped, status_by, Answered, AnswersOrStops}
-pub use Rattle.tv_plan.specs.Programs.{bits, program_in, program_sizes, image_words, image_bytes, program_result, HasImage, width_of_text, program_of}
+pub use Rattle.tv_plan.specs.Programs.{bits, program_in, program_flaws, image_words, image_bytes, program_result, HasImage, width_of_text, program_of}
 unfoldable pub use Rattle.tv_plan.specs.Programs.{program_by, image_of}
 pub use Rattle.tv_plan.specs.Status.{bad_status, refusal_status, stop_status, finish_status, ending_status}
 pub use Rattle.tv_plan.specs.Contents.{Content, bytes_in, IsRead}

@@ -1,7 +1,7 @@
 pub mod Common
 mod WordBytes
 pub mod LookLaws
-mod Sizes
+mod Flawed
 pub mod ContainerReads
 pub mod AnswerLaws
 pub mod ClaimLaws

@@ -1,5 +1,5 @@
 -- What every call of the command promises, by what its words ask for.
-use Rattle.std.specs.Prelude.{◌≡◌, ℕ, ◌⊎◌, Bool, true, List, [], ◌∷◌, map, Option, option_map, Result, Ok, Err}
+use Rattle.std.specs.Prelude.{◌≡◌, ℕ, ◌⊎◌, Bool, true, false, List, [], ◌∷◌, map, Option, option_map, Result, Ok, Err}
 use Rattle.std.specs.List.{list_any}
 use Rattle.std.specs.Str.{bytes_eq}
 use Rattle.tv_files.specs.Outside.{Names, Outside, WhereKnown, NoneFell, RanOut, with_bytes}
@@ -7,7 +7,6 @@ use Rattle.tv_word.specs.Counts.{Rose}
 use Rattle.tv_plan.specs.declared.refusal.Ending.{Ending}
 use Rattle.tv_plan.specs.declared.refusal.Ending.TheVariants.{Refused, Stopped, Finished}
 use Rattle.tv_plan.specs.declared.refusal.Finish.{Finish}
-use Rattle.tv_plan.specs.declared.refusal.Bad.TheVariants as bad
 use Rattle.tv_plan.specs.declared.refusal.What.{What}
 use Rattle.tv_plan.specs.declared.refusal.Refusal.{Refusal}
 use Rattle.tv_plan.specs.declared.refusal.Refusal.TheVariants as refusal
@@ -19,6 +18,7 @@ use Rattle.tv_plan.specs.declared.status.Status.TheVariants.{FileFault, Memory}
 use Rattle.tv_plan.specs.Codes.{says, what_text}
 use Rattle.tv_plan.specs.Ends.{Said, SaidPart, Completes, Ends, IsConcluded, IsQuiet, IsUntouched}
 use Rattle.tv_plan.specs.Finds.{Finds, IsOneOf, reading, Reading}
+use Rattle.tv_plan.specs.Flaws.{Flaw, Flaw.{OverLimit}, flaw_of}
 use Rattle.tv_plan.specs.Plan.{Named, Amount, Outcome, Plan, answer_of}
 use Rattle.tv_plan.specs.Status.{refusal_status, ending_status}
 
@@ -34,16 +34,11 @@ abbrev pub writes_of : Result Plan Refusal → List Named
 writes_of (Ok plan) = plan.writes
 writes_of (Err why) = []
 
--- a look at files may be refused so: where that is for a limit, it is on one of these quantities
-abbrev pub MayStop : List What → Stop → Type 0
-MayStop sizes (Fault word) = Unit {0}
-MayStop sizes stop.Memory = Unit {0}
-MayStop sizes (Contents (bad.Program line why)) = Unit {0}
-MayStop sizes (Contents (bad.Tape word at)) = Unit {0}
-MayStop sizes (Contents (bad.System at why)) = Unit {0}
-MayStop sizes (Contents (bad.Witness at why)) = Unit {0}
-MayStop sizes (Contents (bad.Image len)) = Unit {0}
-MayStop sizes (Contents (bad.Limit what has most)) = IsOneOf what sizes
+-- a look at files may be refused so: where that is for what they hold, it is one of these flaws
+abbrev pub MayStop : List Flaw → Stop → Type 0
+MayStop flaws (Fault word) = Unit {0}
+MayStop flaws stop.Memory = Unit {0}
+MayStop flaws (Contents why) = IsOneOf (flaw_of why) flaws
 
 -- the quantities among the words
 abbrev pub quantities_of : List Amount → List What
@@ -53,9 +48,14 @@ quantities_of amounts = map (λ (a : Amount). a.what) amounts
 abbrev pub is_same : What → What → Bool
 is_same one other = bytes_eq (what_text one) (what_text other)
 
--- one of these quantities is among the words and in files
-abbrev pub is_shared : List Amount → List What → Bool
-is_shared amounts sizes = list_any (λ one. list_any (is_same one) sizes) (quantities_of amounts)
+-- it is that there is too much of this quantity
+abbrev pub is_over : What → Flaw → Bool
+is_over one (OverLimit other) = is_same one other
+is_over one _ = false
+
+-- one of these quantities is among the words, and files may be refused for it too
+abbrev pub is_shared : List Amount → List Flaw → Bool
+is_shared amounts flaws = list_any (λ one. list_any (is_over one) flaws) (quantities_of amounts)
 
 -- A refusal that comes of words alone: each, but where the words aren't refused a limit on a quantity that isn't among
 -- them, since a file may pass that one.
@@ -71,7 +71,7 @@ MayEnd (Err why) (Refused other) = why ≡ other
 MayEnd (Err why) (Stopped stop) = ⊥
 MayEnd (Err why) (Finished finish) = ⊥
 MayEnd (Ok plan) (Refused other) = ⊥
-MayEnd (Ok plan) (Stopped stop) = MayStop plan.sizes stop
+MayEnd (Ok plan) (Stopped stop) = MayStop plan.flaws stop
 MayEnd (Ok plan) (Finished finish) = plan.ends_by finish ≡ true
 
 -- the files, where they are known, changed at most at these names
@@ -87,7 +87,7 @@ IsSaid ending words old new result = ((result ≡ ending_status ending) × Said 
 
 -- what a plan reads files for
 abbrev pub plan_reading : Plan → Reading Outcome
-plan_reading plan = reading (words_of plan.reads) plan.sizes plan.leads_to
+plan_reading plan = reading (words_of plan.reads) plan.flaws plan.leads_to
 
 -- what a plan does up to its line: a look was refused; or what was found is completed, and its end may be
 abbrev pub Does : Plan → Outside → Outside → Result Finish Stop → Type 0

@@ -8,7 +8,7 @@ use Rattle.tv_plan.specs.declared.refusal.What.TheVariants.{TextBytes}
 use Rattle.tv_plan.specs.Claims.{Call, Holds, AnswersOrStops}
 use Rattle.tv_plan.specs.Kinds.{is_quiet}
 use Rattle.tv_plan.specs.Plan.{Named, Plan, named, within, input, outcome_by, one_name, writes_bytes, name_at}
-use Rattle.tv_plan.specs.Programs.{image_of, program_sizes}
+use Rattle.tv_plan.specs.Programs.{image_of, program_flaws}
 
 -- the file of a program text, which may have this many bytes: its image, in bytes
 abbrev pub image_in : List ℕ → Result (List ℕ) Bad
@@ -19,7 +19,7 @@ asm_plan text image = record {
   reads = text ∷ [];
   writes = image ∷ [];
   amounts = [];
-  sizes = program_sizes;
+  flaws = program_flaws;
   ends_by = is_quiet;
   leads_to = λ files. outcome_by writes_bytes (input text image_in files);
 }

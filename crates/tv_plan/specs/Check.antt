@@ -11,9 +11,10 @@ use Rattle.tv_plan.specs.declared.refusal.Finish.TheVariants as finishes
 use Rattle.tv_plan.specs.declared.refusal.What.TheVariants.{TapeWords}
 use Rattle.tv_plan.specs.Claims.{Call, Holds, Then, AnswersOrStops}
 use Rattle.tv_plan.specs.Containers.{system_in, witness_in}
+use Rattle.tv_plan.specs.Flaws.{Flaw, Flaw.{OfSystem, OfWitness}}
 use Rattle.tv_plan.specs.Kinds.{is_verdict}
 use Rattle.tv_plan.specs.Plan.{Named, Plan, Outcome, Look, named, settled, ◌>>=◌, input, outcome_by, name_at}
-use Rattle.tv_plan.specs.Tapes.{publics_in, tape_sizes}
+use Rattle.tv_plan.specs.Tapes.{publics_in, tape_flaws}
 
 -- the system, the witness and the tape, each read to its end and judged before the next, and the verdict on them
 unfoldable pub check_of : Named → Named → Named → Names → Look Verdict
@@ -26,12 +27,16 @@ check_of system witness tape files = do
 abbrev pub check_ends : Verdict → Outcome
 check_ends verdict = record { files = []; finish = finishes.Verdict verdict }
 
+-- what the three files may be refused for, the tape being at this word
+abbrev pub check_flaws : ℕ → List Flaw
+check_flaws tape = OfSystem ∷ OfWitness ∷ tape_flaws tape TapeWords
+
 abbrev pub check_plan : Named → Named → Named → Plan
 check_plan system witness tape = record {
   reads = system ∷ witness ∷ tape ∷ [];
   writes = [];
   amounts = [];
-  sizes = tape_sizes TapeWords;
+  flaws = check_flaws tape.word;
   ends_by = is_verdict;
   leads_to = λ files. outcome_by check_ends (check_of system witness tape files);
 }

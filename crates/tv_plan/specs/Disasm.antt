@@ -14,6 +14,7 @@ use Rattle.tv_plan.specs.declared.refusal.What.TheVariants.{ImageBytes}
 use Rattle.tv_plan.specs.declared.refusal.Stop.{Stop}
 use Rattle.tv_plan.specs.declared.refusal.Stop.TheVariants.{Contents, Memory}
 use Rattle.tv_plan.specs.Claims.{Call, Holds, AnswersOrStops}
+use Rattle.tv_plan.specs.Flaws.{Flaw, Flaw.{OfImage, OverLimit}}
 use Rattle.tv_plan.specs.Kinds.{is_quiet}
 use Rattle.tv_plan.specs.Programs.{bits, image_bytes_most}
 use Rattle.tv_plan.specs.Plan.{Named, Plan, named, within, input, outcome_by, one_name, writes_bytes, name_at}
@@ -31,6 +32,10 @@ text_of w image = if length image % (w / 4) == 0 then Ok (disassembly_of w image
 abbrev pub text_in : Width → List ℕ → Result (List ℕ) Bad
 text_in width = within ImageBytes (image_bytes_most width) (text_of (bits width))
 
+-- what the file of an image may be refused for
+abbrev pub image_flaws : List Flaw
+image_flaws = OverLimit ImageBytes ∷ OfImage ∷ []
+
 -- the width that the word after those of the command names: none is 32, and `16` is 16
 abbrev pub width_word : List (List ℕ) → Option Width
 width_word [] = Some Bits32
@@ -42,7 +47,7 @@ disasm_plan width image text = record {
   reads = image ∷ [];
   writes = text ∷ [];
   amounts = [];
-  sizes = ImageBytes ∷ [];
+  flaws = image_flaws;
   ends_by = is_quiet;
   leads_to = λ files. outcome_by writes_bytes (input image (text_in width) files);
 }

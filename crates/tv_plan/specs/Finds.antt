@@ -7,6 +7,7 @@ use Rattle.tv_plan.specs.declared.refusal.Bad.TheVariants as bad
 use Rattle.tv_plan.specs.declared.refusal.What.{What}
 use Rattle.tv_plan.specs.declared.refusal.Stop.{Stop}
 use Rattle.tv_plan.specs.declared.refusal.Stop.TheVariants.{Fault, Memory, Contents}
+use Rattle.tv_plan.specs.Flaws.{Flaw, flaw_of}
 use Rattle.tv_plan.specs.Plan.{Named, Look, input}
 
 -- what contents are refused for of which something is made; a definition reads no file and never runs out of memory, so
@@ -42,29 +43,29 @@ Spares Memory old new = (new ≡ old) ⊎ RanOut old new
 abbrev pub Leaves : {X : Type 0} → Result X Stop → Outside → Outside → Type 0
 Leaves found old new = MatchResult found (λ _. new ≡ old) (λ stop. Spares stop old new)
 
--- a reading of files: the words at which their names stand, the quantities whose limits what they hold may pass, and
--- what is due by their contents
+-- a reading of files: the words at which their names stand, what they may be refused for, and what is due by their
+-- contents
 pub record Reading (A : Type 0) : Type 0 where
   pub words : List ℕ
-  pub sizes : List What
+  pub flaws : List Flaw
   pub due : Names → Look A
 
-abbrev pub reading : {A : Type 0} → List ℕ → List What → (Names → Look A) → Reading A
-reading words sizes due = record { words = words; sizes = sizes; due = due }
+abbrev pub reading : {A : Type 0} → List ℕ → List Flaw → (Names → Look A) → Reading A
+reading words flaws due = record { words = words; flaws = flaws; due = due }
 
 -- that of one file
-abbrev pub reading_of : {A : Type 0} → Named → List What → (List ℕ → Result A Bad) → Reading A
-reading_of place sizes read = reading (place.word ∷ []) sizes (input place read)
+abbrev pub reading_of : {A : Type 0} → Named → List Flaw → (List ℕ → Result A Bad) → Reading A
+reading_of place flaws read = reading (place.word ∷ []) flaws (input place read)
 
--- Files were read, and this was found. What they hold may pass the limits of the reading's quantities alone, be their
--- contents known or not.
+-- Files were read, and this was found. They are refused for what those of the reading may be alone, be their contents
+-- known or not.
 pub record Finds {X A : Type 0} (view : X → A) (of : Reading A) (old new : Outside) (found : Result X Stop) : Type 0 where
   pub known : WhereKnown old (λ files. IsFound view (of.due files) found)
   pub absent : WhereKnown old (λ files. (new.absent ≡ old.absent) ⊎ ((word : ℕ) × ((of.due files).gives ≡ Err (Fault word))))
   pub only : OnlyReads old new
   pub leaves : Leaves found old new
   pub caused : (word : ℕ) → found ≡ Err (Fault word) → IsOneOf word of.words × Rose old.read_faults new.read_faults
-  pub limits : (what : What) (has most : ℕ) → found ≡ Err (Contents (bad.Limit what has most)) → IsOneOf what of.sizes
+  pub flaws : (why : Bad) → found ≡ Err (Contents why) → IsOneOf (flaw_of why) of.flaws
 
 -- what was made is what is due, or memory was wanting; no file is read
 abbrev pub Makes : {X A : Type 0} → (X → A) → Result A Bad → Result X Stop → Type 0

@@ -7,12 +7,12 @@ use Rattle.tv_step.specs.Range.{AreWords}
 use Rattle.tv_step.specs.declared.end.End.{End}
 use Rattle.tv_plan.specs.declared.inputs.Inputs.{Inputs}
 use Rattle.tv_plan.specs.declared.refusal.Bad.{Bad}
-use Rattle.tv_plan.specs.declared.refusal.What.{What}
 use Rattle.tv_plan.specs.declared.refusal.What.TheVariants.{TapeWords, AuxWords}
 use Rattle.tv_plan.specs.Claims.{Holds, Then}
+use Rattle.tv_plan.specs.Flaws.{Flaw}
 use Rattle.tv_plan.specs.Plan.{Named, Look, ◌>>=◌, input, settled}
-use Rattle.tv_plan.specs.Programs.{HasImage, bits, program_in, program_sizes}
-use Rattle.tv_plan.specs.Tapes.{numbers_in, tape_sizes}
+use Rattle.tv_plan.specs.Programs.{HasImage, bits, program_in, program_flaws}
+use Rattle.tv_plan.specs.Tapes.{numbers_in, tape_flaws}
 
 -- the files of the two tapes, each at a word: words of a width
 abbrev pub primary_in : ℕ → ℕ → List ℕ → Result (List ℕ) Bad
@@ -29,9 +29,9 @@ inputs_of text tape aux files = do
   auxiliary ← input aux (aux_in aux.word (bits program.width)) files
   settled (Ok (record { program = program; tape = primary; aux = auxiliary }))
 
--- the quantities of which the three files may hold too many
-abbrev pub input_sizes : List What
-input_sizes = program_sizes ++ tape_sizes TapeWords ++ tape_sizes AuxWords
+-- what the three files may be refused for, the tapes being at these words
+abbrev pub input_flaws : ℕ → ℕ → List Flaw
+input_flaws tape aux = program_flaws ++ tape_flaws tape TapeWords ++ tape_flaws aux AuxWords
 
 -- words of the program's width, and no more of them than are allowed
 pub record AreInputs (inputs : Inputs) : Type 0 where

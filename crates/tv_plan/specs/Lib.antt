@@ -2,6 +2,7 @@ pub mod Status
 pub mod Codes
 pub mod Contents
 pub mod Plan
+pub mod Flaws
 pub mod Finds
 pub mod Ends
 pub mod Answers

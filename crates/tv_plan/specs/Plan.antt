@@ -17,6 +17,7 @@ use Rattle.tv_plan.specs.declared.refusal.Refusal.TheVariants.{Usage, SameName, 
 use Rattle.tv_plan.specs.declared.refusal.Stop.{Stop}
 use Rattle.tv_plan.specs.declared.refusal.Stop.TheVariants as stop
 use Rattle.tv_plan.specs.Contents.{Content, Content.{Bytes}}
+use Rattle.tv_plan.specs.Flaws.{Flaw}
 
 -- a word that is a file's name
 pub record Named : Type 0 where
@@ -56,13 +57,13 @@ pub record Amount : Type 0 where
   pub most : ℕ
 
 -- The names that are read and that are written, in order of their words; the quantities among the words, with their
--- limits; the quantities of which the files that are read may hold too many; how it may end; and what the files'
+-- limits; what the files that are read may be refused for; how it may end; and what the files'
 -- contents lead to.
 pub record Plan : Type 0 where
   pub reads : List Named
   pub writes : List Named
   pub amounts : List Amount
-  pub sizes : List What
+  pub flaws : List Flaw
   pub ends_by : Finish → Bool
   pub leads_to : Names → Look Outcome
 

@@ -13,11 +13,11 @@ use Rattle.tv_plan.specs.declared.programs.Width.{Width}
 use Rattle.tv_plan.specs.declared.programs.Width.TheVariants.{Bits16, Bits32}
 use Rattle.tv_plan.specs.declared.refusal.Bad.{Bad}
 use Rattle.tv_plan.specs.declared.refusal.Bad.TheVariants as bad
-use Rattle.tv_plan.specs.declared.refusal.What.{What}
 use Rattle.tv_plan.specs.declared.refusal.What.TheVariants.{ImageWords, TextBytes}
 use Rattle.tv_plan.specs.declared.refusal.Stop.{Stop}
 use Rattle.tv_plan.specs.declared.refusal.Stop.TheVariants.{Contents, Memory}
 use Rattle.tv_plan.specs.Finds.{made_by}
+use Rattle.tv_plan.specs.Flaws.{Flaw, Flaw.{OfProgram, OverLimit}}
 use Rattle.tv_plan.specs.Plan.{within, map_ok}
 
 -- how many bits a word has
@@ -69,9 +69,9 @@ program_of text = program_by (width_of_text text) text
 unfoldable pub image_of : List ℕ → Result (List ℕ) Bad
 image_of text = map_ok image_bytes (program_of text)
 
--- the quantities of which the file of a program text may hold too many
-abbrev pub program_sizes : List What
-program_sizes = TextBytes ∷ ImageWords ∷ []
+-- what the file of a program text may be refused for
+abbrev pub program_flaws : List Flaw
+program_flaws = OverLimit TextBytes ∷ OverLimit ImageWords ∷ OfProgram ∷ []
 
 -- the file of a program text, which may have this many bytes: its program
 abbrev pub program_in : List ℕ → Result Program Bad

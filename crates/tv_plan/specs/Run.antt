@@ -12,7 +12,7 @@ use Rattle.tv_plan.specs.declared.refusal.What.TheVariants.{Steps}
 use Rattle.tv_plan.specs.declared.run.RunArgs.{RunArgs}
 use Rattle.tv_plan.specs.Claims.{Call, AnswersOrStops}
 use Rattle.tv_plan.specs.Kinds.{is_run}
-use Rattle.tv_plan.specs.Inputs.{inputs_of, input_sizes, run_end, HasInputs}
+use Rattle.tv_plan.specs.Inputs.{inputs_of, input_flaws, run_end, HasInputs}
 use Rattle.tv_plan.specs.Plan.{Named, Plan, Outcome, named, outcome_by, name_at}
 use Rattle.tv_plan.specs.Programs.{bits}
 
@@ -24,7 +24,7 @@ run_plan text tape aux steps = record {
   reads = text ∷ tape ∷ aux ∷ [];
   writes = [];
   amounts = record { what = Steps; has = steps; least = 1; most = STEPS } ∷ [];
-  sizes = input_sizes;
+  flaws = input_flaws tape.word aux.word;
   ends_by = is_run;
   leads_to = λ files. outcome_by (run_ends steps) (inputs_of text tape aux files);
 }

@@ -12,6 +12,7 @@ use Rattle.tv_plan.specs.declared.refusal.What.TheVariants.{TapeWords, TextBytes
 use Rattle.tv_plan.specs.declared.refusal.Stop.{Stop}
 use Rattle.tv_plan.specs.declared.refusal.Stop.TheVariants.{Contents, Memory}
 use Rattle.tv_plan.specs.Finds.{made_by}
+use Rattle.tv_plan.specs.Flaws.{Flaw, Flaw.{OfTape, OverLimit}}
 use Rattle.tv_plan.specs.Plan.{within}
 
 -- what a fault of the tape at a word is; it is one item more that passes the limit
@@ -25,9 +26,9 @@ tape_stop word what tape.Memory = Memory
 unfoldable pub numbers_of : ℕ → What → ℕ → ℕ → List ℕ → Result (List ℕ) Bad
 numbers_of word what below most text = made_by what (tape_stop word what) (tape_of text below most)
 
--- the quantities of which the file of a tape may hold too many, the numbers being of this one
-abbrev pub tape_sizes : What → List What
-tape_sizes what = TextBytes ∷ what ∷ []
+-- what the file of the tape at a word may be refused for, the numbers being of this quantity
+abbrev pub tape_flaws : ℕ → What → List Flaw
+tape_flaws word what = OverLimit TextBytes ∷ OverLimit what ∷ OfTape word ∷ []
 
 -- the file of the tape at a word, which may have this many bytes: its numbers
 abbrev pub numbers_in : ℕ → What → ℕ → ℕ → List ℕ → Result (List ℕ) Bad

@@ -3,7 +3,7 @@ ghost use Rattle.std.specs.Prelude.{◌≡◌, IfOk, refl};
 ghost use Rattle.tv_plan.specs.Asm.{image_in, asm_asks, asm_form};
 ghost use Rattle.tv_plan.specs.Finds.{Finds, Makes, reading_of};
 ghost use Rattle.tv_plan.specs.Plan.{input, named};
-ghost use Rattle.tv_plan.specs.Programs.{image_bytes, image_of, program_sizes};
+ghost use Rattle.tv_plan.specs.Programs.{image_bytes, image_of, program_flaws};
 
 use crate::bytes::limited_bytes;
 use crate::job::Job;
@@ -72,7 +72,7 @@ fn image_of(alloc: Global, text: &[u8]) -> Result<Vec<u8>, Stop>
 /// The image of the program text of this name.
 #[tactic(auto, unfolding(crate::specs::Plan::input))]
 fn read_image<D: Files>(alloc: Global, files: &mut D, place: Place<'_>) -> Result<Vec<u8>, Stop>
-    ensures { Finds (λ v. v.items) (reading_of (named place.entry) program_sizes image_in)
+    ensures { Finds (λ v. v.items) (reading_of (named place.entry) program_flaws image_in)
         (D.seen files.old) (D.seen files.new) result }
 {
     let text = limited_bytes(alloc, files, place, What::TextBytes, TEXT_BYTES)?;

@@ -1,6 +1,7 @@
 //! Whole files of a bounded number of bytes.
 ghost use Rattle.std.specs.Prelude.{◌+◌, ◌<◌, ◌^◌, [], ◌∷◌, Ok};
 ghost use Rattle.tv_plan.specs.Finds.{Finds, reading_of};
+ghost use Rattle.tv_plan.specs.Flaws.{Flaw.{OverLimit}};
 ghost use Rattle.tv_plan.specs.Plan.{input, named, within};
 
 use crate::place::Place;
@@ -19,7 +20,8 @@ pub(crate) fn limited_bytes<D: Files>(
 ) -> Result<Vec<u8>, Stop>
     requires { most + 1 < 2 ^ 64 }
     ensures { Finds (λ v. v.items)
-        (reading_of (named place.entry) (what ∷ []) (within what most (λ bytes. Ok bytes)))
+        (reading_of (named place.entry) (OverLimit what ∷ [])
+        (within what most (λ bytes. Ok bytes)))
         (D.seen files.old) (D.seen files.new) result }
 {
     slurp(alloc, files, place.name, most).map_err(|why| match why {

@@ -1,11 +1,9 @@
 //! `check SYSTEM WITNESS PUBLIC`: the three files, each read to its end and judged before the next,
 //! and the verdict on them.
 ghost use Rattle.std.specs.Prelude.{[], ◌∷◌, refl};
-ghost use Rattle.tv_plan.specs.Check.{check_of, check_asks, check_form};
-ghost use Rattle.tv_plan.specs.declared.refusal.What.TheVariants.{TapeWords};
+ghost use Rattle.tv_plan.specs.Check.{check_of, check_asks, check_flaws, check_form};
 ghost use Rattle.tv_plan.specs.Finds.{Finds, reading};
 ghost use Rattle.tv_plan.specs.Plan.{named};
-ghost use Rattle.tv_plan.specs.Tapes.{tape_sizes};
 
 use crate::containers::{judge_system, read_first_witness, survey_system};
 use crate::job::Job;
@@ -55,7 +53,7 @@ impl<'a> Job<'a> for CheckArgs<'a> {
 fn verdict_on<D: Files>(alloc: Global, files: &mut D, args: CheckArgs<'_>) -> Result<Verdict, Stop>
     ensures { let args = args.entry in
         Finds (λ v. v) (reading (args.system.word ∷ args.witness.word ∷ args.tape.word ∷ [])
-        (tape_sizes TapeWords)
+        (check_flaws args.tape.word)
         (check_of (named args.system) (named args.witness) (named args.tape)))
         (D.seen files.old) (D.seen files.new) result }
 {

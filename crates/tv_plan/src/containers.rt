@@ -1,8 +1,9 @@
 //! Systems and assignments, each read from its file to the end.
-ghost use Rattle.std.specs.Prelude.{◌≡◌, []};
+ghost use Rattle.std.specs.Prelude.{◌≡◌, [], ◌∷◌};
 ghost use Rattle.tv_plan.specs.Containers.{counts_in, firsts_in_witness, verdict_in};
 ghost use Rattle.tv_plan.specs.Containers.{refusal_stop, system_bad};
 ghost use Rattle.tv_plan.specs.Finds.{Finds, reading_of};
+ghost use Rattle.tv_plan.specs.Flaws.{Flaw.{OfSystem, OfWitness}};
 ghost use Rattle.tv_plan.specs.Plan.{named};
 ghost use Rattle.tv_wtns.specs.Wtns.{firsts_in};
 
@@ -33,7 +34,7 @@ pub(crate) fn survey_system<D: Files>(
     files: &mut D,
     place: Place<'_>,
 ) -> Result<Counts, Stop>
-    ensures { Finds (λ counts. counts) (reading_of (named place.entry) [] counts_in)
+    ensures { Finds (λ counts. counts) (reading_of (named place.entry) (OfSystem ∷ []) counts_in)
         (D.seen files.old) (D.seen files.new) result }
 {
     survey(alloc, files, place.name).map_err(|why| system_stop(place.word, why))
@@ -46,7 +47,8 @@ pub fn read_first_witness<D: Files>(
     place: Place<'_>,
     most: u32,
 ) -> Result<FirstValues, Stop>
-    ensures { Finds firsts_in (reading_of (named place.entry) [] (firsts_in_witness most))
+    ensures { Finds firsts_in (reading_of (named place.entry) (OfWitness ∷ [])
+        (firsts_in_witness most))
         (D.seen files.old) (D.seen files.new) result }
 {
     read_first_values(alloc, files, place.name, most).map_err(|refusal| match refusal {
@@ -65,7 +67,8 @@ pub(crate) fn judge_system<D: Files>(
     publics: &[F],
 ) -> Result<Verdict, Stop>
     ensures { Finds (λ verdict. verdict)
-        (reading_of (named place.entry) [] (verdict_in values.now publics.now))
+        (reading_of (named place.entry) (OfSystem ∷ [])
+        (verdict_in values.now publics.now))
         (D.seen files.old) (D.seen files.new) result }
 {
     check(alloc, files, place.name, values, publics).map_err(|why| system_stop(place.word, why))

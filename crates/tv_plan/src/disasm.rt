@@ -1,7 +1,7 @@
 //! `disasm IMAGE TEXT` and `disasm IMAGE TEXT 16`: the program text of an image.
-ghost use Rattle.std.specs.Prelude.{◌≡◌, [], ◌∷◌, map, string_bytes, refl};
+ghost use Rattle.std.specs.Prelude.{◌≡◌, map, string_bytes, refl};
 ghost use Rattle.tv_plan.specs.Disasm.{text_of, text_in, width_word, disasm_asks, disasm_form};
-ghost use Rattle.tv_plan.specs.declared.refusal.What.TheVariants.{ImageBytes};
+ghost use Rattle.tv_plan.specs.Disasm.{image_flaws};
 ghost use Rattle.tv_plan.specs.Finds.{Finds, Makes, reading_of};
 ghost use Rattle.tv_plan.specs.Plan.{input, named};
 ghost use Rattle.tv_plan.specs.Programs.{bits};
@@ -68,7 +68,7 @@ fn read_text<D: Files>(
     place: Place<'_>,
 ) -> Result<Vec<u8>, Stop>
     ensures { Finds (λ v. v.items)
-        (reading_of (named place.entry) (ImageBytes ∷ []) (text_in width))
+        (reading_of (named place.entry) image_flaws (text_in width))
         (D.seen files.old) (D.seen files.new) result }
 {
     let most = width.image_bytes_most();

@@ -1,7 +1,7 @@
 //! A program and the two tapes of its run, each read and judged before the next.
 ghost use Rattle.std.specs.Prelude.{[], ◌∷◌, IfOk};
 ghost use Rattle.tv_plan.specs.Finds.{Finds, reading};
-ghost use Rattle.tv_plan.specs.Inputs.{AreInputs, input_sizes, inputs_of};
+ghost use Rattle.tv_plan.specs.Inputs.{AreInputs, input_flaws, inputs_of};
 ghost use Rattle.tv_plan.specs.Plan.{named};
 
 use crate::place::Place;
@@ -30,7 +30,8 @@ pub fn read_inputs<D: Files>(
     aux: Place<'_>,
 ) -> Result<Inputs, Stop>
     ensures found { Finds (λ inputs. inputs)
-        (reading (text.entry.word ∷ tape.entry.word ∷ aux.entry.word ∷ []) input_sizes
+        (reading (text.entry.word ∷ tape.entry.word ∷ aux.entry.word ∷ [])
+        (input_flaws tape.entry.word aux.entry.word)
         (inputs_of (named text.entry) (named tape.entry) (named aux.entry)))
         (D.seen files.old) (D.seen files.new) result }
     ensures fit { IfOk result AreInputs }

@@ -25,7 +25,7 @@ pub trait Job<'a> {
     fn perform<D: Files>(self, alloc: Global, files: &mut D) -> Result<Finish, Stop>
         ensures { Does (asks self) (D.seen files.old) (D.seen files.new) result };
 
-    ghost apart: { (job : Self) → is_shared (asks job).amounts (asks job).sizes ≡ false };
+    ghost apart: { (job : Self) → is_shared (asks job).amounts (asks job).flaws ≡ false };
 }
 
 /// Does what the words after a command's name ask for, and says the line of its end. The call has

@@ -29,7 +29,7 @@ pub use containers::read_first_witness;
 pub use disasm::DisasmArgs;
 pub use inputs::{Inputs, read_inputs};
 pub use job::{Job, carry_out};
-pub use laws::{definitions_want_no_memory, image_comes_back};
+pub use laws::{definitions_want_no_memory, image_comes_back, image_files_are_limited};
 pub use output::{conclude, streamed, write_bytes};
 pub use place::{Place, keep_apart};
 pub use programs::{Program, Width, read_program};

@@ -3,7 +3,7 @@ ghost use Rattle.std.specs.Prelude.{◌≡◌, ◌≤◌, ◌/◌, ◌^◌, IfOk
 ghost use Rattle.tv_plan.specs.Finds.{Finds, Makes, reading_of};
 ghost use Rattle.tv_plan.specs.Plan.{input, named};
 ghost use Rattle.tv_plan.specs.Programs.{HasImage, bits, image_bytes_most};
-ghost use Rattle.tv_plan.specs.Programs.{program_of, program_in, program_sizes};
+ghost use Rattle.tv_plan.specs.Programs.{program_of, program_in, program_flaws};
 
 use crate::bytes::limited_bytes;
 use crate::place::Place;
@@ -90,7 +90,7 @@ pub fn read_program<D: Files>(
     place: Place<'_>,
 ) -> Result<Program, Stop>
     ensures found { Finds (λ program. program)
-        (reading_of (named place.entry) program_sizes program_in)
+        (reading_of (named place.entry) program_flaws program_in)
         (D.seen files.old) (D.seen files.new) result }
     ensures fits { IfOk result (λ program. HasImage program) }
 {

@@ -4,7 +4,7 @@ ghost use Rattle.tv_core.specs.declared.field.TheConstants.{P};
 ghost use Rattle.tv_plan.specs.declared.refusal.What.TheVariants as size;
 ghost use Rattle.tv_plan.specs.Finds.{Finds, reading_of};
 ghost use Rattle.tv_plan.specs.Plan.{input, named};
-ghost use Rattle.tv_plan.specs.Tapes.{AreTold, tape_stop, numbers_in, publics_in, tape_sizes};
+ghost use Rattle.tv_plan.specs.Tapes.{AreTold, tape_stop, numbers_in, publics_in, tape_flaws};
 
 use crate::bytes::limited_bytes;
 use crate::place::Place;
@@ -44,7 +44,8 @@ fn read_numbers<D: Files>(
     below: u64,
     most: u32,
 ) -> Result<Vec<u64>, Stop>
-    ensures found { Finds (λ v. v.items) (reading_of (named place.entry) (tape_sizes what)
+    ensures found { Finds (λ v. v.items)
+        (reading_of (named place.entry) (tape_flaws place.entry.word what)
         (numbers_in place.entry.word what below most))
         (D.seen files.old) (D.seen files.new) result }
     ensures known { IfOk result (λ v. AreTold below most v.items) }
@@ -71,7 +72,8 @@ pub(crate) fn read_publics<D: Files>(
     place: Place<'_>,
 ) -> Result<Vec<F>, Stop>
     ensures { Finds (λ v. v.items)
-        (reading_of (named place.entry) (tape_sizes size.TapeWords) (publics_in place.entry.word))
+        (reading_of (named place.entry) (tape_flaws place.entry.word size.TapeWords)
+        (publics_in place.entry.word))
         (D.seen files.old) (D.seen files.new) result }
 {
     let numbers = read_numbers(alloc, files, place, What::TapeWords, P, CHECK_WORDS)?;
@@ -99,7 +101,8 @@ pub(crate) fn read_words<D: Files>(
     most: u32,
 ) -> Result<Words, Stop>
     requires { below ≤ 2 ^ 32 }
-    ensures found { Finds (λ words. words) (reading_of (named place.entry) (tape_sizes what)
+    ensures found { Finds (λ words. words)
+        (reading_of (named place.entry) (tape_flaws place.entry.word what)
         (numbers_in place.entry.word what below most))
         (D.seen files.old) (D.seen files.new) result }
     ensures below { IfOk result (λ words. All (λ v. v < below) words) }

@@ -1,11 +1,11 @@
 -- What comes before the constraints, step by step.
-use Rattle.tv_core.proofs.Common.{◌≡◌, ℕ, List, Result, Ok, Err, ap}
+use Rattle.tv_core.proofs.Common.{◌≡◌, ℕ, List, false, Result, Ok, Err, ap}
 use Rattle.std.specs.Prelude.{IfErr, IfOk, OnOk}
 use Rattle.tv_files.specs.Outside.{Outside}
-use Rattle.tv_container.proofs.Chain.{reads_done, stopped_here}
+use Rattle.tv_container.proofs.Chain.{reads_done, reads_own}
 use Rattle.tv_container.specs.declared.why.ReadRefusal.{ReadRefusal}
 use Rattle.tv_container.specs.Places.{Fault}
-use Rattle.tv_container.specs.Reading.{IsNotFault, Piece, ReadsIn}
+use Rattle.tv_container.specs.Reading.{IsOwn, Piece, ReadsIn}
 use Rattle.tv_container.specs.declared.sections.Section.{Section}
 use Rattle.tv_r1cs_read.specs.declared.header.Header.{Header}
 use Rattle.tv_r1cs_read.specs.R1cs.{HasRoom, counted, checked, header_in}
@@ -33,11 +33,7 @@ checked_room (Ok checked) header same room = rw same room
 checked_room (Err why) header same room = tt
 
 -- which reads nothing
-pub reads_by : {outside : Outside} {name : List ℕ} {piece : Piece} (result : Result Header ReadRefusal) → IfErr result IsNotFault →
+pub reads_by : {outside : Outside} {name : List ℕ} {piece : Piece} (result : Result Header ReadRefusal) → IfErr result (IsOwn false) →
     ReadsIn outside outside name piece piece result (λ file. Unit {0})
-reads_by (Ok checked) known = reads_done
-reads_by {outside} {name} (Err why) known = record {
-  looks = stopped_here outside name why known;
-  piece = λ file seen piece. tt;
-  gives = λ file seen piece. tt;
-}
+reads_by (Ok checked) own = reads_done
+reads_by (Err why) own = reads_own own

@@ -1,6 +1,6 @@
 pub mod Ahead
 pub mod Constraints
-mod Done
+pub mod Done
 pub mod HeaderLemmas
 mod Vectors
 mod Sums

@@ -1,11 +1,11 @@
 -- A step of reading, by its place in the file.
-use Rattle.tv_core.proofs.Common.{◌≡◌, ℕ, ◌+◌, ◌-◌, ◌*◌, ◌<◌, ◌≤◌, Bool, List, [], ◌∷◌, ◌++◌, Option, Some, None, Ok, Err, refl, sym, ◌∙◌, arith}
+use Rattle.tv_core.proofs.Common.{◌≡◌, ℕ, ◌+◌, ◌-◌, ◌*◌, ◌<◌, ◌≤◌, Bool, false, List, [], ◌∷◌, ◌++◌, Option, Some, None, Ok, Err, refl, sym, ◌∙◌, arith}
 use Rattle.tv_core.proofs.Common.{Constraint}
 use Rattle.tv_core.specs.Meanings.{terms_of}
 use Rattle.tv_files.specs.Outside.{Outside}
 use Rattle.tv_container.specs.declared.why.ReadRefusal.{ReadRefusal}
 use Rattle.tv_container.specs.Places.{places}
-use Rattle.tv_container.specs.Reading.{IsPiece, Piece, ReadsIn, Refuses}
+use Rattle.tv_container.specs.Reading.{IsPiece, Piece, ReadsIn, ReadsInBy, Refuses}
 use Rattle.tv_r1cs_read.specs.declared.header.Header.{Header}
 use Rattle.tv_r1cs_read.specs.declared.rows.Row.{Row}
 use Rattle.tv_r1cs_read.specs.declared.terms.Bounds.{Bounds}
@@ -15,7 +15,7 @@ use Rattle.tv_r1cs_read.specs.R1cs.{constraint_at}
 use Rattle.tv_r1cs_read.specs.Rows.{constraint_of, constraint_read, terms_in}
 use Rattle.tv_r1cs_read.specs.Steps.{Steps, Tried}
 use Rattle.tv_r1cs_read.specs.Sums.{IsTried}
-use Rattle.tv_r1cs_read.proofs.Constraints.{constraints_from-next, constraints_from-refuses}
+use Rattle.tv_r1cs_read.proofs.Constraints.{constraints_from-refuses}
 use Rattle.tv_r1cs_read.proofs.Done.{is_on, next_at, one_more, refuses_ahead, terms_rise}
 use Rattle.tv_r1cs_read.proofs.Failures.{over_one}
 
@@ -43,8 +43,7 @@ module _ (header : Header) (old new : Piece) (at left : ℕ) (stopped : Option R
   one_tried z file rows holds next place piece tried =
       one_more file (reached_at header old at left stopped) (reached_at header new next (left - 1) stopped) rows tried.constraint place
       (record { piece = piece; within = place.follows.within; on = on }) refl
-      (rw tried.size (terms_rise header at left (terms_of tried.constraint) within some))
-      (constraints_from-next file header.wires left (left - 1) at header.rows _ (omega (arith, some)) (rw (wires, end) at tried.read))
+      (omega (arith, some)) (rw tried.size (terms_rise header at left (terms_of tried.constraint) within some)) (rw (wires, end) at tried.read)
 
   -- or put into a row
   one_read : (file : List ℕ) (rows : List Constraint) (row : Row) (next : ℕ) → next ≡ at + 12 + 12 * terms_in row →
@@ -54,13 +53,12 @@ module _ (header : Header) (old new : Piece) (at left : ℕ) (stopped : Option R
   one_read file rows row next size place piece read =
       next_at file (reached_at header old at left stopped) (reached_at header new next (left - 1) stopped) rows row place
       (record { piece = piece; within = place.follows.within; on = on }) refl
-      (rw size (terms_rise header at left (terms_in row) within some))
-      (constraints_from-next file header.wires left (left - 1) at header.rows _ (omega (arith, some)) (rw (wires, end) at read))
+      (omega (arith, some)) (rw size (terms_rise header at left (terms_in row) within some)) (rw (wires, end) at read)
 
   pub tried_steps : {T : Type 0} {before after : Outside} {name : List ℕ} {value : T} (z : List ℕ) (holds : Bool) (next : ℕ) →
       ReadsIn before after name old new (Ok value) (λ file. bounds.end ≤ places file → IsTried (constraint_at file bounds.wires bounds.end at) z holds
       at next) →
-      Steps before after name (reached_at header old at left stopped) (reached_at header new next (left - 1) stopped)
+      Steps false before after name (reached_at header old at left stopped) (reached_at header new next (left - 1) stopped)
       (λ file rows. Tried holds z (reached_at header old at left stopped) (reached_at header new next (left - 1) stopped) file rows)
   tried_steps z holds next reads = record {
     header = refl;
@@ -73,10 +71,10 @@ module _ (header : Header) (old new : Piece) (at left : ℕ) (stopped : Option R
         tried.is (omega (arith, some)));
   }
 
-  pub read_steps : {T : Type 0} {before after : Outside} {name : List ℕ} {value : T} (row : Row) (next : ℕ) →
-      ReadsIn before after name old new (Ok value) (λ file. bounds.end ≤ places file → constraint_at file bounds.wires bounds.end at
+  pub read_steps : {T : Type 0} {keeps : Bool} {before after : Outside} {name : List ℕ} {value : T} (row : Row) (next : ℕ) →
+      ReadsInBy keeps before after name old new (Ok value) (λ file. bounds.end ≤ places file → constraint_at file bounds.wires bounds.end at
       ≡ Ok (constraint_read row next)) → next ≡ at + 12 + 12 * terms_in row →
-      Steps before after name (reached_at header old at left stopped) (reached_at header new next (left - 1) stopped)
+      Steps keeps before after name (reached_at header old at left stopped) (reached_at header new next (left - 1) stopped)
       (λ file rows. IsAt (reached_at header new next (left - 1) stopped) file (rows ++ constraint_of row ∷ []))
   read_steps row next reads size = record {
     header = refl;
@@ -87,9 +85,10 @@ module _ (header : Header) (old new : Piece) (at left : ℕ) (stopped : Option R
   }
 
   -- or it is refused
-  pub refused_steps : {T : Type 0} {before after : Outside} {name : List ℕ} {why : ReadRefusal} {Gives : List ℕ → List Constraint → Type 0} →
-      ReadsIn {A = T} before after name old new (Err why) (λ file. bounds.end ≤ places file → Refuses why (constraint_at file bounds.wires bounds.end at)) →
-      Steps before after name (reached_at header old at left stopped) (reached_at header new at left (Some why)) Gives
+  pub refused_steps : {T : Type 0} {keeps : Bool} {before after : Outside} {name : List ℕ} {why : ReadRefusal} {Gives : List ℕ → List Constraint → Type 0} →
+      ReadsInBy {A = T} keeps before after name old new (Err why) (λ file. bounds.end ≤ places file
+      → Refuses why (constraint_at file bounds.wires bounds.end at)) →
+      Steps keeps before after name (reached_at header old at left stopped) (reached_at header new at left (Some why)) Gives
   refused_steps {why = why} reads = record {
     header = refl;
     again = λ other is. never_stopped stopped other on is;

@@ -4,7 +4,7 @@ use Rattle.std.specs.Prelude.{Result, MatchResult}
 use Rattle.tv_files.specs.Outside.{Outside}
 use Rattle.tv_core.specs.Constraints.{Constraint}
 use Rattle.tv_core.specs.Meanings.{first_failure}
-use Rattle.tv_container.specs.Reading.{Known, Refuses, Stopped}
+use Rattle.tv_container.specs.Reading.{Known, Refuses, StoppedBy}
 use Rattle.tv_container.specs.declared.why.ReadRefusal.{ReadRefusal}
 use Rattle.tv_r1cs_read.specs.declared.rows.Row.{Row}
 use Rattle.tv_r1cs_read.specs.Places.{IsAt, IsAll}
@@ -12,14 +12,15 @@ use Rattle.tv_r1cs_read.specs.Progress.{Reached}
 use Rattle.tv_r1cs_read.specs.R1cs.{r1cs_system}
 use Rattle.tv_r1cs_read.specs.Rows.{constraint_of, terms_in, IsOver}
 
--- reading a name went on from one state to another, while all outside went from `before` to `after`
-pub record Steps (before after : Outside) (name : List ℕ) (old new : Reached) (Gives : List ℕ → List Constraint → Type 0) : Type 0 where
+-- reading a name went on from one state to another, while all outside went from `before` to `after`; it may keep what it
+-- reads
+pub record Steps (keeps : Bool) (before after : Outside) (name : List ℕ) (old new : Reached) (Gives : List ℕ → List Constraint → Type 0) : Type 0 where
   -- the header stays
   pub header : new.header ≡ old.header
   -- where reading had stopped, nothing changes
   pub again : (why : ReadRefusal) → old.stopped ≡ Some why → (new ≡ old) × (after ≡ before)
   -- else all outside stays, or reading stops
-  pub looks : old.stopped ≡ None → MatchOption new.stopped (after ≡ before) (λ why. Stopped before after name why)
+  pub looks : old.stopped ≡ None → MatchOption new.stopped (after ≡ before) (λ why. StoppedBy keeps before after name why)
   -- after these constraints of the file, the step returns what is next in it, or reading stops at the file's first
   -- fault
   pub gives : (rows : List Constraint) → Known before name (λ file. IsAt old file rows

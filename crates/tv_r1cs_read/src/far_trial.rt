@@ -1,6 +1,6 @@
 //! A constraint tried as it is read, a piece of a combination at a time, with no term kept.
 
-ghost use Rattle.std.specs.Prelude.{◌≡◌, ◌+◌, ◌*◌, ◌≤◌, IfOk, MatchResult, slice_index};
+ghost use Rattle.std.specs.Prelude.{◌≡◌, ◌+◌, ◌*◌, ◌≤◌, false, IfOk, MatchResult, slice_index};
 ghost use Rattle.tv_container.specs.Places.{places};
 ghost use Rattle.tv_container.specs.Reading.{ReadsIn, Refuses};
 ghost use Rattle.tv_r1cs_read.specs.R1cs.{constraint_at};
@@ -65,6 +65,8 @@ fn value_at(wire: u32, values: &[F]) -> F
 }
 
 impl Taker for Sum {
+    ghost keeps = { false };
+
     ghost Took = { λ sum z terms. IsSum z sum terms };
 
     // After the term, as many as the window holds are summed at once, up to the first that isn't as

@@ -1,9 +1,9 @@
 //! The header of a system's file.
 ghost use Rattle.std.specs.Prelude.{◌≡◌, ℕ, ◌+◌, ◌≤◌, ◌<◌, ◌^◌, List, [], length, Ok};
-ghost use Rattle.std.specs.Prelude.{Err, IfOk, IfErr, OnOk};
+ghost use Rattle.std.specs.Prelude.{Err, IfOk, IfErr, OnOk, false};
 ghost use Rattle.tv_container.specs.Found.{first_of, AllEnd, AllFit};
 ghost use Rattle.tv_container.specs.Places.{places};
-ghost use Rattle.tv_container.specs.Reading.{ReadsAs, IsMissing, IsNotFault, InPiece, ReadsIn};
+ghost use Rattle.tv_container.specs.Reading.{ReadsAs, IsMissing, IsOwn, InPiece, ReadsIn};
 ghost use Rattle.tv_r1cs_read.specs.R1cs.{HasRoom, checked, counted, header_in, header_of};
 ghost use Rattle.tv_container.specs.declared.sections.Section.{Section};
 
@@ -114,7 +114,7 @@ fn checked(header: Header, one: &Section, three: Option<Section>) -> Result<Head
     ensures gives { ReadsAs result (checked header one.now three) }
     ensures same { IfOk result (λ checked. checked ≡ header) }
     ensures room { OnOk result (HasRoom header) }
-    ensures no_fault { IfErr result IsNotFault }
+    ensures own { IfErr result (IsOwn false) }
 {
     let wires = u64::from(header.wires);
     let public = 1 + u64::from(header.outputs) + u64::from(header.inputs);

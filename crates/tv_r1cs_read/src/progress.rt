@@ -1,6 +1,6 @@
 //! How far reading of a system has come, and its constraints read or evaluated in turn.
 ghost use Rattle.std.specs.Prelude.{◌≡◌, ℕ, ◌+◌, ◌<◌, List, [], None, Err, IfOk, IfSome};
-ghost use Rattle.std.specs.Prelude.{IsNone, IsSome, MatchResult};
+ghost use Rattle.std.specs.Prelude.{IsNone, IsSome, MatchResult, Bool, true, false};
 ghost use Rattle.tv_files.specs.Outside.{Outside};
 ghost use Rattle.tv_container.specs.Reading.{Looks, Refuses, IsMissing, Known};
 ghost use Rattle.tv_container.specs.declared.why.ReadRefusal.{ReadRefusal};
@@ -93,7 +93,7 @@ impl Progress {
         name: &str,
         row: &mut Row,
     ) -> Result<bool, ReadRefusal>
-        ensures steps { Steps (D.seen files.old) (D.seen files.new) name.now self.old self.new
+        ensures steps { Steps true (D.seen files.old) (D.seen files.new) name.now self.old self.new
             (λ file rows. IfOk result (λ more. Yields more row.new self.new file rows)) }
         ensures reports { ReportsStop result self.new.stopped }
         ensures counts { MatchResult result (λ more. WentOn more row.new self.old self.new)
@@ -138,7 +138,7 @@ impl Progress {
         name: &str,
         values: &[F],
     ) -> Option<u64>
-        ensures steps { Steps (D.seen files.old) (D.seen files.new) name.now self.old self.new
+        ensures steps { Steps false (D.seen files.old) (D.seen files.new) name.now self.old self.new
             (λ file rows. Failed result values.now self.new file rows) }
         ensures goes { IfSome result (λ _. self.new.stopped ≡ None) }
         ensures left { IfSome result (λ before. self.new.left + before + 1 ≡ self.old.left) }
@@ -161,7 +161,7 @@ impl Progress {
     fn try_some<D: Files>(&mut self, files: &mut D, name: &str, values: &[F]) -> Option<bool>
         requires on { self.old.stopped ≡ None }
         requires some { 0 < self.old.left }
-        ensures steps { Steps (D.seen files.old) (D.seen files.new) name.now self.old self.new
+        ensures steps { Steps false (D.seen files.old) (D.seen files.new) name.now self.old self.new
             (λ file rows. IfSome result
             (λ holds. Tried holds values.now self.old self.new file rows)) }
         ensures goes { IfSome result (λ _. self.new.stopped ≡ None) }
@@ -181,7 +181,7 @@ impl Progress {
     fn try_far<D: Files>(&mut self, files: &mut D, name: &str, values: &[F]) -> Option<bool>
         requires on { self.old.stopped ≡ None }
         requires some { 0 < self.old.left }
-        ensures steps { Steps (D.seen files.old) (D.seen files.new) name.now self.old self.new
+        ensures steps { Steps false (D.seen files.old) (D.seen files.new) name.now self.old self.new
             (λ file rows. IfSome result
             (λ holds. Tried holds values.now self.old self.new file rows)) }
         ensures goes { IfSome result (λ _. self.new.stopped ≡ None) }
@@ -207,8 +207,8 @@ impl Progress {
     // tries none.
     fn try_window(&mut self, values: &[F]) -> bool
         requires { self.old.stopped ≡ None }
-        ensures steps { (outside : Outside) → (name : List ℕ) → Steps outside outside name self.old
-            self.new (λ file rows. Tried result values.now self.old self.new file rows) }
+        ensures steps { (outside : Outside) → (name : List ℕ) → Steps false outside outside name
+            self.old self.new (λ file rows. Tried result values.now self.old self.new file rows) }
         ensures goes { self.new.stopped ≡ None }
         ensures left { Fewer result self.old.left self.new.left }
     {
@@ -226,8 +226,8 @@ impl Progress {
     fn try_rows<const PASS: bool>(&mut self, values: &[F]) -> bool
         requires on { self.old.stopped ≡ None }
         requires values { AreValues PASS self.old.header.wires values.now }
-        ensures steps { (outside : Outside) → (name : List ℕ) → Steps outside outside name self.old
-            self.new (λ file rows. Tried result values.now self.old self.new file rows) }
+        ensures steps { (outside : Outside) → (name : List ℕ) → Steps false outside outside name
+            self.old self.new (λ file rows. Tried result values.now self.old self.new file rows) }
         ensures goes { self.new.stopped ≡ None }
         ensures left { Fewer result self.old.left self.new.left }
     {
@@ -254,8 +254,8 @@ impl Progress {
     fn end(&mut self)
         requires on { self.old.stopped ≡ None }
         requires none { self.old.left ≡ 0 }
-        ensures steps { (outside : Outside) → (name : List ℕ)
-            → Steps outside outside name self.old self.new (λ file rows. IsAll self.new file rows) }
+        ensures steps { (keeps : Bool) → (outside : Outside) → (name : List ℕ) → Steps keeps outside
+            outside name self.old self.new (λ file rows. IsAll self.new file rows) }
         ensures terms { self.new.terms ≡ self.old.terms }
         ensures left { self.new.left ≡ self.old.left }
     {

@@ -1,5 +1,6 @@
 //! A reader that borrows the files and yields a system's constraints in order.
-ghost use Rattle.std.specs.Prelude.{◌≡◌, ◌+◌, [], None, Err, IfOk, IfErr, IfSome, MatchResult};
+ghost use Rattle.std.specs.Prelude.{◌≡◌, ◌+◌, true, false, [], None, Err, IfOk, IfErr};
+ghost use Rattle.std.specs.Prelude.{IfSome, MatchResult};
 ghost use Rattle.tv_container.specs.Reading.{Looks, Stopped, ReadsAs, Refuses, IsMissing, Known};
 ghost use Rattle.tv_container.specs.declared.why.ReadRefusal.{ReadRefusal};
 ghost use Rattle.tv_r1cs_read.specs.Places.{IsAt};
@@ -38,7 +39,8 @@ impl<'a, D: Files> SystemReader<'a, D> {
     /// Reads all of a system's file but its constraints.
     ///
     /// A refusal returns the files: `Bad` is the file's first fault before its constraints, and
-    /// `Fault` comes only where a read failed, as of a missing name. Takes no memory.
+    /// `Fault` comes only where a read failed, as of a missing name. Takes no memory: `Memory` comes
+    /// only where the files ran out of it.
     pub fn begin(
         alloc: Global,
         files: &'a mut D,
@@ -87,7 +89,7 @@ impl<'a, D: Files> SystemReader<'a, D> {
     pub fn next_into(&mut self, row: &mut Row) -> Result<bool, ReadRefusal>
         ensures same { self.new.files.ghost_name ≡ self.old.files.ghost_name }
         ensures name { self.new.name.now ≡ self.old.name.now }
-        ensures steps { Steps (D.seen self.old.files.now) (D.seen self.new.files.now)
+        ensures steps { Steps true (D.seen self.old.files.now) (D.seen self.new.files.now)
             self.old.name.now self.old.progress self.new.progress
             (λ file rows. IfOk result (λ more. Yields more row.new self.new.progress file rows)) }
         ensures reports { ReportsStop result self.new.progress.stopped }
@@ -105,7 +107,7 @@ impl<'a, D: Files> SystemReader<'a, D> {
     pub fn first_failure(&mut self, values: &[F]) -> Option<u64>
         ensures same { self.new.files.ghost_name ≡ self.old.files.ghost_name }
         ensures name { self.new.name.now ≡ self.old.name.now }
-        ensures steps { Steps (D.seen self.old.files.now) (D.seen self.new.files.now)
+        ensures steps { Steps false (D.seen self.old.files.now) (D.seen self.new.files.now)
             self.old.name.now self.old.progress self.new.progress
             (λ file rows. Failed result values.now self.new.progress file rows) }
         ensures goes { IfSome result (λ _. self.new.progress.stopped ≡ None) }
@@ -121,7 +123,7 @@ impl<'a, D: Files> SystemReader<'a, D> {
     pub fn pass_rest(&mut self)
         ensures same { self.new.files.ghost_name ≡ self.old.files.ghost_name }
         ensures name { self.new.name.now ≡ self.old.name.now }
-        ensures steps { Steps (D.seen self.old.files.now) (D.seen self.new.files.now)
+        ensures steps { Steps false (D.seen self.old.files.now) (D.seen self.new.files.now)
             self.old.name.now self.old.progress self.new.progress
             (λ file rows. Passed self.new.progress file rows) }
     {
@@ -144,7 +146,7 @@ impl<'a, D: Files> SystemReader<'a, D> {
     pub fn next(&mut self) -> Result<Option<Row>, ReadRefusal>
         ensures same { self.new.files.ghost_name ≡ self.old.files.ghost_name }
         ensures name { self.new.name.now ≡ self.old.name.now }
-        ensures steps { Steps (D.seen self.old.files.now) (D.seen self.new.files.now)
+        ensures steps { Steps true (D.seen self.old.files.now) (D.seen self.new.files.now)
             self.old.name.now self.old.progress self.new.progress
             (λ file rows. IfOk result (λ row. YieldsOwned row self.new.progress file rows)) }
         ensures reports { ReportsStop result self.new.progress.stopped }
@@ -164,7 +166,7 @@ impl<'a, D: Files> SystemReader<'a, D> {
 ///
 /// `Ok` comes exactly for a file that holds a system, and `Bad` reports the first fault of another
 /// one. `Fault` comes only where a read failed, and a missing name is such a fault. Takes one pass
-/// and no memory.
+/// and no memory: `Memory` comes only where the files ran out of it.
 #[tactic(auto, unfolding(crate::specs::Survey::survey_of))]
 pub fn survey<D: Files>(alloc: Global, files: &mut D, name: &str) -> Result<Counts, ReadRefusal>
     ensures gives { Known (D.seen files.old) name.now (λ file. ReadsAs result (survey_of file)) }

@@ -1,7 +1,7 @@
 //! Constraints as they are read: three combinations in vectors that are reused.
-ghost use Rattle.std.specs.Prelude.{◌≡◌, ◌+◌, ◌*◌, ◌≤◌, [], IfOk, OnOk};
+ghost use Rattle.std.specs.Prelude.{◌≡◌, ◌+◌, ◌*◌, ◌≤◌, true, [], IfOk, OnOk};
 ghost use Rattle.tv_container.specs.Places.{places};
-ghost use Rattle.tv_container.specs.Reading.{ReadsAsBy, ReadsIn};
+ghost use Rattle.tv_container.specs.Reading.{ReadsAsBy, ReadsInBy};
 ghost use Rattle.tv_r1cs_read.specs.R1cs.{constraint_at};
 ghost use Rattle.tv_r1cs_read.specs.Rows.{constraint_read, terms_in, IsOver};
 
@@ -53,6 +53,8 @@ impl Terms {
 }
 
 impl Taker for Terms {
+    ghost keeps = { true };
+
     ghost Took = { λ kept _ terms. kept ≡ terms };
 
     #[inline(always)]
@@ -110,8 +112,8 @@ pub(crate) fn read_row<D: Files>(
     ensures within { IfOk result (λ next. next ≤ bounds.now.end) }
     ensures size { IfOk result (λ next. next ≡ at + 12 + 12 * terms_in row.new) }
     ensures wires { OnOk result (IsOver bounds.now.wires row.new) }
-    ensures reads { ReadsIn (D.seen files.old) (D.seen files.new) name.now window.old window.new
-        result
+    ensures reads { ReadsInBy true (D.seen files.old) (D.seen files.new) name.now window.old
+        window.new result
         (λ file. bounds.now.end ≤ places file →
         ReadsAsBy result (constraint_read row.new)
         (constraint_at file bounds.now.wires bounds.now.end at)) }

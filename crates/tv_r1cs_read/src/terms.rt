@@ -1,9 +1,10 @@
 //! A count of terms, a term, or a combination, at a place of section 2.
 
 ghost use Rattle.std.specs.Prelude.{◌≡◌, ℕ, ◌+◌, ◌*◌, ◌≤◌, ◌<◌, ◌^◌, List, [], ◌∷◌, ◌++◌, length};
-ghost use Rattle.std.specs.Prelude.{Ok, OnOk, IfOk, IfSome};
+ghost use Rattle.std.specs.Prelude.{Ok, OnOk, OnErr, IfOk, IfSome, Bool, true};
 ghost use Rattle.tv_container.specs.Places.{fit, places};
 ghost use Rattle.tv_container.specs.Reading.{ReadsAs, ReadsAsBy, Holds, IsPiece, ReadsIn};
+ghost use Rattle.tv_container.specs.Reading.{ReadsInBy};
 ghost use Rattle.tv_r1cs_read.specs.R1cs.{combination_at, count_at, term_at};
 ghost use Rattle.tv_r1cs_read.specs.Rows.{combination_read, IsTaken, HasTerms};
 
@@ -148,6 +149,9 @@ pub(crate) fn held_term(window: &Window, bounds: &Bounds, at: u64) -> Option<(u3
 /// What takes the terms of a combination as they are read: it keeps them, or sums them under the
 /// values of the wires, which it needs only then.
 pub(crate) trait Taker {
+    // it keeps them, which takes memory
+    ghost keeps: { Bool };
+
     // under these values it took these terms, in order
     ghost Took: { Self → List ℕ → List (ℕ × ℕ) → Type 0 };
 
@@ -167,6 +171,7 @@ pub(crate) trait Taker {
         requires some { 0 < left }
         requires room { (before : List (ℕ × ℕ)) × Took self.old values.now before
             × (length before + left ≤ WIDEST) }
+        ensures memory { OnErr result (keeps ≡ true) }
         ensures fewer { IfOk result (λ more. more < left) }
         ensures within { IfOk result (λ more. at + 12 + 12 * more ≤ bounds.now.end) }
         ensures took { (before : List (ℕ × ℕ)) → Took self.old values.now before → IfOk result
@@ -192,8 +197,8 @@ pub(crate) fn read_far<D: Files, T: Taker>(
     ensures within { IfOk result (λ next. next ≤ bounds.now.end) }
     ensures reads { (terms : List (ℕ × ℕ))
         × IfOk result (IsTaken (T.Took taker.new values.now) bounds.now.wires (at + 4) terms)
-        × ReadsIn (D.seen files.old) (D.seen files.new) name.now window.old window.new result
-        (λ file. bounds.now.end ≤ places file → ReadsAsBy result (combination_read terms)
+        × ReadsInBy T.keeps (D.seen files.old) (D.seen files.new) name.now window.old window.new
+        result (λ file. bounds.now.end ≤ places file → ReadsAsBy result (combination_read terms)
         (combination_at file bounds.now.wires bounds.now.end at)) }
 {
     let count = read_count(files, name, window, bounds, at)?;

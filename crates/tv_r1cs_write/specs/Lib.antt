@@ -1,4 +1,5 @@
 pub mod Bytes
+pub mod Labels
 pub mod Laws
 pub mod Narrow
 pub mod Streams

@@ -9,7 +9,7 @@ ghost use Rattle.tv_r1cs_write.specs.Streams.{stream, stream_meaning, Begins, Fi
 ghost use Rattle.tv_container.specs.Written.{NotCreated};
 
 use crate::head::head;
-use crate::parts::{put_row, write_labels};
+use crate::parts::{Labels, put_row, write_labels};
 use tv_container::{NotBegun, Pending, sink_fault};
 use tv_core::{Counts, Lc, Put, Sink, Wire};
 use tv_files::Files;
@@ -106,8 +106,29 @@ impl<'a, D: Files> StreamSink<'a, D> {
             counts,
             ..
         } = self;
-        let count = u64::from(counts.wires);
-        write_labels(&mut pending, files, name, counts.wires, count, &[]);
+        let labels = Labels::Others {
+            count: u64::from(counts.wires),
+            but: &[],
+        };
+        write_labels(&mut pending, files, name, counts.wires, &labels);
+        pending.outcome
+    }
+
+    /// Writes these labels, one for each wire, and what is still held. Otherwise as `finish`.
+    pub fn finish_labelled(self, labels: &[u32]) -> Put<()>
+        requires whole { is_err (stream D.seen self).progress.outcome ≡ false }
+        requires each { length labels.now ≡ self.counts.wires }
+        ensures { Finishes (stream D.seen self.entry) (D.seen self.exit.0.now) labels.now result }
+    {
+        let StreamSink {
+            files,
+            name,
+            mut pending,
+            counts,
+            ..
+        } = self;
+        let labels = Labels::Listed(labels);
+        write_labels(&mut pending, files, name, counts.wires, &labels);
         pending.outcome
     }
 
@@ -128,7 +149,11 @@ impl<'a, D: Files> StreamSink<'a, D> {
             labels,
             ..
         } = self;
-        write_labels(&mut pending, files, name, counts.wires, labels, gone);
+        let labels = Labels::Others {
+            count: labels,
+            but: gone,
+        };
+        write_labels(&mut pending, files, name, counts.wires, &labels);
         pending.outcome
     }
 }

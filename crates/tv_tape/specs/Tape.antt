@@ -1,5 +1,6 @@
 -- The numbers that a tape's text holds, or its first fault.
-use Rattle.std.specs.Prelude.{ℕ, ◌+◌, Bool, List, [], ◌∷◌, ◌++◌, length, filter, codes, decimal, Result, Ok, Err, nat_lt, ◌==◌, ◌||◌, if◌then◌else◌}
+use Rattle.std.specs.Prelude.{◌≡◌, ℕ, ◌+◌, ◌<◌, Bool, List, [], ◌∷◌, ◌++◌, length, filter, codes, decimal, Some, slice_get, Result, Ok, Err}
+use Rattle.std.specs.Prelude.{nat_lt, ◌==◌, ◌||◌, if◌then◌else◌}
 use Rattle.std.specs.List.{flat_map, slice_split}
 use Rattle.tv_word.specs.Numeral.{is_numeral, positional}
 use Rattle.tv_tape.specs.declared.items.TapeFault.{TapeFault}
@@ -41,6 +42,15 @@ numbers_of below most at (item ∷ items) = do
 -- the numbers of a text: at most `most`, and each below `below`
 unfoldable pub tape_of : List ℕ → ℕ → ℕ → Result (List ℕ) TapeFault
 tape_of text below most = numbers_of below most 0 (items_of text)
+
+-- a number of the text is kept: an item is a number below the bound, and its place is below `most`
+pub record KeepsNumber (text : List ℕ) (below most : ℕ) : Type 0 where
+  pub at : ℕ
+  pub item : List ℕ
+  pub number : ℕ
+  pub few : at < most
+  pub there : slice_get (items_of text) at ≡ Some item
+  pub is : number_of below at item ≡ Ok number
 
 -- the text of words: each in decimal, and a line feed
 abbrev pub text_of : List ℕ → List ℕ

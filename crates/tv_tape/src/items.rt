@@ -1,7 +1,7 @@
 //! The numbers of a tape's text.
 ghost use Rattle.std.specs.Prelude.{◌≡◌, ◌⊎◌, Ok, Err, IfOk, IfErr};
 ghost use Rattle.tv_word.specs.Numeral.{is_numeral};
-ghost use Rattle.tv_tape.specs.Tape.{is_separator, number_of, tape_of};
+ghost use Rattle.tv_tape.specs.Tape.{is_separator, number_of, tape_of, KeepsNumber};
 ghost use Rattle.tv_tape.specs.declared.items.TapeFault.TheVariants.{Memory};
 
 use std::alloc::{AllocFailed, Global};
@@ -62,11 +62,12 @@ fn number_of(item: &[u8], at: u64, below: u64) -> Result<u64, TapeFault>
 ///
 /// Each item is judged before the next one is. `TooMany` comes where there is an item with the
 /// number `most`, whatever it is; `BadItem` where an item isn't all digits; `TooBig` where it is a
-/// number of `below` or more, also one of 2^64 or more. Takes one pass.
+/// number of `below` or more, also one of 2^64 or more. Takes one pass, and memory for the numbers
+/// alone, as each is read: `Memory` comes only where there is one.
 pub fn read_tape(alloc: Global, text: &[u8], below: u64, most: u32) -> Result<Vec<u64>, TapeFault>
     ensures numbers { IfOk result (λ numbers. tape_of text.now below most ≡ Ok numbers.items) }
     ensures fault { IfErr result (λ fault. (tape_of text.now below most ≡ Err fault)
-        ⊎ (fault ≡ Memory)) }
+        ⊎ ((fault ≡ Memory) × KeepsNumber text.now below most)) }
 {
     let mut numbers = Vec::new(alloc);
     let items = text

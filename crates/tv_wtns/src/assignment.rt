@@ -1,13 +1,13 @@
 //! The assignment of a whole file.
 
 ghost use Rattle.std.specs.Prelude.{◌≡◌, ◌+◌, ◌*◌, ◌≤◌, ◌<◌, List, length, Ok, Err, IfOk, IfErr};
-ghost use Rattle.std.specs.Prelude.{OnOk};
+ghost use Rattle.std.specs.Prelude.{false, OnOk};
 ghost use Rattle.std.specs.List.{All};
 ghost use Rattle.tv_core.specs.declared.field.TheConstants.{P};
 ghost use Rattle.tv_container.specs.Found.{first_of, AllEnd, AllFit};
 ghost use Rattle.tv_container.specs.Places.{places};
-ghost use Rattle.tv_container.specs.Reading.{Looks, ReadsAs, ReadsAsBy};
-ghost use Rattle.tv_container.specs.Reading.{IsMissing, IsNotFault, Known};
+ghost use Rattle.tv_container.specs.Reading.{LooksAndKeeps, ReadsAs, ReadsAsBy};
+ghost use Rattle.tv_container.specs.Reading.{IsMissing, IsOwn, Known};
 ghost use Rattle.tv_container.specs.Reading.{InPiece, ReadsIn};
 ghost use Rattle.tv_container.specs.declared.sections.Section.{Section};
 ghost use Rattle.tv_container.specs.declared.why.ReadRefusal.{ReadRefusal};
@@ -46,7 +46,7 @@ pub fn read_values<D: Files>(
     ensures gives { Known (D.seen files.old) name.now
         (λ file. ReadsAsBy result (λ values. values.items) (assignment_of file)) }
     ensures below { IfOk result (λ values. All (λ v. v < P) values.items) }
-    ensures looks { Looks (D.seen files.old) (D.seen files.new) name.now result }
+    ensures looks { LooksAndKeeps (D.seen files.old) (D.seen files.new) name.now result }
     ensures missing { IsMissing (D.seen files.old) name.now → result ≡ Err ReadRefusal.Fault }
 {
     let first = read_first_values(alloc, files, name, u32::MAX)?;
@@ -67,7 +67,7 @@ pub fn read_first_values<D: Files>(
     ensures gives { Known (D.seen files.old) name.now
         (λ file. ReadsAsBy result firsts_in (firsts most (assignment_of file))) }
     ensures below { IfOk result (λ first. All (λ v. v < P) first.values.items) }
-    ensures looks { Looks (D.seen files.old) (D.seen files.new) name.now result }
+    ensures looks { LooksAndKeeps (D.seen files.old) (D.seen files.new) name.now result }
     ensures missing { IsMissing (D.seen files.old) name.now → result ≡ Err ReadRefusal.Fault }
 {
     let mut window = Window::new();
@@ -98,7 +98,7 @@ fn read_assignment<D: Files>(
         found.now ≡ first_of sections → AllFit file sections →
         ReadsAsBy result firsts_in (firsts most (assignment_in file sections))) }
     ensures below { IfOk result (λ first. All (λ v. v < P) first.values.items) }
-    ensures looks { Looks (D.seen files.old) (D.seen files.new) name.now result }
+    ensures looks { LooksAndKeeps (D.seen files.old) (D.seen files.new) name.now result }
 {
     let one = wanted(found.one, 1, end)?;
     let two = wanted(found.two, 2, end)?;
@@ -127,7 +127,7 @@ fn read_count<D: Files>(
 fn fills(count: u32, two: &Section) -> Result<(), ReadRefusal>
     ensures gives { ReadsAs result (fills count two.now) }
     ensures size { OnOk result (two.now.size ≡ 8 * count) }
-    ensures no_fault { IfErr result IsNotFault }
+    ensures own { IfErr result (IsOwn false) }
 {
     let wants = 8 * u64::from(count);
     if two.size != wants {

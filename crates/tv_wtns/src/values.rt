@@ -1,11 +1,11 @@
 //! The values of section 2.
 
 ghost use Rattle.std.specs.Prelude.{◌≡◌, ℕ, ◌+◌, ◌-◌, ◌*◌, ◌≤◌, ◌<◌, ◌^◌, List, length};
-ghost use Rattle.std.specs.Prelude.{Result, IfOk, IfErr, OnOk, MatchResult};
+ghost use Rattle.std.specs.Prelude.{true, Result, IfOk, IfErr, OnOk, MatchResult};
 ghost use Rattle.std.specs.List.{All};
 ghost use Rattle.tv_core.specs.declared.field.TheConstants.{P};
 ghost use Rattle.tv_container.specs.Places.{Fault, places};
-ghost use Rattle.tv_container.specs.Reading.{Looks, Refuses, ReadsAsBy, IsNotFault, InPiece};
+ghost use Rattle.tv_container.specs.Reading.{LooksAndKeeps, Refuses, ReadsAsBy, IsOwn, InPiece};
 ghost use Rattle.tv_word.specs.Word.{little_endian};
 ghost use Rattle.tv_wtns.specs.Values.{AreWords, IsAhead};
 ghost use Rattle.tv_wtns.specs.Wtns.{firsts, firsts_in, values_at};
@@ -42,7 +42,7 @@ pub(crate) fn read_all<D: Files>(
         (λ file. at + 8 * count ≤ places file →
         ReadsAsBy result firsts_in (firsts most (values_at file count at))) }
     ensures below { IfOk result (λ first. All (λ v. v < P) first.values.items) }
-    ensures looks { Looks (D.seen files.old) (D.seen files.new) name.now result }
+    ensures looks { LooksAndKeeps (D.seen files.old) (D.seen files.new) name.now result }
 {
     let mut values = Vec::new(alloc);
     let mut at = at;
@@ -75,7 +75,7 @@ fn take_values(
         (λ why. Refuses why answer) }
     ensures below { All (λ v. v < P) values.old.items
         → OnOk result (All (λ v. v < P) values.new.items) }
-    ensures no_fault { IfErr result IsNotFault }
+    ensures own { IfErr result (IsOwn true) }
 {
     for (index, word) in words.iter().enumerate() {
         let Some(value) = F::canon(number_of(word)) else {

@@ -7,8 +7,9 @@ use Rattle.tv_files.specs.Whole.{IsLonger}
 use Rattle.tv_files.specs.declared.outcome.Slurp.{Slurp}
 use Rattle.tv_files.specs.declared.outcome.Slurp.TheVariants as slurp
 use Rattle.tv_plan.specs.declared.refusal.Bad.TheVariants.{Limit}
+use Rattle.tv_plan.specs.Flaws.{Flaw.{OverLimit}, flaw_of}
 use Rattle.tv_plan.specs.Plan.{named}
-use Rattle.tv_plan.proofs.Common.{Outside, OnlyReads, Rose, Leaves, What, Stop, Fault, Memory, Contents, IsFound, Named, input, within}
+use Rattle.tv_plan.proofs.Common.{Outside, OnlyReads, Rose, Leaves, Bad, What, Stop, Fault, Memory, Contents, IsFound, Named, input, within}
 use Rattle.tv_plan.proofs.ContainerReads.{came}
 use Rattle.tv_plan.proofs.LookLaws.{same_outside}
 use Rattle.tv_plan.proofs.bytes.limited_bytes.Goals as goal
@@ -51,12 +52,11 @@ module _ {V : Type 0} (view : V → List ℕ) (place : Named) (what : What) (mos
   faulty (Err slurp.Memory) old new leaves is = cc
   faulty (Err (slurp.TooLong limit)) old new leaves is = cc
 
-  limited : (result : Result V Slurp) (size : What) (has limit : ℕ) → came (stop_of place.word what most) result ≡ Err (Contents (Limit size has limit))
-      → size ≡ what
-  limited (Err (slurp.TooLong _)) size has limit e = cc
-  limited (Ok v) size has limit e = cc
-  limited (Err slurp.Fault) size has limit e = cc
-  limited (Err slurp.Memory) size has limit e = cc
+  flawed : (result : Result V Slurp) (why : Bad) → came (stop_of place.word what most) result ≡ Err (Contents why) → flaw_of why ≡ OverLimit what
+  flawed (Err (slurp.TooLong _)) why e = let same : Limit what (most + 1) most ≡ why = cc in rw (← same) refl
+  flawed (Ok v) why e = cc
+  flawed (Err slurp.Fault) why e = cc
+  flawed (Err slurp.Memory) why e = cc
 
 pub returns : goal.returns
 unfolding input
@@ -71,5 +71,5 @@ returns g c =
       leaves = spared (λ v. v.items) place c.args.what c.args.most c.slurp.result _ _ slurped.only slurped.leaves;
       caused = λ at e. let cause = caused (λ v. v.items) place c.args.what c.args.most c.slurp.result at e in
           (inl cause.0, faulty (λ v. v.items) place c.args.what c.args.most c.slurp.result _ _ slurped.leaves cause.1);
-      limits = λ size has most e. inl (limited (λ v. v.items) place c.args.what c.args.most c.slurp.result size has most e);
+      flaws = λ why e. inl (flawed (λ v. v.items) place c.args.what c.args.most c.slurp.result why e);
     })

@@ -10,7 +10,7 @@ unfolding header_in
 returns-in_err-one g c =
     rw (err_is c.from_residual.result c.from_residual.ensures.1) (record {
       reads = record {
-        looks = stopped_here _ _ _ c.in_err-one.ensures.no_fault;
+        looks = stopped_here _ _ _ c.in_err-one.ensures.own;
         piece = λ file known piece. tt;
         gives = λ file known piece end sections found fit.
             refuses_first _ _ _ (c.in_err-one.ensures.gives file end sections (ap (λ fields. fields.one) found));
@@ -25,7 +25,7 @@ unfolding header_in
 returns-in_err-rows g c =
     rw (err_is c.from_residual-in_err-rows.result c.from_residual-in_err-rows.ensures.1) (record {
       reads = record {
-        looks = stopped_here _ _ _ c.in_err-rows.ensures.no_fault;
+        looks = stopped_here _ _ _ c.in_err-rows.ensures.own;
         piece = λ file known piece. tt;
         gives = λ file known piece end sections found fit.
             rw (c.in_ok-one.ensures.gives file end sections (ap (λ fields. fields.one) found))
@@ -67,7 +67,7 @@ returns g c =
     let rows = c.in_ok-header.ensures.rows in
     let end : c.in_ok-rows.rows.at + c.in_ok-rows.rows.size < 2 ^ 64 = rw c.in_ok-rows.ensures.same at c.requires.two in
     record {
-      reads = reads_as (reads_on c.in_ok-this_field.ensures.reads (reads_on c.in_ok-header.ensures.reads (reads_by _ has.no_fault)))
+      reads = reads_as (reads_on c.in_ok-this_field.ensures.reads (reads_on c.in_ok-header.ensures.reads (reads_by _ has.own)))
           (λ file known is end sections found fit.
           let one_is = ap (λ fields. fields.one) found in
           let within = fit.fits 1 c.in_ok-one.one (sym one_is ∙ c.in_ok-one.ensures.same) in

@@ -1,9 +1,10 @@
-use Rattle.std.proofs.Common.{◌≡◌, List, ℕ, ◌<◌, length, ltb, inl, sym, rules, tests, of_calls, arith}
+use Rattle.std.proofs.Common.{◌≡◌, List, ℕ, ◌<◌, length, ltb, get_or, inl, inr, refl, sym, rules, tests, of_calls, arith}
 use Rattle.std.proofs.lemmas.List.{length_push}
+use Rattle.std.proofs.lemmas.Option.{slice_get-get_or}
 use Rattle.std.proofs.lemmas.Result.{err_from_is_err_and}
 use Rattle.std.proofs.lemmas.Iterator.Splits.{YieldsList-from_slice_split}
 use Rattle.std.proofs.lemmas.Iterator.Consumers.{YieldsList-at, YieldsList-from_filter, YieldsList-turn, YieldsList-end}
-use Rattle.tv_tape.specs.Tape.{is_separator, items_of, tape_of}
+use Rattle.tv_tape.specs.Tape.{is_separator, items_of, tape_of, KeepsNumber}
 use Rattle.tv_tape.proofs.Numbers.{reads_none, goes_on, stops, too_many, is_done}
 use Rattle.tv_tape.proofs.items.read_tape.Goals as goal
 
@@ -37,6 +38,22 @@ returns-in_err-number-clause-fault c =
     rw (p.1, p.2) (inl (stops c.loop-item.numbers.items c.args.below c.args.most (length c.loop-item.yielded)
     (items_of c.args.text.now) c.in-Some.item.now _ _ at.0 few
     (rw (← at.1, ← place) (sym c.in_err-number.ensures)) c.loop-item.invariant.rest))
+
+pub returns-in_err-push-clause-fault : goal.returns-in_err-push-clause-fault
+returns-in_err-push-clause-fault c =
+    let at = YieldsList-turn c.loop-item.invariant.items c.loop-item.yielded _ c.loop-item.yielded_by _ _ c.in-Some.item c.in-Some.is c.next.ensures.steps in
+    let place : c.len-at.result ≡ length c.loop-item.yielded = omega (arith, c.loop-item.invariant.same) in
+    let few : length c.loop-item.yielded < c.args.most = omega (arith, c.loop-item.invariant.same) in
+    let p = err_from_is_err_and c.from_residual-in_err-push.result c.from_residual-in_err-push.ensures.1 in
+    let keeps : KeepsNumber c.args.text.now c.args.below c.args.most = record {
+      at = length c.loop-item.yielded;
+      item = get_or (items_of c.args.text.now) (length c.loop-item.yielded) c.in-Some.item.now;
+      number = c.in_ok-number.number;
+      few = few;
+      there = slice_get-get_or _ _ _ at.0;
+      is = rw (← at.1, ← place) (sym c.in_ok-number.ensures);
+    } in
+    rw (p.1, p.2) (inr (refl, keeps))
 
 pub loop-item-preserved : goal.loop-item-preserved
 loop-item-preserved c =

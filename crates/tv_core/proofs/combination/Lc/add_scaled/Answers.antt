@@ -26,7 +26,7 @@ pub loop-coefficient-preserved : goal.loop-coefficient-preserved
 loop-coefficient-preserved c =
     let i = c.loop-coefficient.coefficient-index in
     added_multiple c.args.self.now c.args.terms.now i c.loop-coefficient-item.result c.loop-coefficient-test.true c.loop-coefficient-item.is
-    c.loop-coefficient.self c.add.new.self c.args.factor c.mul.result c.mul.ensures c.loop-coefficient.invariant c.add.ensures.terms
+    c.loop-coefficient.self c.add.new.self c.args.factor c.times.result c.times.ensures c.loop-coefficient.invariant c.add.ensures.terms
 
 pub returns : goal.returns
 returns c = grind (arith, common_steps, take_all, normal_of, length_of, length-map, ℕ, top_of, top-scaled)

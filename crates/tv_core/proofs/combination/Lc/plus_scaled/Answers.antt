@@ -9,7 +9,7 @@ pub loop-coefficient-preserved : goal.loop-coefficient-preserved
 loop-coefficient-preserved c =
     let i = c.loop-coefficient.coefficient-index in
     appended_multiple c.args.terms.now i c.loop-coefficient-item.result c.loop-coefficient-test.true c.loop-coefficient-item.is c.args.self.now
-    c.loop-coefficient.self c.plus.new.self c.args.factor c.mul.result c.mul.ensures c.loop-coefficient.invariant c.plus.ensures.terms
+    c.loop-coefficient.self c.plus.new.self c.args.factor c.times.result c.times.ensures c.loop-coefficient.invariant c.plus.ensures.terms
 
 pub returns : goal.returns
 returns c =

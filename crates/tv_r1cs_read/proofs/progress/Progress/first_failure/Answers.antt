@@ -1,4 +1,4 @@
-use Rattle.tv_core.proofs.Common.{[], ◌+◌, ◌++◌, ◌∙◌, append_assoc, append-nil, length, arith, refl, rules}
+use Rattle.tv_core.proofs.Common.{[], ◌+◌, ◌++◌, ◌∙◌, append_assoc, append-nil, false, length, arith, refl, rules}
 use Rattle.std.proofs.Common.{length-append}
 use Rattle.std.proofs.lemmas.Option.{MatchOption-at_none}
 use Rattle.tv_r1cs_read.proofs.Done.{is_on}
@@ -50,7 +50,7 @@ loop-self-preserved g c =
 
 pub returns-clause-steps : goal.returns-clause-steps
 returns-clause-steps g c =
-    let ended = c.end.ensures.steps (g.D.Files.seen c.args.files.now) c.args.name.now in
+    let ended = c.end.ensures.steps false (g.D.Files.seen c.args.files.now) c.args.name.now in
     record {
       header = ended.header ∙ c.loop-self.invariant.header;
       again = search rules;

@@ -1,10 +1,10 @@
-use Rattle.tv_core.proofs.Common.{◌≡◌, ◌<◌, ◌∙◌, None, sym, arith, rules}
+use Rattle.tv_core.proofs.Common.{◌≡◌, ◌<◌, ◌∙◌, true, None, sym, arith, rules}
 use Rattle.tv_r1cs_read.proofs.StepLemmas.{read_steps, refused_steps}
 use Rattle.tv_r1cs_read.proofs.progress.Progress.next.Goals as goal
 
 pub returns-in-Some-stopped-clause-steps : goal.returns-in-Some-stopped-clause-steps
 returns-in-Some-stopped-clause-steps g c =
-    let ended = c.end.ensures.steps (g.D.Files.seen c.args.files.now) c.args.name.now in
+    let ended = c.end.ensures.steps true (g.D.Files.seen c.args.files.now) c.args.name.now in
     let stopped = sym c.stopped.ensures ∙ c.in-Some-stopped.is in
     record {
       header = ended.header;
@@ -14,7 +14,7 @@ returns-in-Some-stopped-clause-steps g c =
     }
 
 pub returns-in-None-clause-steps : goal.returns-in-None-clause-steps
-returns-in-None-clause-steps g c = c.end.ensures.steps _ _
+returns-in-None-clause-steps g c = c.end.ensures.steps true _ _
 
 pub returns-in-Ok-clause-steps : goal.returns-in-Ok-clause-steps
 returns-in-Ok-clause-steps g c =

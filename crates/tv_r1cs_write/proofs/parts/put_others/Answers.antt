@@ -2,9 +2,9 @@ use Rattle.tv_core.proofs.Common.{◌≡◌, ◌≢◌, ◌∙◌, ◌<◌, ap, 
 use Rattle.tv_container.proofs.Buffers.{lost_more, took_none, took_then}
 use Rattle.tv_r1cs_write.specs.Bytes.{others}
 use Rattle.tv_r1cs_write.proofs.Others.{absent, all_ahead, bytes_begin, bytes_more, bytes_stay, passed, there, waiting}
-use Rattle.tv_r1cs_write.proofs.parts.put_labels.Goals as goal
-use Rattle.tv_r1cs_write.proofs.parts.put_labels.Goals.{then-next-but+then-from-label, else-next-but, else-next-but-via-then-next-but+else-from-label}
-use Rattle.tv_r1cs_write.proofs.parts.put_labels.Goals.{else-next-but-via-else-next-but}
+use Rattle.tv_r1cs_write.proofs.parts.put_others.Goals as goal
+use Rattle.tv_r1cs_write.proofs.parts.put_others.Goals.{then-next-but+then-from-label, else-next-but, else-next-but-via-then-next-but+else-from-label}
+use Rattle.tv_r1cs_write.proofs.parts.put_others.Goals.{else-next-but-via-else-next-but}
 
 pub loop-label-init : goal.loop-label-init
 unfolding others

@@ -1,7 +1,7 @@
 use Rattle.tv_container.specs.Taking.{TakesBytes}
 use Rattle.tv_r1cs_write.specs.Bytes.{label_bytes, others}
 use Rattle.tv_r1cs_write.proofs.Others.{AreAhead}
-use Rattle.tv_r1cs_write.proofs.parts.put_labels.Given as goal
+use Rattle.tv_r1cs_write.proofs.parts.put_others.Given as goal
 
 abbrev pub invariant-loop-label : goal.invariant-loop-label
 invariant-loop-label g l = record {
