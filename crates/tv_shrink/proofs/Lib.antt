@@ -1,3 +1,4 @@
+mod Blanks
 mod Constants
 mod Elements
 mod Gone

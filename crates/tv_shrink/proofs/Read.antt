@@ -1,13 +1,13 @@
 -- Terms that were read, made normal.
-use Rattle.tv_core.proofs.Common.{◌≡◌, ℕ, ◌+◌, ◌<◌, ◌≤◌, ◌^◌, List, ◌∷◌, ◌++◌, Option, Some, None, refl, sym, ◌∙◌, ap, subst, arith, inl, inr, [], cond}
-use Rattle.tv_core.proofs.Common.{length, Result, Ok, Err, top, Combination, Constraint, normal}
+use Rattle.tv_core.proofs.Common.{◌≡◌, ℕ, Bool, true, ◌+◌, ◌<◌, ◌≤◌, ◌^◌, List, ◌∷◌, ◌++◌, Option, Some, None, refl, sym, ◌∙◌, ap, subst, arith, append-nil}
+use Rattle.tv_core.proofs.Common.{cond_both, inl, inr, [], cond, length, Result, Ok, Err, top, Combination, Constraint, normal}
 use Rattle.std.proofs.Common.{ltb}
 use Rattle.std.specs.Prelude.{IsErrAnd}
 use Rattle.std.specs.List.{AllByRecursion, All}
 use Rattle.std.specs.Option.{option_or}
 use Rattle.tv_container.specs.Places.{Fault, ◌>>=◌, wrong}
 use Rattle.tv_container.proofs.Chain.{err_is, stopped_here}
-use Rattle.tv_container.specs.Reading.{Refuses, Stopped}
+use Rattle.tv_container.specs.Reading.{Refuses, StoppedBy}
 use Rattle.tv_container.specs.declared.why.ReadRefusal.{ReadRefusal}
 use Rattle.tv_container.specs.declared.why.ReadRefusal.TheVariants as refusal
 use Rattle.tv_core.specs.Meanings.{system_counts}
@@ -15,9 +15,10 @@ use Rattle.tv_files.specs.Outside.{Outside}
 use Rattle.tv_r1cs_read.specs.Places.{IsAt, system_with}
 use Rattle.tv_r1cs_read.specs.Progress.{Reached, ahead, counts_of, IsBegun}
 use Rattle.tv_r1cs_read.specs.R1cs.{r1cs_system}
+use Rattle.tv_r1cs_read.proofs.Done.{read_is}
 use Rattle.tv_shrink.specs.declared.fault.ShrinkFault.{ShrinkFault}
 use Rattle.tv_shrink.specs.declared.fault.ShrinkFault.TheVariants as fault
-use Rattle.std.proofs.lemmas.List.{map_push}
+use Rattle.std.proofs.lemmas.Grind.{flat_map-append}
 use Rattle.std.proofs.lemmas.Bool.{cases_Bool, ltb-false}
 use Rattle.std.proofs.lemmas.List.Elements.{recursion_from_All}
 use Rattle.tv_container.specs.declared.why.ReadWhy.{ReadWhy}
@@ -26,7 +27,7 @@ use Rattle.tv_r1cs_read.specs.Survey.{survey_of}
 use Rattle.tv_core.specs.Constraints.{System}
 use Rattle.tv_r1cs_read.specs.Rows.{combination_of, constraint_of, IsOver}
 use Rattle.tv_r1cs_read.specs.declared.rows.Row.{Row}
-use Rattle.tv_shrink.specs.Answers.{first_wide, read_fault, start_rows, wide, wide_in, all_terms, most, Halted, HaltsBy, IsLong, IsSmall}
+use Rattle.tv_shrink.specs.Answers.{first_wide, read_fault, is_blank, start_row, start_rows, wide, wide_in, all_terms, most, Halted, HaltsBy, IsLong, IsSmall}
 use Rattle.tv_shrink.specs.Answers.{IsReady, IsTooWide, FaultMeans, Leaves}
 use Rattle.tv_core.specs.Normal.{normal_constraint}
 use Rattle.tv_core.proofs.NormalLaws.{Over, Over-normal, IsNormalFrom-normal}
@@ -66,11 +67,21 @@ narrow_within n row over e =
       short_c = narrow_short (combination_of row.c) others.1;
     }
 
-pub pushed_normal : (rows next : List (Option Constraint)) (row : Constraint) → next ≡ rows ++ Some (normal_constraint row) ∷ [] → RowsAreNormal rows
+-- what holds of all rows, and of one more, unless it has no terms
+pub each_started : (R : Option Constraint → Type 0) (rows next : List (Option Constraint)) (c : Constraint) → next ≡ rows ++ start_row c → R (Some c)
+    → AllByRecursion R rows → AllByRecursion R next
+each_started R rows next c is here h =
+    subst (AllByRecursion R) (sym is) (cond_both (is_blank c) [] (Some c ∷ []) (λ more. AllByRecursion R (rows ++ more))
+    (λ _. subst (AllByRecursion R) (sym (append-nil rows)) h) (λ _. each_pushed R rows (Some c) here h))
+
+pub length-start_row : (c : Constraint) → length (start_row c) ≤ 1
+length-start_row c = cond_both (is_blank c) [] (Some c ∷ []) (λ rows. length rows ≤ 1) (λ _. omega arith) (λ _. omega arith)
+
+pub pushed_normal : (rows next : List (Option Constraint)) (row : Constraint) → next ≡ rows ++ start_row (normal_constraint row) → RowsAreNormal rows
     → RowsAreNormal next
 pushed_normal rows next row is normal =
-    subst RowsAreNormal (sym is) (each_pushed RowIsNormal rows (Some (normal_constraint row))
-    (record { a = IsNormalFrom-normal row.a; b = IsNormalFrom-normal row.b; c = IsNormalFrom-normal row.c }) normal)
+    each_started RowIsNormal rows next (normal_constraint row) is
+    (record { a = IsNormalFrom-normal row.a; b = IsNormalFrom-normal row.b; c = IsNormalFrom-normal row.c }) normal
 
 -- the first wide combination of a list and one more constraint
 pub no_wide : first_wide [] ≡ None
@@ -109,10 +120,14 @@ read_means (refusal.Bad at what) file refuses = refuses.bad at what refl
 read_means refusal.Fault file refuses = tt
 read_means refusal.Memory file refuses = tt
 
-pub halted : (old new : Outside) (name : List ℕ) (why : ReadRefusal) → Stopped old new name why → Halted old new name (read_fault why)
+pub halted : {keeps : Bool} (old new : Outside) (name : List ℕ) (why : ReadRefusal) → StoppedBy keeps old new name why → Halted old new name (read_fault why)
 halted old new name (refusal.Bad at what) stopped = record { only = stopped.only; there = stopped.there; leaves = stopped.leaves }
 halted old new name refusal.Fault stopped = record { only = stopped.only; there = stopped.there; leaves = stopped.leaves }
-halted old new name refusal.Memory stopped = record { only = stopped.only; there = stopped.there; leaves = stopped.leaves }
+halted old new name refusal.Memory stopped = record {
+  only = stopped.only;
+  there = stopped.there;
+  leaves = elim stopped.leaves [ inl ran_out ↦ inr ran_out | inr own ↦ inl own.1 ];
+}
 
 -- a constraint is too wide by its first combination that is
 pub too_wide_front : (why : ShrinkFault) (o p : Option ℕ) → IsTooWide why o → IsTooWide why (option_or o p)
@@ -130,7 +145,7 @@ halts_err old new after name why result ends stopped is = rw (err_is result ends
 -- a refusal that says what is wrong leaves all as it was
 pub still_halted : (old new : Outside) (name : List ℕ) (why : ShrinkFault) → new ≡ old → Leaves why old old → Halted old new name why
 still_halted old new name why is leaves =
-    let here = stopped_here old name refusal.Memory (record { known = λ same. absurd (cc) }) in
+    let here = stopped_here {keeps = true} old name refusal.Memory (record { known = λ same. absurd (cc); memory = λ same. refl }) in
     subst (λ outside. Halted old outside name why) (sym is) (record { only = here.only; there = here.there; leaves = leaves })
 
 -- a constraint that is too wide leaves all as it was
@@ -149,12 +164,12 @@ is_front reached file done system at is = by_list (ahead reached file) refl
   where
     by_list : (left : Result (List Constraint) Fault) → ahead reached file ≡ left → (others : List Constraint) × (system.constraints ≡ done ++ others)
     by_list (Ok others) e =
-        let all = rw e at at.read.same in
+        let all = rw e at (read_is file reached done at) in
         let whole = rw (at.header, all) at is in
         let same : system_with reached.header (done ++ others) ≡ system = cc in
         (others, ap (λ (s : System). s.constraints) (sym same))
     by_list (Err fault) e =
-        let all = rw e at at.read.same in
+        let all = rw e at (read_is file reached done at) in
         let whole = rw (at.header, all) at is in
         absurd (cc)
 
@@ -181,18 +196,20 @@ few_terms file system small is = let both : Ok small.system ≡ Ok system = sym 
     ∙ is in let same : small.system ≡ system = cc in subst (λ s. all_terms s ≤ most) same small.few
 
 -- a pass may begin on what was read to the end
-pub ready_as_read : (reached : Reached) (rows : List (Option Constraint)) (left : ℕ) → IsBegun reached → length rows + left ≡ reached.left
+pub ready_as_read : (reached : Reached) (rows : List (Option Constraint)) (left : ℕ) → IsBegun reached → length rows + left ≤ reached.left
     → AreWithin reached.header.wires rows → RowsAreNormal rows → reached.header.wires < 2 ^ 32 → reached.header.constraints < 2 ^ 32
     → IsReady (counts_of reached) rows
 ready_as_read reached rows left begun counted within normal wires few =
-    record { room = begun.room; within = within; normal = normal; few = omega (arith, begun.left); fits = wires }
+    record { room = begun.room; within = within; normal = normal; few = omega (arith, begun.left, counted); fits = wires }
 
 -- one more constraint
 pub left_falls : (left before : ℕ) → left + 1 ≡ before → left < before
 left_falls left before e = omega arith
 
-pub start_more : (done : List Constraint) (c : Constraint) → start_rows (done ++ c ∷ []) ≡ start_rows done ++ Some (normal_constraint c) ∷ []
-start_more done c = map_push (λ d. Some (normal_constraint d)) done c
+pub start_more : (done : List Constraint) (c : Constraint) → start_rows (done ++ c ∷ []) ≡ start_rows done ++ start_row (normal_constraint c)
+start_more done c =
+    flat_map-append (λ d. start_row (normal_constraint d)) done (c ∷ [])
+    ∙ ap (λ rows. start_rows done ++ rows) (append-nil (start_row (normal_constraint c)))
 
 -- what a survey says of a system
 survey_refused : (file : List ℕ) (at : ℕ) (why : ReadWhy) → survey_of file ≡ wrong at why → r1cs_system file ≡ wrong at why

@@ -8,6 +8,7 @@ use Rattle.tv_r1cs_write.specs.Bytes.{others}
 use Rattle.std.proofs.lemmas.Bool.{and_parts}
 use Rattle.std.proofs.lemmas.List.{length-take}
 use Rattle.std.proofs.lemmas.List.FromFn.{length-range_with_len}
+use Rattle.tv_core.specs.Constraints.{System}
 use Rattle.tv_core.specs.declared.lines.Counts.{Counts}
 use Rattle.tv_shrink.specs.Answers.{counted_system, start_rows, IsReady}
 use Rattle.tv_shrink.specs.Renumbering.{moved, moved_rows}
@@ -16,6 +17,7 @@ use Rattle.tv_shrink.specs.Pass.{Pass, all_replaced, begun, dropped, passed, row
 use Rattle.tv_shrink.specs.Substitution.{fits, replaced_in}
 use Rattle.tv_shrink.specs.Shrunk.{left_over, place, renumbered, renumbered_in, shrink}
 use Rattle.tv_shrink.specs.Tidy.{AreWithin, pass_of}
+use Rattle.tv_shrink.proofs.Blanks.{blanks_aside, Leave}
 use Rattle.tv_shrink.proofs.Labels.{front-kept, inside-kept, is_gone, others_same, place_is}
 use Rattle.tv_shrink.proofs.Linear.{replaced_short}
 use Rattle.tv_shrink.proofs.Spans.{same_row}
@@ -138,6 +140,25 @@ enough_labels wires publics gone h later =
     let front = front-kept wires publics gone h later in
     omega (arith, ap length front, length-take publics (others wires gone), length-range_with_len 0 publics)
 
+-- what is left depends on the constraints that were not dropped alone
+filtered : (f : Constraint → Constraint) (rows : List (Option Constraint)) → filter_map (option_map f) rows ≡ map f (filter_map (λ row. row) rows)
+filtered f [] = refl
+filtered f (None ∷ rows) = filtered f rows
+filtered f (Some c ∷ rows) = ap (λ rest. f c ∷ rest) (filtered f rows)
+
+left_same : (system : System) (x y : Pass) → Leave x y
+    → left_over system x.rows (others system.wires x.gone) ≡ left_over system y.rows (others system.wires y.gone)
+unfolding left_over
+left_same system x y same =
+    let labels = others system.wires x.gone in
+    ap (λ list. record {
+      system = record { wires = length labels; outputs = system.outputs; inputs = system.inputs; constraints = list };
+      labels = labels;
+      wires = system.wires;
+    })
+    (filtered (renumbered_in labels) x.rows ∙ ap (map (renumbered_in labels)) same.0 ∙ sym (filtered (renumbered_in labels) y.rows))
+    ∙ ap (λ gone. left_over system y.rows (others system.wires gone)) same.1
+
 -- the shrunk system, from the pass
 shrink_is : (counts : Counts) (list : List Constraint) (last : Pass) →
     last ≡ fold (turn (1 + counts.outputs + counts.inputs)) (pass_of (start_rows list) [])
@@ -146,9 +167,13 @@ shrink_is : (counts : Counts) (list : List Constraint) (last : Pass) →
 unfolding shrink passed begun
 shrink_is counts list last ran =
     let publics = 1 + counts.outputs + counts.inputs in
-    ap (λ (pass : Pass). left_over (counted_system counts list) pass.rows (others counts.wires pass.gone))
-    (ran ∙ ap (λ n. fold (turn publics) (pass_of (start_rows list) []) (range_with_len 0 n))
-    (length-map list (λ c. Some (normal_constraint c))))
+    let system = counted_system counts list in
+    let all = map (λ c. Some (normal_constraint c)) list in
+    let full = fold (turn publics) (pass_of all []) (range_with_len 0 (length all)) in
+    ap (λ (pass : Pass). left_over system pass.rows (others counts.wires pass.gone)) ran
+    ∙ sym (left_same system full (fold (turn publics) (pass_of (start_rows list) []) (range_with_len 0 (length (start_rows list)))) (blanks_aside publics list))
+    ∙ ap (λ n. let pass = fold (turn publics) (pass_of all []) (range_with_len 0 n) in left_over system pass.rows (others counts.wires pass.gone))
+    (length-map list (λ c. Some (normal_constraint c)))
 
 -- what is left, by what the calls gave
 module _ (counts : Counts) (rows : List (Option Constraint)) (ready : IsReady counts rows)

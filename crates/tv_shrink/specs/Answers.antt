@@ -1,5 +1,7 @@
 -- What shrinking the system of a file answers.
-use Rattle.std.specs.Prelude.{◌≡◌, ◌⊎◌, ℕ, ◌+◌, ◌^◌, ◌≤◌, ◌<◌, nat_lt, map, List, [], ◌∷◌, length, Option, None, Some, Ok, Result, MatchResult, if◌then◌else◌}
+use Rattle.std.specs.Prelude.{◌≡◌, ◌⊎◌, ℕ, ◌+◌, ◌^◌, ◌≤◌, ◌<◌, ◌==◌, nat_lt, Bool, List, [], ◌∷◌}
+use Rattle.std.specs.Prelude.{length, Option, None, Some, Ok, Result, MatchResult, if◌then◌else◌}
+use Rattle.std.specs.List.{flat_map}
 use Rattle.std.specs.Option.{option_or}
 use Rattle.tv_container.specs.Places.{wrong}
 use Rattle.tv_container.specs.declared.why.ReadRefusal.{ReadRefusal}
@@ -108,9 +110,17 @@ pub record Halted (old new : Outside) (name : List ℕ) (why : ShrinkFault) : Ty
 abbrev pub HaltsBy : {A : Type 0} → Outside → Outside → List ℕ → Result A ShrinkFault → Type 0
 HaltsBy old new name result = MatchResult result (λ _. new ≡ old) (λ fault. Halted old new name fault)
 
--- a list's constraints made normal, none dropped
+-- whether a constraint has no terms, so that it says that 0 is 0
+abbrev pub is_blank : Constraint → Bool
+is_blank c = length c.a + length c.b + length c.c == 0
+
+-- a normal constraint, unless it has no terms
+abbrev pub start_row : Constraint → List (Option Constraint)
+start_row c = if is_blank c then [] else Some c ∷ []
+
+-- a list's constraints made normal, those of which no term is left put aside
 abbrev pub start_rows : List Constraint → List (Option Constraint)
-start_rows list = map (λ c. Some (normal_constraint c)) list
+start_rows list = flat_map (λ c. start_row (normal_constraint c)) list
 
 -- the system with these counts and constraints
 abbrev pub counted_system : Counts → List Constraint → System

@@ -1,10 +1,15 @@
 -- What the rows of a pass keep to.
 use Rattle.std.specs.Prelude.{◌≡◌, ℕ, ◌^◌, ◌<◌, ◌≤◌, Bool, false, true, ◌||◌, List, length, Option, None, Some, slice_index_or}
-use Rattle.std.specs.List.{AllByRecursion}
+use Rattle.std.specs.List.{AllByRecursion, filter_map}
 use Rattle.tv_core.specs.Constraints.{Constraint}
+use Rattle.tv_core.specs.Meanings.{terms_in}
 use Rattle.tv_core.specs.Normal.{IsNormalConstraint}
 use Rattle.tv_shrink.specs.Pass.{Pass}
 use Rattle.tv_shrink.specs.Substitution.{has_wire}
+
+-- how many terms the constraints have that were not dropped
+abbrev pub rows_terms : List (Option Constraint) → ℕ
+rows_terms rows = terms_in (filter_map (λ row. row) rows)
 
 -- each combination of a constraint has at most 128 terms, whose wires are below a number
 pub record IsWithin (wires : ℕ) (row : Constraint) : Type 0 where

@@ -23,7 +23,7 @@ use tv_r1cs_read::Terms;
 /// those of `c`; the fields `a`, `b` and `c` are their numbers.
 #[derive(Clone, Copy)]
 pub(crate) struct Span {
-    pub(crate) start: u32,
+    pub(crate) start: usize,
     pub(crate) a: u8,
     pub(crate) b: u8,
     pub(crate) c: u8,
@@ -36,7 +36,7 @@ impl Span {
         ensures row { result ≡ row_at terms.now self.now }
         ensures few { (length result.a < 256) × (length result.b < 256) × (length result.c < 256) }
     {
-        let start = self.start as usize;
+        let start = self.start;
         let b = start + self.a as usize;
         let c = b + self.b as usize;
         let end = c + self.c as usize;
@@ -89,7 +89,7 @@ pub(crate) fn append_read(
     ensures narrow { OnOk result (wide_in (constraint_of row.now) ≡ None) }
     ensures err { IfErr result (λ fault. IsTooWide fault (wide_in (constraint_of row.now))) }
 {
-    let start = place_after(out)?;
+    let start = out.len();
     let a = append_narrow(scratch, out, &row.a)?;
     let b = append_narrow(scratch, out, &row.b)?;
     let c = append_narrow(scratch, out, &row.c)?;
@@ -137,23 +137,13 @@ pub(crate) fn put_replaced(
     Ok(Span { start: 0, a, b, c })
 }
 
-/// Returns the place after these terms.
-pub(crate) fn place_after(terms: &[(F, Wire)]) -> Result<u32, AllocError>
-    ensures { IfOk result (λ place. place ≡ length terms.now) }
-{
-    match u32::try_from(terms.len()) {
-        Ok(place) => Ok(place),
-        Err(_) => Err(AllocError),
-    }
-}
-
 /// Puts terms over those of a constraint, if they are no more, or else after all others, and
 /// returns their place.
 pub(crate) fn lay(
     terms: &mut Vec<(F, Wire)>,
     span: &Span,
     new: &[(F, Wire)],
-) -> Result<u32, AllocError>
+) -> Result<usize, AllocError>
     requires { end_of span.now ≤ length terms.old.items }
     ensures puts { IfOk result (λ start. terms.new.items ≡ laid start new.now terms.old.items) }
     ensures free { IfOk result (λ start. IsFree (length terms.old.items) span.now start
@@ -162,11 +152,11 @@ pub(crate) fn lay(
 {
     let size = span.a as usize + span.b as usize + span.c as usize;
     if new.len() <= size {
-        let start = span.start as usize;
+        let start = span.start;
         terms[start..start + new.len()].copy_from_slice(new);
-        return Ok(span.start);
+        return Ok(start);
     }
-    let start = place_after(terms)?;
+    let start = terms.len();
     terms.extend_from_slice(new)?;
     Ok(start)
 }
@@ -183,7 +173,7 @@ pub(crate) fn append_copy(
     ensures made { IfOk result (λ made. made
         ≡ span_of (length out.old.items) (row_at terms.now span.now)) }
 {
-    let start = place_after(out)?;
+    let start = out.len();
     let Row { a, b, c } = span.row(terms);
     out.extend_from_slice(a)?;
     out.extend_from_slice(b)?;

@@ -24,5 +24,5 @@ mod substitution;
 
 pub use fault::ShrinkFault;
 pub use laws::{keeps_publics, keeps_solutions, solutions_are_one, systems_are_over};
-pub use shrinker::{MOST_TERMS, shrink};
+pub use shrinker::{MOST_TERMS, shrink, terms_are_limited};
 pub use shrunk::Shrunk;

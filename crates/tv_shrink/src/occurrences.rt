@@ -19,19 +19,19 @@ use tv_core::{F, Wire};
 #[derive(Clone, Copy)]
 struct Entry {
     row: u32,
-    next: u32,
+    next: usize,
 }
 
 /// For each wire a list of rows that it may stand in, the one filed last first.
 ///
 /// Wires whose numbers leave the same remainder share a list, so a wire below the number of lists
-/// shares its own with greater ones alone. An entry takes eight bytes, and a list four. Entries of
+/// shares its own with greater ones alone. An entry takes 16 bytes, and a list eight. Entries of
 /// rows that a wire has left stay until `tidy` files all constraints anew, in memory beside that of
-/// before. There are fewer than 2^32 entries; one more counts as an allocation failure.
+/// before.
 #[derive(Drop)]
 pub(crate) struct Occurrences {
     alloc: Global,
-    heads: Vec<u32>,
+    heads: Vec<usize>,
     entries: Vec<Entry>,
     // How many entries there were when a whole constraint was last filed.
     wanted: usize,
@@ -81,7 +81,7 @@ impl Occurrences {
         rows.clear();
         let mut number = self.heads[wire as usize % self.heads.len()];
         while number > 0 {
-            let entry = self.entries[number as usize - 1];
+            let entry = self.entries[number - 1];
             rows.push(entry.row)?;
             number = entry.next;
         }
@@ -107,7 +107,7 @@ impl Occurrences {
     {
         let mut number = self.heads[by.wire.0 as usize % self.heads.len()];
         while number > 0 {
-            let entry = self.entries[number as usize - 1];
+            let entry = self.entries[number - 1];
             if !rows.other_fits(but, entry.row, scratch, by)? {
                 return Ok(Some(entry.row));
             }
@@ -123,11 +123,8 @@ impl Occurrences {
     {
         let place = wire as usize % self.heads.len();
         let next = self.heads[place];
-        let Ok(number) = u32::try_from(self.entries.len() + 1) else {
-            return Err(AllocError);
-        };
         self.entries.push(Entry { row, next })?;
-        self.heads[place] = number;
+        self.heads[place] = self.entries.len();
         Ok(())
     }
 

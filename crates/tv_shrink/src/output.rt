@@ -13,11 +13,11 @@ use tv_core::{Counts, SinkFault};
 use tv_files::Files;
 use tv_r1cs_write::StreamSink;
 
-// How many constraints were not dropped, and how many terms they have.
+/// How many constraints were not dropped, and how many terms they have.
 #[derive(Clone, Copy)]
-struct Tally {
+pub(crate) struct Tally {
     constraints: u32,
-    terms: u64,
+    pub(crate) terms: u64,
 }
 
 impl Tally {
@@ -35,8 +35,8 @@ impl Tally {
     }
 }
 
-// Counts the constraints that were not dropped, and their terms.
-fn count_rows(rows: &Rows, wires: u32) -> Tally
+/// Counts the constraints that were not dropped, and their terms.
+pub(crate) fn count_rows(rows: &Rows, wires: u32) -> Tally
     requires few { length rows.now < 2 ^ 32 }
     requires within { AreWithin wires rows.now }
     ensures constraints { result.constraints ≡ length (filter_map (λ row. row) rows.now) }

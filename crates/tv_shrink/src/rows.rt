@@ -4,7 +4,7 @@ ghost use Rattle.std.specs.Prelude.{◌≡◌, ◌+◌, ◌<◌, ◌++◌, [], �
 ghost use Rattle.std.specs.Prelude.{slice_index_or, slice_set, OnOk, OnErr, IfOk, IfErr};
 ghost use Rattle.std.specs.Option.{option_map};
 ghost use Rattle.tv_r1cs_read.specs.Rows.{constraint_of};
-ghost use Rattle.tv_shrink.specs.Answers.{wide_in, IsTooWide};
+ghost use Rattle.tv_shrink.specs.Answers.{start_row, wide_in, IsTooWide};
 ghost use Rattle.tv_shrink.specs.Renumbering.{moved_rows};
 ghost use Rattle.tv_core.specs.Normal.{normal_constraint};
 ghost use Rattle.tv_shrink.specs.Pass.{row_fits};
@@ -25,8 +25,7 @@ use tv_core::{F, Wire};
 ///
 /// Their terms lie in one vector, those of no two in one place. New ones lie over those that the
 /// constraint had, or, where they are more, after all others; those that no constraint has any more
-/// stay until `tidy` leaves them out. A constraint's begin before place 2^32; one after that counts
-/// as an allocation failure.
+/// stay until `tidy` leaves them out.
 #[derive(Drop)]
 pub(crate) struct Rows {
     alloc: Global,
@@ -79,11 +78,6 @@ impl Rows {
         Some(span.row(&self.terms))
     }
 
-    /// How many terms the constraints have, with those that none has any more.
-    pub(crate) fn terms(&self) -> usize {
-        self.terms.len()
-    }
-
     /// Drops the constraint at a place.
     pub(crate) fn remove(&mut self, at: usize)
         requires { at < length self.old }
@@ -92,19 +86,22 @@ impl Rows {
         self.spans[at] = None;
     }
 
-    /// Appends a constraint that was read, made normal; refused where a combination has more than
-    /// 128 terms then. `scratch` is for its use.
+    /// Appends a constraint that was read, made normal, unless it has no terms then; refused where
+    /// a combination has more than 128 then. `scratch` is for its use.
     pub(crate) fn add(
         &mut self,
         row: &tv_r1cs_read::Row,
         scratch: &mut Vec<(u32, F)>,
     ) -> Result<(), ShrinkFault>
         ensures rows { OnOk result (self.new ≡ self.old
-            ++ Some (normal_constraint (constraint_of row.now)) ∷ []) }
+            ++ start_row (normal_constraint (constraint_of row.now))) }
         ensures narrow { OnOk result (wide_in (constraint_of row.now) ≡ None) }
         ensures err { IfErr result (λ fault. IsTooWide fault (wide_in (constraint_of row.now))) }
     {
         let span = append_read(scratch, &mut self.terms, row)?;
+        if self.terms.len() == span.start {
+            return Ok(());
+        }
         self.spans.push(Some(span))?;
         self.wanted = self.terms.len();
         Ok(())

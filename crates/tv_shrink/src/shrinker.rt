@@ -14,6 +14,11 @@ use tv_r1cs_read::survey;
 /// The most terms of a system that is shrunk.
 pub const MOST_TERMS: u64 = 4_194_304;
 
+/// The number of that limit.
+pub fn terms_are_limited()
+    ensures { MOST_TERMS ≡ 4194304 }
+{}
+
 /// Shrinks the system in a file: one pass over its constraints, in which each linear one that has a
 /// private wire is solved for its greatest and dropped, if all others keep to 128 terms.
 ///
@@ -25,11 +30,12 @@ pub const MOST_TERMS: u64 = 4_194_304;
 /// no memory; then up to the first combination that is too wide.
 ///
 /// Memory is taken for the constraints as the pass makes them, which may be longer than those that
-/// were read, up to 128 terms a combination: 16 bytes for a term, 12 for a constraint, 8 for each
-/// term of a private wire, 4 for each wire that is replaced; and 8 for each term that was read, or
-/// for each wire where the file counts fewer. So memory is bounded by the terms, whatever their
-/// wires. What replacements leave over is cleared away after the turn with which there may be more
-/// of it than of the rest, or than of constraints and terms.
+/// were read, up to 128 terms a combination: 16 bytes for a term, 24 for a constraint, 16 for each
+/// term of a private wire, 4 for each wire that is replaced; and 12 for each term that was read, or
+/// for each wire where the file counts fewer. A constraint that has no terms takes none. So memory
+/// is bounded by the terms, whatever wires and constraints there are. What replacements leave over
+/// is cleared away after the turn with which there may be more of it than of the rest, or than of
+/// constraints and terms.
 ///
 /// A replacement costs as much as the constraints that it changes have terms, and a look at each
 /// constraint with a wire whose number differs from its number by a multiple of the lists. A turn

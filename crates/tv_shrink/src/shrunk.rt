@@ -3,9 +3,11 @@ ghost use Rattle.std.specs.Prelude.{◌≡◌, ◌+◌, ◌≤◌, ◌<◌, ◌^
 ghost use Rattle.tv_core.specs.Constraints.{Constraint};
 ghost use Rattle.tv_shrink.specs.Answers.{counted_system, start_rows, IsReady};
 ghost use Rattle.tv_shrink.specs.Shrunk.{shrink};
+ghost use Rattle.tv_shrink.specs.Tidy.{rows_terms, AreWithin};
 
 use crate::normal_system::NormalSystem;
 use crate::numbers::Numbers;
+use crate::output::count_rows;
 use crate::pass::Pass;
 use crate::rows::Rows;
 use crate::state::State;
@@ -54,6 +56,15 @@ impl Model for Shrunk {
         × AreWithin s.kept s.rows × (length s.rows < 2 ^ 32) };
 }
 
+// As many wires as constraints have terms, or all, if they are fewer.
+fn most_wires(rows: &Rows, wires: u32) -> u32
+    requires few { length rows.now < 2 ^ 32 }
+    requires within { AreWithin wires rows.now }
+    ensures { result ≤ rows_terms rows.now }
+{
+    count_rows(rows, wires).terms.min(u64::from(wires)) as u32
+}
+
 /// What is left once the pass has run, its wires numbered anew.
 pub(crate) fn settle(alloc: Global, system: NormalSystem) -> Result<Shrunk, AllocError>
     requires { IsReady system.counts system.rows }
@@ -62,12 +73,12 @@ pub(crate) fn settle(alloc: Global, system: NormalSystem) -> Result<Shrunk, Allo
 {
     let NormalSystem { rows, counts } = system;
     let publics = 1 + counts.outputs + counts.inputs;
-    let state = State::begin(alloc, rows, publics, counts.wires)?;
+    let most = most_wires(&rows, counts.wires);
+    let state = State::begin(alloc, rows, publics, most as usize + 1)?;
     let mut pass = Pass::new(alloc, state);
     pass.run()?;
     let (mut rows, gone) = pass.state.into_parts();
-    let table = rows.terms().min(counts.wires as usize) as u32;
-    let numbers = Numbers::of(alloc, gone, table)?;
+    let numbers = Numbers::of(alloc, gone, most)?;
     rows.renumber(&numbers);
     Ok(Shrunk {
         outputs: counts.outputs,

@@ -6,7 +6,7 @@ ghost use Rattle.std.specs.List.{list_all};
 ghost use Rattle.std.specs.Option.{option_map};
 ghost use Rattle.tv_shrink.specs.Pass.{dropped, row_fits, substituted};
 ghost use Rattle.tv_shrink.specs.Substitution.{replaced_in};
-ghost use Rattle.tv_shrink.specs.Tidy.{row_has, RowsAreNormal, RowIsNormal};
+ghost use Rattle.tv_shrink.specs.Tidy.{row_has, rows_terms, RowsAreNormal, RowIsNormal};
 
 use crate::occurrences::Occurrences;
 use crate::row::{Row, row_has};
@@ -44,21 +44,22 @@ impl Model for State {
 }
 
 impl State {
-    /// The start of a pass over these constraints, before any has had its turn.
+    /// The start of a pass over these constraints, before any has had its turn, with this number of
+    /// lists of rows.
     pub(crate) fn begin(
         alloc: Global,
         rows: Rows,
         publics: u32,
-        wires: u32,
+        lists: usize,
     ) -> Result<State, AllocError>
         requires normal { RowsAreNormal rows }
         requires few { length rows < 2 ^ 32 }
+        requires lists { (0 < lists) × (lists ≤ rows_terms rows + 1) }
         ensures { IfOk result (λ state. state ≡ record {
           publics = publics;
           pass = record { rows = rows; gone = [] };
         }) }
     {
-        let lists = lists_for(rows.terms(), wires);
         Ok(State {
             publics,
             gone: Vec::new(alloc),
@@ -191,12 +192,4 @@ impl State {
     {
         (self.rows, self.gone)
     }
-}
-
-// How many lists of rows a pass keeps: no more than there are terms or wires, but for one.
-fn lists_for(terms: usize, wires: u32) -> usize
-    ensures some { 0 < result }
-    ensures few { result ≤ terms + 1 }
-{
-    terms.min(wires as usize) + 1
 }

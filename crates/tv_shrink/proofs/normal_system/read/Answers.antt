@@ -1,15 +1,14 @@
-use Rattle.tv_core.proofs.Common.{◌≡◌, ◌<◌, ◌^◌, ◌++◌, ◌∷◌, Some, Ok, arith, sym, ap, subst, ◌∙◌, refl, rules, length, []}
-use Rattle.std.proofs.lemmas.List.{length_push}
+use Rattle.tv_core.proofs.Common.{◌≡◌, ◌<◌, ◌^◌, ◌++◌, ◌∷◌, Ok, arith, sym, ap, subst, ◌∙◌, refl, rules, length, length-append, []}
 use Rattle.std.proofs.lemmas.Option.{MatchOption-at_none, MatchOption-at_some}
 use Rattle.tv_files.specs.Outside.{Outside}
 use Rattle.tv_r1cs_read.specs.R1cs.{r1cs_system}
 use Rattle.tv_r1cs_read.specs.Rows.{constraint_of, IsOver}
 use Rattle.tv_container.proofs.Chain.{err_is}
-use Rattle.tv_shrink.specs.Answers.{counted_system, read_fault, FaultMeans, Halted, IsReady}
+use Rattle.tv_shrink.specs.Answers.{counted_system, read_fault, start_row, FaultMeans, Halted, IsReady}
 use Rattle.tv_core.specs.Normal.{normal_constraint}
 use Rattle.tv_shrink.specs.Tidy.{RowsAreNormal, AreWithin, RowIsWithin}
-use Rattle.tv_shrink.proofs.Elements.{each_pushed}
-use Rattle.tv_shrink.proofs.Read.{few_terms, halted, halts_err, left_falls, narrow_within, no_wide, pushed_normal, ready_as_read, start_more}
+use Rattle.tv_shrink.proofs.Read.{each_started, few_terms, length-start_row, halted, halts_err}
+use Rattle.tv_shrink.proofs.Read.{left_falls, narrow_within, no_wide, pushed_normal, ready_as_read, start_more}
 use Rattle.tv_shrink.proofs.Read.{read_means, wide_halted, wide_more, wide_read}
 use Rattle.tv_shrink.proofs.normal_system.read.Goals as goal
 
@@ -67,14 +66,14 @@ loop-scratch-preserved g c =
         counts.1,
         c.loop-scratch.invariant.counted,
         ap length c.in_ok-add.ensures.rows,
-        length_push c.loop-scratch.rows (Some (normal_constraint one)),
+        length-append c.loop-scratch.rows (start_row (normal_constraint one)),
+        length-start_row (normal_constraint one),
       );
       within =
           let wires = c.in-Ok.reader.progress.header.wires in
           let over : IsOver wires c.next_into.new.row = subst (λ header. IsOver header.wires c.next_into.new.row) c.loop-scratch.invariant.header counts.2 in
-          subst (AreWithin wires) (sym c.in_ok-add.ensures.rows)
-          (each_pushed (RowIsWithin wires) c.loop-scratch.rows (Some (normal_constraint one))
-          (narrow_within wires c.next_into.new.row over c.in_ok-add.ensures.narrow) c.loop-scratch.invariant.within);
+          each_started (RowIsWithin wires) c.loop-scratch.rows c.add.new.self (normal_constraint one) c.in_ok-add.ensures.rows
+          (narrow_within wires c.next_into.new.row over c.in_ok-add.ensures.narrow) c.loop-scratch.invariant.within;
       normal = pushed_normal c.loop-scratch.rows c.add.new.self one c.in_ok-add.ensures.rows c.loop-scratch.invariant.normal;
       place = λ file known.
           let before = c.loop-scratch.invariant.place file known in
@@ -82,7 +81,7 @@ loop-scratch-preserved g c =
           let next = MatchOption-at_none _ _ c.in_ok-next_into.ensures.reports (c.in_ok-next_into.ensures.steps.gives before.0 file on before.1) in (
             before.0 ++ one ∷ [],
             rw c.if-branch.true at next,
-            c.in_ok-add.ensures.rows ∙ ap (λ rows. rows ++ Some (normal_constraint one) ∷ []) before.2 ∙ sym (start_more before.0 one),
+            c.in_ok-add.ensures.rows ∙ ap (λ rows. rows ++ start_row (normal_constraint one)) before.2 ∙ sym (start_more before.0 one),
             wide_more before.0 one before.3 ∙ c.in_ok-add.ensures.narrow,
           );
     }

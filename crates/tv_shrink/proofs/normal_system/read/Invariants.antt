@@ -1,4 +1,4 @@
-use Rattle.tv_core.proofs.Common.{◌≡◌, ◌+◌, List, None, length, Constraint}
+use Rattle.tv_core.proofs.Common.{◌≡◌, ◌+◌, ◌≤◌, List, None, length, Constraint}
 use Rattle.tv_container.specs.Reading.{Known}
 use Rattle.tv_r1cs_read.specs.Places.{IsAt}
 use Rattle.tv_shrink.specs.Answers.{first_wide, start_rows}
@@ -12,7 +12,7 @@ invariant-loop-scratch g l = record {
   name : l.reader.name.now ≡ l.fn.name;
   on : l.reader.progress.stopped ≡ None;
   header : l.reader.progress.header ≡ l.initial.reader.progress.header;
-  counted : length l.rows + l.reader.progress.left ≡ l.initial.reader.progress.left;
+  counted : length l.rows + l.reader.progress.left ≤ l.initial.reader.progress.left;
   within : AreWithin l.initial.reader.progress.header.wires l.rows;
   normal : RowsAreNormal l.rows;
   place : Known (g.D.Files.seen l.fn.files) l.fn.name (λ file.

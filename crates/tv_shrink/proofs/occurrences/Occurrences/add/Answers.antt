@@ -19,13 +19,19 @@ head : (c : After-self-1) → (c.index-next.result.now ≤ length c.self.inside.
 head c = head_inside c.self.inside.entries.items c.self.inside.heads.items (c.args.wire % c.len.result) c.index-next.result.now c.self.invariant (inside c)
     c.index-next.ensures
 
-last : (c : After-self-1) → c.in-Ok.number ≡ length c.self.inside.entries.items + 1
-last c = omega arith
+last : (c : After-self-1) → c.len-2.result ≡ length c.self.inside.entries.items + 1
+last c =
+    omega (
+      arith,
+      c.len-2.ensures,
+      ap length c.in_ok-push.ensures.items,
+      length_push c.self.inside.entries.items (record { row = c.args.row; next = c.index-next.result.now }),
+    )
 
 pub invariant_of-self-2 : goal.invariant_of-self-2
 invariant_of-self-2 c =
     let w = (goal.at.invariant_of-self-2 c).After-self-1 in
-    linked_set c.push.new.self.items c.self.inside.heads.items (c.args.wire % c.len.result) c.in-Ok.number
+    linked_set c.push.new.self.items c.self.inside.heads.items (c.args.wire % c.len.result) c.len-2.result
     (omega (
       arith,
       last w,
@@ -39,9 +45,9 @@ invariant_of-self-2 c =
 pub returns-clause-has : goal.returns-clause-has
 returns-clause-has c =
     filed_here c.self.inside.entries.items c.push.new.self.items c.self.inside.heads.items c.args.row c.index-next.result.now (c.args.wire % c.len.result)
-    c.in-Ok.number c.self.invariant c.in_ok-push.ensures.items (inside c) (last c) c.args.wire (ap (λ n. c.args.wire % n) (sym (sized c)))
+    c.len-2.result c.self.invariant c.in_ok-push.ensures.items (inside c) (last c) c.args.wire (ap (λ n. c.args.wire % n) (sym (sized c)))
 
 pub returns-clause-more : goal.returns-clause-more
 returns-clause-more c = λ w i e.
     filed_more c.self.inside.entries.items c.push.new.self.items c.self.inside.heads.items c.args.row c.index-next.result.now (c.args.wire % c.len.result)
-    c.in-Ok.number c.self.invariant c.in_ok-push.ensures.items (inside c) (last c) c.args.self.now w i c.self.view_is (head c).1 e
+    c.len-2.result c.self.invariant c.in_ok-push.ensures.items (inside c) (last c) c.args.self.now w i c.self.view_is (head c).1 e
