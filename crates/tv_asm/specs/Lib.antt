@@ -2,6 +2,7 @@ pub mod Assembly
 pub mod Header
 pub mod Instruction
 pub mod Labels
+pub mod Language
 pub mod Laws
 pub mod Line
 pub mod Operand

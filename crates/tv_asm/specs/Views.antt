@@ -1,9 +1,10 @@
 -- What the code's own types stand for, for clauses inside the crate; no public clause cites them.
 use Rattle.std.specs.Prelude.{◌≡◌, ℕ, ◌+◌, ◌*◌, ◌/◌, ◌%◌, ◌^◌, nat_lt, Bool, false, if◌then◌else◌, List, [], length, Option, Some, None, Result, Ok, Err}
-use Rattle.std.specs.HashMap.{get_by}
+use Rattle.std.specs.BTreeMap.{get_by}
+use Rattle.std.specs.Ordering.{nat_cmp}
+use Rattle.std.specs.Cmp.Lexicographic.{slice_cmp}
 use Rattle.std.specs.List.{before_first, count_by}
 use Rattle.std.specs.Option.{option_map, option_map_or}
-use Rattle.std.specs.Str.{bytes_eq}
 use Rattle.tv_asm.specs.Assembly.{Context}
 use Rattle.tv_asm.specs.Labels.{defines, has_instruction, is_defined}
 use Rattle.tv_asm.specs.Line.{Said}
@@ -18,7 +19,7 @@ said_by s = record { label = option_map (λ l. l.now) s.label; instruction = s.i
 
 -- where a label is noted
 abbrev pub place_in : Labels → List ℕ → Option Place
-place_in labels name = get_by (λ k. bytes_eq name k.now) labels.places
+place_in labels name = get_by (λ k. slice_cmp nat_cmp name k.now) labels.places
 
 -- the first line of these that defines a label, and the address that it has there
 unfoldable pub first_place : ℕ → List (List ℕ) → List ℕ → Option Place

@@ -23,8 +23,8 @@ use tv_word::Words;
 ///
 /// The first line at fault is reported, by its number from 1: `Bad` with its first reason, in the
 /// order of `AsmWhy`, or `TooMany` where its words would be more than `most` with those before. The
-/// text is walked twice, first for its labels, in time linear in its length: labels are looked up
-/// by their hashes, whose seed is fixed.
+/// text is walked twice, first for its labels, which are looked up in an ordered map: no text takes
+/// more time than its length and a logarithm of the number of its labels make.
 pub fn assemble<const W: u32>(alloc: Global, text: &[u8], most: u32) -> Result<Words, AsmFault>
     requires width { IsWidth W }
     requires text { W ≡ 16 → width_of text.now ≡ 16 }

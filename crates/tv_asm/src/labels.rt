@@ -10,7 +10,7 @@ ghost use Rattle.tv_asm.specs.Views.{AreLabelsOf, address_in, is_earlier, place_
 use crate::line::{Statement, code_of};
 use crate::text::next_line;
 use std::alloc::{AllocError, Global};
-use std::collections::HashMap;
+use std::collections::BTreeMap;
 use tv_word::arithmetic::sum;
 
 /// Where a label is defined first, and the address that it has.
@@ -23,17 +23,18 @@ pub(crate) struct Place {
 /// The labels of a text, each with its place.
 #[derive(Drop)]
 pub(crate) struct Labels<'a> {
-    places: HashMap<&'a [u8], Place>,
+    places: BTreeMap<&'a [u8], Place>,
 }
 
 impl<'a> Labels<'a> {
-    /// Returns the labels of all lines of a text. Takes time linear in the text.
+    /// Returns the labels of all lines of a text. Whatever the labels are, takes the time that it
+    /// takes to compare each of them with a logarithm of their number of others.
     pub(crate) fn of<const W: u32>(alloc: Global, text: &'a [u8]) -> Result<Labels<'a>, AllocError>
         requires { IsWidth W }
         ensures { IfOk result (λ labels. AreLabelsOf W labels (lines text.now)) }
     {
         let mut labels = Labels {
-            places: HashMap::new(alloc),
+            places: BTreeMap::new(alloc),
         };
         let mut place = Place {
             line: 0,

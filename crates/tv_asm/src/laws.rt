@@ -1,5 +1,16 @@
 //! What holds of every text and its image, by the definitions alone.
+ghost use Rattle.tv_asm.specs.Language.{LabelsCountInstructions, TextsMeanTheirLines};
 ghost use Rattle.tv_asm.specs.Laws.{ImagesAreShort, ImagesAreWords, TextsOf16AreRefused};
+
+/// A text is its lines. Its image is the words of the lines' instructions, one after another, where
+/// no line is at fault. Else the first line at fault is named, with the first of its faults in this
+/// order: a byte that is no text, a bad header, a bad label, a label that an earlier line defines,
+/// an unknown name, the number of operands, the operands from left to right, and too many words. A
+/// label's address is the number of instructions before it, times their bytes.
+pub fn texts_mean_their_lines()
+    ensures labels { LabelsCountInstructions }
+    ensures lines { TextsMeanTheirLines }
+{}
 
 /// An image has at most as many words as are allowed.
 pub fn images_are_short()

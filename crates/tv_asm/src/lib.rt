@@ -20,4 +20,6 @@ mod text;
 pub use assembler::assemble;
 pub use fault::{AsmFault, AsmWhy};
 pub use header::width;
-pub use laws::{images_are_short, images_are_words, texts_of_16_are_refused};
+pub use laws::{
+    images_are_short, images_are_words, texts_mean_their_lines, texts_of_16_are_refused,
+};
