@@ -5,6 +5,8 @@ use Rattle.tv_plan.specs.declared.status.Status.{Status}
 use Rattle.tv_plan.specs.declared.status.Status.TheVariants.{FileFault, Memory}
 use Rattle.tinyr1cs.specs.declared.complaint.Complaint.{Complaint}
 use Rattle.tinyr1cs.specs.declared.complaint.Complaint.TheVariants as complaint
+use Rattle.tinyr1cs.specs.declared.words.NoWords.{NoWords}
+use Rattle.tinyr1cs.specs.declared.words.NoWords.TheVariants.{NoStreams, NotUtf8, NoMemory}
 
 -- what a complaint says
 abbrev pub text_of : Complaint → List ℕ
@@ -17,3 +19,9 @@ abbrev pub complaint_text : List (List ℕ) → Status → Option (List ℕ)
 complaint_text words (FileFault word) = Some (codes "file fault: " ++ escaped (unwrap_or (slice_get words word) (codes "output")))
 complaint_text words Memory = Some (codes "no memory")
 complaint_text words _ = None
+
+-- the line where there are no words
+abbrev pub no_words_text : NoWords → List ℕ
+no_words_text NoStreams = codes "file fault: " ++ escaped (codes "/")
+no_words_text NotUtf8 = codes "not UTF-8"
+no_words_text NoMemory = codes "no memory"

@@ -1,1 +1,2 @@
 pub mod Complaint
+pub mod Ends

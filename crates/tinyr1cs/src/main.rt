@@ -1,67 +1,75 @@
 //! The program `tinyr1cs`: `tv_top::command` on the words of the command line and the system's
 //! files, `DiskFiles` of `tv_disk`. What a command promises is `command`'s contract, over any
-//! files. Here stand the ends that come before a command: status 8 where the folder that keeps
-//! closed streams' numbers from files can't be opened, 14 for a word that isn't UTF-8, and 9 for an
-//! allocation failure. What it prints is tested by `tests/commands.sh`.
+//! files, and `conduct` ends by the exit code of the status that it returned. `ended.rt` has the
+//! ends that come before a command. What is printed is tested by `tests/commands.sh`.
 #![tactic(auto)]
 
 ghost use Rattle.std.specs.Prelude.{◌≡◌};
 ghost use Rattle.std.specs.Process.{exit_status};
-ghost use Rattle.tv_plan.specs.Status.{code_of};
+ghost use Rattle.tinyr1cs.specs.Ends.{EndsBy};
 
 mod complaint;
+mod ended;
+mod help;
+mod screen;
 mod words;
 
 use complaint::Complaint;
-use std::io::{ErrorKind, IsTerminal};
+use ended::{Ended, run};
+use screen::Screen;
+use std::alloc::Global;
+use std::io;
+use std::io::IsTerminal;
 use std::process::ExitCode;
+use std::rt::Files;
 use tv_disk::{DiskFiles, occupy};
-use tv_top::{Status, command};
-
-/// The exit code where a word isn't UTF-8. The others are those of `Status`.
-const NOT_UTF8: u8 = 14;
-
-/// The exit code where the standard streams' numbers can't be kept from files.
-const FILE_FAULT: u8 = 8;
+use words::{NoWords, collect};
 
 fn main(rt: HostRuntime) -> ExitCode {
-    match occupy(&rt) {
-        Ok(_held) => run(rt),
-        Err(_) => {
-            complain(&rt, Complaint::FileFault("/"));
-            ExitCode::from(FILE_FAULT)
-        }
-    }
+    let held = occupy(&rt);
+    let words = match held {
+        Ok(_) => collect(&rt),
+        Err(_) => Err(NoWords::NoStreams),
+    };
+    let screen = Screen::of(&rt, rt.stderr().is_terminal());
+    conduct(rt.alloc(), rt, screen, &words)
 }
 
-/// Runs the command that the words name.
-fn run(rt: HostRuntime) -> ExitCode {
-    match words::collect(&rt) {
-        Ok(words) => {
-            let mut files = DiskFiles::new(rt.alloc(), rt, rt.stderr().is_terminal());
-            let status = command(rt.alloc(), &words, &mut files);
-            files.clear();
-            end(&rt, &words, status)
-        }
-        Err(error) if error.kind() == ErrorKind::OutOfMemory => end(&rt, &[], Status::Memory),
-        Err(_) => {
-            complain(&rt, Complaint::NotUtf8);
-            ExitCode::from(NOT_UTF8)
-        }
-    }
-}
-
-/// Ends the program by a status, and says on standard error what the command could say nowhere.
-fn end(rt: &impl Eprint, words: &[String], status: Status) -> ExitCode
-    ensures { exit_status result ≡ code_of status }
+/// Does what the words ask for over the system's files, and ends the program.
+fn conduct<R: Files + Print + Eprint + Copy + Drop>(
+    alloc: Global,
+    rt: R,
+    screen: Screen,
+    words: &Result<Vec<String>, NoWords>,
+) -> ExitCode
+    ensures { EndsBy words.now (exit_status result) }
 {
-    if let Some(complaint) = Complaint::of(status, words) {
-        complain(rt, complaint);
-    }
-    ExitCode::from(status.code())
+    let mut files = DiskFiles::new(alloc, rt, screen.is_wide);
+    let ended = run(alloc, words, &mut files);
+    files.clear();
+    end(&rt, screen, ended, files.reason())
 }
 
-/// Where standard error fails too, only the exit code is left.
-fn complain(rt: &impl Eprint, complaint: Complaint<'_>) {
+/// Ends the program by its exit code, and says on standard error what is left to say. Where
+/// standard error fails too, only the code is left.
+fn end(rt: &impl Eprint, screen: Screen, ended: Ended<'_>, reason: Option<io::Error>) -> ExitCode
+    ensures { exit_status result ≡ ended.entry.code }
+{
+    if let Some(complaint) = ended.complaint {
+        complain(rt, complaint, reason);
+    }
+    if let Some(help) = ended.help
+        && (screen.is_terminal || !help.is_hint())
+    {
+        let _ = rt.eprintln(help);
+    }
+    ExitCode::from(ended.code)
+}
+
+/// Says a complaint, and why the file failed that it names.
+fn complain(rt: &impl Eprint, complaint: Complaint<'_>, reason: Option<io::Error>) {
     let _ = rt.eprintln(complaint);
+    if let (Complaint::FileFault(_), Some(reason)) = (complaint, reason) {
+        let _ = rt.eprintln(reason);
+    }
 }

@@ -1,7 +1,19 @@
 //! The words after the program's name.
 use std::alloc::Global;
+use std::env;
 use std::env::{Env, FillError};
-use std::{env, io};
+use std::io::ErrorKind;
+
+/// Why there are no words of a command.
+#[derive(Clone, Copy)]
+pub enum NoWords {
+    /// The standard streams' numbers can't be kept from files.
+    NoStreams,
+    /// One isn't UTF-8.
+    NotUtf8,
+    /// Memory ran out.
+    NoMemory,
+}
 
 /// The arguments of a runtime but the first, the program's name, which need not be UTF-8.
 #[derive(Drop)]
@@ -29,7 +41,16 @@ impl<R: AllocGlobal> Alloc for AfterName<'_, R> {
     }
 }
 
-/// Copies the words. One that isn't UTF-8 is an error, and so is an allocation failure.
-pub fn collect<R: Env + AllocGlobal>(rt: &R) -> io::Result<Vec<String>> {
-    Ok(env::args(&AfterName(rt))?.collect(rt.alloc())?)
+/// Copies the words.
+pub fn collect<R: Env + AllocGlobal>(rt: &R) -> Result<Vec<String>, NoWords> {
+    let after_name = AfterName(rt);
+    let words = env::args(&after_name).map_err(|error| why(error.kind()))?;
+    words.collect(rt.alloc()).map_err(|_| NoWords::NoMemory)
+}
+
+fn why(kind: ErrorKind) -> NoWords {
+    match kind {
+        ErrorKind::OutOfMemory => NoWords::NoMemory,
+        _ => NoWords::NotUtf8,
+    }
 }

@@ -5,6 +5,9 @@ use std::test::*;
 use tv_files::MemFiles;
 use tv_top::{Status, command};
 
+/// A program that answers by its two reads of the auxiliary tape.
+pub(crate) const TWO_READS: &str = "read r1, 1\nread r2, 1\nsub r3, r1, r2\nanswer r3";
+
 /// What the names that are written hold before.
 pub(crate) const BEFORE: &[u8] = b"before";
 

@@ -1,13 +1,10 @@
 //! A fault of each file call in turn: what the commands return, and what the names hold then.
 
-use crate::calls::{BEFORE, WRITTEN, call, files_of, set_all};
+use crate::calls::{BEFORE, TWO_READS, WRITTEN, call, files_of, set_all};
 use std::alloc::Global;
 use std::test::*;
 use tv_files::MemFiles;
 use tv_top::Status;
-
-// Answers by its two reads of the auxiliary tape.
-const TWO_READS: &str = "read r1, 1\nread r2, 1\nsub r3, r1, r2\nanswer r3";
 
 // The image of `store.w 65536, r3`.
 const IMAGE: [u8; 8] = [0, 0, 0xc0, 0xe4, 0, 0, 1, 0];
@@ -106,7 +103,49 @@ fn each_call_fails(rt: HostRuntime) -> Result<(), Fail> {
     for (words, faults) in CALLS {
         assert!(rt; all_fail(alloc, &made, words, faults)?, "{words}");
     }
+    for cut in CUTS {
+        assert!(rt; leaves(alloc, &made, cut)?, "{} {}", cut.0, cut.3);
+    }
+    let absent = call(alloc, &mut made, "check s w absent")?;
+    assert!(rt; matches!(absent, Status::FileFault { word: 3 }));
     Ok(())
+}
+
+// A command, how many calls would come after the one that fails, the word of the fault, a name with
+// what it then holds, and what was printed.
+type Cut = (
+    &'static str,
+    u64,
+    u64,
+    &'static str,
+    &'static [u8],
+    &'static [u8],
+);
+
+const EXTRACT: &str = "extract answer 0 1 w tape.out aux.out";
+
+// An append or a print that fails takes the first half of its bytes.
+const CUTS: [Cut; 6] = [
+    ("asm answer out", 0, 2, "out", &[0, 0, 0, 0xfc], b""),
+    ("asm answer out", 1, 2, "out", BEFORE, b""),
+    ("check s w public", 0, 4, "out", BEFORE, b"ye"),
+    (EXTRACT, 0, 7, "aux.out", b"", b"answer 0 "),
+    (EXTRACT, 1, 6, "tape.out", b"", b""),
+    (EXTRACT, 1, 6, "aux.out", BEFORE, b""),
+];
+
+// Whether a call that fails leaves this.
+fn leaves(alloc: Global, made: &MemFiles, cut: Cut) -> Result<bool, Fail> {
+    let (words, after, wanted, name, held, said) = cut;
+    let mut whole = files(alloc, made)?;
+    let status = call(alloc, &mut whole, words)?;
+    let mut files = files(alloc, made)?;
+    files.fail_at(whole.calls().saturating_sub(after))?;
+    let Status::FileFault { word } = call(alloc, &mut files, words)? else {
+        return Ok(false);
+    };
+    let left = files.bytes_of(name) == Some(held) && files.said_bytes() == said;
+    Ok(status.code() == 0 && word == wanted && left)
 }
 
 // A command, its exit code, and how many calls it makes: a file is read until a read returns

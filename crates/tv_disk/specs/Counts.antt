@@ -30,8 +30,12 @@ with_fault Reading counts = record counts { read_faults = one_more counts.read_f
 with_fault Writing counts = record counts { write_faults = one_more counts.write_faults }
 with_fault Saying counts = record counts { say_faults = one_more counts.say_faults }
 
--- the counts after a call of this kind that returned this: a refusal raises one of them
+-- the counts after a call of this kind that was refused so: one of them is raised
+abbrev pub after_refusal : Call → FileRefusal → RefusalCounts → RefusalCounts
+after_refusal call Failed counts = with_fault call counts
+after_refusal call Memory counts = record counts { wants = one_more counts.wants }
+
+-- the counts after a call of this kind that returned this
 abbrev pub after : {A : Type 0} → Call → Result A FileRefusal → RefusalCounts → RefusalCounts
 after call (Ok _) counts = counts
-after call (Err Failed) counts = with_fault call counts
-after call (Err Memory) counts = record counts { wants = one_more counts.wants }
+after call (Err why) counts = after_refusal call why counts

@@ -3,7 +3,7 @@ ghost use Rattle.std.specs.Prelude.{◌≡◌, ◌≤◌};
 ghost use Rattle.std.specs.Result.{result_ok};
 ghost use Rattle.tv_files.specs.MemFiles.{one_more};
 ghost use Rattle.tv_files.specs.Outside.{NoneFell};
-ghost use Rattle.tv_disk.specs.Counts.{outside_of, after, zeros};
+ghost use Rattle.tv_disk.specs.Counts.{outside_of, after, after_refusal, zeros};
 
 use std::io;
 use std::io::ErrorKind;
@@ -46,28 +46,42 @@ impl RefusalCounts {
         }
     }
 
-    /// Counts what a call ended with, and turns an error into a refusal: an allocation failure
-    /// raises `wants`, any other error the count of faults of this kind of call.
-    pub fn settle<T>(&mut self, call: Call, outcome: io::Result<T>) -> Result<T, FileRefusal>
+    /// Counts what a call ended with, and turns an error into a refusal, which `last` keeps: an
+    /// allocation failure raises `wants`, any other error the count of faults of this kind of call.
+    pub fn settle<T>(
+        &mut self,
+        call: Call,
+        outcome: io::Result<T>,
+        last: &mut Option<io::Error>,
+    ) -> Result<T, FileRefusal>
         ensures value { result_ok result ≡ result_ok outcome }
         ensures counts { self.new ≡ after call result self.old }
         ensures later { NoneFell (outside_of self.old) (outside_of self.new) }
     {
         match outcome {
             Ok(value) => Ok(value),
-            Err(error) if error.kind() == ErrorKind::OutOfMemory => {
-                raise(&mut self.wants);
-                Err(FileRefusal::Memory)
-            }
-            Err(_) => {
-                match call {
-                    Call::Reading => raise(&mut self.read_faults),
-                    Call::Writing => raise(&mut self.write_faults),
-                    Call::Saying => raise(&mut self.say_faults),
-                }
-                Err(FileRefusal::Failed)
+            Err(error) => {
+                *last = Some(error);
+                Err(self.count(call, error.kind()))
             }
         }
+    }
+
+    /// Counts an error of this kind.
+    fn count(&mut self, call: Call, kind: ErrorKind) -> FileRefusal
+        ensures counts { self.new ≡ after_refusal call result self.old }
+        ensures later { NoneFell (outside_of self.old) (outside_of self.new) }
+    {
+        if kind == ErrorKind::OutOfMemory {
+            raise(&mut self.wants);
+            return FileRefusal::Memory;
+        }
+        match call {
+            Call::Reading => raise(&mut self.read_faults),
+            Call::Writing => raise(&mut self.write_faults),
+            Call::Saying => raise(&mut self.say_faults),
+        }
+        FileRefusal::Failed
     }
 }
 

@@ -22,6 +22,7 @@ pub struct DiskFiles<R: rt::Files + Drop> {
     rt: R,
     open: OpenFiles<R>,
     counts: RefusalCounts,
+    last: Option<io::Error>,
     progress: Progress,
 }
 
@@ -35,7 +36,7 @@ impl<R: rt::Files + Drop> Model for DiskFiles<R> {
 
 impl<R: rt::Files + Drop> DiskFiles<R> {
     /// Opens nothing yet, with all counts 0. Where `has_terminal`, standard error is a terminal,
-    /// and shows how much of a file is written.
+    /// and shows how much of a file is read or written.
     pub fn new(alloc: Global, rt: R, has_terminal: bool) -> DiskFiles<R>
         ensures { result ≡ zeros }
     {
@@ -43,6 +44,7 @@ impl<R: rt::Files + Drop> DiskFiles<R> {
             rt,
             open: OpenFiles::new(alloc),
             counts: RefusalCounts::new(),
+            last: None,
             progress: Progress::new(has_terminal),
         }
     }
@@ -53,10 +55,16 @@ impl<R: rt::Files + Drop> DiskFiles<R> {
     {
         self.counts
     }
+
+    /// Returns why the last call that was refused was so, as the system says it. No clause speaks
+    /// of it.
+    pub fn reason(&self) -> Option<io::Error> {
+        self.last
+    }
 }
 
 impl<R: rt::Files + Eprint + Drop> DiskFiles<R> {
-    /// Clears the line that shows how much is written, where one stands.
+    /// Clears the line that shows how much is read or written, where one stands.
     pub fn clear(&mut self)
         ensures { self.new ≡ self.old }
     {
@@ -73,8 +81,14 @@ impl<R: rt::Files + Print + Eprint + Drop> Files for DiskFiles<R> {
             name.now at into.new result }
         ensures counts { self.new ≡ after Reading result self.old }
     {
+        if at == 0 {
+            self.progress.begin();
+        }
         let outcome = self.open.read(&self.rt, name, at, into);
-        self.counts.settle(Call::Reading, outcome)
+        if let Ok(count) = &outcome {
+            self.progress.add(&self.rt, name, *count);
+        }
+        self.counts.settle(Call::Reading, outcome, &mut self.last)
     }
 
     #[tactic(auto, using(crate::proofs::Known::creates))]
@@ -84,7 +98,7 @@ impl<R: rt::Files + Print + Eprint + Drop> Files for DiskFiles<R> {
     {
         self.progress.begin();
         let outcome = self.open.create(&self.rt, name);
-        self.counts.settle(Call::Writing, outcome)
+        self.counts.settle(Call::Writing, outcome, &mut self.last)
     }
 
     #[tactic(auto, using(crate::proofs::Known::appends))]
@@ -97,7 +111,7 @@ impl<R: rt::Files + Print + Eprint + Drop> Files for DiskFiles<R> {
         if outcome.is_ok() {
             self.progress.add(&self.rt, name, bytes.len());
         }
-        self.counts.settle(Call::Writing, outcome)
+        self.counts.settle(Call::Writing, outcome, &mut self.last)
     }
 
     #[tactic(auto, using(crate::proofs::Known::says))]
@@ -107,7 +121,7 @@ impl<R: rt::Files + Print + Eprint + Drop> Files for DiskFiles<R> {
     {
         self.progress.clear(&self.rt);
         let outcome = print(&self.rt, bytes);
-        self.counts.settle(Call::Saying, outcome)
+        self.counts.settle(Call::Saying, outcome, &mut self.last)
     }
 }
 

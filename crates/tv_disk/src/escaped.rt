@@ -6,7 +6,8 @@ ghost use Rattle.tv_disk.specs.Escaped.{escaped, shown_char};
 
 use std::fmt;
 
-/// A name whose ASCII control characters are shown as `\xNN`, so that it stays on its line.
+/// A name whose control characters, of ASCII and those from U+0080 to U+009F, are shown as `\xNN`,
+/// so that it stays on its line and gives a terminal no order.
 #[derive(Clone, Copy)]
 pub struct Escaped<'a>(pub &'a str);
 
@@ -24,7 +25,7 @@ impl fmt::Display for Escaped<'_> {
 fn write_shown<W: fmt::Write>(c: char, f: &mut fmt::Formatter<W>) -> fmt::Result
     ensures { WritesOnOk W.write_str_gives f.old result (shown_char c) f.new }
 {
-    if !c.is_ascii_control() {
+    if !c.is_control() {
         return f.write_char(c);
     }
     let code = c as u32;

@@ -1,21 +1,22 @@
-//! How much of a file is written, shown on a terminal.
+//! How much of a file is read or written, shown on a terminal.
 use std::fmt;
 
-/// A line is shown each time that this many bytes more were written.
+/// A line is shown each time that this many bytes more were read or written.
 const STEP: u64 = 64_000_000;
 
-/// Names of more bytes than this aren't shown.
-const LONGEST: usize = 40;
+/// Names of more bytes than this aren't shown, so that a line has at most 38 characters, and stays
+/// on its line on each terminal of 40 columns.
+const LONGEST: usize = 22;
 
-/// Takes the line away: as many blanks as the longest line has, and a few more.
-const CLEARED: &str = "\r                                                                \r";
+/// Takes a line away: 38 blanks.
+const CLEARED: &str = "\r                                      \r";
 
-/// What is written of a file, shown by one line on standard error, which is overwritten each `STEP`
-/// bytes and cleared at the end. A standard error that fails changes nothing.
+/// What is read or written of a file, shown by one line on standard error, which is overwritten
+/// each `STEP` bytes and cleared at the end. A standard error that fails changes nothing.
 #[derive(Clone, Copy)]
 pub struct Progress {
-    /// How many bytes of the file were written.
-    written: u64,
+    /// How many bytes of the file were read or written.
+    done: u64,
     /// How many there are when the line is shown next; `None` where none is to be shown.
     due: Option<u64>,
     is_shown: bool,
@@ -32,7 +33,7 @@ impl Progress {
     /// Shows lines where `has_terminal`: where standard error is a terminal.
     pub fn new(has_terminal: bool) -> Progress {
         Progress {
-            written: 0,
+            done: 0,
             due: has_terminal.then_some(STEP),
             is_shown: false,
         }
@@ -40,26 +41,27 @@ impl Progress {
 
     /// A file begins.
     pub fn begin(&mut self) {
-        self.written = 0;
+        self.done = 0;
         self.due = self.due.map(|_| STEP);
     }
 
-    /// Some bytes more were written to a file.
+    /// Some bytes more of a file were read or written.
     pub fn add(&mut self, err: &impl Eprint, name: &str, count: usize) {
-        self.written = self.written.saturating_add(count as u64);
-        if self.due.is_some_and(|due| self.written >= due) {
-            self.tell(err, name);
+        self.done = self.done.saturating_add(count as u64);
+        if self.due.is_some_and(|due| self.done >= due) {
+            self.show(err, name);
         }
     }
 
-    /// Shows how much is written, and sets when it is shown next.
+    /// Shows how much is done in the place of the line that stands, and sets when it is shown next.
     #[cold]
-    fn tell(&mut self, err: &impl Eprint, name: &str) {
-        self.due = Some(self.written.saturating_add(STEP));
+    fn show(&mut self, err: &impl Eprint, name: &str) {
+        self.due = Some(self.done.saturating_add(STEP));
+        self.clear(err);
         self.is_shown = true;
         let _ = err.eprint(Line {
             name: shown_name(name),
-            bytes: self.written,
+            bytes: self.done,
         });
     }
 
