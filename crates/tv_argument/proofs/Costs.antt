@@ -5,7 +5,7 @@ use Rattle.tv_benes.proofs.Measures.{lengths, terms, turns_cost}
 use Rattle.tv_benes.proofs.Placed.{network_from}
 use Rattle.tv_benes.specs.Network.{network_of}
 use Rattle.tv_benes.specs.Places.{output, output_wire}
-use Rattle.tv_benes.specs.declared.places.Outputs.{Outputs}
+use Rattle.tv_benes.specs.declared.places.Ends.{Ends}
 use Rattle.tv_core.specs.declared.lines.LineLc.{LineLc}
 use Rattle.tv_lines.proofs.PredecessorCosts.{follows_cost}
 use Rattle.tv_lines.proofs.StartsLaws.{boot_line_sizes, least_line_sizes}
@@ -18,7 +18,7 @@ use Rattle.tv_argument.specs.declared.kinds.Kind.{Kind}
 use Rattle.tv_argument.specs.declared.kinds.Kind.TheVariants.{ZeroOld, Least, Boot, Within}
 
 -- ---- a check
-check_count : (kind : Kind) (last : Outputs) (i next : ℕ) (line : LineLc) → length (check_of kind (output last i) line next).list ≡ check_added kind
+check_count : (kind : Kind) (last : Ends) (i next : ℕ) (line : LineLc) → length (check_of kind (output last i) line next).list ≡ check_added kind
 unfolding pure
 check_count ZeroOld last i next line = refl
 check_count Least last i next line = least_line_sizes.constraints line next

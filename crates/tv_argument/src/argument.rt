@@ -17,7 +17,7 @@ ghost use Rattle.tv_argument.specs.Order.{argument_values};
 
 use crate::kinds::Kind;
 use crate::lines::{CompactLines, LineItems};
-use tv_benes::{Net, Outputs, routing_network};
+use tv_benes::{Ends, Net, routing_network};
 use tv_core::{Pair, Put, Scratch, Sink};
 use tv_lines::{CompactLine, boot_line, follows, least_line};
 
@@ -45,7 +45,7 @@ pub fn memory<S: Sink, L: CompactLines>(s: &mut S, net: Net, k: u32, lines: &L) 
 }
 
 // Checks each line against what the network brings to its place.
-fn check_all<S: Sink, L: CompactLines>(s: &mut S, lines: &L, last: &Outputs) -> Put<()>
+fn check_all<S: Sink, L: CompactLines>(s: &mut S, lines: &L, last: &Ends) -> Put<()>
     requires checks { AreShort (L.checks lines.now) (length (L.lines lines.now)) }
     requires room { Room S.meaning s.old
         (sum_below (L.checks lines.now).count (λ i. check_made ((L.checks lines.now).kind i)))

@@ -2,13 +2,13 @@
 //! and where they are moved along. Item i is the pair of the numbers i and i + 1,000,000.
 ghost use Rattle.std.specs.Prelude.{◌≡◌, ◌≤◌, ◌+◌, ◌*◌, ◌^◌, false, IfOk};
 ghost use Rattle.tv_benes.specs.Levels.{network_wires};
-ghost use Rattle.tv_benes.specs.Places.{AreBelow, wires_at};
+ghost use Rattle.tv_benes.specs.Places.{wires_at};
 
 use crate::gadgets::values_in;
 use std::alloc::Global;
 use std::test::Fail;
 use tv_benes::{
-    Inputs, Net, Outputs, fill_network, fill_routing_network, network, network_wires, route_items,
+    Inputs, Net, fill_network, fill_routing_network, network, network_wires, route_items,
     routing_network,
 };
 use tv_core::{F, Lc, ListValues, Pair, PairNum, Put, TestSink, Wire, give_values};
@@ -69,18 +69,11 @@ fn places(items: [PairNum; 4]) -> Result<[u64; 4], Fail> {
 
 // Which items the outputs of a network are over an assignment: an error where a constraint does not
 // hold.
-fn come_out(z: &[F], tests: &TestSink<'_>, outputs: &Outputs) -> Result<[u64; 4], Fail>
-    requires { AreBelow outputs.now 4 (2 ^ 32) }
-{
+fn come_out(z: &[F], tests: &TestSink<'_>, outputs: [Pair; 4]) -> Result<[u64; 4], Fail> {
     if tests.held() < tests.tested() {
         return Err(Fail::from("a constraint does not hold"));
     }
-    places([
-        values_in(&outputs.at(0), z),
-        values_in(&outputs.at(1), z),
-        values_in(&outputs.at(2), z),
-        values_in(&outputs.at(3), z),
-    ])
+    places(outputs.map(|output| values_in(&output, z)))
 }
 
 /// Which item comes out at each place of Benes' network.
@@ -89,7 +82,8 @@ pub fn sent_by_benes(alloc: Global, bits: &[bool]) -> Result<[u64; 4], Fail> {
     fill_network(&mut values, 2, &items(), bits)?;
     let mut tests = TestSink::over(values.as_slice(), 9);
     let outputs = network(&mut tests, 2, &Four)?;
-    come_out(values.as_slice(), &tests, &outputs)
+    let outputs = [outputs.at(0), outputs.at(1), outputs.at(2), outputs.at(3)];
+    come_out(values.as_slice(), &tests, outputs)
 }
 
 /// The same of Waksman's.
@@ -98,7 +92,8 @@ pub fn sent_by_waksman(alloc: Global, bits: &[bool]) -> Result<[u64; 4], Fail> {
     fill_network_w(&mut values, 2, &items(), bits)?;
     let mut tests = TestSink::over(values.as_slice(), 9);
     let outputs = network_w(&mut tests, 2, &Four)?;
-    come_out(values.as_slice(), &tests, &outputs)
+    let outputs = [outputs.at(0), outputs.at(1), outputs.at(2), outputs.at(3)];
+    come_out(values.as_slice(), &tests, outputs)
 }
 
 /// Which item stands at each place once they are moved along.

@@ -20,7 +20,7 @@ use Rattle.tv_benes.specs.Network.{switch_of, column_of, last_column_of, level_o
 use Rattle.tv_benes.specs.Places.{wires_at, fifth, row, switch_wire, ItemsOf, item_in, to_upper_of, to_lower_of, output, output_wire, sum_at}
 use Rattle.tv_benes.specs.Places.{last_pair, AreBelow}
 use Rattle.tv_benes.specs.Through.{switches, missing}
-use Rattle.tv_benes.specs.declared.places.Outputs.{Outputs}
+use Rattle.tv_benes.specs.declared.places.Ends.{Ends}
 use Rattle.tv_benes.specs.declared.places.Sums.{Sums}
 use Rattle.tv_benes.specs.declared.shape.Form.{Form}
 use Rattle.tv_benes.specs.declared.shape.Form.TheVariants.{Bound, Open}
@@ -120,7 +120,7 @@ passed_first net Open h w at from has =
     )
 
 -- ---- last columns
-open_last : (net : Net) (n a : ℕ) (u l : Outputs) (next : ℕ) → AreBelow u n a → AreFrom l n a
+open_last : (net : Net) (n a : ℕ) (u l : Ends) (next : ℕ) → AreBelow u n a → AreFrom l n a
     → terms_in (column_of Open (n - missing net) (last_pair net Open u l) next).list ≡ last_terms net Open n
 open_last net n a u l next below from =
     let m = missing net in

@@ -1,7 +1,7 @@
 mod Bounds
 mod ColumnChain
 pub mod CostLaws
-pub mod Ends
+pub mod EndLaws
 pub mod Measures
 pub mod Most
 mod Moved

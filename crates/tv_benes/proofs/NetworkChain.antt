@@ -10,7 +10,7 @@ use Rattle.tv_benes.specs.Levels.{width, other, innermost, level_wires}
 use Rattle.tv_benes.specs.Network.{column_of, last_column_of, level_of}
 use Rattle.tv_benes.specs.Places.{ItemsOf, item_in, to_upper_of, to_lower_of, EndsOf, two_ends, AreBelow}
 use Rattle.tv_benes.specs.Through.{missing}
-use Rattle.tv_benes.specs.declared.places.Outputs.{Outputs}
+use Rattle.tv_benes.specs.declared.places.Ends.{Ends}
 use Rattle.tv_benes.specs.declared.shape.Form.{Form}
 use Rattle.tv_benes.specs.declared.shape.Form.TheVariants.{Bound, Open}
 use Rattle.tv_benes.specs.declared.shape.Net.{Net}
@@ -133,7 +133,7 @@ module _ {S : Type 0} (m : Meaning S) (net : Net) (form : Form) {h n : ℕ} (ite
           emits_in _ _ _ _ _ (omega (arith, e)) (omega (arith, e)) (subst (λ c. Emits m old new c all all result) is
           (then_in _ _ _ _ _ (emits_here whole at) (then_in _ _ _ _ _ column (then_in _ _ _ _ _ p (then_in _ _ _ _ _ q last)))))
 
-pub ends_below : {S : Type 0} (m : Meaning S) (net : Net) (item : ℕ → Pair) (h : ℕ) (old new : S) (k l : ℕ) (result : Result Outputs SinkFault)
+pub ends_below : {S : Type 0} (m : Meaning S) (net : Net) (item : ℕ → Pair) (h : ℕ) (old new : S) (k l : ℕ) (result : Result Ends SinkFault)
     → Emits m old new (level_of net Bound h item) k l result
     → IfOk result (λ o. AreBelow o (2 ^ suc h) (m.wires new))
 ends_below m net item h old new k l (Ok o) p = put_ends m net Bound h item tt p

@@ -16,7 +16,7 @@ use Rattle.tv_bits.proofs.BitLaws.{bit_sound, bit_cases}
 use Rattle.tv_bits.proofs.SelectLaws.{select_sound, selected-zero, selected-one}
 use Rattle.tv_bits.specs.Bit.{IsBit, bit_of}
 use Rattle.tv_bits.specs.Select.{selected, pick_of}
-use Rattle.tv_benes.proofs.Ends.{upper_item, lower_item, end_passes, end_made, end_two}
+use Rattle.tv_benes.proofs.EndLaws.{upper_item, lower_item, end_passes, end_made, end_two}
 use Rattle.tv_benes.proofs.Sources.{last_even, last_odd}
 use Rattle.tv_benes.proofs.ThroughLaws.{switches-suc, missing_small, one_switch, last_bit-same, kept_bit, left_bit, alternating-same, joined-same}
 use Rattle.tv_benes.proofs.ThroughLaws.{through-same, alternating_map}

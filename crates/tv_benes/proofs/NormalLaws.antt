@@ -5,7 +5,7 @@ use Rattle.std.proofs.lemmas.Nat.{pow_pos}
 use Rattle.tv_bits.proofs.NormalLaws.{select_normal}
 use Rattle.tv_bits.specs.Bit.{bit_of}
 use Rattle.tv_bits.specs.Select.{pick_of}
-use Rattle.tv_benes.proofs.Ends.{sum_passes, sum_made}
+use Rattle.tv_benes.proofs.EndLaws.{sum_passes, sum_made}
 use Rattle.tv_benes.proofs.NetworkLaws.{column_next, level_next}
 use Rattle.tv_benes.proofs.Placed.{IsPlaced, AreSums, level_placed}
 use Rattle.tv_benes.proofs.Sources.{last_even}

@@ -1,14 +1,14 @@
 -- Which wires the outputs of a network are: its own, and in Benes' network those of two items that pass a switch.
 use Rattle.tv_core.proofs.Common.{◌≡◌, ℕ, zero, suc, ◌+◌, ◌-◌, ◌*◌, ◌/◌, ◌%◌, ◌^◌, ◌<◌, ◌≤◌, sym, ap, subst, arith, inl, inr, ◌⊎◌, cases_eq, here, pure, ◌>>=◌}
 use Rattle.std.proofs.lemmas.Nat.{pow_pos}
-use Rattle.tv_benes.proofs.Ends.{output_zero, output_one, output_other}
+use Rattle.tv_benes.proofs.EndLaws.{output_zero, output_one, output_other}
 use Rattle.tv_benes.proofs.NetworkLaws.{column_next, level_next}
 use Rattle.tv_benes.proofs.Sizes.{HasItems, level_below}
 use Rattle.tv_benes.proofs.ThroughLaws.{twice, missing_small, alternating_keeps}
 use Rattle.tv_benes.specs.Network.{column_of, last_column_of, level_of, network_of}
 use Rattle.tv_benes.specs.Places.{fifth, row, ItemsOf, to_upper_of, to_lower_of, output_wire, column_outputs, lone, EndsOf, last_ends, last_pair, two_ends}
 use Rattle.tv_benes.specs.Through.{missing, alternating}
-use Rattle.tv_benes.specs.declared.places.Outputs.{Outputs}
+use Rattle.tv_benes.specs.declared.places.Ends.{Ends}
 use Rattle.tv_benes.specs.declared.places.Sums.{Sums}
 use Rattle.tv_benes.specs.declared.shape.Form.{Form}
 use Rattle.tv_benes.specs.declared.shape.Form.TheVariants.{Bound, Open}
@@ -30,14 +30,14 @@ pub record AreSums (net : Net) (n w next : ℕ) (o : Sums) (end : ℕ) : Type 0 
   pub lower : (j : ℕ) → missing net ≤ j → j < n → IsPlaced (output_wire o.lower j) w next o.others
 
 -- the outputs of a bound level
-abbrev pub AreFrom : Outputs → ℕ → ℕ → Type 0
+abbrev pub AreFrom : Ends → ℕ → ℕ → Type 0
 AreFrom o count next = (i : ℕ) → i < count → next ≤ output_wire o i
 
 abbrev pub HasPlaces : Net → (form : Form) → ℕ → ItemsOf form → ℕ → EndsOf form → ℕ → Type 0
 HasPlaces net Bound h items next o end = AreFrom o (2 ^ suc h) next
 HasPlaces net Open h w next o end = AreSums net (2 ^ h) w next o end
 
-outputs_from : (o : Outputs) (n next : ℕ) → next ≤ o.first → next ≤ o.second → next ≤ o.others → AreFrom o n next
+outputs_from : (o : Ends) (n next : ℕ) → next ≤ o.first → next ≤ o.second → next ≤ o.others → AreFrom o n next
 outputs_from o n next first second others i within = elim (cases_eq i 0) [
   | inl none ↦ subst (λ w. next ≤ w) (sym (output_zero o i none)) first
   | inr some ↦ elim (cases_eq i 1) [

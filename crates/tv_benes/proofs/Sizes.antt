@@ -3,7 +3,7 @@ use Rattle.tv_core.proofs.Common.{◌≡◌, mod-lt, ℕ, zero, suc, ◌+◌, �
 use Rattle.tv_core.proofs.Common.{inr, cases_eq, cases_lt, here, pure, ◌>>=◌, InField}
 use Rattle.std.proofs.lemmas.List.Elements.{All-nil, All-cons, All-append}
 use Rattle.std.proofs.lemmas.Nat.{pow_pos}
-use Rattle.tv_benes.proofs.Ends.{output_zero, output_one, output_other, sum_passes, sum_made}
+use Rattle.tv_benes.proofs.EndLaws.{output_zero, output_one, output_other, sum_passes, sum_made}
 use Rattle.tv_benes.proofs.NetworkComplete.{level_values-length}
 use Rattle.tv_benes.proofs.NetworkLaws.{column_next, level_next}
 use Rattle.tv_benes.proofs.ThroughLaws.{twice, missing_small, alternating_keeps, upper_keeps, lower_keeps, through_keeps}
@@ -12,7 +12,7 @@ use Rattle.tv_benes.specs.Network.{column_of, level_of, last_column_of, product,
 use Rattle.tv_benes.specs.Places.{wires_at, fifth, row, switch_wire, first_of, second_of, passed_to, ItemsOf, to_upper_of, to_lower_of, output, output_wire}
 use Rattle.tv_benes.specs.Places.{column_outputs, sum_at, EndsOf, two_ends, last_ends, last_pair, ArePairsMade, AreBelow, IsPairMade}
 use Rattle.tv_benes.specs.Through.{switches, missing, from, to_upper, to_lower, alternating, through}
-use Rattle.tv_benes.specs.declared.places.Outputs.{Outputs}
+use Rattle.tv_benes.specs.declared.places.Ends.{Ends}
 use Rattle.tv_benes.specs.declared.places.Sums.{Sums}
 use Rattle.tv_benes.specs.declared.shape.Form.{Form}
 use Rattle.tv_benes.specs.declared.shape.Form.TheVariants.{Bound, Open}
@@ -23,7 +23,7 @@ use Rattle.tv_core.specs.declared.lines.Pair.{Pair}
 use Rattle.tv_core.specs.declared.lines.PairNum.{PairNum}
 
 -- ---- outputs that are wires
-outputs_below : (o : Outputs) (n end : ℕ) → o.first + 1 < end → o.second + 1 < end → o.others + 5 * n ≤ end → AreBelow o (2 * (n + 1)) end
+outputs_below : (o : Ends) (n end : ℕ) → o.first + 1 < end → o.second + 1 < end → o.others + 5 * n ≤ end → AreBelow o (2 * (n + 1)) end
 outputs_below o n end first second others i within = elim (cases_eq i 0) [
   | inl none ↦ subst (λ w. w + 1 < end) (sym (output_zero o i none)) first
   | inr some ↦ elim (cases_eq i 1) [
@@ -33,7 +33,7 @@ outputs_below o n end first second others i within = elim (cases_eq i 0) [
   ]
 ]
 
-pub below_later : (o : Outputs) (n a b : ℕ) → a ≤ b → AreBelow o n a → AreBelow o n b
+pub below_later : (o : Ends) (n a b : ℕ) → a ≤ b → AreBelow o n a → AreBelow o n b
 below_later o n a b more below i within = let at = below i within in omega arith
 
 -- ---- pairs that are made of wires below a number

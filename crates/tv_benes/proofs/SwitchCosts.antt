@@ -3,7 +3,7 @@ use Rattle.tv_core.proofs.Common.{◌≡◌, ◌≢◌, ℕ, ◌+◌, ◌-◌, �
 use Rattle.tv_core.proofs.Common.{arith, inl, inr, fresh, put, pure, ◌>>=◌, wire, less, Combination, terms_in, IsNormal, normal}
 use Rattle.tv_bits.specs.Bit.{bit_of}
 use Rattle.tv_bits.specs.Select.{pick_of}
-use Rattle.tv_benes.proofs.Ends.{sum_passes, sum_made}
+use Rattle.tv_benes.proofs.EndLaws.{sum_passes, sum_made}
 use Rattle.tv_benes.proofs.NormalLaws.{wire_normal}
 use Rattle.tv_benes.proofs.Placed.{IsPlaced, AreSums}
 use Rattle.tv_benes.specs.Costs.{number_terms, switch_terms}

@@ -2,6 +2,7 @@ pub mod Costs
 pub mod Items
 pub mod Levels
 pub mod Network
+pub mod OutputLists
 pub mod Places
 pub mod Through
 pub use Rattle.tv_core.specs.Combinations

@@ -3,7 +3,7 @@ use Rattle.std.specs.Prelude.{◌≡◌, ℕ, zero, suc, ◌+◌, ◌-◌, ◌*�
 use Rattle.tv_benes.specs.Levels.{other, innermost, network_wires}
 use Rattle.tv_benes.specs.Places.{bit_place, ItemsOf, item_in, to_upper_of, to_lower_of, EndsOf, output, two_ends, last_ends, last_pair, IsNormalPair, AreBelow}
 use Rattle.tv_benes.specs.Through.{switches, missing, from, passed, to_upper, to_lower, through, last_item}
-use Rattle.tv_benes.specs.declared.places.Outputs.{Outputs}
+use Rattle.tv_benes.specs.declared.places.Ends.{Ends}
 use Rattle.tv_benes.specs.declared.shape.Form.{Form}
 use Rattle.tv_benes.specs.declared.shape.Form.TheVariants.{Bound, Open}
 use Rattle.tv_benes.specs.declared.shape.Net.{Net}
@@ -75,7 +75,7 @@ level_of net form (suc h) item = do
   last_column_of net form (suc h) upper lower
 
 -- a network of level h on items; it returns its outputs
-abbrev pub network_of : Net → ℕ → (ℕ → Pair) → Circuit Outputs
+abbrev pub network_of : Net → ℕ → (ℕ → Pair) → Circuit Ends
 network_of net h item = level_of net Bound h item
 
 -- ---- the values
@@ -118,7 +118,7 @@ abbrev pub bit_in : List ℕ → Net → ℕ → ℕ → ℕ → Bool
 bit_in z net h first j = slice_index z (bit_place net Bound h first j) == 1
 
 -- what an assignment that satisfies the constraints has: 0 or 1 at each switch, and at the outputs what goes through
-pub record IsNetwork (z : List ℕ) (net : Net) (h first : ℕ) (item : ℕ → Pair) (last : Outputs) : Type 0 where
+pub record IsNetwork (z : List ℕ) (net : Net) (h first : ℕ) (item : ℕ → Pair) (last : Ends) : Type 0 where
   pub bits : (j : ℕ) → j < switches net h → IsBit (slice_index z (bit_place net Bound h first j))
   pub outputs : (i : ℕ) → i < 2 ^ suc h → pair_value z (output last i) ≡ through net h (bit_in z net h first) (λ j. pair_value z (item j)) i
 

@@ -4,7 +4,7 @@ use Rattle.tv_benes.specs.Levels.{width, other, level_wires}
 use Rattle.tv_benes.specs.Through.{switches, alternating, missing}
 use Rattle.tv_benes.specs.declared.places.BoundItems.{BoundItems}
 use Rattle.tv_benes.specs.declared.places.BoundItems.TheVariants.{Whole, Within}
-use Rattle.tv_benes.specs.declared.places.Outputs.{Outputs}
+use Rattle.tv_benes.specs.declared.places.Ends.{Ends}
 use Rattle.tv_benes.specs.declared.places.Sums.{Sums}
 use Rattle.tv_benes.specs.declared.shape.Form.{Form}
 use Rattle.tv_benes.specs.declared.shape.Form.TheVariants.{Bound, Open}
@@ -89,20 +89,20 @@ bound_count count (Within from first lower) = 2 ^ 30
 
 -- ---- the outputs of a bound level, which are wires
 -- the first wire of output i
-abbrev pub output_wire : Outputs → ℕ → ℕ
+abbrev pub output_wire : Ends → ℕ → ℕ
 output_wire o i = if i == 0 then o.first else if i == 1 then o.second else alternating (fifth (o.others + 1)) (fifth (o.others + 3)) (i - 2)
 
 -- output i
-abbrev pub output : Outputs → ℕ → Pair
+abbrev pub output : Ends → ℕ → Pair
 output o i = wires_at (output_wire o i)
 
 -- the outputs of a whole column whose wires begin at g
-abbrev pub column_outputs : ℕ → Outputs
+abbrev pub column_outputs : ℕ → Ends
 column_outputs g = record { first = g + 1; second = g + 3; others = g + 5 }
 
 -- ---- the outputs of an open level: those of the two networks within, less the products and with them
 -- outputs of which only the first counts
-abbrev pub lone : ℕ → Outputs
+abbrev pub lone : ℕ → Ends
 lone w = record { first = w; second = w; others = w }
 
 -- output i: switch i / 2 of a whole last column has number i / 2 - missing; what it lacks passes
@@ -114,7 +114,7 @@ sum_at net o i =
 
 -- ---- the outputs of either
 abbrev pub EndsOf : Form → Type 0
-EndsOf Bound = Outputs
+EndsOf Bound = Ends
 EndsOf Open = Sums
 
 abbrev pub end_in : Net → (form : Form) → EndsOf form → ℕ → Pair
@@ -134,7 +134,7 @@ last_ends Waksman Bound g upper lower = record { first = upper.upper.first; seco
 last_ends net Open g upper lower = record { upper = upper; lower = lower; others = g }
 
 -- the first wire of item i of an open last column: outputs of the two networks in turn, but for those that pass
-abbrev pub last_wire : Net → Outputs → Outputs → ℕ → ℕ
+abbrev pub last_wire : Net → Ends → Ends → ℕ → ℕ
 last_wire net upper lower i = alternating (output_wire upper) (output_wire lower) (i + 2 * missing net)
 
 -- item i of a last column: outputs of the two networks in turn, but for those that pass
@@ -164,5 +164,5 @@ pub record IsNormalPair (pair : Pair) (wires : ℕ) : Type 0 where
   pub second_below : top pair.second ≤ wires
 
 -- the outputs below count are wires below `wires`
-abbrev pub AreBelow : Outputs → ℕ → ℕ → Type 0
+abbrev pub AreBelow : Ends → ℕ → ℕ → Type 0
 AreBelow o count wires = (i : ℕ) → i < count → output_wire o i + 1 < wires

@@ -13,6 +13,7 @@ mod items;
 mod laws;
 mod networks;
 mod open_switches;
+mod outputs;
 mod places;
 mod routing;
 mod shape;
@@ -24,7 +25,8 @@ pub use laws::{
     places_determine_outputs, through_is_a_permutation,
 };
 pub use networks::{network, routing_network};
-pub use places::{Inputs, Outputs};
+pub use outputs::Outputs;
+pub use places::{Ends, Inputs};
 pub use routing::route_items;
 pub use shape::{Net, network_wires, routing_switches, switches};
 pub use values::{fill_network, fill_routing_network};

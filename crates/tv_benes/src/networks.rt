@@ -2,6 +2,7 @@
 ghost use Rattle.std.specs.Prelude.{◌≡◌, ◌+◌, ◌-◌, ◌*◌, ◌^◌, ◌<◌, ◌≤◌, IfOk};
 ghost use Rattle.tv_benes.specs.Levels.{level_wires, network_wires};
 ghost use Rattle.tv_benes.specs.Network.{last_column_of, level_of, network_of};
+ghost use Rattle.tv_benes.specs.OutputLists.{ends_in};
 ghost use Rattle.tv_benes.specs.Places.{bound_pair, bound_count, sum_at, ArePairsMade};
 ghost use Rattle.tv_benes.specs.Places.{AreBelow};
 ghost use Rattle.tv_benes.specs.Through.{missing};
@@ -10,9 +11,10 @@ ghost use Rattle.tv_benes.specs.declared.shape.Net.TheVariants.{Benes};
 ghost use Rattle.tv_core.specs.Sinks.{Emits, Room};
 
 use crate::columns::{Buffers, bound_column, open_column};
+use crate::outputs::Outputs;
 use crate::places::{
-    BoundItems, Inputs, LastItems, LastSums, Outputs, Sums, SwitchRow, column_outputs,
-    last_outputs, lone,
+    BoundItems, Ends, Inputs, LastItems, LastSums, Sums, SwitchRow, column_outputs, last_outputs,
+    lone,
 };
 use crate::shape::Net;
 use tv_core::{Put, Sink, Wire};
@@ -30,14 +32,16 @@ pub fn network<S: Sink, I: Inputs>(s: &mut S, k: u32, inputs: &I) -> Put<Outputs
     requires made { ArePairsMade (I.pair inputs.now) (2 ^ k) (S.meaning.wires s.old) }
     ensures emits { Emits S.meaning s.old s.new
         (network_of Benes (k - 1) (I.pair inputs.now))
-        (network_wires Benes (k - 1)) (network_wires Benes (k - 1)) result }
-    ensures below { IfOk result (λ outputs. AreBelow outputs (2 ^ k) (S.meaning.wires s.new)) }
+        (network_wires Benes (k - 1)) (network_wires Benes (k - 1)) (ends_in result) }
+    ensures count { IfOk result (λ outputs. outputs.count ≡ 2 ^ k) }
+    ensures below { IfOk result (λ outputs. AreBelow outputs.ends (2 ^ k) (S.meaning.wires s.new)) }
 {
-    routing_network(s, Net::Benes, k, inputs)
+    let ends = routing_network(s, Net::Benes, k, inputs)?;
+    Ok(Outputs::new(ends, power(k)))
 }
 
-/// Either network on 2^`k` items, `k` being from 1 to 31.
-pub fn routing_network<S: Sink, I: Inputs>(s: &mut S, net: Net, k: u32, inputs: &I) -> Put<Outputs>
+/// Either network on 2^`k` items, `k` being from 1 to 31. It returns where its outputs stand.
+pub fn routing_network<S: Sink, I: Inputs>(s: &mut S, net: Net, k: u32, inputs: &I) -> Put<Ends>
     requires some { 1 ≤ k }
     requires few { k ≤ 31 }
     requires room { Room S.meaning s.old (network_wires net (k - 1)) (network_wires net (k - 1)) }
@@ -65,7 +69,7 @@ fn bound_network<S: Sink, I: Inputs>(
     net: Net,
     h: u32,
     items: &BoundItems<'_, I>,
-) -> Put<Outputs>
+) -> Put<Ends>
     requires level { h < 31 }
     requires room { Room S.meaning s.old (level_wires net Bound h) (level_wires net Bound h) }
     requires count { 2 * 2 ^ h ≤ bound_count I.count items.now }
@@ -149,7 +153,7 @@ fn bound_last<S: Sink>(
     h: u32,
     upper: &Sums,
     lower: &Sums,
-) -> Put<Outputs>
+) -> Put<Ends>
     requires level { h < 31 }
     requires some { 1 ≤ h }
     requires room { Room S.meaning s.old (5 * (2 ^ h - missing net)) (5 * (2 ^ h - missing net)) }
@@ -171,8 +175,8 @@ fn open_last<S: Sink>(
     buffers: &mut Buffers,
     net: Net,
     h: u32,
-    upper: &Outputs,
-    lower: &Outputs,
+    upper: &Ends,
+    lower: &Ends,
 ) -> Put<Sums>
     requires level { h < 30 }
     requires some { 1 ≤ h }

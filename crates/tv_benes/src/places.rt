@@ -10,7 +10,7 @@ ghost use Rattle.tv_benes.specs.Through.{alternating, missing};
 ghost use Rattle.tv_benes.specs.declared.shape.Form.TheVariants.{Bound, Open};
 
 use crate::shape::Net;
-use tv_core::{F, Lc, Pair, Wire};
+use tv_core::{F, Pair, Wire};
 
 /// The items that go into a network, indexed by position: contracts see them as the function
 /// `pair`, for places below `count`. A network asks for each of them once.
@@ -140,9 +140,9 @@ impl Pairs for SwitchRow {
 }
 
 /// Where the outputs of a network stand. Each is two wires that follow each other, and the outputs
-/// from the third on stand regularly, five wires a switch. It takes no memory.
+/// from the third on stand regularly, five wires a switch.
 #[derive(Clone, Copy, PartialEq, Eq, Debug)]
-pub struct Outputs {
+pub struct Ends {
     /// The first wire of output 0.
     pub first: Wire,
     /// The first wire of output 1.
@@ -151,21 +151,9 @@ pub struct Outputs {
     pub others: Wire,
 }
 
-impl Outputs {
-    /// Output `i`, two wires. They are wires of the network for each place below its number of
-    /// items, as the clause `below` of `network` says.
-    pub fn at(&self, i: u32) -> Pair
-        requires { output_wire self.now i + 1 < 2 ^ 32 }
-        ensures { result ≡ output self.now i }
-    {
-        let first = self.wire(i);
-        Pair {
-            first: Lc::wire(first),
-            second: Lc::wire(first.offset(1)),
-        }
-    }
-
-    /// Sets `item` to output `i`.
+impl Ends {
+    /// Sets `item` to output `i`. These are wires of the network for each place below its number of
+    /// items, as the clause `below` of `routing_network` says.
     pub fn set_item(&self, i: u32, item: &mut Pair)
         requires { output_wire self.now i + 1 < 2 ^ 32 }
         ensures { item.new ≡ output self.now i }
@@ -190,11 +178,11 @@ impl Outputs {
 }
 
 // The outputs of a column whose wires begin at `first` and that has all its switches.
-pub(crate) fn column_outputs(first: Wire) -> Outputs
+pub(crate) fn column_outputs(first: Wire) -> Ends
     requires { first + 5 < 2 ^ 32 }
     ensures { result ≡ column_outputs first }
 {
-    Outputs {
+    Ends {
         first: first.offset(1),
         second: first.offset(3),
         others: first.offset(5),
@@ -205,8 +193,8 @@ pub(crate) fn column_outputs(first: Wire) -> Outputs
 // switches of its last column make, and with them. The wires of that column begin at `others`.
 #[derive(Drop)]
 pub(crate) struct Sums {
-    pub(crate) upper: Outputs,
-    pub(crate) lower: Outputs,
+    pub(crate) upper: Ends,
+    pub(crate) lower: Ends,
     pub(crate) others: Wire,
 }
 
@@ -245,10 +233,10 @@ impl Sums {
 }
 
 // Outputs of which only the first counts.
-pub(crate) fn lone(w: Wire) -> Outputs
+pub(crate) fn lone(w: Wire) -> Ends
     ensures { result ≡ lone w }
 {
-    Outputs {
+    Ends {
         first: w,
         second: w,
         others: w,
@@ -256,13 +244,13 @@ pub(crate) fn lone(w: Wire) -> Outputs
 }
 
 // The outputs of a bound last column whose wires begin at `first`.
-pub(crate) fn last_outputs(net: Net, first: Wire, upper: &Sums, lower: &Sums) -> Outputs
+pub(crate) fn last_outputs(net: Net, first: Wire, upper: &Sums, lower: &Sums) -> Ends
     requires { first + 5 < 2 ^ 32 }
     ensures { result ≡ last_ends net Bound first upper.now lower.now }
 {
     match net {
         Net::Benes => column_outputs(first),
-        Net::Waksman => Outputs {
+        Net::Waksman => Ends {
             first: upper.upper.first,
             second: lower.upper.first,
             others: first,
@@ -297,8 +285,8 @@ impl<'a> Pairs for LastSums<'a> {
 #[derive(Drop)]
 pub(crate) struct LastItems<'a> {
     pub(crate) net: Net,
-    pub(crate) upper: &'a Outputs,
-    pub(crate) lower: &'a Outputs,
+    pub(crate) upper: &'a Ends,
+    pub(crate) lower: &'a Ends,
 }
 
 impl<'a> Places for LastItems<'a> {

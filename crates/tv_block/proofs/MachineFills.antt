@@ -1,6 +1,6 @@
 -- That an assignment with the values of a machine's step meets the block, and shows that step.
 use Rattle.tv_core.proofs.Common.{◌≡◌, ℕ, ◌+◌, ◌/◌, ◌^◌, ◌<◌, ◌==◌, Bool, true, false, if◌then◌else◌, List, [], ◌∷◌, length, nat_lt, refl, ◌∙◌, ap, subst}
-use Rattle.tv_core.proofs.Common.{arith, Option, Some, None, eqb-true, nat_tests, Line}
+use Rattle.tv_core.proofs.Common.{arith, map, Option, Some, None, eqb-true, nat_tests, Line}
 use Rattle.std.proofs.Common.{◌&&◌, ◌||◌}
 use Rattle.std.specs.Prelude.{slice_get, is_some}
 use Rattle.std.proofs.lemmas.Bool.{and_parts}
@@ -10,7 +10,8 @@ use Rattle.tv_isa.specs.Opcodes.{among, memory_ops}
 use Rattle.tv_isa.specs.declared.instr.Instr.{Instr}
 use Rattle.tv_isa.specs.declared.opcode.TheConstants.{STORE_B, STORE_W, READ}
 use Rattle.tv_mem.proofs.WordLaws.{words_are_small}
-use Rattle.tv_numbers.proofs.ShownLaws.{machine_shows, seen_in_range}
+use Rattle.tv_numbers.proofs.ShownLaws.{machine_shows, olds_are_shown, seen_in_range}
+use Rattle.tv_numbers.specs.Laws.{AtNumbers}
 use Rattle.tv_numbers.specs.Numbers.{other_word, operand_word, touches, takes_primary, asks, with_byte_in, data_line}
 use Rattle.tv_numbers.specs.Numbers.{Transition, transition_of, lines_in, step_words}
 use Rattle.tv_numbers.specs.Shown.{data_word_of, head_at, tail_at, data_at}
@@ -27,7 +28,7 @@ use Rattle.tv_inputs.specs.declared.records.StateWires.{StateWires}
 use Rattle.tv_block.proofs.BlockLaws.{block_complete}
 use Rattle.tv_block.proofs.PartLaws.{among_each}
 use Rattle.tv_block.proofs.SizeFills.{block_sizes}
-use Rattle.tv_block.specs.Complete.{MachineStepIsMet, MachineValuesFit}
+use Rattle.tv_block.specs.Complete.{OldsAreMet, MachineStepIsMet, MachineValuesFit}
 use Rattle.tv_block.specs.Values.{row_low}
 
 -- ---- the data word
@@ -91,6 +92,27 @@ same_lines w n time v head tail o takes =
     let b = transition_of w n time v (step_words head tail o takes) in
     ap (λ (line : Line). b.first ∷ b.second ∷ line ∷ []) (same_data_line w n v (decode w head tail) o (time + 2))
 
+-- ---- old words that are passed
+-- the word that is taken is the one that was passed
+word_shown : (w n : ℕ) (v : View) (head tail old : ℕ) (word : Option ℕ) → AtNumbers w n v (step_words head tail (data_word_of old word) (is_some word))
+    → (u : ℕ) → word ≡ Some u → row_low w v (decode w head tail) (data_word_of old word) ≡ u
+word_shown w n v head tail old word range u e =
+    low_is_data w v (decode w head tail) (data_word_of old word) (asks_data v (decode w head tail) (range.asked (ap is_some e))) ∙ ap (data_word_of old) e
+
+pub olds_met : OldsAreMet
+olds_met w width z n state time next head tail old word given =
+    let v = state_in z state in
+    let o = data_word_of old word in
+    let is = block_complete w width z n state time next head tail o (is_some word) given.early given.assigns given.range given.has in
+    let old_of : Line → ℕ = λ line. line.old in
+    record {
+      met = is.met;
+      olds = ap (λ b. map old_of (lines_in b)) is.shows ∙ ap (map old_of) (same_lines w n time v head tail o (is_some word))
+          ∙ ap (λ k. head ∷ tail ∷ k ∷ []) (olds_are_shown w n time v head tail old word given.range given.null);
+      takes = ap (λ (b : Transition). b.takes) is.shows;
+      same = λ u e. ap (λ (b : Transition). b.word) is.shows ∙ word_shown w n v head tail old word given.range u e;
+    }
+
 -- ---- the machine's step
 pub machine_step_met : MachineStepIsMet
 machine_step_met w width z x state time next st word given =
@@ -98,7 +120,6 @@ machine_step_met w width z x state time next st word given =
     let v = state_in z state in
     let head = head_at w st in
     let tail = tail_at w st in
-    let i : Instr = decode w head tail in
     let o = data_at w x time st word in
     let shown = machine_shows w width x time v st word given.short given.range given.matches given.machine given.defined given.may in
     let is = block_complete w width z n state time next head tail o (is_some word) given.early given.assigns shown.range given.has in
@@ -106,9 +127,7 @@ machine_step_met w width z x state time next st word given =
       met = is.met;
       lines = ap lines_in is.shows ∙ same_lines w n time v head tail o (is_some word) ∙ shown.lines;
       takes = ap (λ (b : Transition). b.takes) is.shows;
-      same = λ u e.
-          ap (λ (b : Transition). b.word) is.shows ∙ low_is_data w v i o (asks_data v i (shown.range.asked (ap is_some e)))
-          ∙ ap (data_word_of (traced_line w n st (time + 2)).old) e;
+      same = λ u e. ap (λ (b : Transition). b.word) is.shows ∙ word_shown w n v head tail (traced_line w n st (time + 2)).old word shown.range u e;
     }
 
 -- ---- sizes

@@ -1,9 +1,8 @@
 -- That the values of a step are one number of the field for each of its wires.
 use Rattle.tv_core.proofs.Common.{◌≡◌, ℕ, ◌+◌, ◌-◌, ◌*◌, ◌/◌, ◌%◌, ◌^◌, ◌<◌, ◌==◌, Bool, if◌then◌else◌, List, [], ◌∷◌, ◌++◌, length, refl, sym, ◌∙◌, ap, ap₂}
-use Rattle.tv_core.proofs.Common.{arith, slice_index, cond_both, InField-cons, Circuit, pure, ◌>>=◌, InField, IsWidth, flag_of}
+use Rattle.tv_core.proofs.Common.{arith, slice_index, cond_both, InField-cons, Circuit, pure, ◌>>=◌, InField, IsWidth}
 use Rattle.std.proofs.Common.{length-append}
-use Rattle.std.specs.Prelude.{slice_set}
-use Rattle.std.proofs.lemmas.List.Elements.{All-from_get_or, All-set}
+use Rattle.std.proofs.lemmas.List.Elements.{All-from_get_or}
 use Rattle.tv_bits.proofs.ZeroSignLaws.{zero_sign_sizes}
 use Rattle.tv_bits.specs.ZeroSign.{sign_at_zero, zero_sign_of, zero_sign_values}
 use Rattle.tv_core.proofs.FieldLaws.{InField-append}
@@ -14,10 +13,7 @@ use Rattle.tv_decode.specs.Instructions.{instruction_of, instruction_values}
 use Rattle.tv_isa.specs.Instruction.{decode}
 use Rattle.tv_isa.specs.Opcodes.{among}
 use Rattle.tv_isa.specs.declared.instr.Instr.{Instr}
-use Rattle.tv_numbers.proofs.Cases.{chosen_in}
-use Rattle.tv_numbers.proofs.RangeLaws.{some_words, results_small}
-use Rattle.tv_numbers.specs.Numbers.{operand_word, other_word, found, writes, result_in, stepped, step_words}
-use Rattle.tv_numbers.specs.Tables.{results}
+use Rattle.tv_numbers.specs.Numbers.{operand_word, other_word, found, step_words}
 use Rattle.tv_numbers.specs.Views.{View, ViewInRange}
 use Rattle.tv_regs.proofs.TripleLaws.{triple_sizes}
 use Rattle.tv_regs.specs.Triple.{triple_of, triple_values}
@@ -150,15 +146,8 @@ block_in_field w width n v head tail o takes short range head_word tail_word o_w
     let x_word : x < 2 ^ w =
     cond_both _ (slice_index v.regs i.dest) (slice_index v.regs i.source) (λ k. k < 2 ^ w) (λ _. register i.dest) (λ _. register i.source) in
     let halves = numbers_are_words w width x a o x_word a_word o_word i.op (omega arith) in
-    let result : result_in w n v i low takes < 2 ^ w =
-    chosen_in (λ k. k < 2 ^ w) (results w x a low finds) i.op (some_words w width)
-    (results_small w width x a low finds x_word a_word halves.0) in
     let regs : InField v.regs = All-from_get_or (λ k. k < P) v.regs 0 (λ j _. field (slice_index v.regs j) (register j)) in
-    let after : InField (stepped w n v i low takes).regs =
-    cond_both (writes w n v i low takes) (slice_set v.regs i.dest (result_in w n v i low takes)) v.regs InField
-    (λ _. All-set (λ k. k < P) v.regs i.dest (result_in w n v i low takes) (field (result_in w n v i low takes) result) regs) (λ _. regs) in
     let other : other_register i < 16 = cond_both _ i.dest i.source (λ k. k < 16) (λ _. omega arith) (λ _. omega arith) in
-    let on : flag_of (writes w n v i low takes) < P = cond_both (writes w n v i low takes) 1 0 (λ k. k < P) (λ _. omega arith) (λ _. omega arith) in
     let r10 : List ℕ = flag_values w (input_of n v i low) takes f ++ pc_values w v i in
     let r9 : List ℕ = written_values w n v i low takes ++ r10 in
     let r8 : List ℕ = zero_sign_values y (sign_at i.op) ++ r9 in
@@ -180,7 +169,7 @@ block_in_field w width n v head tail o takes short range head_word tail_word o_w
     (memory_sizes.in_field w width n v i (decomposed_word w i.op x a) low short range.taken a_word x_word halves.0)
     (InField-append (results_values w i.op a low high finds) r8 (results_sizes.in_field w width i.op a low high finds a_word halves.0 halves.1)
     (InField-append (zero_sign_values y (sign_at i.op)) r9 (zero_sign_sizes.in_field y (sign_at i.op))
-    (InField-append (written_values w n v i low takes) r10 (InField-cons _ (stepped w n v i low takes).regs on after)
+    (InField-append (written_values w n v i low takes) r10 (written_sizes.in_field w width n v i low takes range.words a_word x_word halves.0)
     (InField-append (flag_values w (input_of n v i low) takes f) (pc_values w v i) (flag_sizes.in_field w n v i low takes f range.flag)
     (pc_sizes.in_field w width v i range.pc_fits a_word)))))))))))
 

@@ -1,7 +1,8 @@
 -- What an assignment with a step's values meets and shows, and how many wires a step makes.
-use Rattle.std.specs.Prelude.{◌≡◌, ℕ, ◌+◌, ◌*◌, ◌/◌, ◌^◌, ◌<◌, ◌≤◌, Bool, List, length, map, is_some, Option, Some, slice_index}
+use Rattle.std.specs.Prelude.{◌≡◌, ℕ, ◌+◌, ◌*◌, ◌/◌, ◌^◌, ◌<◌, ◌≤◌, Bool, List, [], ◌∷◌, length, map, is_some, Option, Some, slice_index}
 use Rattle.tv_core.specs.Laws.{Assigns, Meets, HasFrom, Fills, InField}
 use Rattle.tv_core.specs.Lines.{Line}
+use Rattle.tv_core.specs.declared.limits.TheConstants.{NULL_CELL}
 use Rattle.tv_isa.specs.Instruction.{decode}
 use Rattle.tv_numbers.specs.Laws.{AtNumbers}
 use Rattle.tv_numbers.specs.Numbers.{lines_in, StepWords, step_words, transition_of}
@@ -41,11 +42,37 @@ BlockIsComplete = (w : ℕ) → IsWidth w → (z : List ℕ) (n : ℕ) (state : 
     → HasFrom z next (block_values w n (state_in z state) (step_words head tail o takes))
     → MeetsStep w z n (record { state = state; time = time; next = next }) (step_words head tail o takes)
 
--- ---- of the machine
+-- ---- of numbers, by what is passed
 -- the values by the old words of the step's three lines, and the word that it takes of the auxiliary tape
 abbrev pub step_values : ℕ → ℕ → View → List ℕ → Option ℕ → List ℕ
 step_values w n v olds word = block_values w n v (step_words (slice_index olds 0) (slice_index olds 1) (data_word_of (slice_index olds 2) word) (is_some word))
 
+-- z has the values of a step in range by these old words, of which the third is 0 where the data line is of the null
+-- cell, and by a word only where the step reads the auxiliary tape, whose end was not found before
+pub record HasOlds (w : ℕ) (z : List ℕ) (n : ℕ) (at : BlockPlace) (head tail old : ℕ) (word : Option ℕ) : Type 0 where
+  pub early : at.time + 2 < 2 ^ 32
+  pub assigns : Assigns z
+  pub range : AtNumbers w n (state_in z at.state) (step_words head tail (data_word_of old word) (is_some word))
+  pub null : (transition_of w n at.time (state_in z at.state) (step_words head tail (data_word_of old word) (is_some word))).data_line.cell ≡ NULL_CELL
+      → old ≡ 0
+  pub has : HasFrom z at.next (step_values w n (state_in z at.state) (head ∷ tail ∷ old ∷ []) word)
+
+-- z satisfies a block's constraints; the old words of the lines are those that were passed, and the step takes a word
+-- exactly where one was passed, which is then that word
+pub record MeetsOlds (w : ℕ) (z : List ℕ) (n : ℕ) (at : BlockPlace) (head tail old : ℕ) (word : Option ℕ) : Type 0 where
+  pub met : Meets z (block_of w n at.state at.time at.next).list
+  pub olds : map (λ (line : Line). line.old) (lines_in (transition_in z at.state (block_of w n at.state at.time at.next).answer)) ≡ head ∷ tail ∷ old ∷ []
+  pub takes : (transition_in z at.state (block_of w n at.state at.time at.next).answer).takes ≡ is_some word
+  pub same : (v : ℕ) → word ≡ Some v → (transition_in z at.state (block_of w n at.state at.time at.next).answer).word ≡ v
+
+-- an assignment that has the values of a step by any such old words satisfies the constraints, and has these in its
+-- wires
+abbrev pub OldsAreMet : Type 0
+OldsAreMet = (w : ℕ) → IsWidth w → (z : List ℕ) (n : ℕ) (state : StateWires) (time next head tail old : ℕ) (word : Option ℕ)
+    → HasOlds w z n (record { state = state; time = time; next = next }) head tail old word
+    → MeetsOlds w z n (record { state = state; time = time; next = next }) head tail old word
+
+-- ---- of the machine
 -- the old words of the lines of a machine's step
 abbrev pub olds_of : ℕ → ℕ → State → ℕ → List ℕ
 olds_of w n st time = map (λ (line : Line). line.old) (step_lines w n st time)

@@ -1,7 +1,7 @@
 //! The laws of a step.
 ghost use Rattle.tv_block.specs.Block.{BlockIsStep, BlockIsSound};
 ghost use Rattle.tv_block.specs.Complete.{BlockIsComplete, BlockSizes};
-ghost use Rattle.tv_block.specs.Complete.{MachineStepIsMet, MachineValuesFit};
+ghost use Rattle.tv_block.specs.Complete.{OldsAreMet, MachineStepIsMet, MachineValuesFit};
 ghost use Rattle.tv_block.specs.Costs.{BlockIsCounted};
 ghost use Rattle.tv_block.specs.Normal.{BlockIsNormal};
 ghost use Rattle.tv_block.specs.Places.{BlockPlaces};
@@ -22,11 +22,14 @@ pub fn block_is_sound()
 /// A step's circuit is complete. An assignment that has the values of a step in numbers at the
 /// wires that are made satisfies the constraints, and its wires hold that step; the data word in
 /// them is the low half of the operation's row, which is the step's data word where it loads,
-/// stores or reads. The same holds for each step of the machine from a state in range that goes on
+/// stores or reads. So its lines have any old words that were passed, that of the data line being 0
+/// in the null cell, and it takes a word of the auxiliary tape exactly where one was passed, which
+/// is that word. The same holds for each step of the machine from a state in range that goes on
 /// or answers, with the old words of its lines and a word of the auxiliary tape that it may take:
 /// the lines are then those of the machine's step, and the word is the one that was passed.
 pub fn block_is_complete()
     ensures numbers { BlockIsComplete }
+    ensures olds { OldsAreMet }
     ensures machine { MachineStepIsMet }
 {}
 

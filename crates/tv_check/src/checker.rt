@@ -17,9 +17,9 @@ use tv_r1cs_read::SystemReader;
 ///
 /// The file is read to its end whatever the verdict: `Ok` comes exactly for a file that holds a
 /// system, and `Bad` reports the first fault of another one. `Fault` comes only where a read
-/// failed, and a missing name is such a fault. Takes one pass and no memory; up to the first
-/// constraint that doesn't hold each term costs one product; after it, or where no constraint
-/// decides, none.
+/// failed, and a missing name is such a fault. Takes one pass and no memory: `Memory` comes only
+/// where the files ran out of it. Up to the first constraint that doesn't hold each term costs one
+/// product; after it, or where no constraint decides, none.
 pub fn check<D: Files>(
     alloc: Global,
     files: &mut D,

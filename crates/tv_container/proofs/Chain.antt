@@ -1,13 +1,13 @@
 -- Steps that may refuse, one after another.
-use Rattle.tv_core.proofs.Common.{◌≡◌, ℕ, Bool, true, false, List, Option, None, Some, Result, Ok, Err, inl, refl, rules, ap, subst, ◌∙◌}
-use Rattle.std.specs.Prelude.{IfErr, IfOk, IsErrAnd, MatchOption}
+use Rattle.tv_core.proofs.Common.{◌≡◌, ℕ, Bool, true, false, List, Option, None, Some, Result, Ok, Err, inl, inr, refl, rules, ap, subst, ◌∙◌}
+use Rattle.std.specs.Prelude.{IfOk, IsErrAnd, MatchOption}
 use Rattle.tv_files.specs.Outside.{Outside}
 use Rattle.tv_container.specs.declared.why.ReadRefusal.{ReadRefusal}
 use Rattle.tv_container.specs.declared.why.ReadRefusal.TheVariants.{Bad, Fault, Memory}
 use Rattle.tv_container.specs.declared.why.ReadWhy.{ReadWhy}
 use Rattle.tv_container.specs.Places as places
 use Rattle.tv_container.specs.Places.{wrong, ◌>>=◌}
-use Rattle.tv_container.specs.Reading.{bytes_of, Refuses, IsNotFault, IsPiece, Looks, Piece, ReadsIn, Stopped}
+use Rattle.tv_container.specs.Reading.{bytes_of, Refuses, IsOwn, IsPiece, LooksBy, Piece, ReadsIn, ReadsInBy, StoppedBy}
 
 -- a step that was made gave what the answer was made of
 pub made : {A B : Type 0} (first : Result A places.Fault) (next : A → Result B places.Fault) (value : B) → first >>= next ≡ Ok value →
@@ -44,19 +44,30 @@ refuses_wrong at why answer is = record { bad = λ there what e. cc }
 pub refuses_any : {A B : Type 0} (why : ReadRefusal) (value : A) (answer : Result B places.Fault) → Refuses why (Ok value) → Refuses why answer
 refuses_any why value answer refuses = record { bad = λ at what e. let none : Ok value ≡ wrong at what = refuses.bad at what e in cc }
 
--- a refusal that isn't a failed read may stop where nothing was read
-pub stopped_here : (outside : Outside) (name : List ℕ) (why : ReadRefusal) → IsNotFault why → Stopped outside outside name why
-stopped_here outside name (Bad at what) known = record { only = search rules; there = search rules; leaves = refl }
-stopped_here outside name Fault known = absurd (known.known refl)
-stopped_here outside name Memory known = record { only = search rules; there = search rules; leaves = inl refl }
+-- a refusal that comes of no read may stop where nothing was read
+pub stopped_here : {keeps : Bool} (outside : Outside) (name : List ℕ) (why : ReadRefusal) → IsOwn keeps why → StoppedBy keeps outside outside name why
+stopped_here outside name (Bad at what) own = record { only = search rules; there = search rules; leaves = refl }
+stopped_here outside name Fault own = absurd (own.known refl)
+stopped_here outside name Memory own = record { only = search rules; there = search rules; leaves = inr (own.memory refl, refl) }
 
-pub stopped_bad : (outside : Outside) (name : List ℕ) (at : ℕ) (what : ReadWhy) → Stopped outside outside name (Bad at what)
-stopped_bad outside name at what = stopped_here outside name (Bad at what) (record { known = λ e. cc })
+pub stopped_bad : {keeps : Bool} (outside : Outside) (name : List ℕ) (at : ℕ) (what : ReadWhy) → StoppedBy keeps outside outside name (Bad at what)
+stopped_bad outside name at what = stopped_here outside name (Bad at what) (record { known = λ e. cc; memory = λ e. cc })
 
--- and so may a step that read nothing
-pub looks_here : {A : Type 0} (outside : Outside) (name : List ℕ) (result : Result A ReadRefusal) → IfErr result IsNotFault → Looks outside outside name result
-looks_here outside name (Ok value) known = refl
-looks_here outside name (Err why) known = stopped_here outside name why known
+-- what stops a reader that keeps nothing may stop one that does
+pub stopped_keeping : {keeps : Bool} (old new : Outside) (name : List ℕ) (why : ReadRefusal) → StoppedBy false old new name why
+    → StoppedBy keeps old new name why
+stopped_keeping old new name (Bad at what) stopped = record { only = stopped.only; there = stopped.there; leaves = stopped.leaves }
+stopped_keeping old new name Fault stopped = record { only = stopped.only; there = stopped.there; leaves = stopped.leaves }
+stopped_keeping old new name Memory stopped = record {
+  only = stopped.only;
+  there = stopped.there;
+  leaves = elim stopped.leaves [ inl ran_out ↦ inl ran_out | inr own ↦ let never = own.0 in cc ];
+}
+
+pub looks_keeping : {A : Type 0} (keeps : Bool) (old new : Outside) (name : List ℕ) (result : Result A ReadRefusal) → LooksBy false old new name result
+    → LooksBy keeps old new name result
+looks_keeping keeps old new name (Ok value) looks = looks
+looks_keeping keeps old new name (Err why) looks = stopped_keeping old new name why looks
 
 -- what a step of reading gave, the piece that it left, and what the steps after it gave
 pub record Both (So : List ℕ → Type 0) (piece : Piece) (Then : List ℕ → Type 0) (file : List ℕ) : Type 0 where
@@ -65,11 +76,12 @@ pub record Both (So : List ℕ → Type 0) (piece : Piece) (Then : List ℕ → 
   pub rest : Then file
 
 -- a step that was made, and those after it
-pub reads_on : {A B : Type 0} {old mid new : Outside} {name : List ℕ} {before between after : Piece} {value : A} {result : Result B ReadRefusal}
-    {So Then : List ℕ → Type 0} → ReadsIn old mid name before between (Ok value) So → ReadsIn mid new name between after result Then →
-    ReadsIn old new name before after result (Both So between Then)
-reads_on {A} {B} {old} {mid} {new} {name} {before} {between} {after} {value} {result} first rest = record {
-  looks = subst (λ outside. Looks outside new name result) first.looks rest.looks;
+pub reads_on : {A B : Type 0} {some keeps : Bool} {old mid new : Outside} {name : List ℕ} {before between after : Piece} {value : A}
+    {result : Result B ReadRefusal} {So Then : List ℕ → Type 0} → ReadsInBy some old mid name before between (Ok value) So
+    → ReadsInBy keeps mid new name between after result Then →
+    ReadsInBy keeps old new name before after result (Both So between Then)
+reads_on {A} {B} {some} {keeps} {old} {mid} {new} {name} {before} {between} {after} {value} {result} first rest = record {
+  looks = subst (λ outside. LooksBy keeps outside new name result) first.looks rest.looks;
   piece = λ file known piece. rest.piece file (seen file known) (first.piece file known piece);
   gives = λ file known piece.
       let held = first.piece file known piece in
@@ -80,33 +92,48 @@ reads_on {A} {B} {old} {mid} {new} {name} {before} {between} {after} {value} {re
     seen file known = ap (λ outside. bytes_of outside name) first.looks ∙ known
 
 -- a refusal ends all
-pub reads_off : {A B : Type 0} {old new : Outside} {name : List ℕ} {before after last : Piece} {why : ReadRefusal} {So : List ℕ → Type 0} →
-    ReadsIn {A = A} old new name before after (Err why) So → ReadsIn {A = B} old new name before last (Err why) So
+pub reads_off : {A B : Type 0} {keeps : Bool} {old new : Outside} {name : List ℕ} {before after last : Piece} {why : ReadRefusal} {So : List ℕ → Type 0} →
+    ReadsInBy {A = A} keeps old new name before after (Err why) So → ReadsInBy {A = B} keeps old new name before last (Err why) So
 reads_off step = record { looks = step.looks; piece = λ file known piece. tt; gives = step.gives }
 
--- so does one that says what is wrong, with no read
-pub reads_bad : {B : Type 0} {outside : Outside} {name : List ℕ} {before after : Piece} {at : ℕ} {what : ReadWhy} →
-    ReadsIn {A = B} outside outside name before after (Err (Bad at what)) (λ file. Unit {0})
-reads_bad {B} {outside} {name} {before} {after} {at} {what} = record {
-  looks = stopped_bad outside name at what;
+-- so does one that comes of no read
+pub reads_own : {B : Type 0} {keeps : Bool} {outside : Outside} {name : List ℕ} {before after : Piece} {why : ReadRefusal} → IsOwn keeps why →
+    ReadsInBy {A = B} keeps outside outside name before after (Err why) (λ file. Unit {0})
+reads_own {B} {keeps} {outside} {name} {before} {after} {why} own = record {
+  looks = stopped_here outside name why own;
   piece = λ file seen piece. tt;
   gives = λ file seen piece. tt;
 }
 
+-- as one that says what is wrong
+pub reads_bad : {B : Type 0} {keeps : Bool} {outside : Outside} {name : List ℕ} {before after : Piece} {at : ℕ} {what : ReadWhy} →
+    ReadsInBy {A = B} keeps outside outside name before after (Err (Bad at what)) (λ file. Unit {0})
+reads_bad = reads_own (record { known = λ e. cc; memory = λ e. cc })
+
 -- nothing more is read
-pub reads_done : {A : Type 0} {outside : Outside} {name : List ℕ} {piece : Piece} {value : A} →
-    ReadsIn outside outside name piece piece (Ok value) (λ file. Unit {0})
+pub reads_done : {A : Type 0} {keeps : Bool} {outside : Outside} {name : List ℕ} {piece : Piece} {value : A} →
+    ReadsInBy keeps outside outside name piece piece (Ok value) (λ file. Unit {0})
 reads_done = record { looks = refl; piece = λ file known held. held; gives = λ file known held. tt }
 
 -- it doesn't matter which value was given
-pub reads_past : {A B : Type 0} {old new : Outside} {name : List ℕ} {before after : Piece} {value : A} {other : B} {So : List ℕ → Type 0} →
-    ReadsIn old new name before after (Ok value) So → ReadsIn old new name before after (Ok other) So
+pub reads_past : {A B : Type 0} {keeps : Bool} {old new : Outside} {name : List ℕ} {before after : Piece} {value : A} {other : B} {So : List ℕ → Type 0} →
+    ReadsInBy keeps old new name before after (Ok value) So → ReadsInBy keeps old new name before after (Ok other) So
 reads_past step = record { looks = step.looks; piece = step.piece; gives = step.gives }
 
+-- what a step does that keeps nothing is what one may do that does
+pub reads_keeping : {A : Type 0} {keeps : Bool} {old new : Outside} {name : List ℕ} {before after : Piece} {result : Result A ReadRefusal}
+    {So : List ℕ → Type 0} → ReadsIn old new name before after result So → ReadsInBy keeps old new name before after result So
+reads_keeping {A} {keeps} {old} {new} {name} {before} {after} {result} step = record {
+  looks = looks_keeping keeps old new name result step.looks;
+  piece = step.piece;
+  gives = step.gives;
+}
+
 -- what the steps gave is what the call does
-pub reads_as : {A : Type 0} {old new : Outside} {name : List ℕ} {before after : Piece} {result : Result A ReadRefusal} {So All : List ℕ → Type 0} →
-    ReadsIn old new name before after result So → ((file : List ℕ) → bytes_of old name ≡ Some file → So file → All file)
-    → ReadsIn old new name before after result All
+pub reads_as : {A : Type 0} {keeps : Bool} {old new : Outside} {name : List ℕ} {before after : Piece} {result : Result A ReadRefusal}
+    {So All : List ℕ → Type 0} →
+    ReadsInBy keeps old new name before after result So → ((file : List ℕ) → bytes_of old name ≡ Some file → So file → All file)
+    → ReadsInBy keeps old new name before after result All
 reads_as steps all = record { looks = steps.looks; piece = steps.piece; gives = λ file known piece. all file known (steps.gives file known piece) }
 
 -- what follows from what is so where reading goes on, or has stopped

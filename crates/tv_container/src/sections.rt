@@ -1,8 +1,8 @@
 //! The sections of a container, found by their headers.
 ghost use Rattle.std.specs.Prelude.{◌≡◌, ℕ, ◌+◌, ◌≤◌, ◌<◌, ◌^◌, true, nat_le, List, [], ◌∷◌, ◌++◌};
-ghost use Rattle.std.specs.Prelude.{length, Some, Ok, IfOk, IfErr, OnOk, ok_or};
+ghost use Rattle.std.specs.Prelude.{false, length, Some, Ok, IfOk, IfErr, OnOk, ok_or};
 ghost use Rattle.tv_container.specs.Places.{places};
-ghost use Rattle.tv_container.specs.Reading.{Looks, ReadsAs, IsMissing, IsNotFault, Known, InPiece};
+ghost use Rattle.tv_container.specs.Reading.{Looks, ReadsAs, IsMissing, IsOwn, Known, InPiece};
 ghost use Rattle.tv_container.specs.Reading.{ReadsIn};
 ghost use Rattle.tv_container.specs.Sections.{section_at, sections_in, sections_from, sections_of};
 ghost use Rattle.tv_container.specs.Sections.{section_of, stands_already, wanted};
@@ -268,7 +268,7 @@ pub fn wanted(section: Option<Section>, kind: u32, end: u64) -> Result<Section, 
     ensures gives { (file : List ℕ) → end ≡ length file → (sections : List Section) →
         section ≡ section_of kind sections → ReadsAs result (wanted kind file sections) }
     ensures same { IfOk result (λ found. section ≡ Some found) }
-    ensures no_fault { IfErr result IsNotFault }
+    ensures own { IfErr result (IsOwn false) }
 {
     section.ok_or(ReadRefusal::Bad {
         at: end,

@@ -4,7 +4,7 @@ use Rattle.tv_core.proofs.Common.{Ok, Err, All, lt-ltb, eq-eqb, eqb-true, length
 use Rattle.std.proofs.lemmas.Bool.{ltb-true}
 use Rattle.std.proofs.lemmas.List.Elements.{All-nil, All-cons, All-head, All-tail}
 use Rattle.std.proofs.lemmas.List.FromFn.{length-range_with_len}
-use Rattle.std.specs.Prelude.{◌==◌, nat_lt, IfErr, IsErrAnd}
+use Rattle.std.specs.Prelude.{◌==◌, nat_lt}
 use Rattle.tv_benes.specs.declared.shape.Net.{Net}
 use Rattle.tv_block.specs.Block.{block_of}
 use Rattle.tv_step.proofs.EndLaws.{answer_is_within}
@@ -17,9 +17,8 @@ use Rattle.tv_layout.proofs.Systems.{system_sound}
 use Rattle.tv_layout.specs.Layout.{taken_wires}
 use Rattle.tv_layout.specs.Places.{tape_at, runs_of}
 use Rattle.tv_layout.specs.Systems.{system_of}
-use Rattle.tv_extract.specs.Extraction.{◌>>=◌, word_at, words_at, answering, run_in, IsFaultOf}
-use Rattle.tv_extract.specs.declared.run.ExtractFault.{ExtractFault}
-use Rattle.tv_extract.specs.declared.run.ExtractFault.TheVariants.{NoRun}
+use Rattle.tv_extract.proofs.WordLaws.{refused_for}
+use Rattle.tv_extract.specs.Extraction.{◌>>=◌, word_at, words_at, answering, run_in}
 use Rattle.tv_extract.specs.Runs.{IsRunOf, ExtractedIsRun, SatisfyingHaveRuns}
 use Rattle.tv_step.specs.declared.not_run.NotRun.{NotRun}
 use Rattle.tv_extract.specs.declared.run.Run.{Run}
@@ -147,12 +146,6 @@ module _ (w : ℕ) (net : Net) (image : List ℕ) (n t : ℕ) (z : List ℕ) whe
   run_ends answer steps tape aux x u machine end result many first second third a b c d e f =
       rw (eq-eqb (length z) (system_of net (runs_of w image n t)).wires many, first, second, third, f, e, d, c, a, b) refl
 
--- a refusal is that of the run
-pub fault_of : {A B : Type 0} (due : Result A NotRun) (why : NotRun) (result : Result B ExtractFault) → IsErrAnd result (λ fault. fault ≡ NoRun why)
-    → due ≡ Err why → IfErr result (IsFaultOf due)
-fault_of due why (Ok x) ends is = tt
-fault_of due why (Err fault) ends is = rw ends is
-
 -- ---- the laws
 pub extracted_is_run : ExtractedIsRun
 unfolding run_in
@@ -222,4 +215,4 @@ satisfying_have_runs net runs z fits sat =
     u : List ℕ
     u = map (slice_index z) (taken_wires (block_of runs.width) runs z)
 
-pub ruleset extracted = (words_small, run_miscounted, run_wide, run_wide_tape, run_wide_aux)
+pub ruleset extracted = (words_small, run_miscounted, run_wide, run_wide_tape, run_wide_aux, refused_for)

@@ -7,7 +7,7 @@ use Rattle.tv_inputs.specs.declared.records.Spot.{Spot}
 use Rattle.tv_core.proofs.JoinedLaws.{joined_below-zero, joined_below-suc}
 use Rattle.tv_layout.specs.Layout.{block_at, taken_wire, taken_wires}
 use Rattle.tv_layout.specs.Places.{boot_count, zero_wires_at, first_at, runs_of}
-use Rattle.tv_extract.proofs.WordLaws.{words_then, words_refused}
+use Rattle.tv_extract.proofs.WordLaws.{refused_for, words_then, words_refused}
 use Rattle.tv_extract.specs.Extraction.{word_at, words_at}
 use Rattle.tv_step.specs.declared.not_run.NotRun.{NotRun}
 
@@ -89,4 +89,4 @@ module _ (w : ℕ) (image : List ℕ) (n : ℕ) (z : List ℕ) where
           ∙ ap (λ l. joined_below i wires ++ (l ++ rest)) (takes_one z spot takes))
           ∙ words_refused w z (joined_below i wires) rest spot.word words fault before refused
 
-pub ruleset taken_laws = (taken_none, taken_more, taken_same, taken_refused)
+pub ruleset taken_laws = (taken_none, taken_more, taken_same, taken_refused, refused_for)

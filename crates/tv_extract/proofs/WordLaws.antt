@@ -1,8 +1,21 @@
--- Words at wires, one list after another.
+-- Words at wires, one list after another, and what they are refused for.
 use Rattle.tv_core.proofs.Common.{◌≡◌, ℕ, suc, ◌+◌, ◌-◌, ◌<◌, List, [], ◌∷◌, ◌++◌, refl, ap, ◌∙◌, arith, add-one, Result, Ok, Err, range_with_len}
 use Rattle.tv_core.proofs.BelowLaws.{range-more, range-append}
-use Rattle.tv_extract.specs.Extraction.{word_at, words_at}
+use Rattle.std.specs.Prelude.{IfErr, IsErrAnd}
+use Rattle.tv_extract.specs.Extraction.{word_at, words_at, fault_of, IsFaultOf}
+use Rattle.tv_extract.specs.declared.run.ExtractFault.{ExtractFault}
 use Rattle.tv_step.specs.declared.not_run.NotRun.{NotRun}
+
+-- what is refused for a reason is refused for its fault
+is_fault : {A : Type 0} (due : Result A NotRun) (why : NotRun) → due ≡ Err why → IsFaultOf due (fault_of why)
+is_fault due (NotRun.WireCount has wants) is = is
+is_fault due (NotRun.WideWire at) is = is
+is_fault due (NotRun.NotARun end) is = is
+
+pub refused_for : {A B : Type 0} (due : Result A NotRun) (why : NotRun) (result : Result B ExtractFault) → IsErrAnd result (λ fault. fault ≡ fault_of why)
+    → due ≡ Err why → IfErr result (IsFaultOf due)
+refused_for due why (Ok x) ends is = tt
+refused_for due why (Err fault) ends is = rw ends (is_fault due why is)
 
 -- what is known of the rest of a list
 abbrev Then : ℕ → List ℕ → List ℕ → List ℕ → List ℕ → Type 0
@@ -71,3 +84,5 @@ row_refused w z first n i words fault within e refused =
     ap (λ m. words_at w z (range_with_len first m)) more
     ∙ ap (words_at w z) (range-append first i (suc (n - i - 1)))
     ∙ words_refused w z (range_with_len first i) (range_with_len (first + i + 1) (n - i - 1)) (first + i) words fault e refused
+
+pub ruleset row_laws = (row_more, row_refused, refused_for)

@@ -10,7 +10,7 @@ use Rattle.tv_layout.specs.Layout.{taken_wires}
 use Rattle.tv_layout.specs.Places.{tape_at, ProgramRuns}
 use Rattle.tv_layout.specs.Systems.{system_of}
 use Rattle.tv_extract.specs.declared.run.ExtractFault.{ExtractFault}
-use Rattle.tv_extract.specs.declared.run.ExtractFault.TheVariants.{NoRun, Memory}
+use Rattle.tv_extract.specs.declared.run.ExtractFault.TheVariants as faults
 use Rattle.tv_step.specs.declared.not_run.NotRun.{NotRun}
 use Rattle.tv_step.specs.declared.not_run.NotRun.TheVariants.{WireCount, WideWire, NotARun}
 use Rattle.tv_extract.specs.declared.run.Run.{Run}
@@ -47,7 +47,15 @@ run_in net runs z =
     >>= (λ aux. answering answer tape aux (end_of runs.width runs.t (start runs.width runs.image tape aux))))))
     else Err (WireCount (length z) (system_of net runs).wires)
 
+-- the fault of an extraction for this reason
+abbrev pub fault_of : NotRun → ExtractFault
+fault_of (WireCount has wants) = faults.WireCount has wants
+fault_of (WideWire at) = faults.WideWire at
+fault_of (NotARun end) = faults.NotARun end
+
 -- what an extraction is refused for: what is due is refused for that, or memory ran out
 abbrev pub IsFaultOf : {A : Type 0} → Result A NotRun → ExtractFault → Type 0
-IsFaultOf due (NoRun why) = due ≡ Err why
-IsFaultOf due Memory = Unit {0}
+IsFaultOf due (faults.WireCount has wants) = due ≡ Err (WireCount has wants)
+IsFaultOf due (faults.WideWire at) = due ≡ Err (WideWire at)
+IsFaultOf due (faults.NotARun end) = due ≡ Err (NotARun end)
+IsFaultOf due faults.Memory = Unit {0}

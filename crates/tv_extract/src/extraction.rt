@@ -42,7 +42,7 @@ pub fn extract<const W: u32>(
     let wants = u64::from(wires::<W>(image, n, t, net));
     let has = values.len() as u64;
     if has != wants {
-        return Err(ExtractFault::NoRun(NotRun::WireCount { has, wants }));
+        return Err(ExtractFault::WireCount { has, wants });
     }
     let answer = word::<W>(values, ANSWER)?;
     let tape = tape_words::<W>(alloc, n, values)?;
@@ -75,7 +75,7 @@ fn word<const W: u32>(values: &[F], wire: Wire) -> Result<u32, NotRun>
 }
 
 // The words of the primary tape.
-#[tactic(auto, using(crate::proofs::WordLaws::row_more, crate::proofs::WordLaws::row_refused))]
+#[tactic(auto, using(crate::proofs::WordLaws::row_laws))]
 fn tape_words<const W: u32>(alloc: Global, n: u32, values: &[F]) -> Result<Words, ExtractFault>
     requires width { IsWidth W }
     requires few { n < 2 ^ 29 }

@@ -1,10 +1,11 @@
 //! Runs that answer, and why none was extracted.
 ghost use Rattle.std.specs.Prelude.{◌≡◌};
-ghost use Rattle.tv_extract.specs.declared.run.ExtractFault.TheVariants.{NoRun, Memory};
+ghost use Rattle.tv_extract.specs.Extraction.{fault_of};
+ghost use Rattle.tv_extract.specs.declared.run.ExtractFault.TheVariants.{Memory};
 
 use std::alloc::AllocError;
 use thiserror::Error;
-use tv_step::NotRun;
+use tv_step::{End, NotRun};
 use tv_word::Words;
 
 /// A run of the machine that answers.
@@ -24,19 +25,29 @@ pub struct Run {
 /// Why no run was extracted.
 #[derive(Clone, Copy, PartialEq, Eq, Debug, Error)]
 pub enum ExtractFault {
-    /// The assignment has none.
-    #[error("{0}")]
-    NoRun(NotRun),
+    /// The assignment has `has` values, where the system has `wants` wires.
+    #[error("{has} wires, {wants} wanted")]
+    WireCount { has: u64, wants: u64 },
+    /// The number at this wire, which is public or that of a word taken, is no word.
+    #[error("wire {at} is wide")]
+    WideWire { at: u64 },
+    /// The run on its tapes doesn't answer the word at wire 1; this is how it ends.
+    #[error("no run")]
+    NotARun { end: End },
     /// Memory ran out.
     #[error("out of memory")]
     Memory,
 }
 
 impl From<NotRun> for ExtractFault {
-    ghost from_gives = { λ why fault. fault ≡ NoRun why };
+    ghost from_gives = { λ why fault. fault ≡ fault_of why };
 
     fn from(why: NotRun) -> ExtractFault {
-        ExtractFault::NoRun(why)
+        match why {
+            NotRun::WireCount { has, wants } => ExtractFault::WireCount { has, wants },
+            NotRun::WideWire { at } => ExtractFault::WideWire { at },
+            NotRun::NotARun { end } => ExtractFault::NotARun { end },
+        }
     }
 }
 

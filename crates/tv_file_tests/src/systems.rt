@@ -76,9 +76,21 @@ fn write_system(files: &mut MemFiles) -> Put<()> {
     sink.finish()
 }
 
+// Writes the system, with these labels out of five.
+fn write_labelled(files: &mut MemFiles, labels: &[u32; 4]) -> Put<()> {
+    let mut sink = match StreamSink::begin_labelled(files, "file", COUNTS, 5) {
+        Ok(sink) => sink,
+        Err(refused) => return Err(refused.why),
+    };
+    let x = sink.fresh();
+    let y = sink.fresh();
+    sink.put(&Lc::wire(Wire(1)), &Lc::wire(x), &Lc::wire(y))?;
+    sink.finish_labelled(labels)
+}
+
 // Writes the system, with the labels below 5 but for 3.
 #[tactic(auto, unfolding(tv_r1cs_write::specs::Bytes::others))]
-fn write_labelled(files: &mut MemFiles) -> Put<()> {
+fn write_without(files: &mut MemFiles) -> Put<()> {
     let mut sink = match StreamSink::begin_labelled(files, "file", COUNTS, 5) {
         Ok(sink) => sink,
         Err(refused) => return Err(refused.why),
@@ -94,11 +106,14 @@ fn a_system_is_written_as_another_writer_does(rt: HostRuntime) -> Result<(), Fai
     let mut files = MemFiles::new(rt.alloc());
     write_system(&mut files)?;
     assert_eq!(rt; files.bytes_of("file"), Some(SYSTEM.as_slice()));
-    write_labelled(&mut files)?;
+    write_without(&mut files)?;
     let mut labelled = SYSTEM;
     // how many labels there are, and the last one
     labelled[52] = 5;
     labelled[160] = 4;
+    assert_eq!(rt; files.bytes_of("file"), Some(labelled.as_slice()));
+    write_labelled(&mut files, &[0, 1, 4, 4])?;
+    labelled[152] = 4;
     assert_eq!(rt; files.bytes_of("file"), Some(labelled.as_slice()));
     Ok(())
 }

@@ -48,8 +48,8 @@ fn step_at(trace: &Trace, place: usize) -> Option<(&TraceState, Olds, &TraceStat
     Some((before, olds, after))
 }
 
-// The first step of a program's run whose constraints, as many as said, don't all hold over its
-// values, or after which the state is not the machine's.
+// The first step of a program's run whose constraints, counted and tested as many as said, don't
+// all hold over its values, or after which the state is not the machine's.
 fn unmet<const W: u32>(
     alloc: Global,
     lines: &str,
@@ -66,7 +66,7 @@ fn unmet<const W: u32>(
         };
         let aux = (after.aux != before.aux).then_some(AUX[0]);
         let made = trial::<W>(alloc, before, &olds.words, aux, after)?;
-        if made != (constraints, constraints, true) {
+        if made != (constraints, constraints, constraints, true) {
             return Ok(Some(place));
         }
     }
@@ -91,7 +91,7 @@ fn late_word_is_refused<const W: u32>(alloc: Global) -> Result<bool, Fail>
     let Some((before, olds, after)) = step_at(&trace, LATE_READ) else {
         return Err(Fail::from("no such step"));
     };
-    let (tested, held, _) = trial::<W>(alloc, before, &olds.words, Some(7), after)?;
+    let (_, tested, held, _) = trial::<W>(alloc, before, &olds.words, Some(7), after)?;
     Ok(before.ended && held < tested)
 }
 

@@ -10,7 +10,7 @@ use crate::assignments::at;
 use std::alloc::Global;
 use std::test::Fail;
 use tv_block::{StateNum, StateWires, block, fill_block};
-use tv_core::{F, ListValues, Put, TestSink, Wire, give_values, give_words};
+use tv_core::{CountSink, F, ListValues, Put, TestSink, Wire, give_values, give_words};
 use tv_regs::wires_from;
 use tv_step::TraceState;
 
@@ -99,17 +99,17 @@ fn holds(values: &[F], wires: &StateWires, state: &StateNum) -> bool {
     true
 }
 
-/// Returns, of a step from `before`, how many constraints it has, how many of them hold over its
-/// values, and whether the wires of the state after it hold the numbers of `after`. It is given the
-/// old words of its three lines, and the word that it takes of the auxiliary tape; the primary tape
-/// has one word. An error where what is given is out of range.
+/// Returns, of a step from `before`, how many constraints a sink counts, how many are tested over
+/// its values and how many of these hold, and whether the wires of the state after it hold the
+/// numbers of `after`. It is given the old words of its three lines, and the word that it takes of
+/// the auxiliary tape; the primary tape has one word. An error where what is given is out of range.
 pub fn trial<const W: u32>(
     alloc: Global,
     before: &TraceState,
     olds: &[u32; 3],
     aux: Option<u32>,
     after: &TraceState,
-) -> Result<(u32, u32, bool), Fail>
+) -> Result<(u32, u32, u32, bool), Fail>
     requires width { IsWidth W }
 {
     let state = numbers(before);
@@ -122,8 +122,10 @@ pub fn trial<const W: u32>(
     }
     let mut values = inputs(alloc, &state)?;
     fill_block::<W, ListValues>(&mut values, &state, 1, 0, olds, aux)?;
+    let mut count = CountSink::new(FIRST.0);
+    block::<W, CountSink>(&mut count, &state_wires(), 1, 0)?;
     let mut tests = TestSink::over(values.as_slice(), FIRST.0);
     let made = block::<W, TestSink>(&mut tests, &state_wires(), 1, 0)?;
     let reaches = holds(values.as_slice(), &made.next, &numbers(after));
-    Ok((tests.tested(), tests.held(), reaches))
+    Ok((count.constraints(), tests.tested(), tests.held(), reaches))
 }

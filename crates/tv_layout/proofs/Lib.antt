@@ -19,7 +19,7 @@ mod SpotPlaces
 mod StepCells
 mod Steps
 mod StepsFill
-mod SystemSizes
+pub mod SystemSizes
 pub mod Systems
 mod TakenWords
 pub mod Whole

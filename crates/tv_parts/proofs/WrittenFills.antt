@@ -1,10 +1,12 @@
 -- Where an assignment has the registers that a step writes, and what they cost.
-use Rattle.tv_core.proofs.Common.{◌≡◌, ℕ, zero, suc, ◌+◌, ◌*◌, ◌%◌, ◌<◌, ◌==◌, Bool, true, false, if◌then◌else◌, List, [], ◌∷◌, length, inl, inr, refl, sym}
+use Rattle.tv_core.proofs.Common.{◌≡◌, ℕ, zero, suc, ◌+◌, ◌*◌, ◌%◌, ◌^◌, ◌<◌, ◌==◌, Bool, true}
+use Rattle.tv_core.proofs.Common.{false, if◌then◌else◌, List, [], ◌∷◌, length, inl, inr, refl, sym}
 use Rattle.tv_core.proofs.Common.{◌∙◌, ap, ap₂, subst, arith, slice_index, range_with_len, cases_eq, ne_eqb, value-wire, fresh, put, pure, ◌>>=◌, wire, value}
-use Rattle.tv_core.proofs.Common.{HasFrom, terms_in, flag_of}
+use Rattle.tv_core.proofs.Common.{HasFrom, InField, InField-cons, IsWidth, terms_in, flag_of}
 use Rattle.std.proofs.Common.{true≢false}
 use Rattle.std.specs.Prelude.{slice_set}
 use Rattle.std.proofs.lemmas.List.{length-set}
+use Rattle.std.proofs.lemmas.List.Elements.{All-from_get_or}
 use Rattle.tv_bits.proofs.GateLaws.{terms-append}
 use Rattle.tv_bits.specs.Bit.{IsBit}
 use Rattle.tv_core.specs.declared.field.TheConstants.{P}
@@ -12,7 +14,10 @@ use Rattle.tv_inputs.proofs.Settled.{Settles, sum_then}
 use Rattle.tv_inputs.specs.Inputs.{input_of}
 use Rattle.tv_isa.specs.Opcodes.{among, writer_ops}
 use Rattle.tv_isa.specs.declared.instr.Instr.{Instr}
-use Rattle.tv_numbers.specs.Numbers.{writes, stepped, result_in}
+use Rattle.tv_numbers.proofs.Cases.{chosen_in}
+use Rattle.tv_numbers.proofs.RangeLaws.{some_words, results_small}
+use Rattle.tv_numbers.specs.Numbers.{operand_word, other_word, found, writes, stepped, result_in}
+use Rattle.tv_numbers.specs.Tables.{results}
 use Rattle.tv_numbers.specs.Views.{View}
 use Rattle.tv_regs.proofs.UpdateLaws.{update_complete, update_sizes, update_costs, update_sound}
 use Rattle.tv_bits.specs.Wires.{words_at}
@@ -20,13 +25,16 @@ use Rattle.tv_regs.specs.Update.{update_of, IsWrite}
 use Rattle.tv_regs.specs.Writes.{written_regs}
 use Rattle.tv_regs.specs.declared.triple.Triple.{Triple}
 use Rattle.tv_inputs.proofs.AccumulationLaws.{accumulated_next}
+use Rattle.tv_inputs.proofs.FieldNumbers.{flag_in_field, small_word}
 use Rattle.tv_inputs.proofs.OpcodeLaws.{opcode_sum_sound}
 use Rattle.tv_inputs.proofs.TapeFills.{flag_test}
 use Rattle.tv_inputs.proofs.TapeLaws.{among_one}
 use Rattle.tv_inputs.specs.Accumulation.{accumulated_of, closed_of}
-use Rattle.tv_parts.specs.Written.{written_of, HasWritten, written_values, WrittenIsComplete, WrittenSizes, WrittenCosts}
+use Rattle.tv_parts.specs.Written.{written_of, HasWritten, written_values, WrittenIsSound, WrittenIsComplete, WrittenSizes, WrittenCosts}
 use Rattle.tv_inputs.specs.OpcodeSums.{opcode_sum}
 use Rattle.tv_inputs.specs.declared.records.StateWires.{StateWires}
+use Rattle.tv_step.proofs.RangeLaws.{word_at}
+use Rattle.tv_step.specs.Range.{AreWords}
 use Rattle.tv_word.proofs.FlagLaws.{flag_small}
 
 bit_test : (f : ℕ) → f < 2 → (0 + 1 * f) % P ≡ flag_of (f == 1)
@@ -89,6 +97,9 @@ module _ (w : ℕ) (z : List ℕ) (n : ℕ) (state : StateWires) (op : ℕ) (reg
             (subst (λ l. HasFrom z next l) (sym (after on is)) values);
       })
 
+pub written_sound : WrittenIsSound
+written_sound w z next n state op regs result v i o takes has = (written_settled w z n state op regs result v i o takes has).sound next
+
 pub written_complete : WrittenIsComplete
 written_complete w z next n state op regs result v i o takes has = (written_settled w z n state op regs result v i o takes has).complete next
 
@@ -111,6 +122,19 @@ regs_size : (b : Bool) (words : List ℕ) (d x : ℕ) → length (if b then slic
 regs_size true words d x = length-set words d x
 regs_size false words d x = refl
 
+written_in_field : (w : ℕ) → IsWidth w → (n : ℕ) (v : View) (i : Instr) (o : ℕ) (takes : Bool) → AreWords w v.regs → operand_word v i < 2 ^ w
+    → other_word v i < 2 ^ w → o < 2 ^ w → InField (written_values w n v i o takes)
+written_in_field w width n v i o takes words a_word x_word o_word =
+    let does = writes w n v i o takes in
+    let result = result_in w n v i o takes in
+    let finds = found w n v i o takes in
+    let small : result < 2 ^ w =
+    chosen_in (λ k. k < 2 ^ w) (results w (other_word v i) (operand_word v i) o finds) i.op (some_words w width)
+    (results_small w width (other_word v i) (operand_word v i) o finds x_word a_word o_word) in
+    let regs : InField v.regs = All-from_get_or (λ k. k < P) v.regs 0 (λ j _. small_word w width (slice_index v.regs j) (word_at w width v.regs j words)) in
+    InField-cons (flag_of does) (stepped w n v i o takes).regs (flag_in_field does)
+    (update_sizes.in_field does result i.dest v.regs (small_word w width result small) regs)
+
 pub written_sizes : WrittenSizes
 written_sizes = record {
   answer = written_answer;
@@ -118,6 +142,7 @@ written_sizes = record {
   fills = λ op state regs result w n v i o takes size next.
       written_next op state regs result next ∙ ap (λ m. next + suc m)
       (sym (regs_size (writes w n v i o takes) v.regs i.dest (result_in w n v i o takes) ∙ size));
+  in_field = written_in_field;
 }
 
 written_count : (op : ℕ) (state : StateWires) (regs : Triple) (result next : ℕ) → length (written_of op state regs result next).list ≡ 18

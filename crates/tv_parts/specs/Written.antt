@@ -1,15 +1,15 @@
 -- The registers after a step.
-use Rattle.std.specs.Prelude.{◌≡◌, ℕ, ◌+◌, ◌<◌, Bool, true, List, [], ◌∷◌, length, slice_index}
+use Rattle.std.specs.Prelude.{◌≡◌, ℕ, ◌+◌, ◌^◌, ◌<◌, Bool, true, List, [], ◌∷◌, length, slice_index}
 use Rattle.std.specs.List.{range_with_len}
 use Rattle.tv_bits.specs.Bit.{IsBit}
 use Rattle.tv_core.specs.Circuits.{Circuit, ◌>>=◌}
 use Rattle.tv_core.specs.Combinations.{wire}
-use Rattle.tv_core.specs.Laws.{Assigns, Meets, HasFrom, Fills}
+use Rattle.tv_core.specs.Laws.{Assigns, Meets, HasFrom, Fills, InField}
 use Rattle.tv_core.specs.Meanings.{terms_in}
 use Rattle.tv_isa.specs.Opcodes.{among, writer_ops}
 use Rattle.tv_isa.specs.declared.instr.Instr.{Instr}
 use Rattle.tv_isa.specs.declared.opcode.TheConstants.{CMOV}
-use Rattle.tv_numbers.specs.Numbers.{writes, stepped, result_in}
+use Rattle.tv_numbers.specs.Numbers.{operand_word, other_word, writes, stepped, result_in}
 use Rattle.tv_numbers.specs.Views.{View}
 use Rattle.tv_bits.specs.Wires.{words_at}
 use Rattle.tv_regs.specs.Update.{update_of}
@@ -18,6 +18,8 @@ use Rattle.tv_inputs.specs.Accumulation.{accumulated_of}
 use Rattle.tv_inputs.specs.Inputs.{StepInput, input_of}
 use Rattle.tv_inputs.specs.OpcodeSums.{opcode_sum, IsOpcode}
 use Rattle.tv_inputs.specs.declared.records.StateWires.{StateWires}
+use Rattle.tv_step.specs.Range.{AreWords}
+use Rattle.tv_word.specs.Widths.{IsWidth}
 use Rattle.tv_word.specs.Word.{flag_of}
 
 -- whether the destination is written, and the registers after it
@@ -59,6 +61,13 @@ pub record HasWritten (w : ℕ) (z : List ℕ) (wires : WrittenWires) (step : St
   pub word : among (CMOV ∷ writer_ops) step.instr.op ≡ true
       → slice_index z wires.result ≡ result_in w step.words step.view step.instr step.low takes
 
+-- in an assignment that meets the constraints the returned wires hold the registers after the step
+abbrev pub WrittenIsSound : Type 0
+WrittenIsSound = (w : ℕ) (z : List ℕ) (next n : ℕ) (state : StateWires) (op : ℕ) (regs : Triple) (result : ℕ) (v : View) (i : Instr) (o : ℕ) (takes : Bool)
+    → HasWritten w z (record { state = state; op = op; regs = regs; result = result }) (input_of n v i o) takes
+    → Meets z (written_of op state regs result next).list
+    → words_at z (written_of op state regs result next).answer ≡ (stepped w n v i o takes).regs
+
 -- an assignment that has these values at the wires that are made meets the constraints
 abbrev pub WrittenIsComplete : Type 0
 WrittenIsComplete = (w : ℕ) (z : List ℕ) (next n : ℕ) (state : StateWires) (op : ℕ) (regs : Triple) (result : ℕ) (v : View) (i : Instr) (o : ℕ) (takes : Bool)
@@ -71,6 +80,8 @@ pub record WrittenSizes : Type 0 where
   pub end : (op : ℕ) (state : StateWires) (regs : Triple) (result next : ℕ) → (written_of op state regs result next).next ≡ next + 17
   pub fills : (op : ℕ) (state : StateWires) (regs : Triple) (result w n : ℕ) (v : View) (i : Instr) (o : ℕ) (takes : Bool) → length v.regs ≡ 16
       → Fills (written_of op state regs result) (written_values w n v i o takes)
+  pub in_field : (w : ℕ) → IsWidth w → (n : ℕ) (v : View) (i : Instr) (o : ℕ) (takes : Bool) → AreWords w v.regs → operand_word v i < 2 ^ w
+      → other_word v i < 2 ^ w → o < 2 ^ w → InField (written_values w n v i o takes)
 
 -- eighteen constraints of 118 terms
 pub record WrittenCosts : Type 0 where

@@ -10,8 +10,8 @@ ghost use Rattle.tv_parts.specs.Written.{written_of};
 ghost use Rattle.tv_inputs.specs.States.{StateUnder};
 ghost use Rattle.tv_parts.specs.Written.{TripleUnder};
 ghost use Rattle.tv_inputs.specs.Traced.{traced_view, AreNumbers};
-ghost use Rattle.tv_parts.specs.Written.{written_values, WrittenIsComplete, WrittenSizes};
-ghost use Rattle.tv_parts.specs.Written.{WrittenCosts};
+ghost use Rattle.tv_parts.specs.Written.{written_values, WrittenIsSound, WrittenIsComplete};
+ghost use Rattle.tv_parts.specs.Written.{WrittenSizes, WrittenCosts};
 ghost use Rattle.tv_isa.specs.Opcodes.{among, chosen, writer_ops};
 ghost use Rattle.tv_isa.specs.declared.opcode.TheConstants.{CMOV};
 ghost use Rattle.tv_numbers.specs.Numbers.{result_in};
@@ -166,10 +166,12 @@ fn writes(op: u8, flag: bool) -> bool
     }
 }
 
-/// The laws of the registers written. An assignment that has the registers after the step meets the
-/// constraints. They also say which wires `put_written` returns, that `fill_written` assigns one
-/// number to each wire that it makes, and how many constraints and terms the registers cost.
+/// The laws of the registers written. An assignment that meets the constraints has the registers
+/// after the step, and one that has them meets the constraints. They also say which wires
+/// `put_written` returns, that `fill_written` assigns one number to each wire that it makes, and how
+/// many constraints and terms the registers cost.
 pub fn written_laws()
+    ensures sound { WrittenIsSound }
     ensures complete { WrittenIsComplete }
     ensures sizes { WrittenSizes }
     ensures costs { WrittenCosts }

@@ -17,7 +17,7 @@ use Rattle.tv_core.specs.declared.field.TheConstants.{P}
 use Rattle.tv_regs.proofs.Gates.{word_of}
 use Rattle.tv_regs.proofs.TripleLaws.{value-rise, other_branch}
 use Rattle.tv_regs.proofs.TripleNumbers.{minus_below, minus_itself}
-use Rattle.tv_regs.proofs.WriteLaws.{sum_apart, value-regs_sum, length-written, written_other, written_here, has_at}
+use Rattle.tv_regs.proofs.WriteLaws.{sum_apart, value-regs_sum, length-written, written_other, written_here, has_at, written_in_field}
 use Rattle.tv_bits.specs.Wires.{words_at}
 use Rattle.tv_regs.specs.Triple.{minus}
 use Rattle.tv_regs.specs.Update.{number_less, stays_of, stays_turn, sum_rise, update_of, UpdateIsSound, UpdateIsComplete, UpdateSizes, UpdateCosts}
@@ -148,6 +148,7 @@ update_sizes = record {
   answer = λ on dest word result regs next. refl;
   end = λ on dest word result regs next. turn_at dest regs next 16;
   fills = λ on dest word result regs words size next. turn_at dest regs next 16 ∙ ap (λ k. next + k) (sym size);
+  in_field = written_in_field;
 }
 
 pub update_costs : UpdateCosts

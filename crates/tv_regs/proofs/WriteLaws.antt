@@ -217,7 +217,7 @@ write_reg_complete z next sel on x regs i size assigns row bit has =
     none a b h e = omega arith
 
 -- ---- where the circuit ends, and what it answers
-written_in_field : (b : Bool) (v i : ℕ) (words : List ℕ) → v < P → InField words → InField (written_regs b v i words)
+pub written_in_field : (b : Bool) (v i : ℕ) (words : List ℕ) → v < P → InField words → InField (written_regs b v i words)
 written_in_field true v i words small others = All-set (λ k. k < P) words i v small others
 written_in_field false v i words small others = others
 

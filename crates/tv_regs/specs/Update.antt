@@ -1,12 +1,12 @@
 -- One register written, by its number.
-use Rattle.std.specs.Prelude.{◌≡◌, ℕ, ◌+◌, ◌-◌, ◌<◌, ◌==◌, if◌then◌else◌, List, [], ◌∷◌, ◌++◌, length, slice_index}
+use Rattle.std.specs.Prelude.{◌≡◌, ℕ, ◌+◌, ◌-◌, ◌<◌, ◌==◌, Bool, if◌then◌else◌, List, [], ◌∷◌, ◌++◌, length, slice_index}
 use Rattle.std.specs.List.{range_with_len}
 use Rattle.tv_bits.specs.Bit.{IsBit}
 use Rattle.tv_bits.specs.OneHot.{row_sum}
 use Rattle.tv_core.specs.Circuits.{Circuit, here, fresh, put, pure, ◌>>=◌}
 use Rattle.tv_core.specs.Combinations.{wire, scaled}
 use Rattle.tv_core.specs.Constraints.{Combination}
-use Rattle.tv_core.specs.Laws.{Assigns, Meets, HasFrom, Fills}
+use Rattle.tv_core.specs.Laws.{Assigns, Meets, HasFrom, Fills, InField}
 use Rattle.tv_core.specs.Loops.{sequence}
 use Rattle.tv_core.specs.Meanings.{terms_in}
 use Rattle.tv_core.specs.declared.field.TheConstants.{P}
@@ -78,6 +78,7 @@ pub record UpdateSizes : Type 0 where
   pub answer : (on dest word result : ℕ) (regs : List ℕ) (next : ℕ) → (update_of on dest word result regs next).answer ≡ range_with_len next 16
   pub end : (on dest word result : ℕ) (regs : List ℕ) (next : ℕ) → (update_of on dest word result regs next).next ≡ next + 16
   pub fills : (on dest word result : ℕ) (regs words : List ℕ) → length words ≡ 16 → Fills (update_of on dest word result regs) words
+  pub in_field : (b : Bool) (v i : ℕ) (words : List ℕ) → v < P → InField words → InField (written_regs b v i words)
 
 -- how many constraints and terms are put
 pub record UpdateCosts : Type 0 where

@@ -125,7 +125,7 @@ pub fn fill_update<V: Values>(v: &mut V, dest: u32, on: bool, x: u32, regs: &[u3
 /// - `complete`: where an assignment has such inputs, and the values that `fill_update` assigns, it
 ///   satisfies the constraints of `update_register`.
 /// - `sizes`: which wires `update_register` returns and how many it makes, whatever the next wire
-///   is, and that `fill_update` assigns one value to each of them.
+///   is, and that `fill_update` assigns one number of the field to each of them.
 /// - `costs`: how many constraints and terms `update_register` emits.
 pub fn update_laws()
     ensures sound { UpdateIsSound }

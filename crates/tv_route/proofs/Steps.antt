@@ -7,7 +7,7 @@ use Rattle.tv_benes.specs.Through.{missing, places}
 use Rattle.tv_benes.specs.declared.shape.Net.{Net}
 use Rattle.tv_route.proofs.Walks.{if_same}
 use Rattle.tv_route.specs.Route.{Mark, other, partners, walk, walks, halves, down, up_input, down_input, route}
-use Rattle.tv_benes.proofs.Ends.{if_apart}
+use Rattle.tv_benes.proofs.EndLaws.{if_apart}
 
 pub walk_none : (partner : List ℕ) (k start x : ℕ) (marks : List Mark) → k ≡ 0 → walk partner k start x marks ≡ marks
 unfolding walk

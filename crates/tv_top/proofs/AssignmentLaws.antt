@@ -41,7 +41,9 @@ ends_in kind run answers none (Err why) = none why
 -- there is no run, or memory was wanting
 pub completes_none : (places : List Named) (run : Run → Outcome) (found : Result Run NotRun) (fault : ExtractFault) (outside : Outside) → IsFaultOf found fault
     → Completes places (run_ends run found) outside outside (not_run fault)
-completes_none places run found (faults.NoRun why) outside due = rw due (completes_nothing places _ (Ok _) outside refl)
+completes_none places run found (faults.WireCount has wants) outside due = rw due (completes_nothing places _ (Ok _) outside refl)
+completes_none places run found (faults.WideWire at) outside due = rw due (completes_nothing places _ (Ok _) outside refl)
+completes_none places run found (faults.NotARun end) outside due = rw due (completes_nothing places _ (Ok _) outside refl)
 completes_none places run found faults.Memory outside any = completes_nothing places (run_ends run found) (Err Memory) outside refl
 
 -- ---- as many values as wires

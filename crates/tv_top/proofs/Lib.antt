@@ -8,3 +8,5 @@ mod ListingClaim
 mod TrialClaim
 mod ShrinkClaim
 mod TapesComeBack
+mod HeadlineLaws
+mod DoneLaws

@@ -9,18 +9,19 @@ use Rattle.tv_r1cs_write.specs.Shrunken.{Shrunken}
 use Rattle.tv_shrink.specs.declared.fault.ShrinkFault.{ShrinkFault}
 use Rattle.tv_shrink.specs.declared.fault.ShrinkFault.TheVariants as fault
 use Rattle.tv_plan.specs.Containers.{system_in}
-use Rattle.tv_top.specs.Shrink.{shrink_sizes, shrink_stop, shrunk_of, shrunk_look}
+use Rattle.tv_top.specs.Shrink.{shrink_flaws, shrink_stop, shrunk_of, shrunk_look}
 use Rattle.tv_plan.proofs.Common.{Outside, Rose, IsFound, Finds, Spares, Named, Look, ◌>>=◌, look_on, held_at, input, made_of, settled}
 use Rattle.tv_plan.specs.declared.refusal.Bad.{Bad}
 use Rattle.tv_plan.specs.declared.refusal.Stop.{Stop}
 use Rattle.tv_plan.proofs.ContainerReads.{StopsBy, came, finds_file}
 use Rattle.tv_plan.specs.Finds.{reading}
 
-shrink_stops : (word : ℕ) (why : ShrinkFault) → StopsBy word shrink_sizes (why ≡ fault.Fault) (shrink_stop word why)
+shrink_stops : (word : ℕ) (why : ShrinkFault) → StopsBy word shrink_flaws (why ≡ fault.Fault) (shrink_stop word why)
 shrink_stops word (fault.Terms has) = inl refl
 shrink_stops word (fault.Combination has) = inr (inl refl)
 shrink_stops word fault.Fault = (refl, refl)
-shrink_stops word _ = tt
+shrink_stops word (fault.Bad at why) = inr (inr (inl refl))
+shrink_stops word fault.Memory = tt
 
 shrink_spares : (word : ℕ) (why : ShrinkFault) (old new : Outside) → shrinking.Leaves why old new → Spares (shrink_stop word why) old new
 shrink_spares word fault.Fault old new leaves = tt
@@ -57,10 +58,10 @@ pub finds_shrunk : (place : Named) (old new : Outside) (result : Result Shrunken
     (λ file. MatchResult result (λ shrunken. shrinking.Shrinks shrunken file) (λ fault. FaultMeans fault file))
     → HaltsBy old new place.name result →
     (IsMissing old place.name → result ≡ Err fault.Fault)
-    → Finds (λ (s : Shrunken). s) (reading (place.word ∷ []) shrink_sizes (shrunk_look place)) old new found
+    → Finds (λ (s : Shrunken). s) (reading (place.word ∷ []) shrink_flaws (shrunk_look place)) old new found
 unfolding shrunk_look input
 finds_shrunk place old new result found is gives halts missing =
-    rw is (finds_file (λ (s : Shrunken). s) (shrink_stop place.word) fault.Fault place.word shrink_sizes place.name (shrunk_due place.word) old new
+    rw is (finds_file (λ (s : Shrunken). s) (shrink_stop place.word) fault.Fault place.word shrink_flaws place.name (shrunk_due place.word) old new
     (Halted old new place.name) result refl (omega arith) refl (shrink_stops place.word)
     (λ why halted. (halted.only, halted.there, shrink_spares place.word why old new halted.leaves, shrink_caused why old new halted.leaves))
     (λ file there. shrink_found place.word result file (gives file there)) halts missing)

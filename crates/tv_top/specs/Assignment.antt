@@ -1,5 +1,5 @@
 -- A program and an assignment of its system, which `extract` and `listing` read, and the run that it has.
-use Rattle.std.specs.Prelude.{◌≡◌, ℕ, ◌==◌, List, [], Option, Result, Ok, Err, IfOk, if◌then◌else◌}
+use Rattle.std.specs.Prelude.{◌≡◌, ℕ, ◌==◌, List, [], ◌∷◌, ◌++◌, Option, Result, Ok, Err, IfOk, if◌then◌else◌}
 use Rattle.tv_benes.specs.declared.shape.Net.{Net}
 use Rattle.tv_core.specs.Constraints.{Sat}
 use Rattle.tv_extract.specs.Extraction.{run_in}
@@ -7,7 +7,7 @@ use Rattle.tv_extract.specs.Runs.{IsRunOf, HasRunIn}
 use Rattle.tv_extract.specs.declared.run.ExtractFault.{ExtractFault}
 use Rattle.tv_extract.specs.declared.run.ExtractFault.TheVariants as faults
 use Rattle.tv_step.specs.declared.not_run.NotRun.{NotRun}
-use Rattle.tv_step.specs.declared.not_run.NotRun.TheVariants.{WireCount}
+use Rattle.tv_step.specs.declared.not_run.NotRun.TheVariants.{WireCount, WideWire, NotARun}
 use Rattle.tv_extract.specs.declared.run.Run.{Run}
 use Rattle.tv_files.specs.Outside.{Names}
 use Rattle.tv_wtns.specs.Wtns.{Firsts, firsts_in}
@@ -21,13 +21,18 @@ use Rattle.tv_plan.specs.declared.refusal.Stop.TheVariants.{Memory}
 use Rattle.tv_top.specs.Build.{program_system, program_runs}
 use Rattle.tv_plan.specs.Claims.{Holds, Then}
 use Rattle.tv_plan.specs.Containers.{firsts_in_witness, witness_in}
+use Rattle.tv_plan.specs.Flaws.{Flaw, Flaw.{OfWitness}}
 use Rattle.tv_plan.specs.Plan.{Named, Outcome, Look, ◌>>=◌, settled, input}
-use Rattle.tv_plan.specs.Programs.{program_in}
+use Rattle.tv_plan.specs.Programs.{program_in, program_flaws}
 
 -- a program, and an assignment of its system
 pub record Assigned : Type 0 where
   pub program : Program
   pub z : List ℕ
+
+-- what the two files may be refused for
+abbrev pub assigned_flaws : List Flaw
+assigned_flaws = program_flaws ++ OfWitness ∷ []
 
 -- the two files, the text being judged before the witness is read
 unfoldable pub assigned_of : Named → Named → Names → Look Assigned
@@ -47,7 +52,9 @@ run_ends f (Err why) = record { files = []; finish = finishes.NotARun why }
 
 -- the end where there is none, unless memory was wanting
 abbrev pub not_run : ExtractFault → Result Finish Stop
-not_run (faults.NoRun why) = Ok (finishes.NotARun why)
+not_run (faults.WireCount has wants) = Ok (finishes.NotARun (WireCount has wants))
+not_run (faults.WideWire at) = Ok (finishes.NotARun (WideWire at))
+not_run (faults.NotARun end) = Ok (finishes.NotARun (NotARun end))
 not_run faults.Memory = Err Memory
 
 -- ---- of the assignment as many values as the system has wires

@@ -20,7 +20,7 @@ use Rattle.tv_plan.specs.Claims.{Call, Holds, AnswersOrStops}
 use Rattle.tv_plan.specs.Contents.{Content.{Constraints}}
 use Rattle.tv_plan.specs.Kinds.{is_quiet}
 use Rattle.tv_plan.specs.Plan.{Named, Amount, Plan, Outcome, name_at, named, input, outcome_by, with_three}
-use Rattle.tv_plan.specs.Programs.{bits, program_in, program_sizes}
+use Rattle.tv_plan.specs.Programs.{bits, program_in, program_flaws}
 
 -- the network that the word after those of the command names: none is Benes' one, and `waksman` is Waksman's
 abbrev pub net_word : List (List ℕ) → Option Net
@@ -55,7 +55,7 @@ build_plan given = record {
   reads = given.text ∷ [];
   writes = given.system ∷ [];
   amounts = size_amounts given.n given.t;
-  sizes = program_sizes;
+  flaws = program_flaws;
   ends_by = is_quiet;
   leads_to = λ files. outcome_by (build_ends given.net given.n given.t) (input given.text program_in files);
 }

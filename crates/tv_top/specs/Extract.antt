@@ -10,13 +10,12 @@ use Rattle.tv_tape.specs.Tape.{text_of}
 use Rattle.tv_word.specs.Numeral.{numeral}
 use Rattle.tv_top.specs.declared.extract.ExtractArgs.{ExtractArgs}
 use Rattle.tv_plan.specs.declared.refusal.Finish.TheVariants as finishes
-use Rattle.tv_top.specs.Assignment.{Assigned, assigned_of, assigned_run, run_ends, HasAssigned}
+use Rattle.tv_top.specs.Assignment.{Assigned, assigned_flaws, assigned_of, assigned_run, run_ends, HasAssigned}
 use Rattle.tv_top.specs.Build.{net_word, size_amounts}
 use Rattle.tv_plan.specs.Claims.{Call, AnswersOrStops}
 use Rattle.tv_plan.specs.Contents.{Content.{Bytes}}
 use Rattle.tv_plan.specs.Kinds.{is_extract}
 use Rattle.tv_plan.specs.Plan.{Named, Plan, Outcome, name_at, named, outcome_by, with_three}
-use Rattle.tv_plan.specs.Programs.{program_sizes}
 
 -- a run's two tapes' texts, and the answer with its step
 abbrev pub run_written : Run → Outcome
@@ -40,7 +39,7 @@ extract_plan given = record {
   reads = given.text ∷ given.witness ∷ [];
   writes = given.tape ∷ given.aux ∷ [];
   amounts = size_amounts given.n given.t;
-  sizes = program_sizes;
+  flaws = assigned_flaws;
   ends_by = is_extract;
   leads_to = λ files. outcome_by (extract_ends given.net given.n given.t) (assigned_of given.text given.witness files);
 }

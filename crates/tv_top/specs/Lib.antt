@@ -6,9 +6,10 @@ pub mod Trial
 pub mod Shrink
 pub mod Listing
 pub mod Commands
-pub mod Limits
 pub mod Form
 pub mod Taken
+pub mod Headline
+pub mod Done
 pub use Rattle.tv_core.specs.Constraints
 pub use Rattle.tv_files.specs.Outside
 pub use Rattle.tv_r1cs_read.specs.R1cs

@@ -15,10 +15,9 @@ use Rattle.tv_top.specs.declared.listing.ListingArgs.{ListingArgs}
 use Rattle.tv_plan.specs.declared.refusal.Bad.{Bad}
 use Rattle.tv_top.specs.Build.{program_system, size_amounts, program_runs}
 use Rattle.tv_plan.specs.Claims.{Call, AnswersOrStops}
-use Rattle.tv_top.specs.Assignment.{Assigned, assigned_of, assigned_run, run_ends, HasAssigned}
+use Rattle.tv_top.specs.Assignment.{Assigned, assigned_flaws, assigned_of, assigned_run, run_ends, HasAssigned}
 use Rattle.tv_plan.specs.Kinds.{is_listing}
 use Rattle.tv_plan.specs.Plan.{Named, Plan, Outcome, name_at, named, outcome_by, writes_bytes, with_three}
-use Rattle.tv_plan.specs.Programs.{program_sizes}
 
 -- the order that a word names
 abbrev pub by_word : List ℕ → Option By
@@ -49,7 +48,7 @@ listing_plan given = record {
   reads = given.text ∷ given.witness ∷ [];
   writes = given.out ∷ [];
   amounts = size_amounts given.n given.t;
-  sizes = program_sizes;
+  flaws = assigned_flaws;
   ends_by = is_listing;
   leads_to = λ files. outcome_by (listing_ends given.by given.n given.t) (assigned_of given.text given.witness files);
 }

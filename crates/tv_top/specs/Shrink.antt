@@ -11,7 +11,6 @@ use Rattle.tv_shrink.specs.declared.fault.ShrinkFault.TheVariants as fault
 use Rattle.tv_plan.specs.declared.refusal.Bad.{Bad}
 use Rattle.tv_plan.specs.declared.refusal.Bad.TheVariants as bad
 use Rattle.tv_plan.specs.declared.refusal.Finish.TheVariants.{Quiet}
-use Rattle.tv_plan.specs.declared.refusal.What.{What}
 use Rattle.tv_plan.specs.declared.refusal.What.TheVariants.{SystemTerms, CombinationTerms}
 use Rattle.tv_plan.specs.declared.refusal.Stop.{Stop}
 use Rattle.tv_plan.specs.declared.refusal.Stop.TheVariants as stop
@@ -19,6 +18,7 @@ use Rattle.tv_top.specs.declared.shrink.ShrinkArgs.{ShrinkArgs}
 use Rattle.tv_plan.specs.Claims.{Call, Holds, Then, AnswersOrStops}
 use Rattle.tv_plan.specs.Containers.{system_in}
 use Rattle.tv_plan.specs.Contents.{Content.{Rest}}
+use Rattle.tv_plan.specs.Flaws.{Flaw, Flaw.{OfSystem, OverLimit}}
 use Rattle.tv_plan.specs.Kinds.{is_quiet}
 use Rattle.tv_plan.specs.Plan.{Named, Plan, Outcome, Look, ◌>>=◌, named, settled, input, outcome_by, one_name, name_at}
 
@@ -56,15 +56,16 @@ shrunk_look place files = do
 abbrev pub shrink_ends : Shrunken → Outcome
 shrink_ends shrunken = record { files = Rest shrunken ∷ []; finish = Quiet }
 
-abbrev pub shrink_sizes : List What
-shrink_sizes = SystemTerms ∷ CombinationTerms ∷ []
+-- what the file of a system may be refused for
+abbrev pub shrink_flaws : List Flaw
+shrink_flaws = OverLimit SystemTerms ∷ OverLimit CombinationTerms ∷ OfSystem ∷ []
 
 abbrev pub shrink_plan : Named → Named → Plan
 shrink_plan system out = record {
   reads = system ∷ [];
   writes = out ∷ [];
   amounts = [];
-  sizes = shrink_sizes;
+  flaws = shrink_flaws;
   ends_by = is_quiet;
   leads_to = λ files. outcome_by shrink_ends (shrunk_look system files);
 }

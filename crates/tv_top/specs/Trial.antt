@@ -63,7 +63,7 @@ trial_plan seed k = record {
   reads = [];
   writes = [];
   amounts = record { what = Draws; has = k; least = 1; most = DRAWS } ∷ [];
-  sizes = [];
+  flaws = [];
   ends_by = is_trial;
   leads_to = λ files. outcome_by (λ _. trial_ends seed k) (no_look files);
 }

@@ -21,7 +21,7 @@ use Rattle.tv_top.specs.Build.{net_word}
 use Rattle.tv_plan.specs.Claims.{Call, AnswersOrStops}
 use Rattle.tv_plan.specs.Contents.{Content.{Values}}
 use Rattle.tv_plan.specs.Kinds.{is_witness}
-use Rattle.tv_plan.specs.Inputs.{inputs_of, input_sizes, run_end, HasInputs}
+use Rattle.tv_plan.specs.Inputs.{inputs_of, input_flaws, run_end, HasInputs}
 use Rattle.tv_plan.specs.Plan.{Named, Plan, Outcome, name_at, named, outcome_by, with_two}
 use Rattle.tv_plan.specs.Programs.{bits}
 
@@ -52,7 +52,7 @@ witness_plan given = record {
   reads = given.text ∷ given.tape ∷ given.aux ∷ [];
   writes = given.witness ∷ [];
   amounts = record { what = Steps; has = given.t; least = 1; most = STEPS } ∷ [];
-  sizes = input_sizes;
+  flaws = input_flaws given.tape.word given.aux.word;
   ends_by = is_witness;
   leads_to = λ files. outcome_by (witness_ends given.net given.t) (inputs_of given.text given.tape given.aux files);
 }

@@ -4,8 +4,8 @@ ghost use Rattle.std.specs.Prelude.{◌≡◌, [], ◌∷◌, Ok, IfOk, IfErr};
 ghost use Rattle.tv_extract.specs.Extraction.{IsFaultOf};
 ghost use Rattle.tv_plan.specs.Finds.{Finds, reading};
 ghost use Rattle.tv_plan.specs.Plan.{named};
-ghost use Rattle.tv_plan.specs.Programs.{HasImage, program_sizes};
-ghost use Rattle.tv_top.specs.Assignment.{kept_in, kept_of, kept_run, not_run};
+ghost use Rattle.tv_plan.specs.Programs.{HasImage};
+ghost use Rattle.tv_top.specs.Assignment.{assigned_flaws, kept_in, kept_of, kept_run, not_run};
 ghost use Rattle.tv_top.specs.Build.{program_system};
 
 use std::alloc::Global;
@@ -50,7 +50,8 @@ pub(crate) fn read_assigned<D: Files>(
     net: Net,
     witness: Place<'_>,
 ) -> Result<Assignment, Stop>
-    ensures found { Finds kept_in (reading (text.entry.word ∷ witness.entry.word ∷ []) program_sizes
+    ensures found { Finds kept_in
+        (reading (text.entry.word ∷ witness.entry.word ∷ []) assigned_flaws
         (kept_of net n.now t.now (named text.entry) (named witness.entry)))
         (D.seen files.old) (D.seen files.new) result }
     ensures fits { IfOk result (λ assigned. HasImage assigned.program) }
@@ -78,7 +79,7 @@ pub(crate) fn run_of(
     let has = u64::from(assigned.first.count);
     let wants = u64::from(wires_of(&assigned.program, n, t, net));
     if has != wants {
-        return Err(ExtractFault::NoRun(NotRun::WireCount { has, wants }));
+        return Err(ExtractFault::WireCount { has, wants });
     }
     let image = assigned.program.words.as_slice();
     let values = assigned.first.values.as_slice();
@@ -93,8 +94,11 @@ pub(crate) fn run_of(
 pub(crate) fn not_run(fault: ExtractFault) -> Result<Finish, Stop>
     ensures { result ≡ not_run fault }
 {
-    match fault {
-        ExtractFault::NoRun(why) => Ok(Finish::NotARun(why)),
-        ExtractFault::Memory => Err(Stop::Memory),
-    }
+    let why = match fault {
+        ExtractFault::WireCount { has, wants } => NotRun::WireCount { has, wants },
+        ExtractFault::WideWire { at } => NotRun::WideWire { at },
+        ExtractFault::NotARun { end } => NotRun::NotARun { end },
+        ExtractFault::Memory => return Err(Stop::Memory),
+    };
+    Ok(Finish::NotARun(why))
 }

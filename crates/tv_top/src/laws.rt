@@ -1,24 +1,35 @@
-//! The numbers of the limits, and that the tapes that `extract` writes are read again.
-ghost use Rattle.std.specs.Prelude.{◌≡◌, ◌≤◌, ◌+◌, ◌-◌, ◌^◌};
-ghost use Rattle.tv_core.specs.declared.field.TheConstants.{P};
+//! The whole claim over bytes, and that the tapes that `extract` writes are read again.
+ghost use Rattle.std.specs.Prelude.{◌≤◌, ◌+◌};
 ghost use Rattle.tv_core.specs.declared.limits.TheConstants.{STEPS};
 ghost use Rattle.tv_core.specs.declared.limits.TheConstants.{TAPE_WORDS, AUX_WORDS, CHECK_WORDS};
 ghost use Rattle.tv_plan.specs.ComesBack.{TapeTextsFit, TapesComeBack};
 ghost use Rattle.tv_plan.specs.Inputs.{primary_in, aux_in};
 ghost use Rattle.tv_plan.specs.Programs.{bits};
 ghost use Rattle.tv_plan.specs.Tapes.{publics_in};
+ghost use Rattle.tv_top.specs.Done.{BuildLeads, CheckLeads, ExtractLeads, WitnessLeads};
+ghost use Rattle.tv_top.specs.Headline.{Headline, YesToRuns};
 ghost use Rattle.tv_top.specs.Taken.{ExtractedAreTaken};
-ghost use Rattle.tv_top.specs.Limits.{LimitsAre, LinesAre};
 
-/// The numbers of the limits: the most steps, words of an image and bytes of its file, with words
-/// of 32 and of 16 bits, words of a primary, of an auxiliary and of a checked tape, bytes of a
-/// text, drawn instructions, and terms of a system and of a combination that are shrunk. And of the
-/// lines: the bits of a time and of a cell, the cells of the primary tape's first word and of no
-/// word; and the prime, below which the numbers of a checked tape are.
-pub fn limits_are_these()
-    ensures limits { LimitsAre }
-    ensures lines { LinesAre }
-    ensures prime { P ≡ 2 ^ 64 - 2 ^ 32 + 1 }
+/// The whole claim, over bytes alone. For every text that assembles, N, T and network within the
+/// limits: what `build` leaves is read as a system that reduces the program's runs; what `witness`
+/// leaves of a run that answers is read as an assignment that satisfies it and extends the answer
+/// and the tape; `check` says yes exactly to such assignments; and `extract` turns each of them back
+/// into its run.
+///
+/// By that alone, `check` says yes to no answer and tape without a run, and each run has an
+/// assignment.
+pub fn headline()
+    ensures claim { Headline }
+    ensures runs { YesToRuns }
+{}
+
+/// A call of `build`, `witness`, `check` or `extract` that is done leaves what the headline speaks
+/// of: its clause of `command` says so.
+pub fn done_calls_leave_these()
+    ensures build { BuildLeads }
+    ensures witness { WitnessLeads }
+    ensures check { CheckLeads }
+    ensures extract { ExtractLeads }
 {}
 
 /// The text that `extract` writes of a tape is within the limit of texts, and `run` and `witness`

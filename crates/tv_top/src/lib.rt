@@ -14,7 +14,7 @@ mod witness;
 mod words;
 
 pub use commands::command;
-pub use laws::{limits_are_these, tapes_come_back};
+pub use laws::{done_calls_leave_these, headline, tapes_come_back};
 pub use tv_draw::{Drawn, draw};
 pub use tv_extract::NotRun;
 pub use tv_plan::{

@@ -3,7 +3,7 @@ ghost use Rattle.std.specs.Prelude.{[], ◌∷◌, refl};
 ghost use Rattle.tv_plan.specs.Finds.{Finds, reading};
 ghost use Rattle.tv_plan.specs.Plan.{named};
 ghost use Rattle.tv_r1cs_write.specs.Shrunken.{Shrunken};
-ghost use Rattle.tv_top.specs.Shrink.{shrink_asks, shrink_form, shrink_sizes, shrunk_look};
+ghost use Rattle.tv_top.specs.Shrink.{shrink_asks, shrink_form, shrink_flaws, shrunk_look};
 
 use std::alloc::Global;
 use tv_core::TERMS;
@@ -44,7 +44,7 @@ impl<'a> Job<'a> for ShrinkArgs<'a> {
 /// What is left of the system of this name.
 fn read_shrunk<D: Files>(alloc: Global, files: &mut D, place: Place<'_>) -> Result<Shrunk, Stop>
     ensures { Finds (λ (s : Shrunken). s)
-        (reading (place.entry.word ∷ []) shrink_sizes (shrunk_look (named place.entry)))
+        (reading (place.entry.word ∷ []) shrink_flaws (shrunk_look (named place.entry)))
         (D.seen files.old) (D.seen files.new) result }
 {
     shrink(alloc, files, place.name).map_err(|fault| match fault {

@@ -6,7 +6,9 @@
 
 mod laws;
 mod networks;
+mod outputs;
 
 pub use laws::{network_w_is_complete, network_w_is_sound, through_w_is_a_permutation};
 pub use networks::{fill_network_w, network_w, switches_w};
-pub use tv_benes::{Inputs, Net, Outputs};
+pub use outputs::Outputs;
+pub use tv_benes::{Inputs, Net};

@@ -3,14 +3,17 @@ ghost use Rattle.std.specs.Prelude.{◌≡◌, ◌-◌, ◌^◌, ◌≤◌, fals
 ghost use Rattle.tv_benes.specs.Items.{bit_at, pair_at};
 ghost use Rattle.tv_benes.specs.Levels.{network_wires};
 ghost use Rattle.tv_benes.specs.Network.{network_of, network_values};
+ghost use Rattle.tv_benes.specs.OutputLists.{ends_in};
 ghost use Rattle.tv_benes.specs.Places.{ArePairsMade, AreBelow};
 ghost use Rattle.tv_benes.specs.Through.{switches};
 ghost use Rattle.tv_benes.specs.declared.shape.Net.TheVariants.{Waksman};
 ghost use Rattle.tv_core.specs.Values.{GivesIn};
 ghost use Rattle.tv_core.specs.Sinks.{Emits, Room};
 
-use tv_benes::{Inputs, Net, Outputs, fill_routing_network, routing_network, routing_switches};
+use crate::outputs::Outputs;
+use tv_benes::{Inputs, Net, fill_routing_network, routing_network, routing_switches};
 use tv_core::{PairNum, Put, Sink, Values};
+use tv_word::arithmetic::power;
 
 /// Returns how many switches Waksman's network for 2^`k` items has, `k` being from 1 to 31.
 pub fn switches_w(k: u32) -> u64
@@ -33,10 +36,12 @@ pub fn network_w<S: Sink, I: Inputs>(s: &mut S, k: u32, inputs: &I) -> Put<Outpu
     requires made { ArePairsMade (I.pair inputs.now) (2 ^ k) (S.meaning.wires s.old) }
     ensures emits { Emits S.meaning s.old s.new
         (network_of Waksman (k - 1) (I.pair inputs.now))
-        (network_wires Waksman (k - 1)) (network_wires Waksman (k - 1)) result }
-    ensures below { IfOk result (λ outputs. AreBelow outputs (2 ^ k) (S.meaning.wires s.new)) }
+        (network_wires Waksman (k - 1)) (network_wires Waksman (k - 1)) (ends_in result) }
+    ensures count { IfOk result (λ outputs. outputs.count ≡ 2 ^ k) }
+    ensures below { IfOk result (λ outputs. AreBelow outputs.ends (2 ^ k) (S.meaning.wires s.new)) }
 {
-    routing_network(s, Net::Waksman, k, inputs)
+    let ends = routing_network(s, Net::Waksman, k, inputs)?;
+    Ok(Outputs::new(ends, power(k)))
 }
 
 /// Assigns the values of the wires that `network_w` makes, for the numbers of its inputs and the

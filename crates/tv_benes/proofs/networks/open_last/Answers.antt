@@ -3,13 +3,13 @@ use Rattle.tv_benes.proofs.ThroughLaws.{alternating_map}
 use Rattle.tv_benes.specs.Network.{last_column_of}
 use Rattle.tv_benes.specs.Places.{wires_at, output_wire, last_wire, last_pair}
 use Rattle.tv_benes.specs.Through.{missing}
-use Rattle.tv_benes.specs.declared.places.Outputs.{Outputs}
+use Rattle.tv_benes.specs.declared.places.Ends.{Ends}
 use Rattle.tv_benes.specs.declared.shape.Form.TheVariants.{Open}
 use Rattle.tv_benes.specs.declared.shape.Net.{Net}
 use Rattle.tv_core.specs.declared.lines.Pair.{Pair}
 use Rattle.tv_benes.proofs.networks.open_last.Goals as goal
 
-items_are : (net : Net) (upper lower : Outputs) → ◌≡◌ {A = ℕ → Pair} (λ i. wires_at (last_wire net upper lower i)) (last_pair net Open upper lower)
+items_are : (net : Net) (upper lower : Ends) → ◌≡◌ {A = ℕ → Pair} (λ i. wires_at (last_wire net upper lower i)) (last_pair net Open upper lower)
 items_are net upper lower = λ t i. alternating_map wires_at (output_wire upper) (output_wire lower) (i + 2 * missing net) t
 
 pub returns-in_err-open_column : goal.returns-in_err-open_column

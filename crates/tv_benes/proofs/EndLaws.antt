@@ -6,7 +6,7 @@ use Rattle.tv_benes.specs.Levels.{other, innermost}
 use Rattle.tv_benes.specs.Places.{wires_at, fifth, row, switch_wire, first_of, second_of, ItemsOf, item_in, to_upper_of, to_lower_of, output}
 use Rattle.tv_benes.specs.Places.{output_wire, column_outputs, sum_at, EndsOf, end_in, two_ends, last_ends}
 use Rattle.tv_benes.specs.Through.{missing, alternating}
-use Rattle.tv_benes.specs.declared.places.Outputs.{Outputs}
+use Rattle.tv_benes.specs.declared.places.Ends.{Ends}
 use Rattle.tv_benes.specs.declared.places.Sums.{Sums}
 use Rattle.tv_benes.specs.declared.shape.Form.{Form}
 use Rattle.tv_benes.specs.declared.shape.Form.TheVariants.{Bound, Open}
@@ -26,10 +26,10 @@ lower_item Bound w items j = let at : w + 3 + 5 * j ≡ w + j * 5 + 3 = omega ar
 lower_item Open w items j = refl
 
 -- ---- outputs that are wires
-pub output_zero : (o : Outputs) (i : ℕ) → i ≡ 0 → output_wire o i ≡ o.first
+pub output_zero : (o : Ends) (i : ℕ) → i ≡ 0 → output_wire o i ≡ o.first
 output_zero o i e = ap (λ k. output_wire o k) e
 
-pub output_one : (o : Outputs) (i : ℕ) → i ≡ 1 → output_wire o i ≡ o.second
+pub output_one : (o : Ends) (i : ℕ) → i ≡ 1 → output_wire o i ≡ o.second
 output_one o i e = ap (λ k. output_wire o k) e
 
 pub if_apart : {X : Type 0} (i k : ℕ) (x y : X) → i ≢ k → (if i == k then x else y) ≡ y
@@ -38,7 +38,7 @@ if_apart i k x y e = ap (λ (c : Bool). if c then x else y) (apart_eq i k e)
     apart_eq : (a b : ℕ) → a ≢ b → (a == b) ≡ false
     apart_eq a b e = grind (arith, nat_tests)
 
-pub output_other : (o : Outputs) (i : ℕ) → 1 < i → output_wire o i ≡ alternating (fifth (o.others + 1)) (fifth (o.others + 3)) (i - 2)
+pub output_other : (o : Ends) (i : ℕ) → 1 < i → output_wire o i ≡ alternating (fifth (o.others + 1)) (fifth (o.others + 3)) (i - 2)
 output_other o i h = if_apart i 0 _ _ (λ e. let f : i ≡ 0 = e in omega arith) ∙ if_apart i 1 _ _ (λ e. let f : i ≡ 1 = e in omega arith)
 
 alternating_moved : {X : Type 0} (a a' b b' : ℕ → X) (i k : ℕ) → i % 2 ≡ k % 2 → a (i / 2) ≡ a' (k / 2) → b (i / 2) ≡ b' (k / 2)
@@ -46,7 +46,7 @@ alternating_moved : {X : Type 0} (a a' b b' : ℕ → X) (i k : ℕ) → i % 2 �
 alternating_moved a a' b b' i k e p q = ap (λ r. if r == 0 then a (i / 2) else b (i / 2)) e ∙ ap₂ (λ x y. if k % 2 == 0 then x else y) p q
 
 -- the others are of switches, g being the wire of the one at which i / 2 - m is 0
-others_at : (o : Outputs) (g m i : ℕ) → o.others + 5 * m ≡ g + 5 → 1 < i → 2 * m ≤ i
+others_at : (o : Ends) (g m i : ℕ) → o.others + 5 * m ≡ g + 5 → 1 < i → 2 * m ≤ i
     → output o i ≡ alternating (λ j. wires_at (switch_wire Bound g (j - m) + 1)) (λ j. wires_at (switch_wire Bound g (j - m) + 3)) i
 others_at o g m i at more within =
     let first : o.others + 1 + 5 * ((i - 2) / 2) ≡ g + (i / 2 - m) * 5 + 1 = omega arith in
