@@ -28,9 +28,11 @@ assembles() {
         cmp "$folder/image" "$folder/again"
 }
 
-# Checks the values against the system by `verify.py`, which reads both as other programs do, where there is Python.
+# Checks the values against the system by `verify.py`, which reads both as other programs do, where there is Python and
+# the system isn't large.
 verifies() {
-    ! command -v python3 >"$folder/found" || python3 -B "$examples/verify.py" "$folder/system" "$folder/values" >"$folder/said"
+    [ "$(wc -c <"$folder/system")" -gt 100000000 ] || ! command -v python3 >"$folder/found" ||
+        python3 -B "$examples/verify.py" "$folder/system" "$folder/values" >"$folder/said"
 }
 
 # Takes a program with its tapes, the number of its tape's words, its answer and the answering step, and the network's
@@ -60,7 +62,7 @@ for program in "$examples"/*.asm; do
     width=
     if head -n 1 "$program" | grep -q 'W=16'; then width=16; fi
     if [ -n "$wanted" ] && assembles "$program" "$width" &&
-        [ "$("$tinyr1cs" run "$program" "$primary" "$auxiliary" 1000)" = "answer $answer at step $step" ] &&
+        [ "$("$tinyr1cs" run "$program" "$primary" "$auxiliary" 10000)" = "answer $answer at step $step" ] &&
         reduces "$program" "$primary" "$auxiliary" "$count" "$answer" "$step" "" &&
         reduces "$program" "$primary" "$auxiliary" "$count" "$answer" "$step" waksman; then
         passed=$((passed + 1))
@@ -80,6 +82,19 @@ if "$tinyr1cs" shrink "$examples/square.r1cs" "$folder/shrunk" && cmp "$folder/s
     passed=$((passed + 1))
 else
     echo "square: failed" >&2
+    failed=$((failed + 1))
+fi
+
+# The tape of sha256 is the digest of its auxiliary tape's bytes.
+digest() {
+    for byte in $(words "$examples/sha256.aux"); do printf "\\$(printf '%o' "$byte")"; done | sha256sum | cut -c 1-64 |
+        fold -w 8 | while read -r word; do echo $((0x$word)); done
+}
+
+if [ "$(digest)" = "$(words "$examples/sha256.tape")" ]; then
+    passed=$((passed + 1))
+else
+    echo "sha256: its tape is no digest of its auxiliary tape" >&2
     failed=$((failed + 1))
 fi
 

@@ -1,5 +1,5 @@
 #!/bin/sh
-# Builds the library by bin/library, with the words given here, and runs the examples in c/, rust/ and python/ on a
+# Builds the library by `bin/build library`, with the words given here, and runs the examples in c/, rust/ and python/ on a
 # program here, each where the machine has what it needs: cc; rustc; python3, and cc for the shared object. The last
 # line counts; the status is 1 where one failed.
 set -u
@@ -11,7 +11,7 @@ built=$top/crates/tinyr1cs_c/out
 folder=$(mktemp -d) || exit 1
 trap 'rm -rf -- "$folder"' EXIT
 
-if ! "$top/bin/library" "$@" >"$folder/log" 2>&1; then
+if ! "$top/bin/build" library "$@" >"$folder/log" 2>&1; then
     tail -n 20 "$folder/log" >&2
     echo "library: 0 passed, 1 failed"
     exit 1

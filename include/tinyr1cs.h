@@ -95,10 +95,9 @@ static inline uint32_t tinyr1cs_run(tinyr1cs *session) {
     return tinyr1cs_c_run(session);
 }
 
-/* Copies the file's bytes from a place on, as many as there is room for, and stores in *has how many the file
- * has from there on: DONE; SHORT, where that is more than the room; ABSENT, NOT_UTF8 or CLOSED, where *has is 0;
- * or NULL. So a room of 0 (at a
- * pointer that isn't null) asks for the size, and a file is taken in pieces by raising the place. */
+/* Copies the file's bytes from a place on, as many as there is room for, and stores in *has how many the file has from
+ * there on: DONE; SHORT, where that is more than the room; ABSENT, NOT_UTF8 or CLOSED, where *has is 0; or NULL. So a
+ * room of 0 (at a pointer that isn't null) asks for the size, and a file is taken in pieces by raising the place. */
 static inline uint32_t tinyr1cs_copy(tinyr1cs *session, const void *name, size_t name_size, uint64_t from, void *into,
                                      size_t room, uint64_t *has) {
     if (!session || !name || !into || !has) return TINYR1CS_NULL;

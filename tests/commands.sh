@@ -21,6 +21,39 @@ failed=0
 
 usage='usage: asm, disasm, run, build, witness, check, extract, trial, shrink, listing\n'
 
+# How the commands are called, and what standard error has where no first word says which is meant.
+asm='tinyr1cs asm TEXT IMAGE'
+disasm='tinyr1cs disasm IMAGE TEXT [16]'
+run='tinyr1cs run TEXT TAPE AUX T'
+build='tinyr1cs build TEXT N T SYSTEM [waksman]'
+witness='tinyr1cs witness TEXT TAPE AUX T WITNESS [waksman]'
+check='tinyr1cs check SYSTEM WITNESS PUBLIC'
+extract='tinyr1cs extract TEXT N T WITNESS TAPE AUX [waksman]'
+listing='tinyr1cs listing TEXT N T WITNESS BY OUT'
+trial='tinyr1cs trial SEED K'
+shrink='tinyr1cs shrink SYSTEM OUT'
+commands="$asm: assembles a program
+$disasm: writes a program of the image
+$run: runs it for at most T steps
+$build: writes its constraints
+$witness: writes values of a run
+$check: tests values and public ones
+$extract: writes the tapes of values
+$listing: writes memory accesses
+$trial: tests the system of a drawn program
+$shrink: removes linear constraints
+\`man tinyr1cs\` and docs/COMMANDS.md of the sources describe them\\n"
+
+# The number of the layout of systems. It is raised whenever `build` writes other bytes for the same arguments, and then
+# the sums below are written anew.
+layout=1
+version="tinyr1cs $(cat "$top/VERSION"), layout of systems $layout\\n"
+
+# What the system says of a name that isn't there, of a folder, and of a full disk.
+absent='No such file or directory (os error 2)\n'
+folder='Is a directory (os error 21)\n'
+full='No space left on device (os error 28)\n'
+
 # Counts a check, whose status is the first word; the others are the message.
 count() {
     if [ "$1" = 0 ]; then
@@ -94,6 +127,15 @@ alter() {
     done
 }
 
+# Raises the value of a wire in `witness` by 1, modulo the prime.
+increase() {
+    local value
+    value=$(od -An -t d8 -j $((52 + 8 * $1)) -N 8 witness)
+    # the prime less 1, as a signed number
+    if ((value == -4294967296)); then value=-1; fi
+    alter "$1" $((value + 1))
+}
+
 # Cuts the last value off `witness`, so that this many are left.
 shorten() {
     truncate -s -8 witness && le "$1" 4 | put witness 36 && le $((8 * $1)) 8 | put witness 44
@@ -139,7 +181,6 @@ refuses_in 'asm in out' '; TinyRAM W=16 W=32' 3 'bad program: line 1: bad header
 refuses_in 'asm in out' '; TinyRAM W=16\nmov r1, 65536' 3 'bad program: line 2: bad number\n'
 refuses_in 'disasm in out' '\0\0\0\0\0\0\0\0\0\0\0\0' 13 'bad image: 12 bytes\n'
 refuses_in 'disasm in out 16' '\0\0\0\0\0\0' 13 'bad image: 6 bytes\n'
-refuses_in 'disasm in out 32' '\0\0\0\0\0\0\0\0' 2 "$usage"
 
 # Texts and images at their limits: standard input is what is read.
 limits_in() {
@@ -222,14 +263,14 @@ fill() {
 }
 
 # What `check` and `extract` say of a witness of that program that is altered: the public numbers, the two statuses and
-# lines, and the wires with their new values.
+# lines, and the wires with their new values, or a wire whose value rises by 1.
 judges() {
     fill "$1" "$2" "$3"
     file public "$4"
     local n check=$5 line=$6 extract=$7 other=$8 tape=before aux=before
     n=$(wc -w <tape)
     if [ "$extract" = 0 ]; then tape=$2 aux=; fi
-    alter "${@:9}"
+    if [ $# = 9 ]; then increase "$9"; else alter "${@:9}"; fi
     says "$check" "$line" 'check system witness public'
     says "$extract" "$other" "extract text $n $3 witness tape.out aux.out"
     holds tape.out "$tape"
@@ -240,11 +281,12 @@ judges 'mov r1, 7\nanswer r1' '' 2 8 1 'no: public wire 1\n' 0 'answer 7 at step
 judges 'mov r1, 7\nanswer r1' '' 2 '' 1 'no: public wire 1\n' 0 'answer 7 at step 2\n'
 judges 'mov r1, 7\nanswer r1' '' 2 8 1 'no: constraint ' 11 'not a run: answer 7 at step 2\n' 1 8
 # The witness of `answer 0` in one step has 485 values: at wire 2 the 0 of the start state, at 417 the first bit of a
-# reach, and at the end the excess of the last line, 0 too.
+# reach, and at the end the excess of the last line, 0 too. Private are the wires 2 to 484, of which 243 is the middle.
 judges 'answer 0' 5 2 '0 4294967296' 1 'no: constraint ' 11 'not a run: wire 2 is wide\n' 2 $((1 << 32))
 judges 'answer 0' '' 1 0 1 'no: constraint ' 0 'answer 0 at step 1\n' 2 1
 judges 'answer 0' '' 1 0 1 'no: constraint ' 0 'answer 0 at step 1\n' 417 2
 judges 'answer 0' '' 1 0 1 'no: constraint ' 0 'answer 0 at step 1\n' 484 1
+judges 'answer 0' '' 1 0 1 'no: constraint ' 0 'answer 0 at step 1\n' 243
 fill 'answer 0' '' 1
 file public 0
 shorten 484
@@ -368,17 +410,24 @@ refuses() {
 
 # Words that are refused before any file is read: there is none to read.
 new
-refuses 2 "$usage" ''
-refuses 2 "$usage" '' build text 0 1 system place
-refuses 2 "$usage" '' build text 0 18446744073709551616 system
-refuses 2 "$usage" '' witness text tape aux 1 witness benes
-refuses 2 "$usage" '' witness text tape aux -1 witness
-refuses 2 "$usage" '' extract text 0 1 witness tape.out aux.out 16
-refuses 2 "$usage" '' run text tape aux +1
-refuses 2 "$usage" '' trial 0
-refuses 2 "$usage" '' listing text 0 1 witness place lines
-refuses 2 "$usage" '' shrink square
-refuses 2 "$usage" '' shrink square new 16
+refuses 2 "$usage" "$commands"
+refuses 2 "$usage" "$commands" --help
+refuses 2 "$usage" "$commands" -h
+refuses 2 "$usage" "$commands" Build text 0 1 system
+refuses 2 "$usage" "$version" --version
+refuses 2 "$usage" "$asm\n" asm text
+refuses 2 "$usage" "$disasm\n" disasm in out 32
+refuses 2 "$usage" "$check\n" check
+refuses 2 "$usage" "$build\n" build text 0 1 system place
+refuses 2 "$usage" "$build\n" build text 0 18446744073709551616 system
+refuses 2 "$usage" "$witness\n" witness text tape aux 1 witness benes
+refuses 2 "$usage" "$witness\n" witness text tape aux -1 witness
+refuses 2 "$usage" "$extract\n" extract text 0 1 witness tape.out aux.out 16
+refuses 2 "$usage" "$run\n" run text tape aux +1
+refuses 2 "$usage" "$trial\n" trial 0
+refuses 2 "$usage" "$listing\n" listing text 0 1 witness place lines
+refuses 2 "$usage" "$shrink\n" shrink square
+refuses 2 "$usage" "$shrink\n" shrink square new 16
 refuses 12 'same name: words 1 and 4\n' '' build text 0 1 text
 refuses 12 'same name: words 1 and 4\n' '' build text 0 0 text
 refuses 12 'same name: words 4 and 5\n' '' extract text 0 1 witness witness witness
@@ -422,21 +471,24 @@ refuses 1 'no answer in 3 steps\n' '' run reads tape nines 3
 refuses 10 'no run: no answer in 3 steps\n' '' witness reads tape nines 3 witness
 
 # A name that isn't there, wherever it stands; and what standard error says of names and words that no line shows.
-refuses 8 '' 'file fault: absent\n' build absent 0 1 system
-refuses 8 '' 'file fault: absent\n' witness absent tape aux 1 witness
-refuses 8 '' 'file fault: absent\n' witness text absent aux 1 witness
-refuses 8 '' 'file fault: absent\n' witness text tape absent 1 witness
-refuses 8 '' 'file fault: absent\n' check absent w tape
-refuses 8 '' 'file fault: absent\n' check s absent tape
-refuses 8 '' 'file fault: absent\n' check s w absent
-refuses 8 '' 'file fault: absent\n' extract text 0 1 absent tape.out aux.out
-refuses 8 '' 'file fault: absent\n' listing text 0 1 absent time lines
-refuses 8 '' 'file fault: absent\n' shrink absent new
-refuses 8 '' 'file fault: ab\\x0asent\n' asm $'ab\nsent' out
-refuses 8 '' 'file fault: absent/im\\x0aage\n' asm text $'absent/im\nage'
+refuses 8 '' 'file fault: absent\n'"$absent" build absent 0 1 system
+refuses 8 '' 'file fault: absent\n'"$absent" witness absent tape aux 1 witness
+refuses 8 '' 'file fault: absent\n'"$absent" witness text absent aux 1 witness
+refuses 8 '' 'file fault: absent\n'"$absent" witness text tape absent 1 witness
+refuses 8 '' 'file fault: absent\n'"$absent" check absent w tape
+refuses 8 '' 'file fault: absent\n'"$absent" check s absent tape
+refuses 8 '' 'file fault: absent\n'"$absent" check s w absent
+refuses 8 '' 'file fault: absent\n'"$absent" extract text 0 1 absent tape.out aux.out
+refuses 8 '' 'file fault: absent\n'"$absent" listing text 0 1 absent time lines
+refuses 8 '' 'file fault: absent\n'"$absent" shrink absent new
+refuses 8 '' 'file fault: ab\\x0asent\n'"$absent" asm $'ab\nsent' out
+refuses 8 '' 'file fault: absent/im\\x0aage\n'"$absent" asm text $'absent/im\nage'
+refuses 8 '' 'file fault: a\\x9bb\xc2\xa0\n'"$absent" asm $'a\302\233b\302\240' out
+refuses 8 '' 'file fault: .\n'"$folder" asm . out
+refuses 8 '' 'file fault: /dev/full\n'"$full" asm text /dev/full
 refuses 14 '' 'not UTF-8\n' asm text $'im\377age'
 "$t" run text tape aux 1 2>"$scratch/err" >/dev/full
-[ $? = 8 ] && printf 'file fault: output\n' | cmp -s - "$scratch/err"
+[ $? = 8 ] && printf 'file fault: output\n'"$full" | cmp -s - "$scratch/err"
 count $? "a full output: $(cat "$scratch/err")"
 
 # Tapes of `run` that are too long.
@@ -444,6 +496,20 @@ yes 1 | head -n 131073 | tr '\n' ' ' >long
 refuses 7 'limit: tape words 131073, most 131072\n' '' run text long aux 1
 yes 1 | head -n 262145 | tr '\n' ' ' >long
 refuses 7 'limit: aux words 262145, most 262144\n' '' run text tape long 1
+
+# What `build` writes for given arguments, as long as the layout's number stays: the program, N, T, the network and the
+# sum of the file's bytes.
+lays_out() {
+    new
+    cp "$top/examples/$1.asm" text
+    says 0 '' "build text $2 $3 system $4"
+    [ "$(md5sum <system)" = "$5  -" ]
+    count $? "layout $layout: $1: $said_by: $(md5sum <system)"
+}
+
+lays_out sum 4 16 '' 0fdefc24ee1fe11b37aae3a6cb0ea609
+lays_out search 1 8 waksman 3a8287a23d5ed8e269b19b6852e80d47
+lays_out divisor 2 16 '' f50b23830108fcea26642fa3c2b128cc
 
 # Drawn programs, whose systems hold on the values of their runs, each time: the draws, the steps, wires and constraints,
 # and the sum that a reader of the files that `build` and `witness` write for the same program computes.
@@ -531,6 +597,9 @@ shrinks() {
 shrinks product product
 shrinks square "$top/examples/square.shrunk.r1cs"
 shrinks public public
+# the constraint of the first, between two that have no terms
+{ front 4 1 3 3 && sum && sum && sum && sum 1 && sum 2 && sum 3 && sum && sum && sum; } >blank
+shrinks blank product
 cp product twice
 le 2 1 | put twice 84
 shrinks doubled twice
