@@ -179,6 +179,6 @@ pub singles_honest : SinglesAreHonest
 singles_honest = record {
   honest = λ used number time shown line n apart shows honest earlier l later e.
       Honest-from_HonestFrom (λ _. 0) (singles_below number time shown line n) earlier l later
-          (all_led used number time apart shown line n shows honest).honest e;
+      (all_led used number time apart shown line n shows honest).honest e;
   leaves = λ used number time shown line n apart shows honest d s u. (all_led used number time apart shown line n shows honest).leaves.at d s u;
 }

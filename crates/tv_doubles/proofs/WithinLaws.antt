@@ -116,7 +116,7 @@ module _ (b : ℕ) (base : IsBase b) (l m : DoubleLine) (in_l : DoubleInRange b 
       by (inl zero) = let known = next zero in let up : m.cell ≡ l.cell + 1 + 0 = known.1 in inl (omega arith, zero_sum m.old known.0)
       by (inr zero) =
           let known = same_cells b base l.cell m.cell l.new.first (sum_of m.old) in_l.cell in_m.cell
-              (omega (arith, in_l.new.first)) (sums b m.old in_m.old) zero in
+          (omega (arith, in_l.new.first)) (sums b m.old in_m.old) zero in
           let sum : sum_of m.old ≡ l.new.first = known.1 in
           inr (sym known.0, one_sum m.old l.new (omega (arith, second_l, sum)) (second_m (sym known.0) ∙ sym second_l))
 
@@ -199,7 +199,7 @@ module _ (b : ℕ) (base : IsBase b) (l m : DoubleLine) (i j : ℕ) (in_l : Doub
     where
       by : (c : Bool) → (l.cell == m.cell) ≡ c
           → MeetsWithin b (if c then j - i - 1 else m.cell - l.cell - 1) (if c then (sum_of l.new + (P - 2 * b * (j - i))) % P else 0)
-              (item_first b m) (item_second b m j) l i
+          (item_first b m) (item_second b m j) l i
       by true e =
           let same = eqb-true l.cell m.cell e in
           let later : i < j = omega (arith, s.rises) in

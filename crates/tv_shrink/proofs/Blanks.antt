@@ -247,7 +247,7 @@ record Found (publics : ℕ) (before todo : List (Option Constraint)) (gone : Li
 module _ (publics : ℕ) (gone : List ℕ) where
   passed_over : (done : List (Option Constraint)) (row : Option Constraint) (todo : List (Option Constraint))
       → step publics (linear_row row) (record { done = done; row = row; todo = todo; gone = gone })
-          ≡ record { done = done; row = None; todo = todo; gone = gone }
+      ≡ record { done = done; row = None; todo = todo; gone = gone }
       → solid (row ∷ todo) ≡ solid todo
       → Ended publics (done ++ None ∷ []) todo gone ⊎ Found publics (done ++ None ∷ []) todo gone
       → Ended publics done (row ∷ todo) gone ⊎ Found publics done (row ∷ todo) gone
