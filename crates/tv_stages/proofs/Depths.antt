@@ -7,13 +7,13 @@ use Rattle.std.proofs.lemmas.Bool.{cases_lt, cases_eq, cases_Bool, lt-ltb, le-lt
 use Rattle.std.proofs.lemmas.Nat.{pow_pos}
 use Rattle.tv_stages.specs.Stages.{insert_bit, remove_bit, is_low, flip, low, pairs, middle_count}
 use Rattle.tv_stages.specs.Stages.{stage_count, depth, number_count, is_left_out, is_switched, is_exchanged, height}
+use Rattle.tv_stages.specs.Settings.{sorted}
 use Rattle.tv_stages.specs.Walks.{IsShuffle, IsEven}
-use Rattle.tv_stages.specs.Runs.{moved, run, span, sorted}
+use Rattle.tv_stages.proofs.Moves.{moved, run, span, switched_on, moved_stays, moved_flips, run_none, run_more, run_front}
 use Rattle.tv_stages.specs.declared.nets.Net.{Net}
 use Rattle.tv_stages.proofs.Slots.{whole, low_is, low_low, is_low_low, insert_remove, remove_low}
 use Rattle.tv_stages.proofs.Sorts.{sorted_stays, sorted_flips}
 use Rattle.tv_stages.proofs.Shuffles.{IsColouring, two_even, keeps_below, input_colour, inputs_rest, within, within_made}
-use Rattle.tv_stages.proofs.Moves.{switched_on, moved_stays, moved_flips, run_none, run_more, run_front}
 use Rattle.tv_stages.proofs.Gaps.{left_out}
 use Rattle.tv_stages.proofs.Heights.{height_right}
 
@@ -119,6 +119,12 @@ unfolding depth
 depth_after L l d h place =
     let deep : 2 * height L - 2 - l ≡ d = omega arith in
     ap (λ (b : Bool). if b then l else 2 * height L - 2 - l) (le-ltb l (height L) h) ∙ deep
+
+pub depth_past : (L l : ℕ) → height L ≤ l → l < stage_count L → l + depth L l + 2 ≡ 2 * height L
+depth_past L l h within =
+    let n = stage_count_is L in
+    let deep = depth_after L l (2 * height L - 2 - l) h (omega arith) in
+    omega arith
 
 -- nothing is left to bring at the last depth
 pub asked_last : (L : ℕ) (q r : ℕ → ℕ) → IsShuffle L (height L) q r → (x : ℕ) → q x ≡ x

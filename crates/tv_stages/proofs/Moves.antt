@@ -1,13 +1,25 @@
 -- A stage moves what stands at each slot to the other slot of a switch, or not at all.
-use Rattle.std.proofs.Common.{◌≡◌, ℕ, zero, suc, ◌+◌, ◌^◌, ◌<◌, inl, inr, Bool, true, false, nat_lt}
-use Rattle.std.proofs.Common.{not, ◌&&◌, if◌then◌else◌, refl, sym, ◌∙◌, ap, ap₂, subst, arith}
+use Rattle.std.proofs.Common.{◌≡◌, ℕ, zero, suc, ◌+◌, ◌-◌, ◌*◌, ◌^◌, ◌<◌, inl, inr, Bool, true, false, nat_lt}
+use Rattle.std.proofs.Common.{not, ◌&&◌, if◌then◌else◌, refl, sym, ◌∙◌, ap, ap₂, arith}
 use Rattle.std.proofs.lemmas.Bool.{cases_Bool, ltb-true, and_parts, not-true}
-use Rattle.tv_stages.specs.Stages.{remove_bit, flip, low, stage_count, depth, number_count, is_left_out}
+use Rattle.tv_stages.specs.Stages.{remove_bit, flip, low, height, stage_count, depth, number_count, is_left_out}
 use Rattle.tv_stages.specs.Stages.{is_switched, is_exchanged, stage, through_first, through_stages, source, IsReordering}
 use Rattle.tv_stages.specs.Laws.{OnlySwitchesMatter}
-use Rattle.tv_stages.specs.Runs.{moved, run}
 use Rattle.tv_stages.specs.declared.nets.Net.{Net}
 use Rattle.tv_stages.proofs.Slots.{flip_flip, low_flip, flip_near, remove_flip}
+
+-- the slot whose item a stage leaves at slot x
+unfoldable pub moved : Net → ℕ → (ℕ → ℕ → Bool) → ℕ → ℕ → ℕ
+moved net L bit l x = if is_exchanged net L bit l x then flip (depth L l) x else x
+
+-- the slot whose item stands at slot x after stages a, .. a + n - 1
+unfoldable pub run : Net → ℕ → (ℕ → ℕ → Bool) → ℕ → ℕ → ℕ → ℕ
+run net L bit a zero x = x
+run net L bit a (suc n) x = run net L bit a n (moved net L bit (a + n) x)
+
+-- how many stages have a depth of d or more
+unfoldable pub span : ℕ → ℕ → ℕ
+span L d = 2 * (height L - d) - 1
 
 -- back through the stages of a row
 pub run_from : Net → ℕ → (ℕ → ℕ → Bool) → ℕ → ℕ → ℕ → ℕ
@@ -177,10 +189,3 @@ through_same net L bit bit' item item' bits items x h =
 
 pub only_switches : OnlySwitchesMatter
 only_switches = record { numbers = through_same; pairs = through_same }
-
--- what holds of each item holds of each output
-pub through_keeps : {X : Type 0} (Q : X → Type 0) (net : Net) (L : ℕ) (bit : ℕ → ℕ → Bool) (item : ℕ → X) → ((j : ℕ) → j < L → Q (item j))
-    → (x : ℕ) → x < L → Q (through_stages net L bit item x)
-through_keeps Q net L bit item each x h =
-    let n = stage_count L in
-    subst Q (sym (through_run net L bit item x)) (each (run net L bit 0 n x) ((run_reorders net L bit 0 n).below x h))

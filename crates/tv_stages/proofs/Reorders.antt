@@ -1,5 +1,5 @@
 -- What a permutation of the places makes of a list is the list in another order.
-use Rattle.std.proofs.Common.{◌≡◌, ◌≢◌, ℕ, zero, suc, ◌<◌, ◌≤◌, ◌==◌, inl, inr, Bool, if◌then◌else◌, [], ◌∷◌, ◌++◌, length, get_or}
+use Rattle.std.proofs.Common.{◌≡◌, ◌≢◌, ℕ, zero, suc, ◌<◌, ◌≤◌, ◌==◌, inl, inr, Bool, if◌then◌else◌, List, [], ◌∷◌, ◌++◌, length, get_or}
 use Rattle.std.proofs.Common.{map, set, refl, sym, ◌∙◌, ap, ap₂, subst, arith, add-one, zero-add, eq-eqb, IsPermutation}
 use Rattle.std.proofs.Common.{length-set, get_or-set_same, get_or-set_other}
 use Rattle.std.specs.List.{range_with_len}
@@ -10,8 +10,7 @@ use Rattle.std.proofs.lemmas.List.Sorted.{IsPermutation-refl, IsPermutation-tran
 use Rattle.tv_stages.specs.Stages.{places, stage_count, IsReordering, through_stages, source}
 use Rattle.tv_stages.specs.Laws.{StagesPermute}
 use Rattle.tv_stages.specs.declared.nets.Net.{Net}
-use Rattle.tv_stages.specs.Runs.{run}
-use Rattle.tv_stages.proofs.Moves.{run_reorders, through_run, through_source}
+use Rattle.tv_stages.proofs.Moves.{run, run_reorders, through_run, through_source}
 
 module _ {X : Type 0} where
   pub places-zero : (f : ℕ → X) → places 0 f ≡ []
@@ -35,6 +34,10 @@ module _ {X : Type 0} where
   places-same (suc n) f g same =
       places-suc n f ∙ ap₂ (λ xs x. xs ++ x ∷ []) (places-same n f g (λ j h. same j (omega arith))) (same n (omega arith)) ∙ sym (places-suc n g)
 
+  pub places-is : (n : ℕ) (f : ℕ → X) (xs : List X) (d : X) → length xs ≡ n → ((i : ℕ) → i < n → get_or xs i d ≡ f i) → xs ≡ places n f
+  unfolding places
+  places-is n f xs d long each = fill_by_all f xs n d long each
+
   -- places j and n exchanged
   exchanged : (n : ℕ) (f g : ℕ → X) (j : ℕ) → j ≤ n → g j ≡ f n → g n ≡ f j → ((i : ℕ) → i ≢ j → i ≢ n → g i ≡ f i)
       → IsPermutation (places (suc n) f) (places (suc n) g)
@@ -57,7 +60,7 @@ module _ {X : Type 0} where
           | inr not_j ↦ get_or-set_other fs j k (get_or fs n d) d not_j ∙ places-at (suc n) k f d h ∙ sym (others k not_j not_n)
         ]
       ] in
-      let is : two ≡ places (suc n) g = fill_by_all g two (suc n) d (length-set one n (get_or fs j d) ∙ long) at in
+      let is : two ≡ places (suc n) g = places-is (suc n) g two d (length-set one n (get_or fs j d) ∙ long) at in
       IsPermutation-swap fs (places (suc n) g) j n jj nn (sym is ∙ swap_is fs j n d jj nn)
 
   pub reordered : (n : ℕ) (p back : ℕ → ℕ) → ((i : ℕ) → i < n → p i < n) → ((i : ℕ) → i < n → back i < n) → ((i : ℕ) → i < n → p (back i) ≡ i)

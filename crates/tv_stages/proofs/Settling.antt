@@ -6,9 +6,22 @@ use Rattle.std.proofs.lemmas.Bool.{cases_lt, cases_eq, lt-ltb, le-ltb}
 use Rattle.std.proofs.lemmas.List.{get_or-replicate, length-replicate, get_or_past}
 use Rattle.std.proofs.lemmas.Nat.{pow_pos}
 use Rattle.tv_stages.specs.Stages.{is_low}
-use Rattle.tv_stages.specs.Walks.{IsAlone, IsEven, Mark, mark, AreSettled, IsStart, IsWalked, start_at, IsStartOf, AreMarkedBy, AreMarked}
+use Rattle.tv_stages.specs.Settings.{Mark, mark, start_at}
+use Rattle.tv_stages.specs.Walks.{IsAlone, IsEven, AreSettled, IsStart, AreMarked}
+use Rattle.tv_stages.proofs.Walking.{IsWalked, not_free, marked_by}
 use Rattle.tv_stages.proofs.Slots.{is_low_at, class_apart}
-use Rattle.tv_stages.proofs.Walking.{not_free, marked_by}
+
+-- slot n of this order is a lower one of the class of z
+pub record IsStartOf (L d n z : ℕ) : Type 0 where
+  pub lower : is_low d (start_at L d n) ≡ true
+  pub class : start_at L d n % 2 ^ d ≡ z % 2 ^ d
+
+-- the marks after the walks from the first n slots in this order
+pub record AreMarkedBy (L d n : ℕ) (marks : List Mark) : Type 0 where
+  pub all : (m : ℕ) → m < n → is_low d (start_at L d m) ≡ true → mark marks (start_at L d m) ≡ None → ⊥
+  pub only : (z : ℕ) (c : Bool) → mark marks z ≡ Some c → (m : ℕ) × (m < n) × IsStartOf L d m z
+  pub first : (m : ℕ) → m < n → is_low d (start_at L d m) ≡ true → ((o : ℕ) → o < m → IsStartOf L d o (start_at L d m) → ⊥)
+      → mark marks (start_at L d m) ≡ Some true
 
 module _ (L d : ℕ) where
   none_marked : (marks : List Mark) → marks ≡ replicate L None → (z : ℕ) (c : Bool) → mark marks z ≡ Some c → ⊥

@@ -1,15 +1,14 @@
 -- What the code of a stage's figures needs.
-use Rattle.std.proofs.Common.{◌≡◌, ℕ, suc, ◌+◌, ◌-◌, ◌*◌, ◌/◌, ◌^◌, ◌<◌, ◌≤◌, inl, inr, Bool, true, false, not}
+use Rattle.std.proofs.Common.{◌≡◌, ℕ, suc, ◌+◌, ◌-◌, ◌*◌, ◌^◌, ◌<◌, ◌≤◌, inl, inr, Bool, true, false, not}
 use Rattle.std.proofs.Common.{nat_lt, ◌&&◌, if◌then◌else◌, Some, None, refl, sym, ◌∙◌, ap, ap₂, subst, arith}
 use Rattle.std.proofs.Math.Nat.{pow-le-pow_right, mul-le-mul}
 use Rattle.std.proofs.lemmas.Bool.{cases_lt, lt-ltb, le-ltb}
-use Rattle.std.proofs.lemmas.Nat.{pow_pos}
 use Rattle.tv_stages.specs.Stages.{insert_bit, remove_bit, low, height, stage_count, depth, number_count, gap_start, gap_size}
 use Rattle.tv_stages.specs.Stages.{switch_count, first_switch, position, number, switch_slot, is_left_out, is_switched, switch_at}
 use Rattle.tv_stages.specs.Shape.{IsStage}
 use Rattle.tv_stages.specs.declared.nets.Net.{Net}
 use Rattle.tv_stages.proofs.Heights.{height_right, height_more}
-use Rattle.tv_stages.proofs.Slots.{whole, insert_remove}
+use Rattle.tv_stages.proofs.Slots.{insert_remove}
 use Rattle.tv_stages.proofs.Depths.{stage_count_is, depth_before, depth_after}
 use Rattle.tv_stages.proofs.Numbers.{upper_within, number_below, number_before, number_past}
 use Rattle.tv_stages.proofs.Numbers.{position_before, position_past, out_before, out_past, out_at, gap_within, count_le}
@@ -27,9 +26,6 @@ height_log L e from to more =
 
 pub height_few : (L : ℕ) → L < 2 → 0 ≡ height L
 height_few L h = let least = height_right.least L 0 (omega arith) in omega arith
-
-pub pairs_few : (L d : ℕ) → 2 ^ d * (L / (2 * 2 ^ d)) ≤ L
-pairs_few L d = let S = 2 ^ d in let pos = pow_pos d in let w = whole (2 * S) L (omega arith) in omega arith
 
 pub stride_few : (d : ℕ) → d < 31 → 2 * 2 ^ d ≤ 2 ^ 31
 stride_few d h = let e : 2 ^ suc d ≤ 2 ^ 31 = pow-le-pow_right (omega arith) h in omega arith

@@ -1,17 +1,15 @@
 -- What the stages of depth d and more have to bring, and its colouring, which says which items go through the lower slots
 -- of the stages within.
-use Rattle.std.proofs.Common.{◌≡◌, ◌≢◌, ℕ, suc, ◌+◌, ◌*◌, ◌/◌, ◌%◌, ◌^◌, ◌<◌, ◌≤◌, ◌⊎◌, inl, inr, Bool, true}
-use Rattle.std.proofs.Common.{false, not, nat_lt, if◌then◌else◌, refl, sym, ◌∙◌, ap, subst, arith}
-use Rattle.std.proofs.Math.Nat.{mul-le-mul_left, div-le_self, mod-eq_of_lt}
-use Rattle.std.proofs.lemmas.Bool.{cases_lt, cases_eq, cases_Bool, lt-ltb, le-ltb}
+use Rattle.std.proofs.Common.{◌≡◌, ℕ, suc, ◌+◌, ◌*◌, ◌%◌, ◌^◌, ◌<◌, ◌≤◌, inl, inr, Bool, true}
+use Rattle.std.proofs.Common.{false, not, if◌then◌else◌, refl, sym, ◌∙◌, ap, arith}
+use Rattle.std.proofs.Math.Nat.{mod-eq_of_lt}
+use Rattle.std.proofs.lemmas.Bool.{cases_lt, cases_eq, cases_Bool}
 use Rattle.std.proofs.lemmas.Nat.{pow_pos}
 use Rattle.tv_stages.specs.Stages.{is_low, flip, low}
+use Rattle.tv_stages.specs.Settings.{sorted}
 use Rattle.tv_stages.specs.Walks.{IsShuffle, IsAlone, IsEven}
-use Rattle.tv_stages.specs.Runs.{sorted}
 use Rattle.tv_stages.proofs.Slots.{whole, class_apart, flip_low, flip_high, low_low, low_high, high_more}
-use Rattle.tv_stages.proofs.Slots.{flip_mod, flip_turns, flip_upper, flip_moves, flip_flip, class_next}
-use Rattle.tv_stages.proofs.Colours.{go, go_keeps, HasPeriod, colour, colour_a, colour_b, colour_least, colour_alone}
-use Rattle.tv_stages.proofs.Periods.{period_below, period_one}
+use Rattle.tv_stages.proofs.Slots.{flip_mod, flip_turns, class_next}
 use Rattle.tv_stages.proofs.Sorts.{sorted_back, sorted_mod, sorted_pair, sorted_low, sorted_colour, sorted_rest}
 
 pub turned : (L d : ℕ) (q r : ℕ → ℕ) → IsShuffle L d q r → IsShuffle L d r q
@@ -70,177 +68,6 @@ two_even L d y l small near short z same alone =
                 omega arith
           ]
     ]
-
--- ---- there is a colouring
-module _ (L d : ℕ) where
-  key_of : ℕ → ℕ
-  key_of x = if is_low d x then (if nat_lt x L then (if nat_lt (x + 2 ^ d) L then suc x else 0) else suc x) else suc x
-
-  key_alone : (x : ℕ) → IsAlone L d x → key_of x ≡ 0
-  unfolding key_of
-  key_alone x a =
-      ap (λ (b : Bool). if b then (if nat_lt x L then (if nat_lt (x + 2 ^ d) L then suc x else 0) else suc x) else suc x) a.lower
-      ∙ ap (λ (b : Bool). if b then (if nat_lt (x + 2 ^ d) L then suc x else 0) else suc x) (lt-ltb x L a.below)
-      ∙ ap (λ (b : Bool). if b then suc x else 0) (le-ltb (x + 2 ^ d) L a.last)
-
-  key_high : (x : ℕ) → is_low d x ≡ false → key_of x ≡ suc x
-  unfolding key_of
-  key_high x e = ap (λ (b : Bool). if b then (if nat_lt x L then (if nat_lt (x + 2 ^ d) L then suc x else 0) else suc x) else suc x) e
-
-  key_far : (x : ℕ) → L ≤ x → key_of x ≡ suc x
-  unfolding key_of
-  key_far x h = elim (cases_Bool (is_low d x)) [
-    | inl e ↦
-        ap (λ (b : Bool). if b then (if nat_lt x L then (if nat_lt (x + 2 ^ d) L then suc x else 0) else suc x) else suc x) e
-        ∙ ap (λ (b : Bool). if b then (if nat_lt (x + 2 ^ d) L then suc x else 0) else suc x) (le-ltb x L h)
-    | inr e ↦ ap (λ (b : Bool). if b then (if nat_lt x L then (if nat_lt (x + 2 ^ d) L then suc x else 0) else suc x) else suc x) e
-  ]
-
-  key_is : (x : ℕ) → IsAlone L d x ⊎ (key_of x ≡ suc x)
-  unfolding key_of
-  key_is x = elim (cases_Bool (is_low d x)) [
-    | inl e ↦ elim (cases_lt x L) [
-      | inl h ↦ elim (cases_lt (x + 2 ^ d) L) [
-        | inl k ↦ inr (
-            ap (λ (b : Bool). if b then (if nat_lt x L then (if nat_lt (x + 2 ^ d) L then suc x else 0) else suc x) else suc x) e
-            ∙ ap (λ (b : Bool). if b then (if nat_lt (x + 2 ^ d) L then suc x else 0) else suc x) (lt-ltb x L h)
-            ∙ ap (λ (b : Bool). if b then suc x else 0) (lt-ltb (x + 2 ^ d) L k))
-        | inr k ↦ inl (record { lower = e; below = h; last = k })
-      ]
-      | inr h ↦ inr (key_far x h)
-    ]
-    | inr e ↦ inr (key_high x e)
-  ]
-
-  one_alone : (x y : ℕ) → x % 2 ^ d ≡ y % 2 ^ d → IsAlone L d x → IsAlone L d y → x < y → ⊥
-  one_alone x y same a b less = let far = class_apart (2 ^ d) x y (pow_pos d) same less in let l = a.last in let h = b.below in omega arith
-
-  key_apart : (x y : ℕ) → x % 2 ^ d ≡ y % 2 ^ d → key_of x ≡ key_of y → x ≡ y
-  key_apart x y same e = elim (key_is x) [
-    | inl a ↦ elim (key_is y) [
-      | inl b ↦ elim (cases_lt x y) [
-        | inl h ↦ absurd (one_alone x y same a b h)
-        | inr h ↦ elim (cases_eq x y) [ inl z ↦ z | inr ne ↦ absurd (one_alone y x (sym same) b a (omega arith)) ]
-      ]
-      | inr k ↦ let z = key_alone x a in absurd (omega arith)
-    ]
-    | inr j ↦ elim (key_is y) [
-      | inl b ↦ let z = key_alone y b in absurd (omega arith)
-      | inr k ↦ omega arith
-    ]
-  ]
-
-  module _ (q r : ℕ → ℕ) (s : IsShuffle L d q r) where
-    mate : ℕ → ℕ
-    mate x = r (flip d (q x))
-
-    mate_back : (x : ℕ) → mate (mate x) ≡ x
-    unfolding mate
-    mate_back x = ap (λ y. r (flip d y)) (s.there (flip d (q x))) ∙ ap r (flip_flip d (q x)) ∙ s.back x
-
-    mate_moves : (x : ℕ) → mate x ≢ x
-    unfolding mate
-    mate_moves x e = flip_moves d (q x) (sym (s.there (flip d (q x))) ∙ ap q e)
-
-    mate_class : (x : ℕ) → mate x % 2 ^ d ≡ x % 2 ^ d
-    unfolding mate
-    mate_class x = (turned L d q r s).class (flip d (q x)) ∙ flip_mod d (q x) ∙ s.class x
-
-    turn : ℕ → ℕ
-    turn x = mate (flip d x)
-
-    -- two slots from L on
-    turn_far : (x : ℕ) → L ≤ x → L ≤ flip d x → turn x ≡ x
-    unfolding turn mate
-    turn_far x h k = ap (λ y. r (flip d y)) (s.rest (flip d x) k) ∙ ap r (flip_flip d x) ∙ (turned L d q r s).rest x h
-
-    upper_le : (x : ℕ) → x / 2 ^ d / 2 ≤ x
-    upper_le x = let one = div-le_self x (2 ^ d) in omega arith
-
-    moves_within : (p o : ℕ → ℕ) → IsShuffle L d p o → (x : ℕ) → x / 2 ^ d / 2 < L → p x / 2 ^ d / 2 < L
-    moves_within p o t x h = elim (cases_lt x L) [
-      | inl less ↦ let b = keeps_below L d p o t x less in omega (arith, upper_le (p x))
-      | inr more ↦ let e = t.rest x more in subst (λ y. y / 2 ^ d / 2 < L) (sym e) h
-    ]
-
-    turn_within : (x : ℕ) → x / 2 ^ d / 2 < L → turn x / 2 ^ d / 2 < L
-    unfolding turn mate
-    turn_within x h =
-        let one : flip d x / 2 ^ d / 2 < L = subst (λ y. y < L) (sym (flip_upper d x)) h in
-        let two = moves_within q r s (flip d x) one in
-        let three : flip d (q (flip d x)) / 2 ^ d / 2 < L = subst (λ y. y < L) (sym (flip_upper d (q (flip d x)))) two in
-        moves_within r q (turned L d q r s) (flip d (q (flip d x))) three
-
-    bound : ℕ
-    bound = 2 ^ d * (2 * L)
-
-    within_bound : (x : ℕ) → x / 2 ^ d / 2 < L → x < bound
-    unfolding bound
-    within_bound x h =
-        let pos = pow_pos d in
-        let one : suc (x / 2 ^ d) ≤ 2 * L = omega arith in
-        let less : x % 2 ^ d < 2 ^ d = omega arith in
-        omega (arith, mul-le-mul_left (2 ^ d) one, whole (2 ^ d) x pos)
-
-    untwist : ℕ → ℕ
-    untwist x = flip d (mate x)
-
-    untwisted : (x : ℕ) → untwist (turn x) ≡ x
-    unfolding untwist turn
-    untwisted x = ap (λ y. flip d y) (mate_back (flip d x)) ∙ flip_flip d x
-
-    period : (x : ℕ) → HasPeriod turn (suc bound) x
-    period x = elim (cases_lt (x / 2 ^ d / 2) L) [
-      | inl h ↦ period_below turn untwist untwisted bound x (λ n. within_bound (go turn n x) (go_keeps turn (λ y. y / 2 ^ d / 2 < L) turn_within n x h))
-      | inr h ↦
-          let up = upper_le x in
-          let over = upper_le (flip d x) in
-          period_one turn bound x (turn_far x (omega arith) (omega (arith, flip_upper d x)))
-    ]
-
-    pub colouring : ℕ → Bool
-    unfolding turn
-    colouring = colour (λ x. flip d x) mate (flip_flip d) mate_back (flip_moves d) mate_moves (λ x. x % 2 ^ d) key_of (flip_mod d) mate_class key_apart
-        (suc bound) period
-
-    least : (x : ℕ) → ((z : ℕ) → z % 2 ^ d ≡ x % 2 ^ d → key_of x ≤ key_of z) → colouring x ≡ true
-    unfolding colouring turn
-    least x none = colour_least (λ y. flip d y) mate (flip_flip d) mate_back (flip_moves d) mate_moves (λ y. y % 2 ^ d) key_of (flip_mod d) mate_class
-        key_apart (suc bound) period x none
-
-    -- in this colouring the first slot of each class of an even number of slots is such an output
-    colouring_first : (x : ℕ) → x < 2 ^ d → IsEven L d x → colouring x ≡ true
-    colouring_first x small none = least x (λ z same. elim (key_is z) [
-      | inl a ↦ absurd (none z same a)
-      | inr k ↦ elim (key_is x) [
-        | inl b ↦ absurd (none x refl b)
-        | inr j ↦
-            let own : x % 2 ^ d ≡ x = mod-eq_of_lt small in
-            let pos = pow_pos d in
-            omega (arith, whole (2 ^ d) z pos)
-      ]
-    ])
-
-    pub colouring_is : IsColouring L d q r colouring
-    unfolding colouring mate turn
-    colouring_is = record {
-      outputs = colour_a (λ x. flip d x) mate (flip_flip d) mate_back (flip_moves d) mate_moves (λ x. x % 2 ^ d) key_of (flip_mod d) mate_class key_apart
-          (suc bound) period;
-      inputs = colour_b (λ x. flip d x) mate (flip_flip d) mate_back (flip_moves d) mate_moves (λ x. x % 2 ^ d) key_of (flip_mod d) mate_class key_apart
-          (suc bound) period;
-      rest = λ x l h. elim (cases_lt x L) [
-        | inl less ↦ least x (λ z same. let a = key_alone x (record { lower = l; below = less; last = h }) in omega arith)
-        | inr more ↦
-            let f = flip_low d x l in
-            let high : is_low d (flip d x) ≡ false = flip_turns d x ∙ ap not l in
-            let kx = key_far x more in
-            let kf = key_high (flip d x) high in
-            let pos = pow_pos d in
-            colour_alone (λ y. flip d y) mate (flip_flip d) mate_back (flip_moves d) mate_moves (λ y. y % 2 ^ d) key_of (flip_mod d) mate_class key_apart
-            (suc bound) period x (turn_far x more (omega arith)) (omega arith)
-      ];
-      first = colouring_first;
-    }
 
 -- ---- one depth further
 module _ (L d : ℕ) (q r : ℕ → ℕ) (s : IsShuffle L d q r) (v : ℕ → Bool) (col : IsColouring L d q r v) where
@@ -308,14 +135,17 @@ module _ (L d : ℕ) (q r : ℕ → ℕ) (s : IsShuffle L d q r) (v : ℕ → Bo
   unfolding within
   within_pair x = sorted_pair d input_colour (q (sorted d v x))
 
-  -- as a walk's code makes it: the input that goes to the slot, with bit d as the slot has it
-  pub within_low : (x : ℕ) → is_low d x ≡ true → within x ≡ low d (q (sorted d v x))
-  within_low x e = sym (low_low d (within x) (within_bit x ∙ e)) ∙ within_pair x
-
-  pub within_high : (x : ℕ) → is_low d x ≡ false → within x ≡ low d (q (sorted d v x)) + 2 ^ d
-  within_high x e =
-      let h = within_bit x ∙ e in
-      let l = low_high d (within x) h in
-      let f = flip_high d (within x) h in
-      let m = high_more d (within x) h in
-      omega (arith, within_pair x)
+  -- the input that goes to the slot, with bit d as the slot has it
+  pub within_narrowed : (x : ℕ) → within x ≡ (if is_low d x then low d (q (sorted d v x)) else low d (q (sorted d v x)) + 2 ^ d)
+  within_narrowed x =
+      let z = low d (q (sorted d v x)) in
+      elim (cases_Bool (is_low d x)) [
+        | inl e ↦ sym (low_low d (within x) (within_bit x ∙ e)) ∙ within_pair x ∙ sym (ap (λ (b : Bool). if b then z else z + 2 ^ d) e)
+        | inr e ↦
+            let h = within_bit x ∙ e in
+            let l = low_high d (within x) h in
+            let f = flip_high d (within x) h in
+            let m = high_more d (within x) h in
+            let is : within x ≡ z + 2 ^ d = omega (arith, within_pair x) in
+            is ∙ sym (ap (λ (b : Bool). if b then z else z + 2 ^ d) e)
+      ]

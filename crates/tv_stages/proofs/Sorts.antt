@@ -3,7 +3,7 @@
 use Rattle.std.proofs.Common.{◌≡◌, ℕ, ◌+◌, ◌%◌, ◌^◌, ◌≤◌, inl, inr, Bool, true, false, not, if◌then◌else◌, sym, ◌∙◌, ap, arith}
 use Rattle.std.proofs.lemmas.Bool.{cases_Bool}
 use Rattle.tv_stages.specs.Stages.{is_low, flip, low}
-use Rattle.tv_stages.specs.Runs.{sorted}
+use Rattle.tv_stages.specs.Settings.{sorted}
 use Rattle.tv_stages.proofs.Slots.{low_low, low_high, low_flip, is_low_low, low_near, flip_flip, flip_turns, flip_mod}
 
 module _ (d : ℕ) (u : ℕ → Bool) where

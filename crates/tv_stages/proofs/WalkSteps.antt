@@ -1,13 +1,15 @@
 -- One step of a walk: to its end, or on to the next pair.
-use Rattle.std.proofs.Common.{◌≡◌, ◌≢◌, ℕ, ◌+◌, ◌%◌, ◌^◌, ◌<◌, ◌≤◌, ◌⊎◌, inl, inr, Bool, true, false, not, refl, sym, ◌∙◌, ap, subst, arith}
-use Rattle.std.proofs.Common.{List, length, set, None, Some, length-set, get_or-set_same, get_or-set_other}
+use Rattle.std.proofs.Common.{◌≡◌, ◌≢◌, ℕ, suc, ◌+◌, ◌%◌, ◌^◌, ◌<◌, ◌≤◌, ◌⊎◌, inl, inr, Bool, true, false, not, sym, ◌∙◌, ap, subst, arith}
+use Rattle.std.proofs.Common.{List, length, slice_index, set, None, Some, is_none, length-set, get_or-set_same, get_or-set_other}
 use Rattle.std.proofs.lemmas.Bool.{cases_lt, cases_eq}
 use Rattle.std.proofs.lemmas.List.Sums.{sum_by-set}
 use Rattle.tv_stages.specs.Stages.{flip}
-use Rattle.tv_stages.specs.Walks.{IsAlone, spread, AreInverse, Mark, mark, beside, IsBeside, IsAcross, AreSettled, IsWalked}
+use Rattle.tv_stages.specs.Settings.{Mark, mark, index_in, walk}
+use Rattle.tv_stages.specs.Walks.{IsAlone, spread, AreInverse, beside, IsBeside, IsAcross, AreSettled}
+use Rattle.tv_stages.proofs.Walking.{IsWalked, walk_end, walk_on, IsUnderway, q_in, r_in, open_mark, left, not_free, some_same, free_by, marked_by}
 use Rattle.tv_stages.proofs.Slots.{flip_mod, flip_moves, flip_flip}
 use Rattle.tv_stages.proofs.Shuffles.{alone_here, alone_far}
-use Rattle.tv_stages.proofs.Walking.{IsUnderway, q_in, r_in, open_mark, left, not_free, some_same, free_by, marked_by}
+use Rattle.tv_stages.proofs.Indices.{spread_in, index_is}
 
 module _ (L d : ℕ) (q r : List ℕ) (start : ℕ) (before : List Mark) (inv : AreInverse L d q r) where
   abbrev Q : ℕ → ℕ
@@ -16,11 +18,16 @@ module _ (L d : ℕ) (q r : List ℕ) (start : ℕ) (before : List Mark) (inv : 
   abbrev R : ℕ → ℕ
   R x = spread L r x
 
-  beside_is : (x : ℕ) → beside L d q r x ≡ R (flip d (Q x))
-  unfolding beside
-  beside_is x = refl
+  -- what a walk does at an output i that is not marked, whose item's pair has another output, at j
+  pub record IsStep (i : ℕ) (marks : List Mark) (j : ℕ) : Type 0 where
+    pub underway : IsUnderway L d q r start before (flip d j) (set (set marks i (Some true)) j (Some false))
+    pub less : left (set (set marks i (Some true)) j (Some false)) < left marks
+    pub goes : (turns : ℕ) → walk d q (suc turns) i marks ≡ walk d q turns (flip d j) (set (set marks i (Some true)) j (Some false))
 
   module _ (i : ℕ) (marks : List Mark) (u : IsUnderway L d q r start before i marks) where
+    pub q_is : flip d (slice_index q i) ≡ flip d (Q i)
+    q_is = ap (λ y. flip d y) (sym (spread_in L q i u.i_in))
+
     module _ (free : mark marks i ≡ None) where
       m1 : List Mark
       m1 = set marks i (Some true)
@@ -47,8 +54,14 @@ module _ (L d : ℕ) (q r : List ℕ) (start : ℕ) (before : List Mark) (inv : 
           let was : open_mark (mark marks i) ≡ 1 = ap open_mark free in
           omega (arith, one, was)
 
+      pub left_some : 0 < left marks
+      left_some = omega (arith, m1_left)
+
       -- the end of a path
       module _ (far : L ≤ flip d (Q i)) where
+        pub path_ends : (turns : ℕ) → walk d q (suc turns) i marks ≡ set marks i (Some true)
+        path_ends turns = walk_end d q turns i marks (ap (λ m. is_none m) free) (let long = inv.long in omega (arith, q_is))
+
         path_start : (start ≡ Q i) × IsAlone L d start
         path_start =
             let a = alone_here L d (Q i) (q_in L d q r inv i u.i_in) far in
@@ -146,7 +159,7 @@ module _ (L d : ℕ) (q r : List ℕ) (start : ℕ) (before : List Mark) (inv : 
 
         j_free : mark marks j ≡ None
         j_free = free_by (mark marks j) (λ c e. not_free (mark marks i) (not c)
-            (ap (λ y. mark marks y) (sym (beside_is j ∙ back_i)) ∙ (u.besides j j_in).apart c e j_near) free)
+            (ap (λ y. mark marks y) (sym back_i) ∙ (u.besides j j_in).apart c e j_near) free)
 
         j_paired : flip d j < L
         j_paired = elim (cases_lt (flip d j) L) [
@@ -200,14 +213,14 @@ module _ (L d : ℕ) (q r : List ℕ) (start : ℕ) (before : List Mark) (inv : 
           | inl zi ↦
               let is : (c : Bool) → mark m2 z ≡ Some c → c ≡ true = λ c e. some_same (mark m2 i) c true (ap (λ y. mark m2 y) (sym zi) ∙ e) m2_i in
               record {
-                apart = λ c e k. ap (λ y. mark m2 y) (beside_is z ∙ ap (λ y. R (flip d (Q y))) zi) ∙ on_j ∙ ap (λ b. Some (not b)) (sym (is c e));
+                apart = λ c e k. ap (λ y. mark m2 y) (ap (λ y. R (flip d (Q y))) zi) ∙ on_j ∙ ap (λ b. Some (not b)) (sym (is c e));
                 lone = λ c e k. is c e;
               }
           | inr ni ↦ elim (cases_eq z j) [
             | inl zj ↦
                 let is : (c : Bool) → mark m2 z ≡ Some c → c ≡ false = λ c e. some_same (mark m2 j) c false (ap (λ y. mark m2 y) (sym zj) ∙ e) m2_j in
                 record {
-                  apart = λ c e k. ap (λ y. mark m2 y) (beside_is z ∙ ap (λ y. R (flip d (Q y))) zj ∙ back_i) ∙ m2_i ∙ ap (λ b. Some (not b)) (sym (is c e));
+                  apart = λ c e k. ap (λ y. mark m2 y) (ap (λ y. R (flip d (Q y))) zj ∙ back_i) ∙ m2_i ∙ ap (λ b. Some (not b)) (sym (is c e));
                   lone = λ c e k. absurd (let n = j_near in let same : flip d (Q z) ≡ flip d (Q j) = ap (λ y. flip d (Q y)) zj in omega arith);
                 }
             | inr nj ↦ record {
@@ -279,12 +292,17 @@ module _ (L d : ℕ) (q r : List ℕ) (start : ℕ) (before : List Mark) (inv : 
           );
         }
 
-        pub step : (x a : ℕ) → x ≡ flip d (Q i) → a ≡ R x
-            → IsUnderway L d q r start before (flip d a) (set (set marks i (Some true)) a (Some false))
-            × (left (set (set marks i (Some true)) a (Some false)) < left marks)
+        pub on_step : IsStep i marks (R (flip d (Q i)))
         unfolding m1 m2 j
-        step x a e f =
-            let same : R (flip d (Q i)) ≡ a = sym (f ∙ ap (λ y. R y) e) in
-            subst (λ b. IsUnderway L d q r start before (flip d b) (set (set marks i (Some true)) b (Some false))
-            × (left (set (set marks i (Some true)) b (Some false)) < left marks))
-            same (on_underway, (let l = m2_left in omega arith))
+        on_step = record {
+          underway = on_underway;
+          less = (let l = m2_left in omega arith);
+          goes = λ turns. walk_on d q turns i marks (R (flip d (Q i))) (ap (λ m. is_none m) free) (let long = inv.long in omega (arith, q_is, near))
+              (ap (λ x. index_in x q) q_is ∙ index_is L d q r inv (flip d (Q i)) near ∙ sym (spread_in L r (flip d (Q i)) near));
+        }
+
+      -- as the code has it
+      pub step : (x j : ℕ) → x ≡ flip d (slice_index q i) → x < L → j ≡ slice_index r x → IsStep i marks j
+      step x j e h f =
+          let is : x ≡ flip d (Q i) = e ∙ q_is in
+          subst (λ b. IsStep i marks b) (ap (λ y. R y) (sym is) ∙ spread_in L r x h ∙ sym f) (on_step (subst (λ y. y < L) is h))

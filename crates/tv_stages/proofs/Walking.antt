@@ -1,20 +1,15 @@
 -- One walk: what it settles.
-use Rattle.std.proofs.Common.{◌≡◌, ◌≢◌, ℕ, ◌%◌, ◌^◌, ◌<◌, ◌≤◌, ◌⊎◌, inl, inr, Bool, true, false, not, if◌then◌else◌, refl, sym, ◌∙◌, ap, subst, arith}
-use Rattle.std.proofs.Common.{List, length, slice_index, None, Some, is_none, sum_by}
+use Rattle.std.proofs.Common.{◌≡◌, ◌≢◌, ℕ, zero, suc, ◌%◌, ◌^◌, ◌<◌, ◌≤◌, ◌⊎◌, inl, inr, Bool, true, false, not}
+use Rattle.std.proofs.Common.{refl, if◌then◌else◌, sym, ◌∙◌, ap, subst, arith}
+use Rattle.std.proofs.Common.{List, length, slice_index, set, None, Some, is_none, sum_by}
 use Rattle.std.proofs.lemmas.Bool.{cases_lt, cases_eq, lt-ltb, le-ltb}
 use Rattle.std.proofs.lemmas.List.{get_or_past}
-use Rattle.tv_stages.specs.Stages.{flip, IsReordering}
-use Rattle.tv_stages.specs.Walks.{IsAlone, spread, AreInverse, Mark, mark, IsBeside, IsAcross, AreSettled, IsStart, IsWalked}
+use Rattle.tv_stages.specs.Settings.{index_in, walk, Mark, mark}
+use Rattle.tv_stages.specs.Walks.{IsAlone, spread, AreInverse, IsBeside, IsAcross, AreSettled, IsStart}
+use Rattle.tv_stages.specs.Stages.{flip}
+use Rattle.tv_stages.proofs.Indices.{spread_in}
 use Rattle.tv_stages.proofs.Slots.{flip_flip}
 use Rattle.tv_stages.proofs.Shuffles.{keeps_below, turned, alone_far}
-
-pub spread_in : (L : ℕ) (l : List ℕ) (x : ℕ) → x < L → spread L l x ≡ slice_index l x
-unfolding spread
-spread_in L l x h = ap (λ (b : Bool). if b then slice_index l x else x) (lt-ltb x L h)
-
-pub spread_out : (L : ℕ) (l : List ℕ) (x : ℕ) → L ≤ x → spread L l x ≡ x
-unfolding spread
-spread_out L l x h = ap (λ (b : Bool). if b then slice_index l x else x) (le-ltb x L h)
 
 pub none_is : (o : Mark) → is_none o ≡ true → o ≡ None
 none_is None e = refl
@@ -29,6 +24,22 @@ none_not None e f = apart e
     apart : true ≡ false → ⊥
     apart g = cc
 none_not (Some b) e f = cc
+
+-- ---- a walk's turns
+pub walk_marked : (d : ℕ) (q : List ℕ) (turns i : ℕ) (marks : List Mark) → is_none (mark marks i) ≡ false → walk d q turns i marks ≡ marks
+unfolding walk
+walk_marked d q zero i marks e = refl
+walk_marked d q (suc turns) i marks e = rw e refl
+
+module _ (d : ℕ) (q : List ℕ) (turns i : ℕ) (marks : List Mark) where
+  pub walk_end : is_none (mark marks i) ≡ true → length q ≤ flip d (slice_index q i) → walk d q (suc turns) i marks ≡ set marks i (Some true)
+  unfolding walk
+  walk_end e h = rw (e, le-ltb (flip d (slice_index q i)) (length q) h) refl
+
+  pub walk_on : (j : ℕ) → is_none (mark marks i) ≡ true → flip d (slice_index q i) < length q → index_in (flip d (slice_index q i)) q ≡ j
+      → walk d q (suc turns) i marks ≡ walk d q turns (flip d j) (set (set marks i (Some true)) j (Some false))
+  unfolding walk
+  walk_on j e h at = rw (e, lt-ltb (flip d (slice_index q i)) (length q) h, at) refl
 
 abbrev pub open_mark : Mark → ℕ
 open_mark m = if is_none m then 1 else 0
@@ -50,12 +61,21 @@ pub marked_by : {X : Type 0} (o : Mark) → (o ≡ None → ⊥) → ((b : Bool)
 marked_by None never go = absurd (never refl)
 marked_by (Some b) never go = go b refl
 
+-- what a walk from start does
+pub record IsWalked (L d start : ℕ) (before after : List Mark) : Type 0 where
+  pub kept : (z : ℕ) (c : Bool) → mark before z ≡ Some c → mark after z ≡ Some c
+  pub begun : mark after start ≡ Some true
+  pub only : (z : ℕ) (c : Bool) → mark after z ≡ Some c → (mark before z ≡ Some c) ⊎ (z % 2 ^ d ≡ start % 2 ^ d)
+
 module _ (L d : ℕ) (q r : List ℕ) (inv : AreInverse L d q r) where
   pub q_in : (x : ℕ) → x < L → spread L q x < L
   q_in x h = keeps_below L d (λ y. spread L q y) (λ y. spread L r y) inv.is x h
 
   pub r_in : (x : ℕ) → x < L → spread L r x < L
   r_in x h = keeps_below L d (λ y. spread L r y) (λ y. spread L q y) (turned L d (λ y. spread L q y) (λ y. spread L r y) inv.is) x h
+
+  pub r_below : (x : ℕ) → x < length r → slice_index r x < length r
+  r_below x h = let long = inv.back_long in let less : x < L = omega arith in omega (arith, r_in x less, spread_in L r x less)
 
 module _ (L d : ℕ) (q r : List ℕ) (start : ℕ) (before : List Mark) where
   abbrev pub Begun : ℕ → List Mark → Type 0
@@ -144,30 +164,3 @@ module _ (L d : ℕ) (q r : List ℕ) (start : ℕ) (before : List Mark) where
 
         pub round_walked : IsWalked L d start before marks
         round_walked = record { kept = u.kept; begun = round_is.1; only = u.only }
-
--- a permutation of the slots and what leads back are inverse
-pub inverse_of : (L d : ℕ) (q r : List ℕ) → length q ≡ L → length r ≡ L → IsReordering L (λ i. slice_index q i)
-    → ((x : ℕ) → x < L → slice_index r (slice_index q x) ≡ x) → ((x : ℕ) → x < L → slice_index q x % 2 ^ d ≡ x % 2 ^ d) → AreInverse L d q r
-inverse_of L d q r long back_long perm back class = record {
-  long = long;
-  back_long = back_long;
-  is = record {
-    there = λ x. elim (cases_lt x L) [
-      | inl h ↦
-          let y = perm.back x in
-          let y_in = perm.back_below x h in
-          let at : slice_index r x ≡ y = ap (λ z. slice_index r z) (sym (perm.there x h)) ∙ back y y_in in
-          ap (λ z. spread L q z) (spread_in L r x h ∙ at) ∙ spread_in L q y y_in ∙ perm.there x h
-      | inr h ↦ ap (λ z. spread L q z) (spread_out L r x h) ∙ spread_out L q x h
-    ];
-    back = λ x. elim (cases_lt x L) [
-      | inl h ↦ ap (λ z. spread L r z) (spread_in L q x h) ∙ spread_in L r (slice_index q x) (perm.below x h) ∙ back x h
-      | inr h ↦ ap (λ z. spread L r z) (spread_out L q x h) ∙ spread_out L r x h
-    ];
-    rest = λ x h. spread_out L q x h;
-    class = λ x. elim (cases_lt x L) [
-      | inl h ↦ ap (λ y. y % 2 ^ d) (spread_in L q x h) ∙ class x h
-      | inr h ↦ ap (λ y. y % 2 ^ d) (spread_out L q x h)
-    ];
-  };
-}

@@ -28,10 +28,6 @@ pub record AreSettings (net : Net) (L : ℕ) (p : ℕ → ℕ) (bit : ℕ → �
   pub numbers : (item : ℕ → ℕ) (i : ℕ) → i < L → through_stages net L bit item i ≡ item (p i)
   pub pairs : (item : ℕ → PairNum) (i : ℕ) → i < L → through_stages net L bit item i ≡ item (p i)
 
--- every permutation has settings
-abbrev pub PermutationsHaveSettings : Type 0
-PermutationsHaveSettings = (net : Net) (L : ℕ) (p : ℕ → ℕ) → IsReordering L p → (bit : ℕ → ℕ → Bool) × AreSettings net L p bit
-
 -- no other bits and items matter than those of switches and slots
 pub record OnlySwitchesMatter : Type 0 where
   pub numbers : (net : Net) (L : ℕ) (bit bit' : ℕ → ℕ → Bool) (item item' : ℕ → ℕ)

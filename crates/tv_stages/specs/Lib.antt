@@ -1,5 +1,5 @@
 pub mod Laws
-pub mod Runs
+pub mod Settings
 pub mod Shape
 pub mod Stages
 pub mod Walks

@@ -1,7 +1,9 @@
--- What the settings' code keeps true: of each output whether it is marked, and as what.
-use Rattle.std.specs.Prelude.{◌≡◌, ℕ, ◌+◌, ◌-◌, ◌%◌, ◌^◌, ◌<◌, ◌≤◌, nat_lt, Bool, true, not}
-use Rattle.std.specs.Prelude.{if◌then◌else◌, List, length, slice_index, get_or, Option, Some, None, ◌⊎◌}
-use Rattle.tv_stages.specs.Stages.{is_low, flip}
+-- What the settings' code may rely on at its calls, and what it does with the list of bits.
+use Rattle.std.specs.Prelude.{◌≡◌, ℕ, ◌+◌, ◌%◌, ◌^◌, ◌<◌, ◌≤◌, nat_lt, Bool, true, false, not}
+use Rattle.std.specs.Prelude.{if◌then◌else◌, List, length, slice_index, get_or, Some, None, ◌⊎◌}
+use Rattle.tv_stages.specs.Settings.{Mark, mark, is_up, bit_for}
+use Rattle.tv_stages.specs.Stages.{is_low, flip, stage_count, depth, switch_count, switch_slot, first_switch}
+use Rattle.tv_stages.specs.declared.nets.Net.{Net}
 
 -- what the stages of depth d and more have to bring: a permutation of all slots, with its inverse, that keeps each in its
 -- class modulo 2 ^ d, and leaves those from L on
@@ -31,15 +33,8 @@ pub record AreInverse (L d : ℕ) (q r : List ℕ) : Type 0 where
   pub back_long : length r ≡ L
   pub is : IsShuffle L d (spread L q) (spread L r)
 
--- whether an output gets its item through the lower slots, where that is settled
-abbrev pub Mark : Type 0
-Mark = Option Bool
-
-abbrev pub mark : List Mark → ℕ → Mark
-mark marks z = get_or marks z None
-
 -- the other output of the pair of inputs at which z's item is
-unfoldable pub beside : ℕ → ℕ → List ℕ → List ℕ → ℕ → ℕ
+abbrev pub beside : ℕ → ℕ → List ℕ → List ℕ → ℕ → ℕ
 beside L d q r z = spread L r (flip d (spread L q z))
 
 -- where z is marked so is the output beside it, and apart; the item of a lone input comes through the lower slots
@@ -51,6 +46,7 @@ pub record IsBeside (L d : ℕ) (q r : List ℕ) (marks : List Mark) (z : ℕ) :
 abbrev pub IsAcross : ℕ → ℕ → List Mark → ℕ → Type 0
 IsAcross L d marks z = (c : Bool) → mark marks z ≡ Some c → flip d z < L → mark marks (flip d z) ≡ Some (not c)
 
+-- the marks between two walks: no pair is marked by half, and a lone input's output is marked if a lone output is
 pub record AreSettled (L d : ℕ) (q r : List ℕ) (marks : List Mark) : Type 0 where
   pub long : length marks ≡ L
   pub besides : (z : ℕ) → z < L → IsBeside L d q r marks z
@@ -63,30 +59,27 @@ pub record IsStart (L d start : ℕ) (marks : List Mark) : Type 0 where
   pub free : mark marks start ≡ None
   pub alone : (z : ℕ) → IsAlone L d z → z % 2 ^ d ≡ start % 2 ^ d → (z ≡ start) ⊎ (mark marks z ≡ None → ⊥)
 
--- what a walk from start does
-pub record IsWalked (L d start : ℕ) (before after : List Mark) : Type 0 where
-  pub kept : (z : ℕ) (c : Bool) → mark before z ≡ Some c → mark after z ≡ Some c
-  pub begun : mark after start ≡ Some true
-  pub only : (z : ℕ) (c : Bool) → mark after z ≡ Some c → (mark before z ≡ Some c) ⊎ (z % 2 ^ d ≡ start % 2 ^ d)
-
--- ---- all walks: from the slots where a lone one can stand, and then from all
-unfoldable pub start_at : ℕ → ℕ → ℕ → ℕ
-start_at L d n = if nat_lt n (2 ^ d) then L - 2 ^ d + n else n - 2 ^ d
-
--- slot n of this order is a lower one of the class of z
-pub record IsStartOf (L d n z : ℕ) : Type 0 where
-  pub lower : is_low d (start_at L d n) ≡ true
-  pub class : start_at L d n % 2 ^ d ≡ z % 2 ^ d
-
--- the marks after the walks from the first n slots in this order
-pub record AreMarkedBy (L d n : ℕ) (marks : List Mark) : Type 0 where
-  pub all : (m : ℕ) → m < n → is_low d (start_at L d m) ≡ true → mark marks (start_at L d m) ≡ None → ⊥
-  pub only : (z : ℕ) (c : Bool) → mark marks z ≡ Some c → (m : ℕ) × (m < n) × IsStartOf L d m z
-  pub first : (m : ℕ) → m < n → is_low d (start_at L d m) ≡ true → ((o : ℕ) → o < m → IsStartOf L d o (start_at L d m) → ⊥)
-      → mark marks (start_at L d m) ≡ Some true
-
--- the marks after all of them
+-- the marks after all walks: all lower slots are marked, and the first of each class as going through the lower slots
 pub record AreMarked (L d : ℕ) (marks : List Mark) : Type 0 where
   pub all : (z : ℕ) → z < L → is_low d z ≡ true → mark marks z ≡ None → ⊥
   pub lone : (z : ℕ) → IsAlone L d z → mark marks z ≡ Some true
   pub first : (z : ℕ) → z < L → z < 2 ^ d → IsEven L d z → mark marks z ≡ Some true
+
+-- ---- the bits
+-- the bit of a switch whose lower slot is x, r being where each slot stands: in a stage before the middle, or in another
+abbrev pub bit_by : Bool → List ℕ → List Mark → ℕ → Bool
+bit_by before r marks x = not (is_up marks (if before then slice_index r x else x))
+
+-- the bits of the first n positions of stage l are set, each by its lower slot, and no others changed
+pub record AreSetTo (net : Net) (L l n : ℕ) (value : ℕ → Bool) (old new : List Bool) : Type 0 where
+  pub long : length new ≡ length old
+  pub set : (at : ℕ) → at < n → get_or new (first_switch net L l + at) false ≡ value (switch_slot net L l at)
+  pub kept : (j : ℕ) → (j < first_switch net L l) ⊎ (first_switch net L l + n ≤ j) → get_or new j false ≡ get_or old j false
+
+-- the bits of the stages of depth d are set, where these have to bring q, and no others changed
+pub record IsDepthSet (net : Net) (L d : ℕ) (q : List ℕ) (old new : List Bool) : Type 0 where
+  pub long : length new ≡ length old
+  pub set : (l at : ℕ) → l < stage_count L → depth L l ≡ d → at < switch_count net L l
+      → get_or new (first_switch net L l + at) false ≡ bit_for l q (switch_slot net L l at)
+  pub kept : (l at : ℕ) → l < stage_count L → (depth L l ≡ d → ⊥) → at < switch_count net L l
+      → get_or new (first_switch net L l + at) false ≡ get_or old (first_switch net L l + at) false

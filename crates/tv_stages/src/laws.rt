@@ -1,5 +1,6 @@
 //! What is proved of the networks, from the definitions.
-ghost use Rattle.tv_stages.specs.Laws.{HeightIsRight, OnlySwitchesMatter, PermutationsHaveSettings};
+ghost use Rattle.tv_stages.specs.Laws.{HeightIsRight, OnlySwitchesMatter};
+ghost use Rattle.tv_stages.specs.Settings.{SettingsAreRight};
 ghost use Rattle.tv_stages.specs.Laws.{StagesPermute, SwitchesAreNumbered, SwitchesOfPowers};
 
 /// The height is the number of bits of the last slot.
@@ -15,10 +16,10 @@ pub fn stages_permute()
     ensures { StagesPermute }
 {}
 
-/// Every permutation of the slots has settings, in either network.
-#[tactic(auto, using(crate::proofs::Reaching::have_settings))]
-pub fn permutations_have_settings()
-    ensures { PermutationsHaveSettings }
+/// Every permutation of the slots has settings in either network, those of `settings_for`.
+#[tactic(auto, using(crate::proofs::SettingsLaws::settings_right))]
+pub fn settings_are_right()
+    ensures { SettingsAreRight }
 {}
 
 /// No other bits and items matter than those of switches and slots.

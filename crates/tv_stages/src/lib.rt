@@ -14,7 +14,7 @@ mod shape;
 mod walks;
 
 pub use laws::{
-    height_is_right, only_switches_matter, permutations_have_settings, stages_permute,
+    height_is_right, only_switches_matter, settings_are_right, stages_permute,
     switches_are_numbered, switches_of_powers,
 };
 pub use nets::Net;

@@ -1,8 +1,9 @@
 //! Which outputs get their items through the lower slots of the stages within, at one depth.
-ghost use Rattle.std.specs.Prelude.{◌≡◌, ◌+◌, ◌^◌, ◌<◌, ◌≤◌, None, replicate, length};
-ghost use Rattle.tv_stages.specs.Stages.{flip};
-ghost use Rattle.tv_stages.specs.Walks.{AreInverse, AreSettled, AreMarked, IsStart, IsWalked};
-ghost use Rattle.tv_stages.specs.Walks.{start_at};
+ghost use Rattle.std.specs.Prelude.{◌≡◌, ◌+◌, ◌^◌, ◌<◌, ◌≤◌, ◌&&◌, length};
+ghost use Rattle.std.specs.Prelude.{None, is_none, replicate};
+ghost use Rattle.tv_stages.specs.Stages.{is_low, flip};
+ghost use Rattle.tv_stages.specs.Settings.{walk, marks_of, mark, start_at};
+ghost use Rattle.tv_stages.specs.Walks.{AreInverse, AreSettled, IsStart};
 
 // 2^`d`, where `d` is below 32.
 pub(crate) fn stride_of(d: u32) -> usize
@@ -12,17 +13,26 @@ pub(crate) fn stride_of(d: u32) -> usize
     1 << d
 }
 
+// Whether bit `d` of a slot is 0.
+#[tactic(auto, unfolding(crate::specs::Stages::is_low))]
+pub(crate) fn is_low(d: u32, x: usize) -> bool
+    requires { d < 32 }
+    ensures { result ≡ is_low d x }
+{
+    x / stride_of(d) % 2 == 0
+}
+
 // The slot that differs in bit `d`.
+#[tactic(auto, using(crate::proofs::Slots::high_more), unfolding(crate::specs::Stages::flip))]
 pub(crate) fn flip(d: u32, x: usize) -> usize
     requires depth { d < 32 }
     requires small { x < 2 ^ 32 }
     ensures { result ≡ flip d x }
 {
-    let stride = stride_of(d);
-    if x / stride % 2 == 0 {
-        x + stride
+    if is_low(d, x) {
+        x + stride_of(d)
     } else {
-        x - stride
+        x - stride_of(d)
     }
 }
 
@@ -34,8 +44,7 @@ fn walk(q: &[u32], r: &[u32], d: u32, start: usize, marks: &mut [Option<bool>])
     requires inverse { AreInverse (length q.now) d q.now r.now }
     requires settled { AreSettled (length q.now) d q.now r.now marks.old }
     requires begins { IsStart (length q.now) d start marks.old }
-    ensures settled { AreSettled (length q.now) d q.now r.now marks.new }
-    ensures walked { IsWalked (length q.now) d start marks.old marks.new }
+    ensures { marks.new ≡ walk d q.now (length q.now) start marks.old }
 {
     let mut i = start;
     while marks[i].is_none() {
@@ -52,7 +61,7 @@ fn walk(q: &[u32], r: &[u32], d: u32, start: usize, marks: &mut [Option<bool>])
 
 // Slot `n` of the order in which walks begin: those where a lone slot can stand, and then all. So
 // the first of a class is its lone one, or its first if the class is even.
-#[tactic(auto, unfolding(crate::specs::Walks::start_at))]
+#[tactic(auto, unfolding(crate::specs::Settings::start_at))]
 fn start_at(slots: usize, d: u32, n: usize) -> usize
     requires depth { d < 32 }
     requires wide { 2 ^ d ≤ slots }
@@ -69,6 +78,15 @@ fn start_at(slots: usize, d: u32, n: usize) -> usize
     }
 }
 
+// Whether a walk begins at a slot.
+fn begins(d: u32, marks: &[Option<bool>], i: usize) -> bool
+    requires depth { d < 32 }
+    requires within { i < length marks.now }
+    ensures { result ≡ (is_low d i && is_none (mark marks.now i)) }
+{
+    is_low(d, i) && marks[i].is_none()
+}
+
 // Marks all outputs: by a walk from each lower slot that is not marked, in this order.
 pub(crate) fn settle(q: &[u32], r: &[u32], d: u32, marks: &mut [Option<bool>])
     requires depth { d < 32 }
@@ -76,13 +94,12 @@ pub(crate) fn settle(q: &[u32], r: &[u32], d: u32, marks: &mut [Option<bool>])
     requires small { length q.now ≤ 2 ^ 31 }
     requires inverse { AreInverse (length q.now) d q.now r.now }
     requires free { marks.old ≡ replicate (length q.now) None }
-    ensures settled { AreSettled (length q.now) d q.now r.now marks.new }
-    ensures all { AreMarked (length q.now) d marks.new }
+    ensures long { length marks.new ≡ length q.now }
+    ensures is { marks.new ≡ marks_of d q.now }
 {
-    let stride = stride_of(d);
-    for n in 0..stride + q.len() {
+    for n in 0..stride_of(d) + q.len() {
         let i = start_at(q.len(), d, n);
-        if i / stride % 2 == 0 && marks[i].is_none() {
+        if begins(d, marks, i) {
             walk(q, r, d, i, marks);
         }
     }

@@ -1,4 +1,5 @@
 use Rattle.std.proofs.Common.{length, slice_index, ◌∙◌, arith, length-set}
+use Rattle.tv_stages.proofs.Indices.{backs_are}
 use Rattle.tv_stages.proofs.Narrowing.{invert_more}
 use Rattle.tv_stages.proofs.settings.invert.Goals as goal
 
@@ -14,3 +15,7 @@ loop-x-preserved c = record {
   is = invert_more (length c.args.q.now) c.loop-x.x c.args.q.now c.loop-x.r c.requires.permutes c.loop-x.invariant.long c.loop-x-test.true
       c.loop-x.invariant.is;
 }
+
+pub returns : goal.returns
+returns c = backs_are c.args.q.now c.loop-x.r c.requires.permutes c.loop-x.invariant.long
+    (λ x h. c.loop-x.invariant.is x (omega (arith, c.loop-x-test.false, c.loop-x.auto.x-end)))

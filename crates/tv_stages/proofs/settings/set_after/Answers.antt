@@ -4,4 +4,4 @@ use Rattle.tv_stages.proofs.settings.set_after.Goals as goal
 
 pub set_stage-requires-clause-stage : goal.set_stage-requires-clause-stage
 set_stage-requires-clause-stage c =
-    omega (arith, stage_count_is (length c.args.marks.now), c.height-k.ensures.is, c.if-d-k.true, c.requires.depth)
+    omega (arith, stage_count_is (length c.args.r.now), c.height-k.ensures.is, c.if-d-k.true, c.requires.depth)

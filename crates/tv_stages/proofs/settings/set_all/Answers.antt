@@ -1,27 +1,42 @@
-use Rattle.std.proofs.Common.{◌≡◌, length, refl, subst, arith}
+use Rattle.std.proofs.Common.{◌≡◌, length, sym, ◌∙◌, ap, subst, arith, refl, add-one}
+use Rattle.tv_stages.specs.Settings.{asked, within}
 use Rattle.tv_stages.specs.Stages.{height}
-use Rattle.tv_stages.specs.Walks.{spread, AreInverse}
-use Rattle.tv_stages.specs.Runs.{Brings}
-use Rattle.tv_stages.proofs.Walking.{inverse_of}
-use Rattle.tv_stages.proofs.Sending.{brings_all, sent}
+use Rattle.tv_stages.proofs.DepthBits.{AreSetBelow, asked_now, set_next, all_set}
 use Rattle.tv_stages.proofs.settings.set_all.Goals as goal
 
 pub loop-d-init : goal.loop-d-init
-loop-d-init c =
-    let L = length c.args.q.now in
-    let q = c.args.q.now in
+unfolding asked
+loop-d-init c = record {
+  asks = refl;
+  back = c.invert.ensures;
+  marks_long = c.requires.marks_long;
+  long = c.requires.long;
+  set = λ l at early deep few. absurd (omega arith);
+}
+
+pub set_depth-requires-clause-inverse : goal.set_depth-requires-clause-inverse
+set_depth-requires-clause-inverse c =
+    asked_now c.args.net c.args.q.now c.requires.permutes c.loop-d.d c.loop-d.q c.loop-d.r c.loop-d.invariant.asks
+    (omega (arith, c.loop-d-test.true, c.height-d-end.ensures.is)) c.loop-d.invariant.back
+
+pub loop-d-preserved : goal.loop-d-preserved
+unfolding asked
+loop-d-preserved c =
+    let p = c.args.q.now in
+    let d = c.loop-d.d in
+    let asks = c.loop-d.invariant.asks in
     record {
-      q_long = refl;
-      inverse = inverse_of L 0 q c.invert.new.r refl c.invert.ensures.long c.requires.permutes c.invert.ensures.is (λ x h. omega arith);
-      marks_long = c.requires.marks_long;
-      long = c.requires.long;
-      brings = brings_all c.args.net L (spread L q) c.args.bits.now;
+      asks = c.set_depth.ensures.within ∙ ap (λ q. within d q) asks ∙ ap (λ n. asked p n) (sym (add-one d));
+      back = c.set_depth.ensures.back;
+      marks_long = c.set_depth.ensures.marks_long ∙ c.loop-d.auto.q;
+      long = c.set_depth.ensures.set.long ∙ c.loop-d.invariant.long;
+      set = set_next c.args.net p c.requires.permutes d c.loop-d.q c.loop-d.r asks (omega (arith, c.loop-d-test.true, c.height-d-end.ensures.is))
+          c.loop-d.bits c.set_depth.new.bits c.loop-d.invariant.set c.set_depth.ensures.set;
     }
 
-pub returns-clause-sends : goal.returns-clause-sends
-returns-clause-sends c =
-    let L = length c.args.q.now in
-    let last : c.loop-d.d ≡ height L = omega (arith, c.loop-d-test.false, c.loop-d.auto.d-end, c.height-d-end.ensures.is) in
-    sent c.args.net L c.args.q.now c.loop-d.q c.loop-d.r c.loop-d.bits
-    (subst (λ d. AreInverse L d c.loop-d.q c.loop-d.r) last c.loop-d.invariant.inverse)
-    (subst (λ d. Brings c.args.net L d (spread L c.args.q.now) (spread L c.loop-d.q) c.loop-d.bits) last c.loop-d.invariant.brings)
+pub returns : goal.returns
+returns c =
+    let p = c.args.q.now in
+    let last : c.loop-d.d ≡ height (length p) = omega (arith, c.loop-d-test.false, c.loop-d.auto.d-end, c.height-d-end.ensures.is) in
+    all_set c.args.net p c.requires.permutes c.loop-d.bits c.loop-d.invariant.long
+    (subst (λ d. AreSetBelow c.args.net p d c.loop-d.bits) last c.loop-d.invariant.set)

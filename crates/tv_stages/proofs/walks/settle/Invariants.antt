@@ -1,9 +1,6 @@
-use Rattle.std.proofs.Common.{length}
-use Rattle.tv_stages.specs.Walks.{AreSettled, AreMarkedBy}
+use Rattle.std.proofs.Common.{◌≡◌}
+use Rattle.tv_stages.specs.Settings.{walks}
 use Rattle.tv_stages.proofs.walks.settle.Given as goal
 
 abbrev pub invariant-loop-n : goal.invariant-loop-n
-invariant-loop-n l = record {
-  settled : AreSettled (length l.q) l.d l.q l.r l.marks;
-  by : AreMarkedBy (length l.q) l.d l.n l.marks;
-}
+invariant-loop-n l = l.marks ≡ walks l.d l.q l.n
