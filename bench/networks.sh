@@ -15,7 +15,7 @@ done
 prove networks tv_benes tv_core tv_lines tv_route
 rustc --edition 2024 -O -C target-cpu=x86-64-v2 -o "$scratch/plain" "$bench/networks.rs"
 for k in 18 20; do
-    for part in count forget fill move route; do
+    for part in count forget fill route; do
         "$scratch/proved" "$part" "$k"
         programs=("$scratch/proved")
         if [ "$part" = route ]; then programs+=("$scratch/plain"); fi

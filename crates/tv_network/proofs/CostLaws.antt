@@ -1,5 +1,5 @@
 -- How many constraints and terms a network has.
-use Rattle.tv_core.proofs.Common.{◌≡◌, ℕ, zero, suc, ◌+◌, ◌*◌, ◌<◌, List, [], ◌++◌, length, refl, sym, ap, ap₂, ◌∙◌, arith, length-append, append-nil, Circuit}
+use Rattle.tv_core.proofs.Common.{◌≡◌, ℕ, zero, suc, ◌+◌, ◌*◌, ◌<◌, List, [], ◌++◌, length, refl, sym, ap, ap₂, ◌∙◌, arith, length-append, Circuit}
 use Rattle.tv_core.proofs.Common.{fresh, here, pure, put, turns, ◌>>=◌, Constraint, terms_in, add-one}
 use Rattle.std.proofs.lemmas.List.Sums.{sum_by-append}
 use Rattle.tv_bits.proofs.GateLaws.{length-negated}
@@ -11,8 +11,8 @@ use Rattle.tv_core.specs.Meanings.{terms_of}
 use Rattle.tv_core.specs.declared.lines.Pair.{Pair}
 use Rattle.tv_network.proofs.StageLaws.{stage_turn}
 use Rattle.tv_network.proofs.SwitchSizes.{switch_sizes}
-use Rattle.tv_network.specs.Costs.{bound_of, bound_before, switch_terms, stage_terms, network_terms, NetworkIsCounted}
-use Rattle.tv_network.specs.Network.{form_of, switches_in, wires_before, item_at, lower_slot, upper_slot, stage_of, network_of}
+use Rattle.tv_network.specs.Costs.{bound_of, bound_before, switch_terms, stage_terms, stages_terms, StagesAreCounted}
+use Rattle.tv_network.specs.Stages.{form_of, switches_in, wires_before, item_at, lower_slot, upper_slot, stage_of, stages_of}
 use Rattle.tv_network.specs.Switches.{width, remainder_of, product_of, switch_of}
 use Rattle.tv_network.specs.declared.shape.Network.{Network}
 use Rattle.tv_network.specs.declared.switches.Form.{Form}
@@ -20,19 +20,19 @@ use Rattle.tv_network.specs.declared.switches.Form.TheVariants.{Bound, Open}
 use Rattle.tv_stages.specs.Stages.{first_switch, stage_count}
 
 -- ---- what adds up over the constraints of a list
-record IsMeasure (m : List Constraint → ℕ) : Type 0 where
-  nothing : m [] ≡ 0
-  adds : (a b : List Constraint) → m (a ++ b) ≡ m a + m b
+pub record IsMeasure (m : List Constraint → ℕ) : Type 0 where
+  pub nothing : m [] ≡ 0
+  pub adds : (a b : List Constraint) → m (a ++ b) ≡ m a + m b
 
-lengths : IsMeasure length
+pub lengths : IsMeasure length
 lengths = record { nothing = refl; adds = λ a b. length-append a b }
 
-terms : IsMeasure terms_in
+pub terms : IsMeasure terms_in
 terms = record { nothing = refl; adds = λ a b. sum_by-append (λ (c : Constraint). terms_of c) a b }
 
 module _ (m : List Constraint → ℕ) (law : IsMeasure m) where
   -- of a loop: the sum over its turns
-  turns_cost : {A : Type 0} (piece : ℕ → A → Circuit A) (x : A) (next : ℕ) (c : ℕ → ℕ) (n : ℕ)
+  pub turns_cost : {A : Type 0} (piece : ℕ → A → Circuit A) (x : A) (next : ℕ) (c : ℕ → ℕ) (n : ℕ)
       → ((i : ℕ) → i < n → (a : A) (at : ℕ) → m (piece i a at).list ≡ c i)
       → m (turns n piece x next).list ≡ sum_below n c
   unfolding turns pure ◌>>=◌
@@ -55,15 +55,14 @@ module _ (m : List Constraint → ℕ) (law : IsMeasure m) where
         (λ at. cost (form_of n l) (item (lower_slot n l at)) (item (upper_slot n l at))) (switches_in n l)
         (λ at h a w. switch (form_of n l) (item (lower_slot n l at)) (item (upper_slot n l at)) w)
 
-    network_costs : (item : ℕ → Pair) (next : ℕ) → m (network_of n item next).list ≡ sum_below (stage_count n.items) (λ l. stage_cost l (item_at n next item l))
-    unfolding network_of here pure ◌>>=◌
-    network_costs item next =
-        ap m (append-nil (turns (stage_count n.items) (stage_turn n (item_at n next item)) tt next).list)
-        ∙ turns_cost (stage_turn n (item_at n next item)) tt next (λ l. stage_cost l (item_at n next item l)) (stage_count n.items)
+    stages_costs : (item : ℕ → Pair) (next : ℕ) → m (stages_of n item next).list ≡ sum_below (stage_count n.items) (λ l. stage_cost l (item_at n next item l))
+    unfolding stages_of here pure ◌>>=◌
+    stages_costs item next =
+        turns_cost (stage_turn n (item_at n next item)) tt next (λ l. stage_cost l (item_at n next item l)) (stage_count n.items)
         (λ l h a at. stage_costs l (item_at n next item l) at)
 
 -- ---- constraints
-sum_same : (n k : ℕ) → sum_below n (λ _. k) ≡ n * k
+pub sum_same : (n k : ℕ) → sum_below n (λ _. k) ≡ n * k
 sum_same zero k = sum_below-zero (λ _. k) ∙ omega arith
 sum_same (suc n) k = sum_below-suc n (λ _. k) ∙ omega (arith, sum_same n k)
 
@@ -89,13 +88,13 @@ unfolding switch_of remainder_of product_of bit_of pick_of pure fresh put ◌>>=
 switch_cost Bound x y next = omega (arith, length-negated x.first (next + 1), length-negated x.second (next + 1 + 1))
 switch_cost Open x y next = omega arith
 
-pub network_counted : NetworkIsCounted
-unfolding network_terms stage_terms
-network_counted = record {
+pub stages_counted : StagesAreCounted
+unfolding stages_terms stage_terms
+stages_counted = record {
   constraints = λ n item next.
-      network_costs length lengths (λ form x y. width form) switch_sizes.count n item next ∙ stages_wires n (stage_count n.items);
+      stages_costs length lengths (λ form x y. width form) switch_sizes.count n item next ∙ stages_wires n (stage_count n.items);
   wires = λ n. wires_are n (stage_count n.items);
-  terms = λ n item next. network_costs terms_in terms switch_terms switch_cost n item next;
+  terms = λ n item next. stages_costs terms_in terms switch_terms switch_cost n item next;
 }
 
 -- ---- what the code adds up
@@ -110,12 +109,12 @@ stage_terms-more n l item at =
     let each : ℕ → ℕ = λ at. switch_terms (form_of n l) (item (lower_slot n l at)) (item (upper_slot n l at)) in
     sym (sum_below-suc at each) ∙ ap (λ k. sum_below k each) (sym (add-one at))
 
-pub network_terms-zero : (n : Network) (first : ℕ) (item : ℕ → Pair) → 0 ≡ sum_below 0 (λ l. stage_terms n l (item_at n first item l))
-network_terms-zero n first item = sym (sum_below-zero _)
+pub stages_terms-zero : (n : Network) (first : ℕ) (item : ℕ → Pair) → 0 ≡ sum_below 0 (λ l. stage_terms n l (item_at n first item l))
+stages_terms-zero n first item = sym (sum_below-zero _)
 
-pub network_terms-more : (n : Network) (first : ℕ) (item : ℕ → Pair) (l : ℕ) →
+pub stages_terms-more : (n : Network) (first : ℕ) (item : ℕ → Pair) (l : ℕ) →
     let each : ℕ → ℕ = λ l. stage_terms n l (item_at n first item l) in
     sum_below l each + each l ≡ sum_below (l + 1) each
-network_terms-more n first item l =
+stages_terms-more n first item l =
     let each : ℕ → ℕ = λ l. stage_terms n l (item_at n first item l) in
     sym (sum_below-suc l each) ∙ ap (λ k. sum_below k each) (sym (add-one l))

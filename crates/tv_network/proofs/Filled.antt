@@ -13,7 +13,7 @@ use Rattle.tv_core.specs.declared.lines.PairNum.{PairNum}
 use Rattle.tv_core.specs.declared.sink.SinkFault.{SinkFault}
 use Rattle.tv_network.proofs.StageLaws.{stage_kept, stage_passed}
 use Rattle.tv_network.specs.Filling.{pair_at, exchanged}
-use Rattle.tv_network.specs.Network.{form_of, switches_in, lower_slot, upper_slot, stage_values}
+use Rattle.tv_network.specs.Stages.{form_of, switches_in, lower_slot, upper_slot, stage_values}
 use Rattle.tv_network.specs.Switches.{passed, switch_values}
 use Rattle.tv_network.specs.declared.shape.Network.{Network}
 use Rattle.tv_network.specs.declared.switches.Form.{Form}
@@ -51,7 +51,7 @@ values_as form form' b b' x x' y y' f p q r =
     ap₂ (λ g c. switch_values g c x y) f p ∙ ap₂ (λ m n. switch_values form' b' m n) q r
 
 -- values of a stage over the same numbers
-joined_same : (n : ℕ) (f g : ℕ → List ℕ) → ((i : ℕ) → i < n → f i ≡ g i) → joined_below n f ≡ joined_below n g
+pub joined_same : (n : ℕ) (f g : ℕ → List ℕ) → ((i : ℕ) → i < n → f i ≡ g i) → joined_below n f ≡ joined_below n g
 joined_same zero f g same = joined_below-zero f ∙ sym (joined_below-zero g)
 joined_same (suc n) f g same =
     joined_below-suc n f ∙ ap₂ (λ a b. a ++ b) (joined_same n f g (λ i h. same i (omega arith))) (same n (omega arith)) ∙ sym (joined_below-suc n g)

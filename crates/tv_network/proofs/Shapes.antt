@@ -4,7 +4,7 @@ use Rattle.tv_core.proofs.Common.{inr, cases_lt}
 use Rattle.tv_core.proofs.Common.{eq-eqb, ne_eqb}
 use Rattle.std.proofs.Common.{min}
 use Rattle.std.proofs.Math.Nat.{mul-le-mul_left}
-use Rattle.tv_network.specs.Network.{form_of, switches_in, wires_before}
+use Rattle.tv_network.specs.Stages.{form_of, switches_in, wires_before}
 use Rattle.tv_network.specs.Switches.{width}
 use Rattle.tv_network.specs.declared.shape.Network.{Network}
 use Rattle.tv_network.specs.declared.switches.Form.{Form}

@@ -8,8 +8,8 @@ use Rattle.tv_core.specs.Lines.{pair_value}
 use Rattle.tv_core.specs.declared.lines.Pair.{Pair}
 use Rattle.tv_core.specs.declared.lines.PairNum.{PairNum}
 use Rattle.tv_network.proofs.SwitchSizes.{switch_sizes}
-use Rattle.tv_network.specs.Network.{form_of, switches_in, wires_before, network_wires, switch_wire, wire_at, item_at, lower_slot, upper_slot, stage_of}
-use Rattle.tv_network.specs.Network.{network_of}
+use Rattle.tv_network.specs.Stages.{form_of, switches_in, wires_before, stages_wires, switch_wire, wire_at, item_at, lower_slot, upper_slot, stage_of}
+use Rattle.tv_network.specs.Stages.{stages_of}
 use Rattle.tv_network.specs.Switches.{width, switch_of, passed_to, passed, bit_at, IsSwitch}
 use Rattle.tv_network.specs.declared.shape.Network.{Network}
 use Rattle.tv_stages.proofs.Moves.{switched_on}
@@ -34,9 +34,9 @@ unfolding turns pure ◌>>=◌ wires_before
 stages_next n item zero next = omega arith
 stages_next n item (suc m) next = stage_next n m (item m) _ ∙ omega (arith, stages_next n item m next)
 
-pub network_next : (n : Network) (item : ℕ → Pair) (next : ℕ) → (network_of n item next).next ≡ next + network_wires n
-unfolding network_of here pure ◌>>=◌
-network_next n item next = stages_next n (item_at n next item) (stage_count n.items) next
+pub stages_end : (n : Network) (item : ℕ → Pair) (next : ℕ) → (stages_of n item next).next ≡ next + stages_wires n
+unfolding stages_of here pure ◌>>=◌
+stages_end n item next = stages_next n (item_at n next item) (stage_count n.items) next
 
 -- ---- what stands at a slot after a stage
 module _ (n : Network) (first : ℕ) (item : ℕ → Pair) (l x : ℕ) where

@@ -16,7 +16,7 @@ use Rattle.tv_network.specs.declared.switches.Form.{Form}
 use Rattle.tv_network.specs.declared.switches.Form.TheVariants.{Bound, Open}
 
 -- ---- normal combinations
-wire_normal : (w : ℕ) → IsNormal (wire w)
+pub wire_normal : (w : ℕ) → IsNormal (wire w)
 wire_normal w = (omega arith, omega arith, omega arith, tt)
 
 two_normal : (v w : ℕ) → v < w → IsNormal (wire v ++ wire w)

@@ -6,7 +6,7 @@ use Rattle.tv_core.specs.Constraints.{Combination}
 use Rattle.tv_core.specs.Meanings.{terms_in}
 use Rattle.tv_core.specs.Normal.{normal}
 use Rattle.tv_core.specs.declared.lines.Pair.{Pair}
-use Rattle.tv_network.specs.Network.{form_of, switches_in, network_wires, item_at, lower_slot, upper_slot, network_of}
+use Rattle.tv_network.specs.Stages.{form_of, switches_in, stages_wires, item_at, lower_slot, upper_slot, stages_of}
 use Rattle.tv_network.specs.declared.shape.Network.{Network}
 use Rattle.tv_network.specs.declared.switches.Form.{Form}
 use Rattle.tv_network.specs.declared.switches.Form.TheVariants.{Bound, Open}
@@ -35,12 +35,12 @@ switch_terms form x y = 3 + number_terms form x.first y.first + number_terms for
 unfoldable pub stage_terms : Network → ℕ → (ℕ → Pair) → ℕ
 stage_terms n l item = sum_below (switches_in n l) (λ at. switch_terms (form_of n l) (item (lower_slot n l at)) (item (upper_slot n l at)))
 
-unfoldable pub network_terms : Network → ℕ → (ℕ → Pair) → ℕ
-network_terms n first item = sum_below (stage_count n.items) (λ l. stage_terms n l (item_at n first item l))
+unfoldable pub stages_terms : Network → ℕ → (ℕ → Pair) → ℕ
+stages_terms n first item = sum_below (stage_count n.items) (λ l. stage_terms n l (item_at n first item l))
 
 -- A network costs a constraint for each wire that it makes: three a switch, and two more a bound one. Its terms are those
 -- of its switches, whatever the items are.
-pub record NetworkIsCounted : Type 0 where
-  pub constraints : (n : Network) (item : ℕ → Pair) (next : ℕ) → length (network_of n item next).list ≡ network_wires n
-  pub wires : (n : Network) → network_wires n ≡ 3 * switches n.net n.items + 2 * bound_before n (stage_count n.items)
-  pub terms : (n : Network) (item : ℕ → Pair) (next : ℕ) → terms_in (network_of n item next).list ≡ network_terms n next item
+pub record StagesAreCounted : Type 0 where
+  pub constraints : (n : Network) (item : ℕ → Pair) (next : ℕ) → length (stages_of n item next).list ≡ stages_wires n
+  pub wires : (n : Network) → stages_wires n ≡ 3 * switches n.net n.items + 2 * bound_before n (stage_count n.items)
+  pub terms : (n : Network) (item : ℕ → Pair) (next : ℕ) → terms_in (stages_of n item next).list ≡ stages_terms n next item

@@ -1,6 +1,7 @@
 pub mod Costs
 pub mod Filling
 pub mod Network
+pub mod Stages
 pub mod Slots
 pub mod Switches
 pub use Rattle.tv_core.specs.Combinations

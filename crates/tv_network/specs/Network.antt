@@ -1,146 +1,143 @@
--- A permutation network of any number of items as constraints: which stages are bound, where the wires stand, and what
--- the constraints and the values of their wires are.
-use Rattle.std.specs.Prelude.{◌≡◌, ℕ, zero, suc, ◌+◌, ◌*◌, ◌%◌, ◌^◌, ◌<◌, ◌≤◌, ◌==◌, Bool, if◌then◌else◌, List, slice_index}
-use Rattle.tv_bits.specs.Bit.{IsBit}
-use Rattle.tv_core.specs.Below.{joined_below}
-use Rattle.tv_core.specs.Circuits.{Circuit, here, pure, ◌>>=◌}
+-- A permutation network whose outputs are wires: its stages, and two wires more for each slot that no switch of the last
+-- stage has.
+use Rattle.std.specs.Prelude.{◌≡◌, ℕ, ◌+◌, ◌-◌, ◌*◌, ◌%◌, ◌^◌, ◌<◌, ◌≤◌, ◌==◌, nat_lt, Bool, if◌then◌else◌, List, [], ◌∷◌, ◌++◌, length}
+use Rattle.tv_core.specs.Below.{joined_below, sum_below}
+use Rattle.tv_core.specs.Circuits.{Circuit, fresh, here, put, pure, ◌>>=◌}
+use Rattle.tv_core.specs.Combinations.{wire, constant}
 use Rattle.tv_core.specs.Laws.{Assigns, Meets, HasFrom, Fills, InField}
 use Rattle.tv_core.specs.Lines.{pair_value}
 use Rattle.tv_core.specs.Loops.{sequence}
+use Rattle.tv_core.specs.Meanings.{terms_in}
 use Rattle.tv_core.specs.Normal.{AreNormal}
 use Rattle.tv_core.specs.declared.field.TheConstants.{P}
 use Rattle.tv_core.specs.declared.lines.Pair.{Pair}
 use Rattle.tv_core.specs.declared.lines.PairNum.{PairNum}
-use Rattle.tv_network.specs.Switches.{width, switch_of, passed_to, switch_values, bit_at, ArePairsMade, IsPairMade, IsNormalPair}
+use Rattle.tv_network.specs.Costs.{bound_before, stages_terms}
+use Rattle.tv_network.specs.Stages.{stages_of, stages_wires, wires_before, stages_values, item_at, wire_at, wire_bit, AreValues, Setting}
+use Rattle.tv_network.specs.Switches.{wires_at, ArePairsMade, IsNormalPair}
 use Rattle.tv_network.specs.declared.shape.Network.{Network}
-use Rattle.tv_network.specs.declared.slots.Slots.{Slots}
-use Rattle.tv_network.specs.declared.switches.Form.{Form}
-use Rattle.tv_network.specs.declared.switches.Form.TheVariants.{Bound, Open}
-use Rattle.tv_stages.specs.Stages.{depth, is_low, is_switched, number, position, remove_bit, stage_count, switch_count, switch_slot, through_first}
-use Rattle.tv_stages.specs.Stages.{through_stages}
-use Rattle.tv_word.specs.Word.{flag_of}
+use Rattle.tv_stages.specs.Stages.{is_low, stage_count, switches, through_stages}
+use Rattle.tv_stages.specs.declared.nets.Net.{Net}
+use Rattle.tv_stages.specs.declared.nets.Net.TheVariants.{Benes, Waksman}
 
 -- ---- wires
--- stage l is bound where its depth, which is how many stages are further outside on its side, is a multiple of the rate
-abbrev pub form_of : Network → ℕ → Form
-form_of n l = if depth n.items l % n.rate == 0 then Bound else Open
+-- how many slots of an even number no switch of the last stage has: the first two in Waksman's network, but of two
+abbrev pub left_out : Net → ℕ → ℕ
+left_out Benes L = 0
+left_out Waksman L = if nat_lt 2 L then 2 else 0
 
--- how many switches stage l has
-abbrev pub switches_in : Network → ℕ → ℕ
-switches_in n l = switch_count n.net n.items l
+-- the loose slots, which are at no switch of the last stage: these, or the last one of an odd number; how many there are,
+-- the one with a number, and whether a slot is one
+abbrev pub loose_count : Network → ℕ
+loose_count n = if n.items % 2 == 1 then 1 else left_out n.net n.items
 
--- how many wires the first l stages make
-unfoldable pub wires_before : Network → ℕ → ℕ
-wires_before n zero = 0
-wires_before n (suc l) = wires_before n l + switches_in n l * width (form_of n l)
+abbrev pub loose_slot : Network → ℕ → ℕ
+loose_slot n j = if n.items % 2 == 1 then n.items - 1 else j
+
+abbrev pub is_loose : Network → ℕ → Bool
+is_loose n x = if n.items % 2 == 1 then x == n.items - 1 else nat_lt x (left_out n.net n.items)
+
+-- the number of a loose slot
+abbrev pub loose_number : Network → ℕ → ℕ
+loose_number n x = if n.items % 2 == 1 then 0 else x
 
 -- how many wires the network makes
 abbrev pub network_wires : Network → ℕ
-network_wires n = wires_before n (stage_count n.items)
+network_wires n = stages_wires n + 2 * loose_count n
 
--- the first wire of the switch at a position of stage l, its bit, in a network whose wires begin at `first`
-abbrev pub switch_wire : Network → ℕ → ℕ → ℕ → ℕ
-switch_wire n first l at = first + wires_before n l + at * width (form_of n l)
+-- the first of the two wires of output x: of the switch of the last stage there, or the slot's own
+abbrev pub output_wire : Network → ℕ → ℕ → ℕ
+output_wire n first x =
+    if is_loose n x then first + stages_wires n + 2 * loose_number n x
+    else wire_at n first (stage_count n.items - 1) x + (if is_low 0 x then 1 else 3)
 
--- the same of the switch that slot x is at
-abbrev pub wire_at : Network → ℕ → ℕ → ℕ → ℕ
-wire_at n first l x = switch_wire n first l (position n.net n.items l (remove_bit (depth n.items l) x))
+abbrev pub output_of : Network → ℕ → ℕ → Pair
+output_of n first x = wires_at (output_wire n first x)
 
--- what stands at slot x before stage l: the item at that slot; and after a stage what it passed on. A slot at no switch
--- keeps its combinations
-unfoldable pub item_at : Network → ℕ → (ℕ → Pair) → ℕ → ℕ → Pair
-item_at n first item zero x = item x
-item_at n first item (suc l) x =
-    let before = item_at n first item l x in
-    if is_switched n.net n.items l x then passed_to (form_of n l) (is_low (depth n.items l) x) (wire_at n first l x) before else before
-
--- output x
-abbrev pub output_at : Network → ℕ → (ℕ → Pair) → ℕ → Pair
-output_at n first item x = item_at n first item (stage_count n.items) x
+-- the first wires of the last stage and of the loose slots' wires, in a network whose wires have numbers of 32 bits
+pub record AreOutputs (n : Network) (first last loose : ℕ) : Type 0 where
+  pub stage : last ≡ first + wires_before n (stage_count n.items - 1)
+  pub own : loose ≡ first + stages_wires n
+  pub below : first + network_wires n < 2 ^ 32
 
 -- ---- constraints
--- the two slots of the switch at a position
-abbrev pub lower_slot : Network → ℕ → ℕ → ℕ
-lower_slot n l at = switch_slot n.net n.items l at
+-- a new wire for each of two numbers
+unfoldable pub kept_of : Pair → Circuit (Unit {0})
+kept_of x = do
+  w ← fresh
+  _ ← put x.first (constant 1) (wire w)
+  w' ← fresh
+  put x.second (constant 1) (wire w')
 
-abbrev pub upper_slot : Network → ℕ → ℕ → ℕ
-upper_slot n l at = lower_slot n l at + 2 ^ depth n.items l
+-- what stands at the loose slots after the last stage
+abbrev pub loose_of : Network → ℕ → (ℕ → Pair) → Circuit (Unit {0})
+loose_of n first item = sequence (loose_count n) (λ j. kept_of (item_at n first item (stage_count n.items) (loose_slot n j)))
 
--- a stage's switches in order of position, between what stands at their slots
-unfoldable pub stage_of : Network → ℕ → (ℕ → Pair) → Circuit (Unit {0})
-stage_of n l item = sequence (switches_in n l) (λ at. switch_of (form_of n l) (item (lower_slot n l at)) (item (upper_slot n l at)))
-
--- the slots before stage l of a network whose wires begin at `first`
-abbrev pub slots_at : Network → ℕ → ℕ → Slots
-slots_at n first l = record { network = n; first = first; stage = l; start = first + wires_before n l }
-
--- the stages in order; it returns the slots after the last
-unfoldable pub network_of : Network → (ℕ → Pair) → Circuit Slots
+-- the stages, and the loose slots' wires; it returns the first wire
+unfoldable pub network_of : Network → (ℕ → Pair) → Circuit ℕ
 network_of n item = do
   first ← here
-  _ ← sequence (stage_count n.items) (λ l. stage_of n l (item_at n first item l))
-  pure (slots_at n first (stage_count n.items))
+  _ ← stages_of n item
+  _ ← loose_of n first item
+  pure first
+
+-- the terms of the constraints over items
+abbrev pub kept_terms : Pair → ℕ
+kept_terms x = length x.first + length x.second + 4
+
+unfoldable pub network_terms : Network → ℕ → (ℕ → Pair) → ℕ
+network_terms n first item =
+    stages_terms n first item + sum_below (loose_count n) (λ j. kept_terms (item_at n first item (stage_count n.items) (loose_slot n j)))
 
 -- ---- the values
--- of a stage's switches; `bit i` is the bit of switch i, and `v` has what stands at the slots before it
-unfoldable pub stage_values : Network → ℕ → (ℕ → Bool) → (ℕ → PairNum) → List ℕ
-stage_values n l bit v = joined_below (switches_in n l)
-    (λ at. switch_values (form_of n l) (bit (number n.net n.items l at)) (v (lower_slot n l at)) (v (upper_slot n l at)))
+abbrev pub kept_values : PairNum → List ℕ
+kept_values x = x.first ∷ x.second ∷ []
 
--- of a whole network, by the bit of switch i of stage l and the numbers of the items
+-- by the bit of switch i of stage l and the numbers of the items
 unfoldable pub network_values : Network → (ℕ → ℕ → Bool) → (ℕ → PairNum) → List ℕ
-network_values n bit v = joined_below (stage_count n.items) (λ l. stage_values n l (bit l) (through_first n.net n.items bit l v))
+network_values n bit v =
+    stages_values n bit v ++ joined_below (loose_count n) (λ j. kept_values (through_stages n.net n.items bit v (loose_slot n j)))
 
 -- ---- the laws
--- the bit of switch i of stage l of a network whose wires begin at `first`
-abbrev pub wire_bit : List ℕ → Network → ℕ → ℕ → ℕ → Bool
-wire_bit z n first l i = bit_at z (switch_wire n first l (position n.net n.items l i))
-
--- what an assignment that satisfies the constraints has: 0 or 1 at each switch, and at the outputs what goes through
-pub record IsNetwork (z : List ℕ) (n : Network) (first : ℕ) (item : ℕ → Pair) : Type 0 where
-  pub bits : (l at : ℕ) → l < stage_count n.items → at < switches_in n l → IsBit (slice_index z (switch_wire n first l at))
-  pub outputs : (x : ℕ) → pair_value z (output_at n first item x) ≡ through_stages n.net n.items (wire_bit z n first) (λ j. pair_value z (item j)) x
-
+-- what goes through by the bits at the switches' wires stands at the outputs in every assignment that satisfies the
+-- constraints
 abbrev pub NetworkIsSound : Type 0
 NetworkIsSound = (z : List ℕ) (n : Network) (next : ℕ) (item : ℕ → Pair) → Assigns z → Meets z (network_of n item next).list
-    → IsNetwork z n next item
+    → (x : ℕ) → x < n.items
+    → pair_value z (output_of n next x) ≡ through_stages n.net n.items (wire_bit z n next) (λ j. pair_value z (item j)) x
 
--- numbers that are the values of a network's items
-abbrev pub AreValues : List ℕ → Network → (ℕ → Pair) → (ℕ → PairNum) → Type 0
-AreValues z n item v = (x : ℕ) → x < n.items → pair_value z (item x) ≡ v x
-
--- what a network's values are computed from: the bits of its switches, and the numbers of its items
-pub record Setting : Type 0 where
-  pub bit : ℕ → ℕ → Bool
-  pub number : ℕ → PairNum
-
--- what an assignment that has the values for these has: it satisfies the constraints, it has these bits at the switches,
--- and at the outputs what goes through by these bits of these numbers
-pub record IsFilled (z : List ℕ) (n : Network) (first : ℕ) (item : ℕ → Pair) (by : Setting) : Type 0 where
+-- what an assignment that has the values for a setting has: it satisfies the constraints, and at the outputs stands what
+-- goes through
+pub record IsRouted (z : List ℕ) (n : Network) (first : ℕ) (item : ℕ → Pair) (by : Setting) : Type 0 where
   pub meets : Meets z (network_of n item first).list
-  pub bits : (l at : ℕ) → l < stage_count n.items → at < switches_in n l
-      → slice_index z (switch_wire n first l at) ≡ flag_of (by.bit l (number n.net n.items l at))
-  pub outputs : (x : ℕ) → x < n.items → pair_value z (output_at n first item x) ≡ through_stages n.net n.items by.bit by.number x
+  pub outputs : (x : ℕ) → x < n.items → pair_value z (output_of n first x) ≡ through_stages n.net n.items by.bit by.number x
 
 abbrev pub NetworkIsComplete : Type 0
 NetworkIsComplete = (z : List ℕ) (n : Network) (next : ℕ) (item : ℕ → Pair) (bit : ℕ → ℕ → Bool) (v : ℕ → PairNum) → Assigns z
-    → AreValues z n item v → HasFrom z next (network_values n bit v) → IsFilled z n next item (record { bit = bit; number = v })
+    → AreValues z n item v → HasFrom z next (network_values n bit v) → IsRouted z n next item (record { bit = bit; number = v })
 
--- over normal items of wires before the first, every combination that is emitted is normal, and so are the outputs
-pub record NetworkIsNormal : Type 0 where
-  pub puts : (n : Network) (next : ℕ) (item : ℕ → Pair) → ((x : ℕ) → x < n.items → IsNormalPair (item x) next)
-      → AreNormal (network_of n item next).list
-  pub outputs : (n : Network) (next : ℕ) (item : ℕ → Pair) → ((x : ℕ) → x < n.items → IsNormalPair (item x) next)
-      → (x : ℕ) → x < n.items → IsNormalPair (output_at n next item x) (next + network_wires n)
+-- over normal items of wires before the first, every combination that is emitted is normal
+abbrev pub NetworkIsNormal : Type 0
+NetworkIsNormal = (n : Network) (next : ℕ) (item : ℕ → Pair) → ((x : ℕ) → x < n.items → IsNormalPair (item x) next)
+    → AreNormal (network_of n item next).list
 
--- the sizes of a network: what it returns and where it ends, with one value for each wire; what stands at a slot before a
--- stage is of wires before that stage's, and has at most one term more than the item for each stage; and over items in the
--- field all values are in the field
+-- A network costs a constraint for each wire: three a switch, two more a bound one, and two a loose slot; at most five
+-- for each of (2 k - 1) 2 ^ (k - 1) switches and four, k being the height. Its terms are those of its switches and of the
+-- loose slots, whatever the items are.
+pub record NetworkIsCounted : Type 0 where
+  pub constraints : (n : Network) (item : ℕ → Pair) (next : ℕ) → length (network_of n item next).list ≡ network_wires n
+  pub wires : (n : Network) → network_wires n ≡ 3 * switches n.net n.items + 2 * bound_before n (stage_count n.items) + 2 * loose_count n
+  pub most : (n : Network) (h : ℕ) → n.items ≤ 2 ^ (h + 1) → network_wires n ≤ 5 * ((2 * h + 1) * 2 ^ h) + 4
+  pub terms : (n : Network) (item : ℕ → Pair) (next : ℕ) → terms_in (network_of n item next).list ≡ network_terms n next item
+  pub few : (n : Network) (item : ℕ → Pair) (next : ℕ) → n.items ≤ 2 ^ 25 → ArePairsMade 15 item n.items next → network_terms n next item < 2 ^ 43
+
+-- the sizes of a network: it returns its first wire, and has one value for each wire; its outputs are wires of its own;
+-- and over items in the field all values are in the field
 pub record NetworkFills : Type 0 where
-  pub answer : (n : Network) (next : ℕ) (item : ℕ → Pair) → (network_of n item next).answer ≡ slots_at n next (stage_count n.items)
+  pub answer : (n : Network) (next : ℕ) (item : ℕ → Pair) → (network_of n item next).answer ≡ next
   pub ends : (n : Network) (next : ℕ) (item : ℕ → Pair) → (network_of n item next).next ≡ next + network_wires n
   pub fills : (n : Network) (item : ℕ → Pair) (bit : ℕ → ℕ → Bool) (v : ℕ → PairNum) → Fills (network_of n item) (network_values n bit v)
-  pub made : (n : Network) (m first : ℕ) (item : ℕ → Pair) → ArePairsMade m item n.items first → (l : ℕ) → l ≤ stage_count n.items → (x : ℕ)
-      → x < n.items → IsPairMade (m + l) (item_at n first item l x) (first + wires_before n l)
+  pub own : (n : Network) (next x : ℕ) → x < n.items → next ≤ output_wire n next x
+  pub below : (n : Network) (next x : ℕ) → x < n.items → output_wire n next x + 1 < next + network_wires n
   pub small : (n : Network) (bit : ℕ → ℕ → Bool) (v : ℕ → PairNum) → ((x : ℕ) → x < n.items → ((v x).first < P) × ((v x).second < P))
       → InField (network_values n bit v)

@@ -1,10 +1,10 @@
--- What the code knows of a network's items, and of the slots before a stage.
-use Rattle.std.specs.Prelude.{◌≡◌, ℕ, ◌+◌, ◌-◌, ◌^◌, ◌<◌, ◌≤◌}
+-- What the code knows of a network's items, and of its stages.
+use Rattle.std.specs.Prelude.{◌≡◌, ℕ, ◌+◌, ◌^◌, ◌<◌, ◌≤◌, List, length, get_or}
 use Rattle.tv_core.specs.declared.lines.Pair.{Pair}
-use Rattle.tv_network.specs.Network.{wires_before}
+use Rattle.tv_network.specs.Stages.{form_of, stages_wires, wires_before}
 use Rattle.tv_network.specs.Switches.{ArePairsMade}
+use Rattle.tv_network.specs.declared.levels.Level.{Level}
 use Rattle.tv_network.specs.declared.shape.Network.{Network}
-use Rattle.tv_network.specs.declared.slots.Slots.{Slots}
 use Rattle.tv_stages.specs.Stages.{stage_count}
 
 -- items for a network: few enough of them, with at most 15 terms a combination, over wires below `wires`
@@ -14,12 +14,17 @@ pub record AreItems (n : Network) (pair : ℕ → Pair) (count wires : ℕ) : Ty
   pub all : n.items ≤ count
   pub made : ArePairsMade 15 pair n.items wires
 
--- the stage and the wire are those of the network
-pub record IsPlaced (s : Slots) : Type 0 where
-  pub within : s.stage ≤ stage_count s.network.items
-  pub start : s.start ≡ s.first + wires_before s.network s.stage
-  pub below : s.start < 2 ^ 32
+-- what the code keeps of stage l of a network whose wires begin at `first`
+pub record IsLevel (n : Network) (first l : ℕ) (level : Level) : Type 0 where
+  pub net : level.stage.net ≡ n.net
+  pub slots : level.stage.slots ≡ n.items
+  pub number : level.stage.number ≡ l
+  pub form : level.form ≡ form_of n l
+  pub start : level.start ≡ first + wires_before n l
 
--- the slots a stage before, which made so many wires
-abbrev pub slots_before : Slots → ℕ → Slots
-slots_before s made = record { network = s.network; first = s.first; stage = s.stage - 1; start = s.start - made }
+-- the first of these are the network's stages
+pub record AreLevels (n : Network) (first : ℕ) (levels : List Level) : Type 0 where
+  pub few : n.items ≤ 2 ^ 25
+  pub below : first + stages_wires n < 2 ^ 32
+  pub long : length levels ≡ 49
+  pub each : (l : ℕ) (level : Level) → l < stage_count n.items → level ≡ get_or levels l level → IsLevel n first l level

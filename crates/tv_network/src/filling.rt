@@ -1,21 +1,23 @@
 //! The values of a network's wires, while the items move to where they come out.
 ghost use Rattle.std.specs.Prelude.{◌≡◌, ℕ, ◌+◌, ◌^◌, ◌<◌, ◌≤◌, false, get_or, length, OnOk};
+ghost use Rattle.tv_core.specs.Below.{joined_below};
 ghost use Rattle.tv_core.specs.Values.{GivesIn};
 ghost use Rattle.tv_network.specs.Filling.{exchanged, pair_at};
-ghost use Rattle.tv_network.specs.Network.{network_values, stage_values};
+ghost use Rattle.tv_network.specs.Network.{kept_values, loose_count, loose_slot, network_values};
+ghost use Rattle.tv_network.specs.Stages.{stages_values, stage_values};
 ghost use Rattle.tv_network.specs.Switches.{passed, switch_values};
 ghost use Rattle.tv_stages.specs.Stages.{bit_in, first_switch, places, stage, stage_count};
 ghost use Rattle.tv_stages.specs.Stages.{through_stages};
 
 use crate::shape::Network;
 use crate::switches::{Form, fill_switch};
-use tv_core::{PairNum, Put, Values};
+use tv_core::{PairNum, Put, Values, give_values};
 
-/// Assigns the values of the wires that `stages` makes, for the numbers of its items and the bits
+/// Assigns the values of the wires that `network` makes, for the numbers of its items and the bits
 /// of its switches, stage after stage in order of position; a bit that is not there counts as 0. It
 /// moves the items to the slots where they come out; after a refusal they are left somewhere.
 /// Allocates nothing.
-pub fn fill_stages<V: Values>(
+pub fn fill_network<V: Values>(
     v: &mut V,
     network: Network,
     items: &mut [PairNum],
@@ -26,6 +28,43 @@ pub fn fill_stages<V: Values>(
     requires few { network.items ≤ 2 ^ 25 }
     requires items { length items.old ≡ network.items }
     ensures gives { GivesIn V.giving v.old v.new (network_values network
+        (bit_in network.net network.items bits.now) (pair_at items.old)) result }
+    ensures whole { OnOk result (V.giving.broken v.new ≡ false) }
+    ensures moved { OnOk result (items.new ≡ places network.items
+        (through_stages network.net network.items (bit_in network.net network.items bits.now)
+        (pair_at items.old))) }
+{
+    fill_stages(v, network, items, bits)?;
+    fill_loose(v, network, items)
+}
+
+// Assigns the values of the loose slots' wires, where the items came out.
+fn fill_loose<V: Values>(v: &mut V, network: Network, items: &[PairNum]) -> Put<()>
+    requires whole { V.giving.broken v.old ≡ false }
+    requires items { length items.now ≡ network.items }
+    ensures gives { GivesIn V.giving v.old v.new (joined_below (loose_count network)
+        (λ j. kept_values (pair_at items.now (loose_slot network j)))) result }
+    ensures whole { OnOk result (V.giving.broken v.new ≡ false) }
+{
+    for j in 0..network.loose_count() {
+        let item = items[network.loose_slot(j) as usize];
+        give_values(v, &[item.first, item.second])?;
+    }
+    Ok(())
+}
+
+// The same of the stages' wires.
+fn fill_stages<V: Values>(
+    v: &mut V,
+    network: Network,
+    items: &mut [PairNum],
+    bits: &[bool],
+) -> Put<()>
+    requires whole { V.giving.broken v.old ≡ false }
+    requires rate { 1 ≤ network.rate }
+    requires few { network.items ≤ 2 ^ 25 }
+    requires items { length items.old ≡ network.items }
+    ensures gives { GivesIn V.giving v.old v.new (stages_values network
         (bit_in network.net network.items bits.now) (pair_at items.old)) result }
     ensures whole { OnOk result (V.giving.broken v.new ≡ false) }
     ensures moved { OnOk result (items.new ≡ places network.items

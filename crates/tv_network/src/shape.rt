@@ -1,6 +1,8 @@
 //! A network, its stages, and which of them are bound.
-ghost use Rattle.std.specs.Prelude.{◌≡◌, ◌≤◌, ◌<◌, ◌^◌};
-ghost use Rattle.tv_network.specs.Network.{form_of, network_wires, wires_before};
+ghost use Rattle.std.specs.Prelude.{◌≡◌, ◌≤◌, ◌<◌, ◌^◌, if◌then◌else◌, Some, None};
+ghost use Rattle.tv_network.specs.Network.{is_loose, left_out, loose_count, loose_number};
+ghost use Rattle.tv_network.specs.Network.{loose_slot, network_wires};
+ghost use Rattle.tv_network.specs.Stages.{form_of, stages_wires, wires_before};
 ghost use Rattle.tv_stages.specs.Stages.{stage_count};
 
 use crate::switches::Form;
@@ -19,8 +21,8 @@ pub struct Network {
 }
 
 impl Network {
-    /// Returns how many stages there are, at most 49 for 2^25 items.
-    pub fn stages(self) -> u32
+    // How many stages there are, at most 49 for 2^25 items.
+    pub(crate) fn stages(self) -> u32
         requires { self.items ≤ 2 ^ 25 }
         ensures is { result ≡ stage_count self.items }
         ensures few { result ≤ 49 }
@@ -54,12 +56,12 @@ impl Network {
         }
     }
 
-    /// Returns how many wires the network makes, and how many constraints.
-    pub fn wires(self) -> u64
+    // How many wires the stages make.
+    pub(crate) fn stages_wires(self) -> u64
         requires few { self.items ≤ 2 ^ 25 }
         requires rate { 1 ≤ self.rate }
-        ensures is { result ≡ network_wires self }
-        ensures few { result < 2 ^ 34 }
+        ensures is { result ≡ stages_wires self }
+        ensures few { result < 2 ^ 33 }
     {
         let mut wires: u64 = 0;
         for l in 0..self.stages() {
@@ -67,5 +69,65 @@ impl Network {
             wires += u64::from(self.stage(l).switches()) * width;
         }
         wires
+    }
+
+    /// Returns how many wires the network makes, and how many constraints: fewer than 2^34.
+    pub fn wires(self) -> u64
+        requires few { self.items ≤ 2 ^ 25 }
+        requires rate { 1 ≤ self.rate }
+        ensures is { result ≡ network_wires self }
+        ensures few { result < 2 ^ 34 }
+    {
+        self.stages_wires() + 2 * u64::from(self.loose_count())
+    }
+
+    // How many slots are at no switch of the last stage: the loose ones.
+    pub(crate) fn loose_count(self) -> u32
+        ensures { result ≡ loose_count self }
+    {
+        if self.items % 2 == 1 {
+            1
+        } else {
+            left_out(self.net, self.items)
+        }
+    }
+
+    // The loose slot with a number.
+    pub(crate) fn loose_slot(self, j: u32) -> u32
+        ensures { result ≡ loose_slot self j }
+    {
+        if self.items % 2 == 1 {
+            self.items - 1
+        } else {
+            j
+        }
+    }
+
+    // The number of a loose slot, if this is one.
+    pub(crate) fn loose_at(self, slot: u32) -> Option<u32>
+        requires { slot < self.items }
+        ensures { result ≡ (if is_loose self slot then Some (loose_number self slot) else None) }
+    {
+        if self.items % 2 == 1 {
+            if slot == self.items - 1 {
+                Some(0)
+            } else {
+                None
+            }
+        } else if slot < left_out(self.net, self.items) {
+            Some(slot)
+        } else {
+            None
+        }
+    }
+}
+
+// How many of an even number of slots are loose.
+fn left_out(net: Net, items: u32) -> u32
+    ensures { result ≡ left_out net items }
+{
+    match net {
+        Net::Benes => 0,
+        Net::Waksman => { if items > 2 { 2 } else { 0 } }
     }
 }

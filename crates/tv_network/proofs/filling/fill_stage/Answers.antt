@@ -2,9 +2,9 @@ use Rattle.tv_core.proofs.Common.{◌≡◌, ℕ, Bool, ◌+◌, ◌<◌, sym, �
 use Rattle.tv_core.proofs.JoinedLaws.{gives_no_list, gives_list, gives_list_refused}
 use Rattle.tv_core.specs.declared.lines.PairNum.{PairNum}
 use Rattle.tv_network.proofs.Filled.{all_as, some_as, values_as, exchanged_length, part_none, part_all, bit_there, lower_before, upper_before, part_more}
-use Rattle.tv_network.proofs.NetworkComplete.{values_at}
+use Rattle.tv_network.proofs.StagesComplete.{values_at}
 use Rattle.tv_network.specs.Filling.{pair_at, exchanged}
-use Rattle.tv_network.specs.Network.{switches_in, lower_slot, upper_slot, stage_values}
+use Rattle.tv_network.specs.Stages.{switches_in, lower_slot, upper_slot, stage_values}
 use Rattle.tv_stages.proofs.Numbers.{switches_numbered}
 use Rattle.tv_stages.specs.Stages.{bit_in}
 use Rattle.tv_network.proofs.filling.fill_stage.Goals as goal

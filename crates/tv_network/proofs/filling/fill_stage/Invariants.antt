@@ -1,6 +1,6 @@
 use Rattle.tv_core.proofs.Common.{◌≡◌, ℕ, ◌<◌, false, length, joined_below, GivesAll}
 use Rattle.tv_network.proofs.Filled.{part}
-use Rattle.tv_network.proofs.NetworkComplete.{values_at}
+use Rattle.tv_network.proofs.StagesComplete.{values_at}
 use Rattle.tv_network.specs.Filling.{pair_at}
 use Rattle.tv_stages.specs.Stages.{bit_in}
 use Rattle.tv_network.proofs.filling.fill_stage.Given as goal

@@ -2,10 +2,10 @@ use Rattle.tv_core.proofs.Common.{◌≡◌, ℕ, Bool, ◌+◌, ◌<◌, ◌∙
 use Rattle.tv_core.proofs.JoinedLaws.{gives_no_list, gives_list, gives_list_refused}
 use Rattle.tv_core.specs.declared.lines.PairNum.{PairNum}
 use Rattle.tv_network.proofs.Filled.{all_as, some_as, stage_values_same, first_none, first_more, through_more, is_places}
-use Rattle.tv_network.proofs.NetworkComplete.{stage_at}
+use Rattle.tv_network.proofs.StagesComplete.{stage_at}
 use Rattle.tv_network.proofs.StageLaws.{stage_same}
 use Rattle.tv_network.specs.Filling.{pair_at}
-use Rattle.tv_network.specs.Network.{network_values}
+use Rattle.tv_network.specs.Stages.{stages_values}
 use Rattle.tv_stages.specs.Stages.{bit_in, stage_count, through_first, through_stages}
 use Rattle.tv_network.proofs.filling.fill_stages.Goals as goal
 
@@ -23,7 +23,7 @@ loop-l-init g c =
     }
 
 pub returns-in_err-fill_stage-clause-gives : goal.returns-in_err-fill_stage-clause-gives
-unfolding network_values
+unfolding stages_values
 returns-in_err-fill_stage-clause-gives g c =
     let n = c.args.network in
     let bit = bit_in n.net n.items c.args.bits.now in
@@ -58,7 +58,7 @@ loop-l-preserved g c =
     }
 
 pub returns-clause-gives : goal.returns-clause-gives
-unfolding network_values
+unfolding stages_values
 returns-clause-gives g c =
     let all : c.loop-l.l ≡ stage_count c.args.network.items = omega (arith, c.loop-l-test.false, c.stages-l-end.ensures.is) in
     rw all at c.loop-l.invariant.gives

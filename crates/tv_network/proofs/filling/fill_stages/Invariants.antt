@@ -1,5 +1,5 @@
 use Rattle.tv_core.proofs.Common.{◌≡◌, ℕ, ◌*◌, ◌^◌, ◌<◌, ◌≤◌, false, length, joined_below, GivesAll}
-use Rattle.tv_network.proofs.NetworkComplete.{stage_at}
+use Rattle.tv_network.proofs.StagesComplete.{stage_at}
 use Rattle.tv_network.specs.Filling.{pair_at}
 use Rattle.tv_stages.specs.Stages.{bit_in, first_switch, through_first}
 use Rattle.tv_network.proofs.filling.fill_stages.Given as goal

@@ -1,19 +1,19 @@
 -- The values of a network satisfy its constraints.
-use Rattle.tv_core.proofs.Common.{◌≡◌, ℕ, zero, suc, ◌+◌, ◌*◌, ◌<◌, ◌≤◌, ◌==◌, Bool, true, List, [], length, sym, ◌∙◌, ap, ap₂, subst, arith, inl, inr}
+use Rattle.tv_core.proofs.Common.{◌≡◌, ℕ, zero, suc, ◌+◌, ◌*◌, ◌<◌, ◌≤◌, ◌==◌, Bool, true, List, length, sym, ◌∙◌, ap, ap₂, subst, arith, inl, inr}
 use Rattle.tv_core.proofs.Common.{cases_eq, slice_index}
-use Rattle.tv_core.proofs.Common.{HasFrom-split, Meets-join, Circuit, turns, here, pure, ◌>>=◌, joined_below, Assigns, Meets, HasFrom, flag_of}
+use Rattle.tv_core.proofs.Common.{HasFrom-split, Circuit, here, pure, ◌>>=◌, joined_below, Assigns, Meets, HasFrom, flag_of}
 use Rattle.std.proofs.Common.{length-append}
 use Rattle.tv_core.proofs.JoinedLaws.{joined_below-zero, joined_below-suc, length-joined_below, has_each_list}
 use Rattle.tv_core.proofs.LoopLaws.{turns_met, turns-next}
 use Rattle.tv_core.specs.Lines.{pair_value}
 use Rattle.tv_core.specs.declared.lines.Pair.{Pair}
 use Rattle.tv_core.specs.declared.lines.PairNum.{PairNum}
-use Rattle.tv_network.proofs.NetworkLaws.{stage_sound}
+use Rattle.tv_network.proofs.StagesSound.{stage_sound}
 use Rattle.tv_network.proofs.StageLaws.{stages_next, stage_turn, stage_same, AreSwitches, stage_values_are}
 use Rattle.tv_network.proofs.SwitchLaws.{flag_of-is, switch_complete}
 use Rattle.tv_network.proofs.SwitchSizes.{switch_sizes}
-use Rattle.tv_network.specs.Network.{form_of, switches_in, wires_before, wire_at, item_at, lower_slot, upper_slot, stage_of, network_of, stage_values}
-use Rattle.tv_network.specs.Network.{network_values, AreValues, NetworkIsComplete}
+use Rattle.tv_network.specs.Stages.{form_of, switches_in, wires_before, wire_at, item_at, lower_slot, upper_slot, stage_of, stages_of, stage_values}
+use Rattle.tv_network.specs.Stages.{stages_values, AreValues, StagesAreComplete}
 use Rattle.tv_network.specs.Switches.{width, switch_of, switch_values, bit_at}
 use Rattle.tv_network.specs.declared.shape.Network.{Network}
 use Rattle.tv_stages.proofs.Numbers.{switches_numbered}
@@ -48,9 +48,9 @@ module _ (n : Network) (bit : ℕ → ℕ → Bool) (v : ℕ → PairNum) where
       ap length (joined_below-suc m stage_at) ∙ length-append (joined_below m stage_at) (stage_at m)
       ∙ ap₂ (λ a b. a + b) (stages_length m) (stage_values-length n m (bit m) (through_first n.net n.items bit m v))
 
-  pub network_values-length : length (network_values n bit v) ≡ wires_before n (stage_count n.items)
-  unfolding network_values
-  network_values-length = stages_length (stage_count n.items)
+  pub stages_values-length : length (stages_values n bit v) ≡ wires_before n (stage_count n.items)
+  unfolding stages_values
+  stages_values-length = stages_length (stage_count n.items)
 
   -- an assignment that has the values of stages has those of each
   has_stage : (z : List ℕ) (next m : ℕ) → HasFrom z next (joined_below m stage_at) → (l : ℕ) → l < m → HasFrom z (next + wires_before n l) (stage_at l)
@@ -91,12 +91,12 @@ stage_complete z n l item next bit v within assigns is has =
 
 -- ---- the network
 module _ (z : List ℕ) (n : Network) (next : ℕ) (item : ℕ → Pair) (bit : ℕ → ℕ → Bool) (v : ℕ → PairNum) (assigns : Assigns z)
-    (is : AreValues z n item v) (has : HasFrom z next (network_values n bit v)) where
+    (is : AreValues z n item v) (has : HasFrom z next (stages_values n bit v)) where
   abbrev through : ℕ → ℕ → PairNum
   through l = through_first n.net n.items bit l v
 
   has_values : (l : ℕ) → l < stage_count n.items → HasFrom z (next + wires_before n l) (stage_values n l (bit l) (through l))
-  unfolding network_values
+  unfolding stages_values
   has_values l within = has_stage n bit v z next (stage_count n.items) has l within
 
   -- a stage before which the numbers that go through stand
@@ -126,17 +126,16 @@ module _ (z : List ℕ) (n : Network) (next : ℕ) (item : ℕ → Pair) (bit : 
   filled : (l : ℕ) → l < stage_count n.items → HasStage z n l (item_at n next item l) (next + wires_before n l) (bit l)
   filled l within = filled_by l within (values_filled l (omega arith))
 
-  all_met : Meets z (network_of n item next).list
-  unfolding network_of here pure ◌>>=◌
+  all_met : Meets z (stages_of n item next).list
+  unfolding stages_of here pure ◌>>=◌
   all_met =
       let piece = stage_turn n (item_at n next item) in
-      Meets-join z (turns (stage_count n.items) piece tt next).list []
-      (turns_met z piece tt next (stage_count n.items) (λ l within. subst (λ w. Meets z (piece l tt w).list)
-      (sym (stages_next n (item_at n next item) l next)) (filled l within).meets)) tt
+      turns_met z piece tt next (stage_count n.items) (λ l within. subst (λ w. Meets z (piece l tt w).list)
+      (sym (stages_next n (item_at n next item) l next)) (filled l within).meets)
 
-pub network_complete : NetworkIsComplete
+pub stages_complete : StagesAreComplete
 unfolding through_stages
-network_complete z n next item bit v assigns is has = record {
+stages_complete z n next item bit v assigns is has = record {
   meets = all_met z n next item bit v assigns is has;
   bits = λ l at within h. (filled z n next item bit v assigns is has l within).bits at h;
   outputs = λ x h. values_filled z n next item bit v assigns is has (stage_count n.items) (omega arith) x h;

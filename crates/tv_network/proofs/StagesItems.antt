@@ -1,15 +1,15 @@
 -- What stands at a slot is made of wires before its stage, is short, and is normal; and all that is emitted is normal.
-use Rattle.tv_core.proofs.Common.{◌≡◌, ℕ, zero, suc, ◌+◌, ◌*◌, ◌<◌, ◌≤◌, Bool, [], sym, subst, arith, inl, inr, Circuit, turns, here, pure, ◌>>=◌}
+use Rattle.tv_core.proofs.Common.{◌≡◌, ℕ, zero, suc, ◌+◌, ◌*◌, ◌<◌, ◌≤◌, Bool, sym, subst, arith, inl, inr, Circuit, turns, here, pure, ◌>>=◌}
 use Rattle.tv_core.proofs.Common.{AreNormal}
 use Rattle.std.proofs.Math.Nat.{mul-le-mul_right}
 use Rattle.std.proofs.lemmas.Bool.{cases_Bool}
 use Rattle.tv_core.proofs.LoopLaws.{turns-next}
-use Rattle.tv_core.proofs.NormalCircuits.{normal_both, normal_turns}
+use Rattle.tv_core.proofs.NormalCircuits.{normal_turns}
 use Rattle.tv_core.specs.declared.lines.Pair.{Pair}
 use Rattle.tv_network.proofs.StageLaws.{stages_next, stage_turn, item_kept, item_passed}
 use Rattle.tv_network.proofs.SwitchSizes.{switch_normal, switch_sizes}
-use Rattle.tv_network.specs.Network.{form_of, switches_in, wires_before, switch_wire, wire_at, item_at, lower_slot, upper_slot, stage_of, network_of}
-use Rattle.tv_network.specs.Network.{NetworkIsNormal}
+use Rattle.tv_network.specs.Stages.{form_of, switches_in, wires_before, switch_wire, wire_at, item_at, lower_slot, upper_slot, stage_of, stages_of}
+use Rattle.tv_network.specs.Stages.{StagesAreNormal}
 use Rattle.tv_network.specs.Switches.{width, switch_of, passed_to, IsPairMade, ArePairsMade, IsNormalPair}
 use Rattle.tv_network.specs.declared.shape.Network.{Network}
 use Rattle.tv_stages.proofs.Numbers.{switches_numbered}
@@ -105,16 +105,15 @@ stage_normal n l item next within normal =
     (normal_later (item (lower_slot n l at)) next _ after (normal (lower_slot n l at) (omega arith)))
     (normal_later (item (upper_slot n l at)) next _ after (normal (upper_slot n l at) upper)))
 
-puts_normal : (n : Network) (next : ℕ) (item : ℕ → Pair) → ((x : ℕ) → x < n.items → IsNormalPair (item x) next) → AreNormal (network_of n item next).list
-unfolding network_of here pure ◌>>=◌
+puts_normal : (n : Network) (next : ℕ) (item : ℕ → Pair) → ((x : ℕ) → x < n.items → IsNormalPair (item x) next) → AreNormal (stages_of n item next).list
+unfolding stages_of here pure ◌>>=◌
 puts_normal n next item normal =
     let piece = stage_turn n (item_at n next item) in
-    normal_both (turns (stage_count n.items) piece tt next).list []
-    (normal_turns piece tt next (stage_count n.items) (λ l within. subst (λ w. AreNormal (piece l tt w).list) (sym (stages_next n (item_at n next item) l next))
-    (stage_normal n l (item_at n next item l) (next + wires_before n l) within (items_normal n next item normal l (omega arith))))) tt
+    normal_turns piece tt next (stage_count n.items) (λ l within. subst (λ w. AreNormal (piece l tt w).list) (sym (stages_next n (item_at n next item) l next))
+    (stage_normal n l (item_at n next item l) (next + wires_before n l) within (items_normal n next item normal l (omega arith))))
 
-pub network_normal : NetworkIsNormal
-network_normal = record {
+pub stages_normal : StagesAreNormal
+stages_normal = record {
   puts = puts_normal;
   outputs = λ n next item normal x h. items_normal n next item normal (stage_count n.items) (omega arith) x h;
 }

@@ -1,15 +1,12 @@
--- How many wires and values a network has, and that its values are in the field.
-use Rattle.tv_core.proofs.Common.{◌≡◌, ℕ, zero, suc, ◌+◌, ◌<◌, Bool, true, false, refl, sym, ◌∙◌, ap, subst, arith, inl, inr, here, pure, ◌>>=◌, InField}
+-- The values of a network's stages are in the field.
+use Rattle.tv_core.proofs.Common.{ℕ, zero, suc, ◌<◌, Bool, true, false, sym, subst, arith, inl, inr, InField}
 use Rattle.std.proofs.lemmas.Bool.{cases_Bool}
 use Rattle.tv_core.proofs.FieldLaws.{InField-joined_below}
 use Rattle.tv_core.specs.declared.field.TheConstants.{P}
-use Rattle.tv_core.specs.declared.lines.Pair.{Pair}
 use Rattle.tv_core.specs.declared.lines.PairNum.{PairNum}
-use Rattle.tv_network.proofs.NetworkComplete.{network_values-length}
-use Rattle.tv_network.proofs.NetworkItems.{items_made}
-use Rattle.tv_network.proofs.StageLaws.{network_next, stage_kept, stage_passed}
+use Rattle.tv_network.proofs.StageLaws.{stage_kept, stage_passed}
 use Rattle.tv_network.proofs.SwitchSizes.{switch_sizes}
-use Rattle.tv_network.specs.Network.{form_of, switches_in, lower_slot, upper_slot, slots_at, stage_values, network_of, network_values, NetworkFills}
+use Rattle.tv_network.specs.Stages.{form_of, switches_in, lower_slot, upper_slot, stage_values, stages_values}
 use Rattle.tv_network.specs.Switches.{passed}
 use Rattle.tv_network.specs.declared.shape.Network.{Network}
 use Rattle.tv_stages.proofs.Moves.{switched_on}
@@ -35,13 +32,13 @@ module _ {X : Type 0} (Q : X → Type 0) (net : Net) (L : ℕ) (bit : ℕ → �
         | inr off ↦ subst Q (sym (stage_kept net L l bit v x off)) (each x h)
       ]
 
-  through_keeps : (v : ℕ → X) → ((x : ℕ) → x < L → Q (v x)) → (m x : ℕ) → x < L → Q (through_first net L bit m v x)
+  pub through_keeps : (v : ℕ → X) → ((x : ℕ) → x < L → Q (v x)) → (m x : ℕ) → x < L → Q (through_first net L bit m v x)
   unfolding through_first
   through_keeps v each zero x h = each x h
   through_keeps v each (suc m) x h = stage_keeps m (through_first net L bit m v) (through_keeps v each m) x h
 
 -- ---- the values
-abbrev IsSmall : PairNum → Type 0
+abbrev pub IsSmall : PairNum → Type 0
 IsSmall x = (x.first < P) × (x.second < P)
 
 stage_small : (n : Network) (l : ℕ) (bit : ℕ → Bool) (v : ℕ → PairNum) → l < stage_count n.items → ((x : ℕ) → x < n.items → IsSmall (v x))
@@ -53,22 +50,8 @@ stage_small n l bit v within small =
     switch_sizes.in_field (form_of n l) (bit (number n.net n.items l at)) (v (lower_slot n l at)) (v (upper_slot n l at))
     (small (lower_slot n l at) (omega arith)) (small (upper_slot n l at) upper))
 
-values_small : (n : Network) (bit : ℕ → ℕ → Bool) (v : ℕ → PairNum) → ((x : ℕ) → x < n.items → IsSmall (v x)) → InField (network_values n bit v)
-unfolding network_values
-values_small n bit v small =
+pub stages_small : (n : Network) (bit : ℕ → ℕ → Bool) (v : ℕ → PairNum) → ((x : ℕ) → x < n.items → IsSmall (v x)) → InField (stages_values n bit v)
+unfolding stages_values
+stages_small n bit v small =
     InField-joined_below _ (stage_count n.items) (λ l within.
     stage_small n l (bit l) (through_first n.net n.items bit l v) within (through_keeps IsSmall n.net n.items bit v small l))
-
--- ---- the network
-network_answer : (n : Network) (next : ℕ) (item : ℕ → Pair) → (network_of n item next).answer ≡ slots_at n next (stage_count n.items)
-unfolding network_of here pure ◌>>=◌
-network_answer n next item = refl
-
-pub network_fills : NetworkFills
-network_fills = record {
-  answer = network_answer;
-  ends = λ n next item. network_next n item next;
-  fills = λ n item bit v next. network_next n item next ∙ ap (λ k. next + k) (sym (network_values-length n bit v));
-  made = items_made;
-  small = values_small;
-}

@@ -1,8 +1,8 @@
 use Rattle.tv_core.proofs.Common.{◌≡◌, ◌+◌, ◌*◌, sym, ◌∙◌, ap, ap₂, arith, add-one}
 use Rattle.tv_network.proofs.Shapes.{width_few, wires_before-zero, wires_before-suc, product_few}
-use Rattle.tv_network.specs.Network.{switches_in, form_of, wires_before}
+use Rattle.tv_network.specs.Stages.{switches_in, form_of, wires_before}
 use Rattle.tv_network.specs.Switches.{width}
-use Rattle.tv_network.proofs.shape.Network.wires.Goals as goal
+use Rattle.tv_network.proofs.shape.Network.stages_wires.Goals as goal
 
 pub loop-l-init : goal.loop-l-init
 loop-l-init c = record { is = sym (wires_before-zero c.args.self); few = omega arith }
