@@ -42,9 +42,6 @@ pub bits_after : (bits : List Bool) (n : ℕ) → let m = min n (length bits) in
     ◌≡◌ {A = ℕ → Bool} (bit_at (take (length bits - m) (drop m bits))) (from n (bit_at bits))
 bits_after bits n = λ t j. left_bit bits n _ j refl t
 
-pub from_start : (bit : ℕ → Bool) → ◌≡◌ {A = ℕ → Bool} (from 0 bit) bit
-from_start bit = λ t j. let start : 0 + j ≡ j = omega arith in bit (start t)
-
 -- the source at the lowest level
 pub source_zero : (net : Net) (bit : ℕ → Bool) (i : ℕ) → through net 0 bit (λ j. j) i ≡ 2 * (i / 2) + (if not (beq (bit (i / 2)) (i % 2 == 1)) then 1 else 0)
 unfolding through

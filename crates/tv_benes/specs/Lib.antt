@@ -1,6 +1,4 @@
-pub mod Costs
 pub mod Items
-pub mod Levels
 pub mod Network
 pub mod OutputLists
 pub mod Places

@@ -1,13 +1,11 @@
 //! The columns of a network's switches, emitted into a sink.
-ghost use Rattle.std.specs.Prelude.{ℕ, ◌+◌, ◌*◌, ◌<◌, ◌≤◌, length};
+ghost use Rattle.std.specs.Prelude.{◌+◌, ◌*◌, ◌<◌, ◌≤◌, length};
 ghost use Rattle.tv_core.specs.Combinations.{top};
 ghost use Rattle.tv_core.specs.Sinks.{Emits, Room};
 ghost use Rattle.tv_benes.specs.Network.{remainder_of, switch_of, column_of};
-ghost use Rattle.tv_benes.specs.Places.{wires_at, ArePairsMade, IsPairMade};
-ghost use Rattle.tv_benes.specs.declared.shape.Form.TheVariants.{Bound, Open};
+ghost use Rattle.tv_benes.specs.Places.{item_in, count_in, ArePairsMade, IsPairMade};
 
-use crate::open_switches::open_switch;
-use crate::places::{Pairs, Places};
+use crate::places::{ColumnItems, Inputs};
 use tv_bits::{bit_by, select_terms};
 use tv_core::{F, Lc, Pair, Put, Scratch, Sink, Wire};
 
@@ -33,13 +31,13 @@ fn remainder<S: Sink>(s: &mut S, scratch: &mut Scratch, x: &Lc, y: &Lc, p: Wire)
     Ok(q)
 }
 
-// A bound switch between two items. It makes 5 wires and 5 constraints: its bit's, and for both
-// numbers of an item a choice and a sum.
-pub(crate) fn bound_switch<S: Sink>(s: &mut S, scratch: &mut Scratch, x: &Pair, y: &Pair) -> Put<()>
+// A switch between two items. It makes 5 wires and 5 constraints: its bit's, and for both numbers
+// of an item a choice and a sum.
+fn switch<S: Sink>(s: &mut S, scratch: &mut Scratch, x: &Pair, y: &Pair) -> Put<()>
     requires room { Room S.meaning s.old 5 5 }
     requires x_made { IsPairMade x.now (S.meaning.wires s.old) }
     requires y_made { IsPairMade y.now (S.meaning.wires s.old) }
-    ensures emits { Emits S.meaning s.old s.new (switch_of Bound x.now y.now) 5 5 result }
+    ensures emits { Emits S.meaning s.old s.new (switch_of x.now y.now) 5 5 result }
 {
     let b = s.fresh();
     bit_by(s, scratch, b)?;
@@ -50,43 +48,23 @@ pub(crate) fn bound_switch<S: Sink>(s: &mut S, scratch: &mut Scratch, x: &Pair, 
     Ok(())
 }
 
-// `n` open switches between items that are two wires each.
-pub(crate) fn open_column<S: Sink, P: Places>(
-    s: &mut S,
-    scratch: &mut Scratch,
-    n: u32,
-    items: &P,
-) -> Put<()>
-    requires room { Room S.meaning s.old (3 * n) (3 * n) }
-    requires made { (i : ℕ) → i < 2 * n → P.place items.now i + 1 < S.meaning.wires s.old }
-    ensures emits { Emits S.meaning s.old s.new
-        (column_of Open n (λ i. wires_at (P.place items.now i))) (3 * n) (3 * n) result }
-{
-    for j in 0..n {
-        let x = items.at(2 * j);
-        let y = items.at(2 * j + 1);
-        open_switch(s, scratch, x, y)?;
-    }
-    Ok(())
-}
-
-// `n` bound switches.
-pub(crate) fn bound_column<S: Sink, T: Pairs>(
+// `n` switches.
+pub(crate) fn column<S: Sink, I: Inputs>(
     s: &mut S,
     buffers: &mut Buffers,
     n: u32,
-    items: &T,
+    items: &ColumnItems<'_, I>,
 ) -> Put<()>
     requires room { Room S.meaning s.old (5 * n) (5 * n) }
-    requires count { 2 * n ≤ T.count items.now }
-    requires made { ArePairsMade (T.pair items.now) (2 * n) (S.meaning.wires s.old) }
+    requires count { 2 * n ≤ count_in I.count items.now }
+    requires made { ArePairsMade (item_in I.pair items.now) (2 * n) (S.meaning.wires s.old) }
     ensures emits { Emits S.meaning s.old s.new
-        (column_of Bound n (T.pair items.now)) (5 * n) (5 * n) result }
+        (column_of n (item_in I.pair items.now)) (5 * n) (5 * n) result }
 {
     for j in 0..n {
         items.set_item(2 * j, &mut buffers.x);
         items.set_item(2 * j + 1, &mut buffers.y);
-        bound_switch(s, &mut buffers.scratch, &buffers.x, &buffers.y)?;
+        switch(s, &mut buffers.scratch, &buffers.x, &buffers.y)?;
     }
     Ok(())
 }
@@ -94,9 +72,9 @@ pub(crate) fn bound_column<S: Sink, T: Pairs>(
 // Scratch space of all columns of a network: two items, and the combinations of a constraint.
 #[derive(Drop)]
 pub(crate) struct Buffers {
-    pub(crate) scratch: Scratch,
-    pub(crate) x: Pair,
-    pub(crate) y: Pair,
+    scratch: Scratch,
+    x: Pair,
+    y: Pair,
 }
 
 impl Buffers {

@@ -1,5 +1,4 @@
 //! What is proved of networks, from the definitions.
-ghost use Rattle.tv_benes.specs.Costs.{NetworkIsCounted};
 ghost use Rattle.tv_benes.specs.Network.{NetworkIsSound, NetworkIsComplete, NetworkIsNormal};
 ghost use Rattle.tv_benes.specs.Network.{NetworkFills};
 ghost use Rattle.tv_benes.specs.Through.{NumbersArePermuted, PairsArePermuted};
@@ -39,17 +38,9 @@ pub fn network_is_normal()
     ensures { NetworkIsNormal }
 {}
 
-/// A network makes three wires a switch and two more a bound one, with one value each; its outputs
-/// are among them; and its values are numbers of the field where its inputs are.
+/// A network makes five wires a switch, with one value each; its outputs are among them; and its
+/// values are numbers of the field where its inputs are.
 #[tactic(auto, using(crate::proofs::Sizes::network_sizes))]
 pub fn network_fills()
     ensures { NetworkFills }
-{}
-
-/// A network costs a constraint for each wire that it makes. The terms of its first column are
-/// those of its switches by their items; the others have 22 a switch, and in Waksman's network a
-/// few more.
-#[tactic(auto, using(crate::proofs::CostLaws::network_counted))]
-pub fn network_is_counted()
-    ensures { NetworkIsCounted }
 {}

@@ -8,25 +8,20 @@
 #![tactic(auto)]
 
 mod columns;
-mod costs;
 mod items;
 mod laws;
 mod networks;
-mod open_switches;
 mod outputs;
 mod places;
-mod routing;
 mod shape;
 mod values;
 
-pub use costs::{inner_terms, switch_terms};
 pub use laws::{
-    network_fills, network_is_complete, network_is_counted, network_is_normal, network_is_sound,
+    network_fills, network_is_complete, network_is_normal, network_is_sound,
     places_determine_outputs, through_is_a_permutation,
 };
 pub use networks::{network, routing_network};
 pub use outputs::Outputs;
 pub use places::{Ends, Inputs};
-pub use routing::route_items;
-pub use shape::{Net, network_wires, routing_switches, switches};
+pub use shape::{Net, routing_switches, switches};
 pub use values::{fill_network, fill_routing_network};

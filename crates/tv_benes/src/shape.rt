@@ -1,6 +1,5 @@
 //! The two networks, and how many switches they have.
 ghost use Rattle.std.specs.Prelude.{◌≡◌, ◌-◌, ◌^◌, ◌<◌, ◌≤◌};
-ghost use Rattle.tv_benes.specs.Levels.{other, innermost, bound_of, bound, network_wires};
 ghost use Rattle.tv_benes.specs.Through.{switches, missing};
 ghost use Rattle.tv_benes.specs.declared.shape.Net.TheVariants.{Benes};
 
@@ -28,36 +27,6 @@ impl Net {
     }
 }
 
-// The form of a level: a switch of a bound one makes wires for the numbers that it passes on, and a
-// switch of an open one two products, with which they are sums.
-#[derive(Clone, Copy)]
-pub(crate) enum Form {
-    Bound,
-    Open,
-}
-
-impl Form {
-    // The form of the level below.
-    pub(crate) fn other(self) -> Form
-        ensures { result ≡ other self }
-    {
-        match self {
-            Form::Bound => Form::Open,
-            Form::Open => Form::Bound,
-        }
-    }
-
-    // The form of the one switch of a network on two items, at a level of this form.
-    pub(crate) fn innermost(self, net: Net) -> Form
-        ensures { result ≡ innermost net self }
-    {
-        match net {
-            Net::Benes => self,
-            Net::Waksman => Form::Bound,
-        }
-    }
-}
-
 /// Returns how many switches Benes' network for 2^`k` items has, `k` being from 1 to 31.
 pub fn switches(k: u32) -> u64
     requires some { 1 ≤ k }
@@ -74,41 +43,6 @@ pub fn routing_switches(net: Net, k: u32) -> u64
     ensures { result ≡ switches net (k - 1) }
 {
     level_switches(net, k - 1)
-}
-
-/// Returns how many wires either network for 2^`k` items makes, and how many constraints, `k` being
-/// from 1 to 31: three a switch, and two more for a switch of a bound level. Levels are bound and
-/// open in turn, from the outermost on.
-pub fn network_wires(net: Net, k: u32) -> u64
-    requires some { 1 ≤ k }
-    requires few { k ≤ 31 }
-    ensures { result ≡ network_wires net (k - 1) }
-{
-    3 * routing_switches(net, k) + 2 * bound_switches(net, Form::Bound, k - 1)
-}
-
-// How many switches of a network of level `h` are bound.
-fn bound_switches(net: Net, form: Form, h: u32) -> u64
-    requires { h < 31 }
-    ensures is { result ≡ bound net form h }
-    ensures few { result ≤ switches net h }
-{
-    if h == 0 {
-        return bound_of(form.innermost(net), 1);
-    }
-    let column = 2 * long_power(h) - long_missing(net);
-    let inner = bound_switches(net, form.other(), h - 1);
-    bound_of(form, column) + 2 * inner
-}
-
-// How many of `n` switches of a level are bound.
-fn bound_of(form: Form, n: u64) -> u64
-    ensures { result ≡ bound_of form n }
-{
-    match form {
-        Form::Bound => n,
-        Form::Open => 0,
-    }
 }
 
 // How many switches a network of level `h` has.

@@ -2,14 +2,13 @@
 ghost use Rattle.std.specs.Prelude.{◌≡◌, suc, false, ◌+◌, ◌-◌, ◌*◌, ◌^◌, ◌<◌, ◌≤◌, OnOk};
 ghost use Rattle.tv_benes.specs.Items.{bit_at, pair_at, item_of, depth_of};
 ghost use Rattle.tv_benes.specs.Network.{switch_values, column_values};
-ghost use Rattle.tv_benes.specs.Network.{last_column_values, level_values, network_values};
+ghost use Rattle.tv_benes.specs.Network.{last_column_values, network_values};
 ghost use Rattle.tv_benes.specs.Through.{switches, missing, from, last_item};
-ghost use Rattle.tv_benes.specs.declared.shape.Form.TheVariants.{Bound, Open};
 ghost use Rattle.tv_benes.specs.declared.shape.Net.TheVariants.{Benes};
 ghost use Rattle.tv_core.specs.Values.{GivesIn};
 
 use crate::items::{Items, bit, bits_from, read, source};
-use crate::shape::{Form, Net, level_switches, long_missing, long_power};
+use crate::shape::{Net, level_switches, long_missing, long_power};
 use tv_core::{F, PairNum, Put, Values, give_values};
 
 /// Assigns the values of the wires that `network` makes, for the numbers of its inputs and the bits
@@ -42,11 +41,11 @@ pub fn fill_routing_network<V: Values>(
         (network_values net (k - 1) (bit_at bits.now) (pair_at inputs.now)) result }
     ensures whole { OnOk result (V.giving.broken v.new ≡ false) }
 {
-    fill_level(v, net, Form::Bound, k - 1, &Items::Given(inputs), bits)
+    fill_level(v, net, k - 1, &Items::Given(inputs), bits)
 }
 
-fn bound_values(b: bool, x: PairNum, y: PairNum) -> [F; 5]
-    ensures { result ≡ switch_values Bound b x y }
+fn switch_values(b: bool, x: PairNum, y: PairNum) -> [F; 5]
+    ensures { result ≡ switch_values b x y }
 {
     if b {
         [F::ONE, y.first, y.second, x.first, x.second]
@@ -55,52 +54,27 @@ fn bound_values(b: bool, x: PairNum, y: PairNum) -> [F; 5]
     }
 }
 
-fn open_values(b: bool, x: PairNum, y: PairNum) -> [F; 3]
-    ensures { result ≡ switch_values Open b x y }
-{
-    if b {
-        [F::ONE, x.first - y.first, x.second - y.second]
-    } else {
-        [F::ZERO, F::ZERO, F::ZERO]
-    }
-}
-
 // The values of a switch.
-pub(crate) fn fill_switch<V: Values>(
-    v: &mut V,
-    form: Form,
-    b: bool,
-    x: PairNum,
-    y: PairNum,
-) -> Put<()>
+fn fill_switch<V: Values>(v: &mut V, b: bool, x: PairNum, y: PairNum) -> Put<()>
     requires whole { V.giving.broken v.old ≡ false }
-    ensures gives { GivesIn V.giving v.old v.new (switch_values form b x y) result }
+    ensures gives { GivesIn V.giving v.old v.new (switch_values b x y) result }
     ensures whole { OnOk result (V.giving.broken v.new ≡ false) }
 {
-    match form {
-        Form::Bound => give_values(v, &bound_values(b, x, y)),
-        Form::Open => give_values(v, &open_values(b, x, y)),
-    }
+    give_values(v, &switch_values(b, x, y))
 }
 
 // The values of `n` switches.
-fn fill_column<V: Values>(
-    v: &mut V,
-    form: Form,
-    n: u64,
-    items: &Items<'_>,
-    bits: &[bool],
-) -> Put<()>
+fn fill_column<V: Values>(v: &mut V, n: u64, items: &Items<'_>, bits: &[bool]) -> Put<()>
     requires whole { V.giving.broken v.old ≡ false }
     requires near { 2 * n * 2 ^ depth_of items.now ≤ 2 ^ 62 }
     ensures gives { GivesIn V.giving v.old v.new
-        (column_values form n (bit_at bits.now) (item_of items.now)) result }
+        (column_values n (bit_at bits.now) (item_of items.now)) result }
     ensures whole { OnOk result (V.giving.broken v.new ≡ false) }
 {
     for j in 0..n {
         let x = read(items, 2 * j);
         let y = read(items, 2 * j + 1);
-        fill_switch(v, form, bit(bits, j), x, y)?;
+        fill_switch(v, bit(bits, j), x, y)?;
     }
     Ok(())
 }
@@ -109,7 +83,6 @@ fn fill_column<V: Values>(
 fn fill_last_switch<V: Values>(
     v: &mut V,
     net: Net,
-    form: Form,
     h: u32,
     items: &Items<'_>,
     bits: &[bool],
@@ -121,7 +94,7 @@ fn fill_last_switch<V: Values>(
     requires within { j + missing net < 2 ^ suc h }
     ensures gives { let bit = bit_at bits.now
         in let item = last_item net h bit (item_of items.now)
-        in GivesIn V.giving v.old v.new (switch_values form
+        in GivesIn V.giving v.old v.new (switch_values
         (from (2 ^ suc h + 2 * switches net h) bit j) (item (2 * j)) (item (2 * j + 1))) result }
     ensures whole { OnOk result (V.giving.broken v.new ≡ false) }
 {
@@ -132,61 +105,45 @@ fn fill_last_switch<V: Values>(
     let from_lower = source(net, bits_from(bits, n + s), h, i);
     let x = read(&Items::Half(&*items, bits, false), from_upper);
     let y = read(&Items::Half(&*items, bits, true), from_lower);
-    fill_switch(v, form, bit(bits, n + 2 * s + j), x, y)
+    fill_switch(v, bit(bits, n + 2 * s + j), x, y)
 }
 
 // The values of that whole column.
-fn fill_last<V: Values>(
-    v: &mut V,
-    net: Net,
-    form: Form,
-    h: u32,
-    items: &Items<'_>,
-    bits: &[bool],
-) -> Put<()>
+fn fill_last<V: Values>(v: &mut V, net: Net, h: u32, items: &Items<'_>, bits: &[bool]) -> Put<()>
     requires whole { V.giving.broken v.old ≡ false }
     requires level { h < 30 }
     requires near { 2 ^ suc (suc h) * 2 ^ depth_of items.now ≤ 2 ^ 62 }
     ensures gives { GivesIn V.giving v.old v.new
-        (last_column_values net form h (bit_at bits.now) (item_of items.now))
+        (last_column_values net h (bit_at bits.now) (item_of items.now))
         result }
     ensures whole { OnOk result (V.giving.broken v.new ≡ false) }
 {
     let n = long_power(h + 1) - long_missing(net);
     for j in 0..n {
-        fill_last_switch(v, net, form, h, items, bits, j)?;
+        fill_last_switch(v, net, h, items, bits, j)?;
     }
     Ok(())
 }
 
 // The values of a network of level `h` on these items.
-fn fill_level<V: Values>(
-    v: &mut V,
-    net: Net,
-    form: Form,
-    h: u32,
-    items: &Items<'_>,
-    bits: &[bool],
-) -> Put<()>
+fn fill_level<V: Values>(v: &mut V, net: Net, h: u32, items: &Items<'_>, bits: &[bool]) -> Put<()>
     requires whole { V.giving.broken v.old ≡ false }
     requires level { h < 31 }
     requires near { 2 ^ suc h * 2 ^ depth_of items.now ≤ 2 ^ 62 }
     ensures gives { GivesIn V.giving v.old v.new
-        (level_values net form h (bit_at bits.now) (item_of items.now)) result }
+        (network_values net h (bit_at bits.now) (item_of items.now)) result }
     ensures whole { OnOk result (V.giving.broken v.new ≡ false) }
 {
     if h == 0 {
-        return fill_column(v, form.innermost(net), 1, items, bits);
+        return fill_column(v, 1, items, bits);
     }
     let n = long_power(h);
     let below = h - 1;
-    fill_column(v, form, n, items, bits)?;
     let s = level_switches(net, below);
-    let inner = form.other();
-    let upper_bits = bits_from(bits, n);
+    fill_column(v, n, items, bits)?;
     let upper = Items::Half(&*items, bits, false);
-    fill_level(v, net, inner, below, &upper, upper_bits)?;
+    fill_level(v, net, below, &upper, bits_from(bits, n))?;
     let lower = Items::Half(&*items, bits, true);
-    fill_level(v, net, inner, below, &lower, bits_from(upper_bits, s))?;
-    fill_last(v, net, form, below, items, bits)
+    fill_level(v, net, below, &lower, bits_from(bits, n + s))?;
+    fill_last(v, net, below, items, bits)
 }

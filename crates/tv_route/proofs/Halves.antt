@@ -1,50 +1,17 @@
 -- The halves of a permutation: every input is settled, and of each two fellows one goes down.
-use Rattle.tv_core.proofs.Common.{◌≡◌, ◌≢◌, ℕ, zero, suc, ◌+◌, ◌*◌, ◌/◌, ◌%◌, ◌<◌, ◌≤◌, ◌==◌, inl, inr, Bool, true, false, not, if◌then◌else◌, List, length}
-use Rattle.tv_core.proofs.Common.{get_or, set, Some, None, refl, sym, ◌∙◌, ap, subst, arith, slice_index, cases_eq, cases_lt, cond_both}
-use Rattle.std.proofs.Common.{replicate, is_none, get_or-set_same, get_or-set_other}
+use Rattle.tv_core.proofs.Common.{◌≡◌, ℕ, zero, suc, ◌+◌, ◌*◌, ◌/◌, ◌%◌, ◌<◌, ◌≤◌, inl, inr, Bool, true, false, not, if◌then◌else◌, List, length}
+use Rattle.tv_core.proofs.Common.{get_or, Some, None, refl, sym, ◌∙◌, ap, arith, slice_index, cases_eq}
+use Rattle.std.proofs.Common.{replicate, is_none}
 use Rattle.std.specs.Prelude.{unwrap_or}
-use Rattle.std.proofs.lemmas.List.{get_or-replicate, length-replicate, get_or_past}
+use Rattle.std.proofs.lemmas.List.{get_or-replicate, length-replicate}
 use Rattle.std.proofs.lemmas.List.Sums.{count_by-le-length}
 use Rattle.tv_route.proofs.PairLaws.{other_pairs, other-even, partners_pair, partner_of}
 use Rattle.tv_route.proofs.Walks.{IsClosed, IsUnderway, left, walk_closes, walk_still, walk_begins}
 use Rattle.tv_route.specs.Permutations.{Permutes}
 use Rattle.tv_route.specs.Route.{Mark, other, partners, walk, walks, halves, down}
 
-abbrev pub IsSettled : List Mark → ℕ → Type 0
-IsSettled marks z = get_or marks z None ≢ None
-
 some_none : (c : Bool) → ◌≡◌ {A = Mark} (Some c) None → ⊥
 some_none c e = cc
-
-set_keeps : (marks : List Mark) (i : ℕ) (b : Bool) (z : ℕ) → IsSettled marks z → IsSettled (set marks i (Some b)) z
-set_keeps marks i b z s e = elim (cases_eq z i) [
-  | inl same ↦ elim (cases_lt i (length marks)) [
-    | inl within ↦ some_none b (sym (ap (λ k. get_or (set marks i (Some b)) k None) same ∙ get_or-set_same marks i (Some b) None within) ∙ e)
-    | inr past ↦ s (ap (λ k. get_or marks k None) same ∙ get_or_past marks i None past)
-  ]
-  | inr apart ↦ s (sym (get_or-set_other marks i z (Some b) None apart) ∙ e)
-]
-
-walk_keeps : (partner : List ℕ) (steps start x : ℕ) (marks : List Mark) (z : ℕ) → IsSettled marks z → IsSettled (walk partner steps start x marks) z
-unfolding walk
-walk_keeps partner zero start x marks z s = s
-walk_keeps partner (suc steps) start x marks z s =
-    let y = slice_index partner x in
-    let more = set (set marks x (Some false)) y (Some true) in
-    let kept = set_keeps (set marks x (Some false)) y true z (set_keeps marks x false z s) in
-    cond_both (other y == start) more (walk partner steps start (other y) more) (λ l. IsSettled l z) (λ e. kept)
-    (λ e. walk_keeps partner steps start (other y) more z kept)
-
-walk_settles : (partner : List ℕ) (steps start x : ℕ) (marks : List Mark) → x < length marks → 0 < steps → IsSettled (walk partner steps start x marks) x
-unfolding walk
-walk_settles partner zero start x marks within some = absurd (omega arith)
-walk_settles partner (suc steps) start x marks within some =
-    let y = slice_index partner x in
-    let more = set (set marks x (Some false)) y (Some true) in
-    let first : IsSettled (set marks x (Some false)) x = λ e. some_none false (sym (get_or-set_same marks x (Some false) None within) ∙ e) in
-    let kept = set_keeps (set marks x (Some false)) y true x first in
-    cond_both (other y == start) more (walk partner steps start (other y) more) (λ l. IsSettled l x) (λ e. kept)
-    (λ e. walk_keeps partner steps start (other y) more x kept)
 
 module _ (n : ℕ) (p : List ℕ) (perm : Permutes (2 * n) p) where
   abbrev σ : ℕ → ℕ
@@ -53,35 +20,27 @@ module _ (n : ℕ) (p : List ℕ) (perm : Permutes (2 * n) p) where
   -- after the walks from the first j even inputs
   record IsWalked (j : ℕ) (marks : List Mark) : Type 0 where
     closed : IsClosed (2 * n) σ other marks
-    evens : (i : ℕ) → i < j → IsSettled marks (2 * i)
+    evens : (i : ℕ) → i < j → (b : Bool) × (get_or marks (2 * i) None ≡ Some b)
     up : get_or marks (slice_index p 0) None ≡ Some false
 
   free_is : (k : Mark) → is_none k ≡ true → k ≡ None
   free_is None e = refl
   free_is (Some b) e = cc
 
-  taken_is : (k : Mark) → is_none k ≡ false → k ≢ None
-  taken_is None e f = cc
-  taken_is (Some b) e f = cc
+  taken_is : (k : Mark) → is_none k ≡ false → (b : Bool) × (k ≡ Some b)
+  taken_is None e = cc
+  taken_is (Some b) e = (b, refl)
 
   underway : (x : ℕ) (marks : List Mark) → x < 2 * n → IsClosed (2 * n) σ other marks → get_or marks x None ≡ None → IsUnderway (2 * n) σ other x x marks
-  underway x marks h closed free =
-      record {
-        long = closed.long;
-        start_in = h;
-        x_in = h;
-        free = free;
-        pairs = closed.pairs;
-        sides = λ z z_in a b. closed.sides z z_in;
-        begun = inl (refl, fellow (get_or marks (other x) None) refl);
-      }
-    where
-      fellow : (k : Mark) → get_or marks (other x) None ≡ k → get_or marks (other x) None ≡ None
-      fellow None e = e
-      fellow (Some b) e =
-          let pair = other_pairs n in
-          let back = closed.sides (other x) (pair.below x h) b e in
-          absurd (some_none (not b) (sym (ap (λ k. get_or marks k None) (sym (pair.back x h)) ∙ back) ∙ free))
+  underway x marks h closed free = record {
+    long = closed.long;
+    x_in = h;
+    free = free;
+    pairs = closed.pairs;
+    ups = λ z z_in e. inr (closed.sides z z_in false e);
+    downs = λ z z_in e. inr (closed.sides z z_in true e);
+    begun = inl refl;
+  }
 
   nothing_closed : IsClosed (2 * n) σ other (replicate (2 * n) None)
   nothing_closed = record {
@@ -108,13 +67,15 @@ module _ (n : ℕ) (p : List ℕ) (perm : Permutes (2 * n) p) where
       → IsWalked (suc j) (if c then walk (partners p n) n (2 * j) (2 * j) marks else marks)
   step j marks true free within w =
       let fits : left marks ≤ 2 * n = omega (arith, count_by-le-length is_none marks, w.closed.long) in
+      let u = underway (2 * j) marks (omega arith) w.closed (free_is (get_or marks (2 * j) None) free) in
+      let still = walk_still (2 * n) (partners p n) (partners_pair n p perm) (other_pairs n) n (2 * j) (2 * j) marks u in
+      let begun = walk_begins (2 * n) (partners p n) (partners_pair n p perm) (other_pairs n) n (2 * j) (2 * j) marks u (omega arith) in
+      let after = walk (partners p n) n (2 * j) (2 * j) marks in
       record {
-        closed = walk_closes (2 * n) (partners p n) (partners_pair n p perm) (other_pairs n) n (2 * j) (2 * j) marks
-            (underway (2 * j) marks (omega arith) w.closed (free_is (get_or marks (2 * j) None) free)) fits;
+        closed = walk_closes (2 * n) (partners p n) (partners_pair n p perm) (other_pairs n) n (2 * j) (2 * j) marks u fits;
         evens = λ i h. elim (cases_eq i j) [
-          | inl same ↦ subst (λ k. IsSettled (walk (partners p n) n (2 * j) (2 * j) marks) (2 * k)) (sym same)
-              (walk_settles (partners p n) n (2 * j) (2 * j) marks (omega (arith, w.closed.long)) (omega arith))
-          | inr apart ↦ walk_keeps (partners p n) n (2 * j) (2 * j) marks (2 * i) (w.evens i (omega arith))
+          | inl same ↦ (false, ap (λ k. get_or after (2 * k) None) same ∙ begun)
+          | inr apart ↦ let was = w.evens i (omega arith) in (was.0, still (2 * i) was.0 was.1)
         ];
         up = walk_still (2 * n) (partners p n) (partners_pair n p perm) (other_pairs n) n (2 * j) (2 * j) marks
             (underway (2 * j) marks (omega arith) w.closed (free_is (get_or marks (2 * j) None) free)) (slice_index p 0) false w.up;
@@ -122,7 +83,7 @@ module _ (n : ℕ) (p : List ℕ) (perm : Permutes (2 * n) p) where
   step j marks false taken within w = record {
     closed = w.closed;
     evens = λ i h. elim (cases_eq i j) [
-      | inl same ↦ subst (λ k. IsSettled marks (2 * k)) (sym same) (taken_is (get_or marks (2 * j) None) taken)
+      | inl same ↦ let was = taken_is (get_or marks (2 * j) None) taken in (was.0, ap (λ k. get_or marks (2 * k) None) same ∙ was.1)
       | inr apart ↦ w.evens i (omega arith)
     ];
     up = w.up;
@@ -139,15 +100,11 @@ module _ (n : ℕ) (p : List ℕ) (perm : Permutes (2 * n) p) where
   all some = walked n (omega arith) some
 
   -- ---- what follows
-  mark_some : (k : Mark) → k ≢ None → (b : Bool) × (k ≡ Some b)
-  mark_some None s = absurd (s refl)
-  mark_some (Some b) s = (b, refl)
-
   down_at : (z : ℕ) (b : Bool) → get_or (halves p n) z None ≡ Some b → down (halves p n) z ≡ b
   down_at z b e = ap (λ (m : Mark). unwrap_or m false) e
 
   even_mark : (j : ℕ) → j < n → (b : Bool) × (get_or (halves p n) (2 * j) None ≡ Some b)
-  even_mark j h = let w = all (omega arith) in mark_some (get_or (halves p n) (2 * j) None) (w.evens j h)
+  even_mark j h = let w = all (omega arith) in w.evens j h
 
   odd_mark : (j : ℕ) → j < n → (b : Bool) → get_or (halves p n) (2 * j) None ≡ Some b → get_or (halves p n) (2 * j + 1) None ≡ Some (not b)
   odd_mark j h b e =

@@ -1,13 +1,13 @@
 -- The settings of a permutation take each input to its output.
 use Rattle.tv_core.proofs.Common.{◌≡◌, ◌≢◌, ℕ, zero, suc, ◌+◌, ◌-◌, ◌*◌, ◌/◌, ◌%◌, ◌^◌, ◌<◌, ◌≤◌, ◌==◌, inl, inr, Bool, true, false, not, if◌then◌else◌, List}
-use Rattle.tv_core.proofs.Common.{[], ◌∷◌, ◌++◌, length, get_or, refl, sym, ◌∙◌, ap, subst, arith, slice_index, cases_eq, cases_lt, lt-ltb, nat_tests}
+use Rattle.tv_core.proofs.Common.{[], ◌∷◌, ◌++◌, length, get_or, refl, sym, ◌∙◌, ap, subst, arith, slice_index, cases_eq, cases_lt, lt-ltb}
 use Rattle.std.proofs.Common.{length-append}
 use Rattle.std.specs.Prelude.{nat_lt}
 use Rattle.std.proofs.lemmas.List.{get_or_append_left, get_or-append-add}
 use Rattle.std.proofs.Math.Pow.{pow_mono, pow-lt}
 use Rattle.std.proofs.lemmas.Nat.{pow_pos}
 use Rattle.tv_benes.proofs.Permutations.{places-length, places-at, alternating-even, alternating-odd}
-use Rattle.tv_benes.proofs.ThroughLaws.{twice, switches-suc, missing_small, joined-same, through-same}
+use Rattle.tv_benes.proofs.ThroughLaws.{twice, switches-suc, missing_small, left_bit, kept_bit, joined-same, through-same}
 use Rattle.tv_benes.specs.Through.{switches, from, passed, to_upper, to_lower, alternating, joined, last_bit, missing, through, places}
 use Rattle.tv_route.proofs.Halves.{sides_apart, pairs_apart, first_up}
 use Rattle.tv_route.specs.Permutations.{Permutes, IsRoutable}
@@ -203,17 +203,12 @@ module _ {X : Type 0} (n : ℕ) (d bit : ℕ → Bool) (item : ℕ → X) (sides
 -- the bits of a last column: where switch 0 has none, the input of output 0 goes up
 last_is : (net : Net) (n : ℕ) (nth bit d : ℕ → Bool) (p : List ℕ) (j : ℕ) → j < n → d (slice_index p 0) ≡ false → ((i : ℕ) → bit i ≡ nth i)
     → ((i : ℕ) → i + missing net < n → nth i ≡ d (slice_index p (2 * (i + missing net)))) → last_bit net bit j ≡ d (slice_index p (2 * j))
-last_is Waksman n nth bit d p zero h up there is = sym up
-last_is Waksman n nth bit d p (suc j) h up there is =
-    let place : suc j - 1 ≡ j = omega arith in
-    let input : 2 * (j + 1) ≡ 2 * suc j = omega arith in
-    later (suc j) (bit (suc j - 1)) (omega arith) ∙ ap bit place ∙ there j ∙ is j (omega arith) ∙ ap (λ k. d (slice_index p k)) input
-  where
-    later : (i : ℕ) (b : Bool) → 0 < i → (if i == 0 then false else b) ≡ b
-    later i b some = grind (arith, nat_tests)
-last_is Benes n nth bit d p j h up there is =
-    let input : 2 * (j + 0) ≡ 2 * j = omega arith in
-    there j ∙ is j (omega arith) ∙ ap (λ k. d (slice_index p k)) input
+last_is net n nth bit d p j h up there is = elim (cases_lt j (missing net)) [
+  | inl left ↦ let none : 0 ≡ j = omega (arith, missing_small net) in
+      left_bit net bit j left ∙ sym up ∙ ap (λ k. d (slice_index p (2 * k))) none
+  | inr kept ↦ let back : j - missing net + missing net ≡ j = omega arith in
+      kept_bit net bit j kept ∙ there (j - missing net) ∙ is (j - missing net) (omega arith) ∙ ap (λ k. d (slice_index p (2 * k))) back
+]
 
 -- the last column sends each input to its output
 last_column : {X : Type 0} (c : Bool) (u l : X) (x y : X) → u ≡ (if c then y else x) → l ≡ (if c then x else y) → (passed c u l ≡ x) × (passed c l u ≡ y)
@@ -221,35 +216,27 @@ last_column true u l x y p q = (q, p)
 last_column false u l x y p q = (p, q)
 
 -- one switch
-first_of_two : {X : Type 0} (item : ℕ → X) (q : ℕ) → q < 2 → passed (q == 1) (item 0) (item 1) ≡ item q
-first_of_two item q h = elim (cases_eq q 0) [
-  | inl none ↦ ap (λ k. passed (k == 1) (item 0) (item 1)) none ∙ ap item (sym none)
-  | inr some ↦ let one : q ≡ 1 = omega arith in ap (λ k. passed (k == 1) (item 0) (item 1)) one ∙ ap item (sym one)
-]
-
-second_of_two : {X : Type 0} (item : ℕ → X) (q r : ℕ) → q < 2 → r < 2 → q ≢ r → passed (q == 1) (item 1) (item 0) ≡ item r
-second_of_two item q r h k apart = elim (cases_eq q 0) [
-  | inl none ↦ let one : r ≡ 1 = omega arith in ap (λ k. passed (k == 1) (item 1) (item 0)) none ∙ ap item (sym one)
-  | inr some ↦ let one : q ≡ 1 = omega arith in let zero_is : r ≡ 0 = omega arith in ap (λ k. passed (k == 1) (item 1) (item 0)) one ∙ ap item (sym zero_is)
-]
-
-two_items : {X : Type 0} (p : List ℕ) (item : ℕ → X) → Permutes 2 p → (i : ℕ) → i < 2
-    → joined (λ j. get_or ((slice_index p 0 == 1) ∷ []) j false) (λ j. item (2 * j)) (λ j. item (2 * j + 1)) i ≡ item (slice_index p i)
-two_items p item perm i within =
-    let there = joined (λ j. get_or ((slice_index p 0 == 1) ∷ []) j false) (λ j. item (2 * j)) (λ j. item (2 * j + 1)) in
-    let first : slice_index p 0 < 2 = perm.below 0 (omega arith) in
-    let second : slice_index p 1 < 2 = perm.below 1 (omega arith) in
-    let apart : slice_index p 0 ≢ slice_index p 1 = λ e. let same : ◌≡◌ {A = ℕ} 0 1 = perm.once 0 1 (omega arith) (omega arith) e in omega arith in
-    elim (cases_eq i 0) [
-      | inl none ↦ ap there none ∙ first_of_two item (slice_index p 0) first ∙ ap (λ k. item (slice_index p k)) (sym none)
-      | inr some ↦ let one : i ≡ 1 = omega arith in ap there one ∙ second_of_two item (slice_index p 0) (slice_index p 1) first second apart
-          ∙ ap (λ k. item (slice_index p k)) (sym one)
-    ]
+two_items : {X : Type 0} (item : ℕ → X) (q r : ℕ) → q < 2 → r < 2 → q ≢ r
+    → (passed (q == 1) (item 0) (item 1) ≡ item q) × (passed (q == 1) (item 1) (item 0) ≡ item r)
+two_items item zero zero h k apart = absurd (apart refl)
+two_items item zero (suc zero) h k apart = (refl, refl)
+two_items item (suc zero) zero h k apart = (refl, refl)
+two_items item (suc zero) (suc zero) h k apart = absurd (apart refl)
+two_items item (suc (suc q)) r h k apart = absurd (omega arith)
+two_items item zero (suc (suc r)) h k apart = absurd (omega arith)
+two_items item (suc zero) (suc (suc r)) h k apart = absurd (omega arith)
 
 pub route_is : {X : Type 0} (net : Net) (h : ℕ) (p : List ℕ) (item : ℕ → X) → Permutes (2 ^ suc h) p → (i : ℕ) → i < 2 ^ suc h
     → through net h (λ j. get_or (route net h p) j false) item i ≡ item (slice_index p i)
 unfolding through route
-route_is net zero p item perm i within = two_items p item perm i within
+route_is net zero p item perm i within =
+    let there = joined (λ j. get_or ((slice_index p 0 == 1) ∷ []) j false) (λ j. item (2 * j)) (λ j. item (2 * j + 1)) in
+    let apart : slice_index p 0 ≢ slice_index p 1 = λ e. let same : ◌≡◌ {A = ℕ} 0 1 = perm.once 0 1 (omega arith) (omega arith) e in omega arith in
+    let both = two_items item (slice_index p 0) (slice_index p 1) (perm.below 0 (omega arith)) (perm.below 1 (omega arith)) apart in
+    elim (cases_eq i 0) [
+      | inl none ↦ ap there none ∙ both.0 ∙ ap (λ k. item (slice_index p k)) (sym none)
+      | inr some ↦ let one : i ≡ 1 = omega arith in ap there one ∙ both.1 ∙ ap (λ k. item (slice_index p k)) (sym one)
+    ]
 route_is net (suc h) p item perm i within =
     let n = 2 ^ suc h in
     let s = switches net h in

@@ -1,7 +1,7 @@
 -- What a walk settles: it goes round, so what is settled after it is closed under both pairings, the two of a pair
 -- being settled apart.
 use Rattle.tv_core.proofs.Common.{◌≡◌, ◌≢◌, ℕ, zero, suc, ◌+◌, ◌*◌, ◌<◌, ◌≤◌, ◌==◌, ◌⊎◌, inl, inr, Bool, true, false, not, if◌then◌else◌, List, length, get_or}
-use Rattle.tv_core.proofs.Common.{set, Some, None, refl, sym, ◌∙◌, ap, subst, arith, slice_index, cases_eq, cond_both, eqb-true}
+use Rattle.tv_core.proofs.Common.{set, Some, None, refl, sym, ◌∙◌, ap, arith, slice_index, cases_eq, cond_both, eqb-true}
 use Rattle.std.proofs.Common.{is_none, sum_by, length-set, get_or-set_same, get_or-set_other, eq-eqb}
 use Rattle.std.proofs.lemmas.Bool.{eqb-false}
 use Rattle.std.proofs.lemmas.List.Sums.{sum_by-set, get_or-le-sum_by}
@@ -26,16 +26,16 @@ pub record IsClosed (m : ℕ) (s t : ℕ → ℕ) (marks : List Mark) : Type 0 w
 
 -- a walk that begins at x, or one that began elsewhere and whose next input is x
 abbrev pub Begun : (ℕ → ℕ) → ℕ → ℕ → List Mark → Type 0
-Begun t start x marks = ((x ≡ start) × (get_or marks (t x) None ≡ None)) ⊎ ((get_or marks start None ≡ Some false) × (get_or marks (t x) None ≡ Some true))
+Begun t start x marks = (x ≡ start) ⊎ ((get_or marks start None ≡ Some false) × (get_or marks (t x) None ≡ Some true))
 
--- within a walk, before x is settled
+-- within a walk, before x is settled: only where it began is up with no fellow down, and only x's fellow is down with none
 pub record IsUnderway (m : ℕ) (s t : ℕ → ℕ) (start x : ℕ) (marks : List Mark) : Type 0 where
   pub long : length marks ≡ m
-  pub start_in : start < m
   pub x_in : x < m
   pub free : get_or marks x None ≡ None
   pub pairs : (z : ℕ) → z < m → Apart s marks z
-  pub sides : (z : ℕ) → z < m → z ≢ start → z ≢ t x → Apart t marks z
+  pub ups : (z : ℕ) → z < m → get_or marks z None ≡ Some false → (z ≡ start) ⊎ (get_or marks (t z) None ≡ Some true)
+  pub downs : (z : ℕ) → z < m → get_or marks z None ≡ Some true → (t z ≡ x) ⊎ (get_or marks (t z) None ≡ Some false)
   pub begun : Begun t start x marks
 
 -- ---- two inputs more are settled
@@ -94,6 +94,9 @@ module _ (m : ℕ) (s t : ℕ → ℕ) (sp : IsPairing m s) (tp : IsPairing m t)
       ap open_mark (get_or-set_other marks x (s x) (Some false) None (λ e. x_y (sym e)) ∙ y_free) in
       omega (arith, one, two, ox, oy)
 
+  both_ways : (o : Mark) → o ≡ Some true → o ≡ Some false → ⊥
+  both_ways o p q = cc
+
   some_same : (a b : Bool) (o : Mark) → o ≡ Some a → o ≡ Some b → a ≡ b
   some_same a b o p q = cc
 
@@ -122,109 +125,78 @@ module _ (m : ℕ) (s t : ℕ → ℕ) (sp : IsPairing m s) (tp : IsPairing m t)
   ]
 
   -- the fellows by t are settled apart, but for the two ends
-  old_side : (z : ℕ) → z < m → z ≢ x → z ≢ s x → z ≢ start → z ≢ t x → Apart t after z
-  old_side z z_in not_x not_y not_start not_t b e = still (t z) (not b) (u.sides z z_in not_start not_t b (sym (here_others z not_x not_y) ∙ e))
+  after-ups : (z : ℕ) → z < m → get_or after z None ≡ Some false → (z ≡ start) ⊎ (get_or after (t z) None ≡ Some true)
+  after-ups z z_in e = elim (cases_eq z x) [
+    | inl zx ↦ elim u.begun [
+      | inl xs ↦ inl (zx ∙ xs)
+      | inr far ↦ inr (ap (λ k. get_or after (t k) None) zx ∙ still (t x) true far.1)
+    ]
+    | inr not_x ↦ elim (cases_eq z (s x)) [
+      | inl zy ↦ absurd (both_ways (get_or after (s x) None) here_y (ap (λ k. get_or after k None) (sym zy) ∙ e))
+      | inr not_y ↦ elim (u.ups z z_in (sym (here_others z not_x not_y) ∙ e)) [ inl zs ↦ inl zs | inr down ↦ inr (still (t z) true down) ]
+    ]
+  ]
 
-  -- x, where the walk did not begin at it
-  side_x : get_or marks (t x) None ≡ Some true → Apart t after x
-  side_x tx b e =
-      let is : b ≡ false = some_same b false (get_or after x None) e here_x in
-      still (t x) true tx ∙ ap (λ c. Some (not c)) (sym is)
-
-  side_tx : get_or marks (t x) None ≡ Some true → Apart t after (t x)
-  side_tx tx b e =
-      let is : b ≡ true = some_same b true (get_or after (t x) None) e (still (t x) true tx) in
-      ap (λ k. get_or after k None) (tp.back x u.x_in) ∙ here_x ∙ ap (λ c. Some (not c)) (sym is)
-
-  -- the walk is round
-  start_false : Begun t start x marks → get_or after start None ≡ Some false
-  start_false (inl e) = ap (λ k. get_or after k None) (sym e.0) ∙ here_x
-  start_false (inr e) = still start false e.0
-
-  side_y : t (s x) ≡ start → Apart t after (s x)
-  side_y round b e =
-      let is : b ≡ true = some_same b true (get_or after (s x) None) e here_y in
-      ap (λ k. get_or after k None) round ∙ start_false u.begun ∙ ap (λ c. Some (not c)) (sym is)
-
-  side_start : t (s x) ≡ start → Apart t after start
-  side_start round b e =
-      let is : b ≡ false = some_same b false (get_or after start None) e (start_false u.begun) in
-      ap (λ k. get_or after (t k) None) (sym round) ∙ ap (λ k. get_or after k None) (tp.back (s x) y_in) ∙ here_y ∙ ap (λ c. Some (not c)) (sym is)
-
-  moved_side : (z w : ℕ) → z ≡ w → Apart t after w → Apart t after z
-  moved_side z w e a = subst (λ k. Apart t after k) (sym e) a
-
-  round_sides : t (s x) ≡ start → Begun t start x marks → (z : ℕ) → z < m → Apart t after z
-  round_sides round begun z z_in = elim (cases_eq z (s x)) [
-    | inl zy ↦ moved_side z (s x) zy (side_y round)
-    | inr not_y ↦ elim (cases_eq z start) [
-      | inl zs ↦ moved_side z start zs (side_start round)
-      | inr not_start ↦ elim begun [
-        | inl xs ↦
-            let txy : t x ≡ s x = ap t xs.0 ∙ ap t (sym round) ∙ tp.back (s x) y_in in
-            old_side z z_in (λ e. not_start (e ∙ xs.0)) not_y not_start (λ e. not_y (e ∙ txy))
-        | inr far ↦ elim (cases_eq z x) [
-          | inl zx ↦ moved_side z x zx (side_x far.1)
-          | inr not_x ↦ elim (cases_eq z (t x)) [
-            | inl zt ↦ moved_side z (t x) zt (side_tx far.1)
-            | inr not_t ↦ old_side z z_in not_x not_y not_start not_t
-          ]
-        ]
+  after-downs : (z : ℕ) → z < m → get_or after z None ≡ Some true → (t z ≡ t (s x)) ⊎ (get_or after (t z) None ≡ Some false)
+  after-downs z z_in e = elim (cases_eq z (s x)) [
+    | inl zy ↦ inl (ap t zy)
+    | inr not_y ↦ elim (cases_eq z x) [
+      | inl zx ↦ absurd (both_ways (get_or after x None) (ap (λ k. get_or after k None) (sym zx) ∙ e) here_x)
+      | inr not_x ↦ elim (u.downs z z_in (sym (here_others z not_x not_y) ∙ e)) [
+        | inl tx ↦ inr (ap (λ k. get_or after k None) tx ∙ here_x)
+        | inr up ↦ inr (still (t z) false up)
       ]
     ]
   ]
 
+  start_false : Begun t start x marks → get_or after start None ≡ Some false
+  start_false (inl e) = ap (λ k. get_or after k None) (sym e) ∙ here_x
+  start_false (inr e) = still start false e.0
+
+  end_true : get_or after (t (t (s x))) None ≡ Some true
+  end_true = ap (λ k. get_or after k None) (tp.back (s x) y_in) ∙ here_y
+
+  -- the walk is round
   closes : t (s x) ≡ start → IsClosed m s t after
-  closes round = record { long = after-long; pairs = after-pairs; sides = round_sides round u.begun }
+  closes round = record { long = after-long; pairs = after-pairs; sides = sides }
+    where
+      sides : (z : ℕ) → z < m → Apart t after z
+      sides z z_in true e = elim (after-downs z z_in e) [
+        | inl ends ↦ ap (λ k. get_or after k None) (ends ∙ round) ∙ start_false u.begun
+        | inr up ↦ up
+      ]
+      sides z z_in false e = elim (after-ups z z_in e) [
+        | inl begins ↦ ap (λ k. get_or after (t k) None) (begins ∙ sym round) ∙ end_true
+        | inr down ↦ down
+      ]
 
   -- or it goes on
   next_not_x : t (s x) ≢ start → Begun t start x marks → t (s x) ≢ x
-  next_not_x on (inl e) same = on (same ∙ e.0)
+  next_not_x on (inl e) same = on (same ∙ e)
   next_not_x on (inr far) same =
       let txy : t x ≡ s x = ap t (sym same) ∙ tp.back (s x) y_in in
       not_free marks (t x) true far.1 (ap (λ k. get_or marks k None) txy ∙ y_free)
 
-  next_not_t : t (s x) ≢ t x
-  next_not_t e =
-      let same : s x ≡ x = sym (tp.back (s x) y_in) ∙ ap t e ∙ tp.back x u.x_in in
-      sp.moves x u.x_in same
-
   next_free_by : t (s x) ≢ start → (k : Mark) → get_or marks (t (s x)) None ≡ k → get_or marks (t (s x)) None ≡ None
   next_free_by on None e = e
-  next_free_by on (Some b) e =
-      let fellow = u.sides (t (s x)) (tp.below (s x) y_in) on next_not_t b e in
-      absurd (not_free marks (s x) (not b) (ap (λ k. get_or marks k None) (sym (tp.back (s x) y_in)) ∙ fellow) y_free)
-
-  next_free : t (s x) ≢ start → get_or after (t (s x)) None ≡ None
-  next_free on = here_others (t (s x)) (next_not_x on u.begun) (tp.moves (s x) y_in) ∙ next_free_by on (get_or marks (t (s x)) None) refl
-
-  next_sides : Begun t start x marks → (z : ℕ) → z < m → z ≢ start → z ≢ t (t (s x)) → Apart t after z
-  next_sides begun z z_in not_start not_end =
-      let not_y : z ≢ s x = λ e. not_end (e ∙ sym (tp.back (s x) y_in)) in
-      elim begun [
-        | inl xs ↦ elim (cases_eq z (t x)) [
-          | inl zt ↦ λ b e. absurd (not_free marks z b (sym (here_others z (λ same. not_start (same ∙ xs.0)) not_y) ∙ e)
-              (ap (λ k. get_or marks k None) zt ∙ xs.1))
-          | inr not_t ↦ old_side z z_in (λ e. not_start (e ∙ xs.0)) not_y not_start not_t
-        ]
-        | inr far ↦ elim (cases_eq z x) [
-          | inl zx ↦ moved_side z x zx (side_x far.1)
-          | inr not_x ↦ elim (cases_eq z (t x)) [
-            | inl zt ↦ moved_side z (t x) zt (side_tx far.1)
-            | inr not_t ↦ old_side z z_in not_x not_y not_start not_t
-          ]
-        ]
-      ]
+  next_free_by on (Some true) e = elim (u.downs (t (s x)) (tp.below (s x) y_in) e) [
+    | inl tx ↦ absurd (x_y (sym (sym (tp.back (s x) y_in) ∙ tx)))
+    | inr up ↦ absurd (not_free marks (s x) false (ap (λ k. get_or marks k None) (sym (tp.back (s x) y_in)) ∙ up) y_free)
+  ]
+  next_free_by on (Some false) e = elim (u.ups (t (s x)) (tp.below (s x) y_in) e) [
+    | inl begins ↦ absurd (on begins)
+    | inr down ↦ absurd (not_free marks (s x) true (ap (λ k. get_or marks k None) (sym (tp.back (s x) y_in)) ∙ down) y_free)
+  ]
 
   goes_on : t (s x) ≢ start → IsUnderway m s t start (t (s x)) after
   goes_on on = record {
     long = after-long;
-    start_in = u.start_in;
     x_in = tp.below (s x) y_in;
-    free = next_free on;
+    free = here_others (t (s x)) (next_not_x on u.begun) (tp.moves (s x) y_in) ∙ next_free_by on (get_or marks (t (s x)) None) refl;
     pairs = after-pairs;
-    sides = next_sides u.begun;
-    begun = inr (start_false u.begun, ap (λ k. get_or after k None) (tp.back (s x) y_in) ∙ here_y);
+    ups = after-ups;
+    downs = after-downs;
+    begun = inr (start_false u.begun, end_true);
   }
 
 module _ (m : ℕ) (partner : List ℕ) (sp : IsPairing m (λ x. slice_index partner x)) (tp : IsPairing m other) where

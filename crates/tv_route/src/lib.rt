@@ -11,4 +11,4 @@ mod settings;
 
 pub use laws::{rearranged_is_a_permutation, route_is_right};
 pub use permutations::is_permutation;
-pub use settings::{Settings, route, route_w, routing_settings};
+pub use settings::{Settings, route, route_w};

@@ -54,8 +54,8 @@ pub fn route_w(alloc: Global, p: &[u32]) -> Result<Settings, AllocError>
     routing_settings(alloc, Net::Waksman, p)
 }
 
-/// Like `route`, for either network.
-pub fn routing_settings(alloc: Global, net: Net, p: &[u32]) -> Result<Settings, AllocError>
+// Like `route`, for either network.
+fn routing_settings(alloc: Global, net: Net, p: &[u32]) -> Result<Settings, AllocError>
     requires { IsRoutable p.now }
     ensures { IfOk result (λ settings. settings ≡ route_of net p.now) }
 {

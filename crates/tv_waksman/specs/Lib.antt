@@ -1,6 +1,5 @@
 pub mod Waksman
 pub use Rattle.tv_benes.specs.Items
-pub use Rattle.tv_benes.specs.Levels
 pub use Rattle.tv_benes.specs.Network
 pub use Rattle.tv_benes.specs.OutputLists
 pub use Rattle.tv_benes.specs.Places

@@ -1,7 +1,6 @@
 //! Waksman's network, and the values of its wires.
-ghost use Rattle.std.specs.Prelude.{◌≡◌, ◌-◌, ◌^◌, ◌≤◌, false, IfOk, OnOk};
+ghost use Rattle.std.specs.Prelude.{◌≡◌, ◌-◌, ◌*◌, ◌^◌, ◌≤◌, false, IfOk, OnOk};
 ghost use Rattle.tv_benes.specs.Items.{bit_at, pair_at};
-ghost use Rattle.tv_benes.specs.Levels.{network_wires};
 ghost use Rattle.tv_benes.specs.Network.{network_of, network_values};
 ghost use Rattle.tv_benes.specs.OutputLists.{ends_in};
 ghost use Rattle.tv_benes.specs.Places.{ArePairsMade, AreBelow};
@@ -25,18 +24,17 @@ pub fn switches_w(k: u32) -> u64
 }
 
 /// Waksman's network on 2^`k` items, `k` being from 1 to 31. It makes 5 wires and 5 constraints a
-/// switch in the levels that are bound, the first, third and so on from outside and always the
-/// innermost, and 3 a switch in the others, which are open.
+/// switch.
 pub fn network_w<S: Sink, I: Inputs>(s: &mut S, k: u32, inputs: &I) -> Put<Outputs>
     requires some { 1 ≤ k }
     requires few { k ≤ 31 }
-    requires room { Room S.meaning s.old (network_wires Waksman (k - 1))
-        (network_wires Waksman (k - 1)) }
+    requires room { Room S.meaning s.old (5 * switches Waksman (k - 1))
+        (5 * switches Waksman (k - 1)) }
     requires count { I.count inputs.now ≡ 2 ^ k }
     requires made { ArePairsMade (I.pair inputs.now) (2 ^ k) (S.meaning.wires s.old) }
     ensures emits { Emits S.meaning s.old s.new
         (network_of Waksman (k - 1) (I.pair inputs.now))
-        (network_wires Waksman (k - 1)) (network_wires Waksman (k - 1)) (ends_in result) }
+        (5 * switches Waksman (k - 1)) (5 * switches Waksman (k - 1)) (ends_in result) }
     ensures count { IfOk result (λ outputs. outputs.count ≡ 2 ^ k) }
     ensures below { IfOk result (λ outputs. AreBelow outputs.ends (2 ^ k) (S.meaning.wires s.new)) }
 {

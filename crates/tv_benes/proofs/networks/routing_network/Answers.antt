@@ -5,12 +5,12 @@ use Rattle.tv_benes.proofs.NetworkChain.{ends_below}
 use Rattle.tv_benes.specs.Places.{AreBelow}
 use Rattle.tv_benes.proofs.networks.routing_network.Goals as goal
 
-pub bound_network-requires-clause-made : goal.bound_network-requires-clause-made
-bound_network-requires-clause-made g c = rw (← power_is c.args.k c.requires.some) c.requires.made
+pub level-requires-clause-made : goal.level-requires-clause-made
+level-requires-clause-made g c = rw (← power_is c.args.k c.requires.some) c.requires.made
 
 pub returns-clause-below : goal.returns-clause-below
 returns-clause-below g c =
     let m = g.S.Sink.meaning in
     let level : suc (c.args.k - 1) ≡ c.args.k = omega (arith, c.requires.some) in
-    subst (λ k. IfOk c.bound_network.result (λ o. AreBelow o (2 ^ k) (m.wires c.bound_network.new.s))) level
-    (ends_below m c.args.net (g.I.Inputs.pair c.args.inputs.now) (c.args.k - 1) _ _ _ _ c.bound_network.result c.bound_network.ensures.emits)
+    subst (λ k. IfOk c.level.result (λ o. AreBelow o (2 ^ k) (m.wires c.level.new.s))) level
+    (ends_below m c.args.net (g.I.Inputs.pair c.args.inputs.now) (c.args.k - 1) _ _ _ _ c.level.result c.level.ensures.emits)

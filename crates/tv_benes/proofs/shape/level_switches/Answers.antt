@@ -1,5 +1,5 @@
 use Rattle.tv_core.proofs.Common.{arith}
-use Rattle.tv_benes.proofs.Most.{switches_few}
+use Rattle.tv_benes.proofs.Bounds.{switches_few}
 use Rattle.tv_benes.specs.declared.shape.Net.TheVariants.{Benes, Waksman}
 use Rattle.tv_benes.proofs.shape.level_switches.Goals as goal
 

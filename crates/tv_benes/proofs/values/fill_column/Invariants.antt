@@ -5,6 +5,6 @@ use Rattle.tv_benes.proofs.values.fill_column.Given as goal
 
 abbrev pub invariant-loop-j : goal.invariant-loop-j
 invariant-loop-j g l = record {
-  gives : GivesAll g.V.Values.giving l.initial.v l.v (column_values l.form l.j (bit_at l.bits) (item_of l.items));
+  gives : GivesAll g.V.Values.giving l.initial.v l.v (column_values l.j (bit_at l.bits) (item_of l.items));
   whole : g.V.Values.giving.broken l.v ≡ false;
 }

@@ -9,6 +9,6 @@ invariant-loop-j g l =
     let bit = bit_at l.bits in
     record {
       gives : GivesAll g.V.Values.giving l.initial.v l.v
-          (column_values l.form l.j (from (2 ^ suc l.h + 2 * switches l.net l.h) bit) (last_item l.net l.h bit (item_of l.items)));
+          (column_values l.j (from (2 ^ suc l.h + 2 * switches l.net l.h) bit) (last_item l.net l.h bit (item_of l.items)));
       whole : g.V.Values.giving.broken l.v ≡ false;
     }

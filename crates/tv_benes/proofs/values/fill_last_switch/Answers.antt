@@ -26,7 +26,7 @@ returns-clause-gives g c =
     let y = c.read-y.ensures ∙ inner_item net h (j + c.long_missing.result) c.source-from_lower.result _ (from (2 ^ suc h + s) bit) (to_lower bit item) lower
     c.source-from_lower.ensures.is ∙ ap l place ∙ sym (last_odd u l j (missing net)) in
     let b = c.bit.ensures ∙ ap₂ (λ k m. bit (k + 2 * m + j)) n c.level_switches-s.ensures.is in
-    subst (λ (list : List ℕ). GivesIn g.V.Values.giving c.args.v.now c.fill_switch.new.v list c.fill_switch.result) (values_as c.args.form _ _ _ _ _ _ b x y)
+    subst (λ (list : List ℕ). GivesIn g.V.Values.giving c.args.v.now c.fill_switch.new.v list c.fill_switch.result) (values_as _ _ _ _ _ _ b x y)
     c.fill_switch.ensures.gives
 
 pub read-x-requires : goal.read-x-requires
