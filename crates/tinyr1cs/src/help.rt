@@ -5,11 +5,11 @@ use tv_asm::AsmWhy;
 use tv_top::{NoWhy, NotRun, Status};
 
 /// The program's version, which the file `VERSION` at the top has too.
-const VERSION: &str = "0.1.0";
+const VERSION: &str = "0.2.0";
 
 /// The number of the layout of systems: it is raised whenever `build` would write other bytes for
 /// the same arguments.
-const LAYOUT: u32 = 1;
+const LAYOUT: u32 = 2;
 
 /// The commands: the name, the other arguments, and what it does.
 const COMMANDS: [(&str, &str, &str); 10] = [

@@ -1,6 +1,5 @@
 -- What checks cost, and at most.
 use Rattle.tv_core.proofs.Common.{ℕ, zero, suc, ◌*◌, ◌^◌, ◌<◌, ◌≤◌, arith}
-use Rattle.std.proofs.Math.Nat.{mul-le-mul_right}
 use Rattle.tv_core.proofs.BelowLaws.{sum_below-zero, sum_below-suc}
 use Rattle.tv_core.specs.Below.{sum_below}
 use Rattle.tv_argument.specs.Checks.{Checks, check_made, check_added, AreShort, IsShortKind}
@@ -20,11 +19,8 @@ sum_few (suc n) b f each =
     omega (arith, sum_below-suc n f, sum_few n b f (λ i h. each i (omega arith)), each n (omega arith))
 
 sums_few : (checks : Checks) (n : ℕ) → AreShort checks n → (f : Kind → ℕ) → ((kind : Kind) → IsShortKind kind → f kind ≤ 2 ^ 6)
-    → sum_below checks.count (λ i. f (checks.kind i)) ≤ n * 2 ^ 6
-sums_few checks n short f each =
-    let sum = sum_few checks.count (2 ^ 6) (λ i. f (checks.kind i)) (λ i h. each (checks.kind i) (short.kinds i h)) in
-    let count : checks.count * 2 ^ 6 ≤ n * 2 ^ 6 = mul-le-mul_right (2 ^ 6) short.count in
-    omega (arith, sum, count)
+    → sum_below n (λ i. f (checks.kind i)) ≤ n * 2 ^ 6
+sums_few checks n short f each = sum_few n (2 ^ 6) (λ i. f (checks.kind i)) (λ i h. each (checks.kind i) (short i h))
 
 pub checks_cheap : ChecksAreCheap
 checks_cheap = record {

@@ -1,16 +1,12 @@
--- Counting over the places below a number, and over a permutation of them.
-use Rattle.tv_core.proofs.Common.{◌≡◌, ◌≢◌, ◌⊎◌, ℕ, zero, suc, ◌+◌, ◌<◌, ◌≤◌, ◌==◌, Bool, true, false, if◌then◌else◌, refl, sym, ◌∙◌, ap, subst, arith, inl}
+-- Counting over the places below a number, and over a reordering of them.
+use Rattle.tv_core.proofs.Common.{◌≡◌, ◌≢◌, ◌⊎◌, ℕ, zero, suc, ◌+◌, ◌<◌, ◌≤◌, ◌==◌, Bool, true, false, if◌then◌else◌, refl, sym, ◌∙◌, ap, arith, inl}
 use Rattle.tv_core.proofs.Common.{inr, cases_lt, cases_eq, eq-eqb, ne_eqb, flag_of}
-use Rattle.std.proofs.Common.{nat_le, sum_by, IsPermutation}
+use Rattle.std.proofs.Common.{nat_le, sum_by}
 use Rattle.std.proofs.lemmas.Bool.{leb-true, leb-false}
-use Rattle.std.proofs.lemmas.List.Sorted.{All-permutation, sum_by-IsPermutation}
+use Rattle.std.proofs.lemmas.List.Sorted.{sum_by-IsPermutation}
 use Rattle.std.proofs.lemmas.List.Sums.{sum_by_push}
-use Rattle.tv_benes.proofs.Permutations.{places-zero, places-suc, places-length, places-at}
-use Rattle.tv_benes.specs.Through.{places}
-
--- p is a permutation of the places below n
-abbrev pub PermutesPlaces : ℕ → (ℕ → ℕ) → Type 0
-PermutesPlaces n p = IsPermutation (places n (λ i. i)) (places n p)
+use Rattle.tv_stages.proofs.Reorders.{places-zero, places-suc, reordering_permutes}
+use Rattle.tv_stages.specs.Stages.{places, IsReordering}
 
 -- f 0 + f 1 + .. + f (n - 1)
 pub total : ℕ → (ℕ → ℕ) → ℕ
@@ -22,17 +18,10 @@ unfolding total
 sum_places zero p f = ap (sum_by f) (places-zero p)
 sum_places (suc n) p f = ap (sum_by f) (places-suc n p) ∙ sum_by_push f (places n p) (p n) ∙ ap (λ s. s + f (p n)) (sum_places n p f)
 
--- a sum is the same over a permutation of the places
-total_permuted : (n : ℕ) (p : ℕ → ℕ) (f : ℕ → ℕ) → PermutesPlaces n p → total n (λ i. f (p i)) ≡ total n f
+-- a sum is the same over a reordering of the places
+total_permuted : (n : ℕ) (p : ℕ → ℕ) (f : ℕ → ℕ) → IsReordering n p → total n (λ i. f (p i)) ≡ total n f
 total_permuted n p f moved =
-    sym (sum_places n p f) ∙ sum_by-IsPermutation f (places n (λ i. i)) (places n p) moved ∙ sum_places n (λ i. i) f
-
-pub permuted_below : (n : ℕ) (p : ℕ → ℕ) → PermutesPlaces n p → (i : ℕ) → i < n → p i < n
-permuted_below n p moved i h =
-    let long = places-length n p in
-    let all = All-permutation (λ v. v < n) (places n (λ i. i)) (places n p) moved
-    (λ i d h. let l = places-length n (λ (i : ℕ). i) in subst (λ v. v < n) (sym (places-at n i (λ i. i) d (omega arith))) (omega arith)) in
-    subst (λ v. v < n) (places-at n i p 0 h) (all i 0 (omega arith))
+    sym (sum_places n p f) ∙ sum_by-IsPermutation f (places n (λ i. i)) (places n p) (reordering_permutes n p moved (λ i. i)) ∙ sum_places n (λ i. i) f
 
 -- 1 at b, else 0
 pub at : ℕ → ℕ → ℕ
@@ -109,31 +98,24 @@ past_rises x j k h = elim (cases_lt j x) [
   | inr high ↦ omega (arith, past_from x k (omega arith), past_most x j)
 ]
 
--- keys that fall from each place below l to its image in a permutation, but at one place a; those from l on are greatest
-pub record Falls (n l a : ℕ) (p key : ℕ → ℕ) : Type 0 where
-  pub exempt : a < l
-  pub within : l ≤ n
-  pub permutes : PermutesPlaces n p
-  pub falls : (i : ℕ) → i < l → i ≢ a → key (p i) < key i
-  pub greatest : (i j : ℕ) → i < l → l ≤ j → j < n → key i ≤ key j
+-- keys that fall from each place to its image in a reordering, but at one place a
+pub record Falls (n a : ℕ) (p key : ℕ → ℕ) : Type 0 where
+  pub exempt : a < n
+  pub permutes : IsReordering n p
+  pub falls : (i : ℕ) → i < n → i ≢ a → key (p i) < key i
 
-module _ (n l a : ℕ) (p key : ℕ → ℕ) (h : Falls n l a p key) where
+module _ (n a : ℕ) (p key : ℕ → ℕ) (h : Falls n a p key) where
   same_total : (x : ℕ) → total n (λ i. past x (key (p i))) ≡ total n (λ i. past x (key i))
   same_total x = total_permuted n p (λ i. past x (key i)) h.permutes
 
-  -- where the key of a place q is the bound, no place but a rises
-  no_rise : (q i : ℕ) → q < l → i < n → i ≢ a → past (key q) (key (p i)) ≤ past (key q) (key i)
-  no_rise q i k m other = elim (cases_lt i l) [
-    | inl low ↦ (let f = h.falls i low other in past_rises (key q) (key (p i)) (key i) (omega arith))
-    | inr high ↦ (let g = h.greatest q i k high m in omega (arith, past_from (key q) (key i) g, past_most (key q) (key (p i))))
-  ]
+  -- whatever the bound, no place but a rises
+  no_rise : (x i : ℕ) → i < n → i ≢ a → past x (key (p i)) ≤ past x (key i)
+  no_rise x i m other = let f = h.falls i m other in past_rises x (key (p i)) (key i) (omega arith)
 
   -- between the key of a place's image and its own there is none
-  pub none_between : (i q : ℕ) → i < l → i ≢ a → q < l → key (p i) < key q → key q < key i → ⊥
+  pub none_between : (i q : ℕ) → i < n → i ≢ a → q < n → key (p i) < key q → key q < key i → ⊥
   none_between i q hi other hq low high =
-      let w = h.within in
-      let e = h.exempt in
-      crossing n a i q (λ j. past (key q) (key (p j))) (λ j. past (key q) (key j)) (omega arith) (omega arith) (omega arith) (same_total (key q))
+      crossing n a i q (λ j. past (key q) (key (p j))) (λ j. past (key q) (key j)) h.exempt hi hq (same_total (key q))
       (λ j m. by j m (cases_eq j a) (cases_eq j i) (cases_eq j q))
     where
       apart : i ≢ q
@@ -152,20 +134,17 @@ module _ (n l a : ℕ) (p key : ℕ → ℕ) (h : Falls n l a p key) where
           omega (arith, at_other i j e, at_same q j f, at_same a j x, past_most (key q) (key (p j)), past_from (key q) (key j) (omega arith))
       by j m (inr x) (inr e) (inl f) =
           let s : key j ≡ key q = ap key f in
-          let d : j < l = subst (λ y. y < l) (sym f) hq in
-          let g = h.falls j d x in
+          let g = h.falls j m x in
           omega (arith, at_other i j e, at_same q j f, past_before (key q) (key (p j)) (omega arith), past_from (key q) (key j) (omega arith))
       by j m (inl x) (inr e) (inr f) =
           omega (arith, at_other i j e, at_other q j f, at_same a j x, past_most (key q) (key (p j)))
       by j m (inr x) (inr e) (inr f) =
-          omega (arith, at_other i j e, at_other q j f, no_rise q j hq m x)
+          omega (arith, at_other i j e, at_other q j f, no_rise (key q) j m x)
 
   -- none is below that of a
-  pub none_below : (q : ℕ) → q < l → key q < key a → ⊥
+  pub none_below : (q : ℕ) → q < n → key q < key a → ⊥
   none_below q hq low =
-      let w = h.within in
-      let e = h.exempt in
-      crossing n a a q (λ j. past (key q) (key (p j))) (λ j. past (key q) (key j)) (omega arith) (omega arith) (omega arith) (same_total (key q))
+      crossing n a a q (λ j. past (key q) (key (p j))) (λ j. past (key q) (key j)) h.exempt h.exempt hq (same_total (key q))
       (λ j m. by j m (cases_eq j a) (cases_eq j q))
     where
       apart : a ≢ q
@@ -179,7 +158,6 @@ module _ (n l a : ℕ) (p key : ℕ → ℕ) (h : Falls n l a p key) where
           omega (arith, at_other q j f, past_most (key q) (key (p j)), past_from (key q) (key j) (omega arith))
       by j m (inr x) (inl f) =
           let s : key j ≡ key q = ap key f in
-          let d : j < l = subst (λ y. y < l) (sym f) hq in
-          let g = h.falls j d x in
+          let g = h.falls j m x in
           omega (arith, at_same q j f, past_before (key q) (key (p j)) (omega arith), past_from (key q) (key j) (omega arith))
-      by j m (inr x) (inr f) = omega (arith, at_other q j f, no_rise q j hq m x)
+      by j m (inr x) (inr f) = omega (arith, at_other q j f, no_rise (key q) j m x)

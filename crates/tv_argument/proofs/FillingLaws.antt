@@ -1,14 +1,14 @@
 -- The values of a network over items, and of the checks.
-use Rattle.tv_core.proofs.Common.{◌≡◌, ℕ, zero, suc, ◌<◌, ◌≤◌, List, ◌++◌, Result, refl, sym, ◌∙◌, ap, ap₂, arith, joined_below, GivesAll, Line}
-use Rattle.tv_benes.proofs.Permutations.{places-at}
-use Rattle.tv_benes.specs.Items.{pair_at}
-use Rattle.tv_benes.specs.Through.{places}
+use Rattle.tv_core.proofs.Common.{◌≡◌, ℕ, zero, suc, ◌<◌, List, ◌++◌, length, Result, refl, sym, ◌∙◌, ap, ap₂, arith, joined_below, GivesAll, Line}
 use Rattle.tv_core.proofs.JoinedLaws.{joined_below-zero, joined_below-suc}
 use Rattle.tv_core.specs.Values.{ValuesMeaning, GivesSome, GivesIn}
 use Rattle.tv_core.specs.declared.lines.PairNum.{PairNum}
 use Rattle.tv_core.specs.declared.sink.SinkFault.{SinkFault}
 use Rattle.tv_lines.specs.PackedLines.{unpacked}
 use Rattle.tv_lines.specs.Placed.{number_in}
+use Rattle.tv_network.specs.Filling.{pair_at}
+use Rattle.tv_stages.proofs.Reorders.{places-at}
+use Rattle.tv_stages.specs.Stages.{places}
 use Rattle.tv_argument.specs.Checks.{Checks, check_values}
 use Rattle.tv_argument.specs.Memory.{checks_values}
 use Rattle.tv_argument.specs.declared.kinds.Kind.{Kind}
@@ -21,10 +21,10 @@ joined_below-same (suc n) f g same =
     joined_below-suc n f ∙ ap₂ (λ a b. a ++ b) (joined_below-same n f g (λ i h. same i (omega arith))) (same n (omega arith)) ∙ sym (joined_below-suc n g)
 
 -- the checks of lines against items that were moved
-pub checks_moved : (checks : Checks) (n : ℕ) (item : ℕ → PairNum) (out : List PairNum) (lines : List Line) → checks.count ≤ n → out ≡ places n item
+pub checks_moved : (checks : Checks) (n : ℕ) (item : ℕ → PairNum) (out : List PairNum) (lines : List Line) → n ≡ length lines → out ≡ places n item
     → checks_values checks (pair_at out) lines ≡ checks_values checks item lines
-checks_moved checks n item out lines within moved =
-    joined_below-same checks.count (λ i. check_values (checks.kind i) (unpacked (pair_at out i)) (number_in lines i))
+checks_moved checks n item out lines many moved =
+    joined_below-same (length lines) (λ i. check_values (checks.kind i) (unpacked (pair_at out i)) (number_in lines i))
     (λ i. check_values (checks.kind i) (unpacked (item i)) (number_in lines i))
     (λ i h.
     ap (λ pair. check_values (checks.kind i) (unpacked pair) (number_in lines i))

@@ -1,60 +1,43 @@
--- CompactLines are honest where each follows the line at its place in a permutation.
-use Rattle.tv_core.proofs.Common.{◌≡◌, ◌≢◌, ◌⊎◌, ℕ, ◌^◌, ◌<◌, ◌≤◌, List, length, inl, inr, sym, ◌∙◌, ap, subst, arith, cases_lt, cases_eq, length-each_below}
+-- Lines are honest where each follows the line at its place in a reordering.
+use Rattle.tv_core.proofs.Common.{◌≡◌, ◌≢◌, ◌⊎◌, ℕ, ◌^◌, ◌<◌, ◌≤◌, List, length, inl, inr, sym, ◌∙◌, ap, subst, arith, cases_eq, length-each_below}
 use Rattle.tv_core.proofs.Common.{each_below, Line}
 use Rattle.std.proofs.Common.{Contains}
 use Rattle.std.proofs.lemmas.Bool.{cases_order}
 use Rattle.tv_core.specs.Lines.{Honest}
-use Rattle.tv_argument.proofs.Counts.{PermutesPlaces, Falls, none_between, none_below, permuted_below}
+use Rattle.tv_argument.proofs.Counts.{Falls, none_between, none_below}
 use Rattle.tv_lines.proofs.Neighbours.{each_below-at}
 use Rattle.tv_lines.proofs.OrderedLaws.{HonestByTimes}
 use Rattle.tv_lines.proofs.PredecessorReach.{follows_rises}
 use Rattle.tv_lines.proofs.TimeOrder.{Honest-from_times}
 use Rattle.tv_lines.specs.Ordered.{Follows, InTimeOrder, key}
+use Rattle.tv_stages.specs.Stages.{IsReordering}
 
--- the lines from place l on have the greatest cell, of which every line leaves 0, and begin at 0
-pub record PaddedFrom (n l : ℕ) (line : ℕ → Line) : Type 0 where
-  pub cells : (i j : ℕ) → i < n → l ≤ j → j < n → (line i).cell ≤ (line j).cell
-  pub olds : (j : ℕ) → l ≤ j → j < n → (line j).old ≡ 0
-  pub news : (i j : ℕ) → i < n → l ≤ j → j < n → (line i).cell ≡ (line j).cell → (line i).new ≡ 0
-
--- n lines at the times 0, 1, .., of which those from place l on are padding: the line at place a begins at 0, and each
--- other line before l follows the line at its place in p
-pub record FollowBefore (n l a : ℕ) (p : ℕ → ℕ) (line : ℕ → Line) : Type 0 where
-  pub least : a < l
-  pub within : l ≤ n
+-- n lines at the times 0, 1, ..: the line at place a begins at 0, and each other line follows the line at its place in p
+pub record FollowBefore (n a : ℕ) (p : ℕ → ℕ) (line : ℕ → Line) : Type 0 where
+  pub least : a < n
   pub times : (i : ℕ) → i < n → (line i).time ≡ i
   pub begins : (line a).old ≡ 0
-  pub follows : (i : ℕ) → i < l → i ≢ a → Follows (line (p i)) (line i)
-  pub padded : PaddedFrom n l line
+  pub follows : (i : ℕ) → i < n → i ≢ a → Follows (line (p i)) (line i)
 
-module _ (n l a : ℕ) (p : ℕ → ℕ) (line : ℕ → Line) (few : n ≤ 2 ^ 20) (moved : PermutesPlaces n p) (h : FollowBefore n l a p line) where
+module _ (n a : ℕ) (p : ℕ → ℕ) (line : ℕ → Line) (few : n ≤ 2 ^ 20) (moved : IsReordering n p) (h : FollowBefore n a p line) where
   abbrev k : ℕ → ℕ
   k i = key (line i)
-
-  inside : (i : ℕ) → i < l → i < n
-  inside i x = let w = h.within in omega arith
 
   small : (i : ℕ) → i < n → (line i).time < 2 ^ 20
   small i x = omega (arith, h.times i x)
 
-  falls : Falls n l a p k
+  falls : Falls n a p k
   falls = record {
     exempt = h.least;
-    within = h.within;
     permutes = moved;
-    falls = λ i x other. follows_rises (line (p i)) (line i) (small (p i) (permuted_below n p moved i (inside i x))) (small i (inside i x))
-        (h.follows i x other);
-    greatest = λ i j x y z.
-        let w = inside i x in
-        let c = h.padded.cells i j w y z in
-        omega (arith, h.times i w, h.times j z);
+    falls = λ i x other. follows_rises (line (p i)) (line i) (small (p i) (moved.below i x)) (small i x) (h.follows i x other);
   }
 
   -- the latest earlier line of the cell stands at the image
   latest : (b i : ℕ) → b < n → i < n → (line b).cell ≡ (line i).cell → (line b).time < (line i).time
       → ((m : ℕ) → m < n → (line m).cell ≡ (line i).cell → (line b).time < (line m).time → (line m).time < (line i).time → ⊥)
       → (line i).old ≡ (line b).new
-  latest b i hb hi same early none = by (cases_lt i l) (cases_eq i a)
+  latest b i hb hi same early none = by (cases_eq i a)
     where
       tb : (line b).time ≡ b
       tb = h.times b hb
@@ -62,42 +45,40 @@ module _ (n l a : ℕ) (p : ℕ → ℕ) (line : ℕ → Line) (few : n ≤ 2 ^ 
       ti : (line i).time ≡ i
       ti = h.times i hi
 
-      at_image : i < l → i ≢ a → ((k (p i) ≡ k b) ⊎ ((k (p i) < k b) ⊎ (k b < k (p i)))) → (line i).old ≡ (line b).new
-      at_image low other (inl e) =
-          let f = h.follows i low other in
-          let hp = permuted_below n p moved i hi in
+      at_image : i ≢ a → ((k (p i) ≡ k b) ⊎ ((k (p i) < k b) ⊎ (k b < k (p i)))) → (line i).old ≡ (line b).new
+      at_image other (inl e) =
+          let f = h.follows i hi other in
+          let hp = moved.below i hi in
           let sp = small (p i) hp in
           let sb = small b hb in
           let t : (line (p i)).time ≡ (line b).time = omega arith in
           let is : p i ≡ b = sym (h.times (p i) hp) ∙ t ∙ tb in
           f.carried (ap (λ j. (line j).cell) is ∙ same) ∙ ap (λ j. (line j).new) is
-      at_image low other (inr (inl e)) =
-          absurd (none_between n l a p k falls i b low other (omega arith) e (omega arith))
-      at_image low other (inr (inr e)) =
-          let f = h.follows i low other in
-          let hp = permuted_below n p moved i hi in
+      at_image other (inr (inl e)) =
+          absurd (none_between n a p k falls i b hi other (omega arith) e (omega arith))
+      at_image other (inr (inr e)) =
+          let f = h.follows i hi other in
+          let hp = moved.below i hi in
           let sp = small (p i) hp in
           let sb = small b hb in
           let si = small i hi in
           let g = follows_rises (line (p i)) (line i) sp si f in
           absurd (none (p i) hp (omega arith) (omega arith) (omega arith))
 
-      by : ((i < l) ⊎ (l ≤ i)) → ((i ≡ a) ⊎ (i ≢ a)) → (line i).old ≡ (line b).new
-      by (inr high) x = h.padded.olds i high hi ∙ sym (h.padded.news b i hb high hi same)
-      by (inl low) (inl e) =
+      by : ((i ≡ a) ⊎ (i ≢ a)) → (line i).old ≡ (line b).new
+      by (inl e) =
           let s : k i ≡ k a = ap k e in
-          absurd (none_below n l a p k falls b (omega arith) (omega arith))
-      by (inl low) (inr other) = at_image low other (cases_order (k (p i)) (k b))
+          absurd (none_below n a p k falls b hb (omega arith))
+      by (inr other) = at_image other (cases_order (k (p i)) (k b))
 
   first : (i : ℕ) → i < n → ((m : ℕ) → m < n → (line m).cell ≡ (line i).cell → (line m).time < (line i).time → ⊥) → (line i).old ≡ 0
-  first i hi none = by (cases_lt i l) (cases_eq i a)
+  first i hi none = by (cases_eq i a)
     where
-      by : ((i < l) ⊎ (l ≤ i)) → ((i ≡ a) ⊎ (i ≢ a)) → (line i).old ≡ 0
-      by (inr high) x = h.padded.olds i high hi
-      by (inl low) (inl e) = ap (λ j. (line j).old) e ∙ h.begins
-      by (inl low) (inr other) =
-          let f = h.follows i low other in
-          let hp = permuted_below n p moved i hi in
+      by : ((i ≡ a) ⊎ (i ≢ a)) → (line i).old ≡ 0
+      by (inl e) = ap (λ j. (line j).old) e ∙ h.begins
+      by (inr other) =
+          let f = h.follows i hi other in
+          let hp = moved.below i hi in
           let sp = small (p i) hp in
           let si = small i hi in
           let g = follows_rises (line (p i)) (line i) sp si f in

@@ -5,13 +5,14 @@ mod Counts
 mod FewTerms
 pub mod FillingLaws
 mod Honesty
+mod Increase
 mod Made
 pub mod NormalLaws
 mod Order
 pub mod Parts
 mod Previous
 pub mod Reached
-mod Increase
+mod Reordered
 mod Sizes
 pub mod Sound
 mod Written

@@ -1,10 +1,5 @@
 -- What the memory argument puts is normal.
-use Rattle.tv_core.proofs.Common.{◌≡◌, ℕ, suc, ◌+◌, ◌-◌, ◌%◌, ◌^◌, ◌<◌, ◌≤◌, List, length, All, refl, ap, arith, Circuit, pure, turns, scaled, top, AreNormal}
-use Rattle.tv_benes.proofs.NetworkLaws.{network_next}
-use Rattle.tv_benes.proofs.NormalLaws.{network_normal}
-use Rattle.tv_benes.proofs.Sizes.{network_sizes}
-use Rattle.tv_benes.specs.Network.{network_of}
-use Rattle.tv_benes.specs.Places.{output, output_wire, IsNormalPair}
+use Rattle.tv_core.proofs.Common.{ℕ, ◌+◌, ◌%◌, ◌^◌, ◌<◌, ◌≤◌, List, length, All, sym, arith, subst, Circuit, pure, turns, scaled, top, AreNormal}
 use Rattle.tv_core.proofs.NormalCircuits.{normal_then, normal_turns}
 use Rattle.tv_core.proofs.NormalLaws.{IsNormalFrom-normal}
 use Rattle.tv_core.specs.declared.field.TheConstants.{P}
@@ -16,21 +11,26 @@ use Rattle.tv_lines.specs.PackedLines.{packed_terms}
 use Rattle.tv_lines.specs.Placed.{line_in}
 use Rattle.tv_argument.proofs.Made.{at, are_made}
 use Rattle.tv_argument.proofs.Parts.{turns_end}
-use Rattle.tv_argument.proofs.Sizes.{check_next}
+use Rattle.tv_argument.proofs.Sizes.{check_next, argument_is}
 use Rattle.tv_argument.specs.Checks.{check_of, check_made, IsShortKind}
-use Rattle.tv_argument.specs.Memory.{IsMade, items_of, checked_network_of, MemoryIsNormal}
+use Rattle.tv_argument.specs.Costs.{network_on}
+use Rattle.tv_argument.specs.Memory.{IsMade, items_of, checks_of, MemoryIsNormal}
 use Rattle.tv_argument.specs.declared.kinds.Kind.{Kind}
 use Rattle.tv_argument.specs.declared.kinds.Kind.TheVariants.{ZeroOld, Least, Boot, Within}
+use Rattle.tv_network.proofs.NetworkLaws.{network_normal, network_fills}
+use Rattle.tv_network.specs.Network.{network_of, output_of, output_wire}
+use Rattle.tv_network.specs.Switches.{IsNormalPair}
+use Rattle.tv_network.specs.declared.shape.Network.{Network}
 
 -- an item
 item_normal : (next i : ℕ) (lines : List LineLc) → i < length lines → All (IsMade next) lines → IsNormalPair (items_of lines i) next
 item_normal next i lines h all =
-    let made = are_made next (length lines) lines refl all in
+    let made = are_made next lines all i h in
     record {
       first = IsNormalFrom-normal (scaled (2 ^ 32 % P) (line_in lines i).cell);
       second = IsNormalFrom-normal (packed_terms (line_in lines i).new (line_in lines i).time);
-      first_below = made.first i h;
-      second_below = made.second i h;
+      first_below = made.first;
+      second_below = made.second;
     }
 
 -- a check
@@ -43,22 +43,19 @@ check_normal (Boot c) next item line short some cell time old first second = boo
 check_normal (Within m) next item line short some cell time old first second = follows_normal m line item next some short cell time old first second
 
 pub memory_normal : MemoryIsNormal
-unfolding checked_network_of
-memory_normal net checks k lines next one some many short made =
-    let same : suc (k - 1) ≡ k = omega arith in
-    let power = ap (λ n. 2 ^ n) same in
-    let network = network_of net (k - 1) (items_of lines) next in
-    let piece : ℕ → Circuit (Unit {0}) = λ i. check_of (checks.kind i) (output network.answer i) (line_in lines i) in
-    let end = network_next net (k - 1) (items_of lines) next in
-    let below = network_sizes.below net (k - 1) next (items_of lines) in
-    normal_then (network_of net (k - 1) (items_of lines)) _ next
-    (network_normal net (k - 1) next (items_of lines) (λ i h. item_normal next i lines (omega (arith, power)) made))
-    (normal_turns (λ i _. piece i) tt network.next checks.count
+memory_normal net checks lines next one short made =
+    let network : Network = network_on net (length lines) in
+    let piece : ℕ → Circuit (Unit {0}) = λ i. check_of (checks.kind i) (output_of network next i) (line_in lines i) in
+    let first = (network_of network (items_of lines) next).next in
+    let end = network_fills.ends network next (items_of lines) in
+    subst (λ c. AreNormal c.list) (sym (argument_is net checks lines next))
+    (normal_then (network_of network (items_of lines)) (λ _. checks_of net checks lines next) next
+    (network_normal network next (items_of lines) (λ i h. item_normal next i lines h made))
+    (normal_turns (λ i _. piece i) tt first (length lines)
     (λ i h.
-    let line = at next lines i (let c = short.count in omega arith) made in
-    let from = turns_end piece (λ i. check_made (checks.kind i))
-    (λ j w. check_next (checks.kind j) w (output network.answer j) (line_in lines j)) i network.next in
-    let place = (turns i (λ i _. piece i) tt network.next).next in
-    let out : output_wire network.answer i + 1 < place = omega (arith, from, end, below i (omega (arith, short.count, power))) in
-    check_normal (checks.kind i) place (output network.answer i) (line_in lines i) (short.kinds i h) (omega (arith, from, end))
-    (omega (arith, from, end, line.cell)) (omega (arith, from, end, line.time)) (omega (arith, from, end, line.old)) (omega arith) (omega arith)))
+    let line = at next lines i h made in
+    let from = turns_end piece (λ i. check_made (checks.kind i)) (λ j w. check_next (checks.kind j) w (output_of network next j) (line_in lines j)) i first in
+    let place = (turns i (λ i _. piece i) tt first).next in
+    let out : output_wire network next i + 1 < place = omega (arith, from, end, network_fills.below network next i h) in
+    check_normal (checks.kind i) place (output_of network next i) (line_in lines i) (short i h) (omega (arith, from, end))
+    (omega (arith, from, end, line.cell)) (omega (arith, from, end, line.time)) (omega (arith, from, end, line.old)) (omega arith) (omega arith))))

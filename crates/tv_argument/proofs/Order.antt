@@ -5,14 +5,14 @@ use Rattle.std.proofs.Common.{IsPermutation, zero-add}
 use Rattle.std.proofs.lemmas.List.{get_or-map, map-id}
 use Rattle.std.proofs.lemmas.List.Elements.{All-from_get_or, All-get_or}
 use Rattle.std.proofs.lemmas.List.Sorted.{All-permutation, IsPermutation-map, length_permutation}
-use Rattle.tv_benes.proofs.Permutations.{places-same}
-use Rattle.tv_benes.specs.Through.{places}
 use Rattle.tv_core.specs.Lines.{Honest}
 use Rattle.tv_lines.proofs.AddressOrder.{sorted_ordered}
 use Rattle.tv_lines.specs.Ordered.{InTimeOrder, Ordered, key}
 use Rattle.tv_lines.specs.Placed.{zero_line, number_in, LinesFrom}
 use Rattle.tv_argument.proofs.Parts.{placed, each_place}
 use Rattle.tv_argument.proofs.Increase.{rising_moves, rising_rises}
+use Rattle.tv_stages.proofs.Reorders.{places-same}
+use Rattle.tv_stages.specs.Stages.{places}
 use Rattle.tv_argument.specs.Order.{place_at, rising, address_order, AddressOrderIsRight}
 
 pub map_map : {X Y Z : Type 0} (f : X → Y) (g : Y → Z) (ls : List X) → map g (map f ls) ≡ map (λ x. g (f x)) ls

@@ -1,6 +1,6 @@
--- CompactLines by their places, and loops over them.
+-- Lines by their places, and loops over them.
 use Rattle.tv_core.proofs.Common.{◌≡◌, ℕ, zero, suc, ◌+◌, ◌<◌, ◌≤◌, ◌^◌, List, [], ◌∷◌, length, map, refl, sym, ap, ◌∙◌, arith, subst, get_or, inl, inr}
-use Rattle.tv_core.proofs.Common.{pow-le-pow_right, cases_eq, cases_lt, length-map, each_below, Circuit, pure, turns, ◌>>=◌, Line}
+use Rattle.tv_core.proofs.Common.{cases_eq, cases_lt, length-map, each_below, Circuit, pure, turns, ◌>>=◌, Line}
 use Rattle.std.proofs.lemmas.List.{get_or_past, get_or-map}
 use Rattle.std.proofs.lemmas.List.FromFn.{fill_by_all}
 use Rattle.tv_core.proofs.BelowLaws.{sum_below-zero, sum_below-suc}
@@ -29,24 +29,18 @@ pub each_place : {X Y : Type 0} (f : X → Y) (d : X) (ls : List X) → each_bel
 unfolding each_below
 each_place f d ls = sym (fill_by_all (λ i. f (get_or ls i d)) (map f ls) (length ls) (f d) (length-map ls f) (λ i h. get_or-map f ls i d (f d) h))
 
-pub each_line : (f : LineLc → Line) (ls : List LineLc) (n : ℕ) → length ls ≡ n → each_below n (λ i. f (line_in ls i)) ≡ map f ls
-each_line f ls n e = ap (λ n. each_below n (λ i. f (line_in ls i))) (sym e) ∙ each_place f no_line ls
-
-module _ (z : List ℕ) (h : ℕ) (lines : List LineLc) (small : suc h ≤ 20) (many : length lines ≡ 2 ^ suc h) (from : LinesFrom 0 (map (line_value z) lines)) where
-  few : 2 ^ suc h ≤ 2 ^ 20
-  few = pow-le-pow_right (omega arith) small
-
+module _ (z : List ℕ) (lines : List LineLc) (few : length lines ≤ 2 ^ 20) (from : LinesFrom 0 (map (line_value z) lines)) where
   pub number_is : (i : ℕ) → number_in (map (line_value z) lines) i ≡ line_value z (line_in lines i)
   number_is i = map_value (line_value z) lines i no_line
 
-  pub at_place : (i : ℕ) → i < 2 ^ suc h → ((line_value z (line_in lines i)).time ≡ i) × IsLine (line_value z (line_in lines i))
+  pub at_place : (i : ℕ) → i < length lines → ((line_value z (line_in lines i)).time ≡ i) × IsLine (line_value z (line_in lines i))
   at_place i k =
-      let p = placed 0 (map (line_value z) lines) from i zero_line (omega (arith, length-map lines (line_value z), many)) in
+      let p = placed 0 (map (line_value z) lines) from i zero_line (omega (arith, length-map lines (line_value z))) in
       (ap (λ (l : Line). l.time) (sym (number_is i)) ∙ p.0 ∙ omega arith, subst IsLine (number_is i) p.1)
 
   pub in_range : (i : ℕ) → LineInRange (line_value z (line_in lines i))
-  in_range i = elim (cases_lt i (2 ^ suc h)) [
-    | inl here ↦ let p = at_place i here in let f = few in record { cell = p.1.cell; time = omega (arith, p.0); old = p.1.old; new = p.1.new }
+  in_range i = elim (cases_lt i (length lines)) [
+    | inl here ↦ let p = at_place i here in record { cell = p.1.cell; time = omega (arith, p.0); old = p.1.old; new = p.1.new }
     | inr past ↦
         let none : line_in lines i ≡ no_line = get_or_past lines i no_line (omega arith) in
         subst (λ l. LineInRange (line_value z l)) (sym none) (omega arith)

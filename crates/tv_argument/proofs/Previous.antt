@@ -1,41 +1,22 @@
 -- The predecessor of each line in address order.
-use Rattle.tv_core.proofs.Common.{◌≡◌, ◌≢◌, ◌⊎◌, ℕ, zero, suc, ◌+◌, ◌-◌, ◌^◌, ◌<◌, ◌≤◌, ◌==◌, if◌then◌else◌, List, [], ◌∷◌, length, get_or, inl, inr, refl, sym}
-use Rattle.tv_core.proofs.Common.{◌∙◌, ap, subst, arith, map, ◌%◌, cases_lt, cases_eq, ne_eqb, nat_tests, length-each_below, each_below, Line}
-use Rattle.std.proofs.Common.{eq-eqb}
-use Rattle.tv_benes.proofs.Permutations.{places-length, places-at}
+use Rattle.tv_core.proofs.Common.{◌≡◌, ◌≢◌, ◌⊎◌, ℕ, zero, suc, ◌+◌, ◌-◌, ◌^◌, ◌<◌, ◌≤◌, ◌==◌, if◌then◌else◌, List, length, get_or, inl, inr, refl, sym}
+use Rattle.tv_core.proofs.Common.{◌∙◌, ap, subst, arith, map, ◌%◌, cases_lt, cases_eq, nat_tests, slice_index, length-map, length-each_below, each_below, Line}
 use Rattle.tv_core.specs.Lines.{Honest}
 use Rattle.tv_lines.proofs.Neighbours.{each_below-at}
 use Rattle.tv_lines.proofs.PredecessorReach.{follows_rises}
 use Rattle.tv_lines.specs.Ordered.{Follows, Ordered, key}
 use Rattle.tv_lines.specs.Placed.{zero_line, number_in, LinesFrom}
+use Rattle.std.proofs.lemmas.List.Sorted.{length_permutation}
+use Rattle.tv_argument.proofs.Increase.{rising_moves}
 use Rattle.tv_argument.proofs.Order.{address_order_right, map_map}
 use Rattle.tv_argument.proofs.Parts.{placed}
 use Rattle.tv_lines.specs.PackedLines.{without_old}
-use Rattle.tv_argument.specs.Order.{rising, address_order, place_at, index_in, index_before, previous_in, previous_order, predecessors}
-use Rattle.tv_route.proofs.FromSorts.{permutes_of}
-use Rattle.tv_route.specs.Permutations.{Permutes}
-
-index_here : (i x : ℕ) (xs : List ℕ) → x ≡ i → index_in i (x ∷ xs) ≡ 0
-index_here i x xs e = ap (λ b. if b then 0 else suc (index_in i xs)) (eq-eqb x i e)
-
-index_later : (i x : ℕ) (xs : List ℕ) → x ≢ i → index_in i (x ∷ xs) ≡ suc (index_in i xs)
-index_later i x xs e = ap (λ b. if b then 0 else suc (index_in i xs)) (ne_eqb x i e)
-
--- where it stands, if it does
-index_found : (i j : ℕ) (xs : List ℕ) → j < length xs → get_or xs j 0 ≡ i → (index_in i xs ≤ j) × (get_or xs (index_in i xs) 0 ≡ i)
-index_found i j [] h e = absurd (omega arith)
-index_found i zero (x ∷ xs) h e = let at = index_here i x xs e in (omega (arith, at), ap (λ k. get_or (x ∷ xs) k 0) at ∙ e)
-index_found i (suc j) (x ∷ xs) h e = by (cases_eq x i) (index_found i j xs (omega arith) e)
-  where
-    by : ((x ≡ i) ⊎ (x ≢ i)) → (index_in i xs ≤ j) × (get_or xs (index_in i xs) 0 ≡ i)
-        → (index_in i (x ∷ xs) ≤ suc j) × (get_or (x ∷ xs) (index_in i (x ∷ xs)) 0 ≡ i)
-    by (inl same) rest =
-        let at = index_here i x xs same in
-        (omega (arith, at), ap (λ k. get_or (x ∷ xs) k 0) at ∙ same)
-    by (inr other) rest =
-        let at = index_later i x xs other in
-        let low : index_in i xs ≤ j = rest.0 in
-        (omega (arith, at), ap (λ k. get_or (x ∷ xs) k 0) at ∙ rest.1)
+use Rattle.tv_argument.proofs.Reordered.{rearranged, rearranged_length}
+use Rattle.tv_argument.specs.Order.{rising, address_order, place_at, index_before, previous_in, previous_order, predecessors}
+use Rattle.tv_stages.proofs.Indices.{index_at}
+use Rattle.tv_stages.proofs.Reorders.{places-length, places-at}
+use Rattle.tv_stages.specs.Settings.{index_in}
+use Rattle.tv_stages.specs.Stages.{IsReordering}
 
 -- and back
 abbrev advanced : ℕ → ℕ → ℕ
@@ -53,31 +34,23 @@ before_advanced n j h = grind (arith, nat_tests)
 advanced_before : (n j : ℕ) → j < n → advanced n (index_before n j) ≡ j
 advanced_before n j h = grind (arith, nat_tests)
 
-module _ (n : ℕ) (order : List ℕ) (right : Permutes n order) where
+module _ (n : ℕ) (order : List ℕ) (long : length order ≡ n) (right : IsReordering n (λ i. slice_index order i)) where
   -- place j of the order is found there
-  pub index_of : (j : ℕ) → j < n → index_in (place_at order j) order ≡ j
-  index_of j h =
-      let long = right.as_long in
-      let f = index_found (place_at order j) j order (omega arith) refl in
-      let low : index_in (place_at order j) order ≤ j = f.0 in
-      right.once (index_in (place_at order j) order) j (omega arith) h f.1
+  index_of : (j : ℕ) → j < n → index_in (place_at order j) order ≡ j
+  index_of j h = index_at order j (omega (arith, long)) (λ k less e. let same : k ≡ j = right.once k j (omega arith) h e in omega arith)
 
   pub index_is : (i : ℕ) → i < n → (index_in i order < n) × (place_at order (index_in i order) ≡ i)
   index_is i h =
-      let long = right.as_long in
-      let b = right.back_below i h in
-      let f = index_found i (right.back i) order (omega arith) (right.there i h) in
-      let low : index_in i order ≤ right.back i = f.0 in
-      (omega arith, f.1)
+      let within = right.back_below i h in
+      let at : index_in i order ≡ right.back i = ap (λ x. index_in x order) (sym (right.there i h)) ∙ index_of (right.back i) within in
+      (omega (arith, at), ap (place_at order) at ∙ right.there i h)
 
   pub previous_at : (i : ℕ) → i < n → place_at (previous_order order) i ≡ place_at order (index_before n (index_in i order))
   previous_at i h =
-      let long = right.as_long in
       places-at (length order) i (previous_in order) 0 (omega arith) ∙ ap (λ m. place_at order (index_before m (index_in i order))) long
 
-  pub previous_permutes : Permutes n (previous_order order)
+  pub previous_permutes : IsReordering n (λ i. slice_index (previous_order order) i)
   previous_permutes = record {
-    as_long = places-length (length order) (previous_in order) ∙ right.as_long;
     below = λ i h. let f = index_is i h in subst (λ v. v < n) (sym (previous_at i h))
         (right.below (index_before n (index_in i order)) (before_below n (index_in i order) f.0));
     back = λ x. place_at order (advanced n (index_in x order));
@@ -98,6 +71,11 @@ module _ (n : ℕ) (order : List ℕ) (right : Permutes n order) where
         sym f.1 ∙ ap (place_at order) at ∙ g.1;
   }
 
+pub predecessors_long : (lines : List Line) → length (predecessors lines) ≡ length lines
+predecessors_long lines =
+    places-length (length (address_order lines)) (previous_in (address_order lines)) ∙ length-map (rising (map key lines)) (λ k. k % 2 ^ 20)
+    ∙ length_permutation (map key lines) (rising (map key lines)) (rising_moves (map key lines)) ∙ length-map lines key
+
 module _ (lines : List Line) (few : length lines ≤ 2 ^ 20) (from : LinesFrom 0 lines) where
   abbrev order : List ℕ
   order = address_order lines
@@ -108,15 +86,18 @@ module _ (lines : List Line) (few : length lines ≤ 2 ^ 20) (from : LinesFrom 0
   abbrev p : ℕ → ℕ
   p = place_at (predecessors lines)
 
-  pub order_permutes : Permutes (length lines) order
-  order_permutes = permutes_of (length lines) order (address_order_right.permutes lines few from)
+  pub order_long : length order ≡ length lines
+  order_long = rearranged_length (length lines) order (address_order_right.permutes lines few from)
 
-  pub permutes : Permutes (length lines) (predecessors lines)
-  permutes = previous_permutes (length lines) order order_permutes
+  pub order_permutes : IsReordering (length lines) (λ i. slice_index order i)
+  order_permutes = rearranged (length lines) order (address_order_right.permutes lines few from)
+
+  pub permutes : IsReordering (length lines) (λ i. slice_index (predecessors lines) i)
+  permutes = previous_permutes (length lines) order order_long order_permutes
 
   before_is : (i j : ℕ) → i < length lines → index_in i order ≡ suc j → p i ≡ place_at order j
   before_is i j h e =
-      previous_at (length lines) order order_permutes i h ∙ ap (λ x. place_at order (index_before (length lines) x)) e
+      previous_at (length lines) order order_long order_permutes i h ∙ ap (λ x. place_at order (index_before (length lines) x)) e
       ∙ ap (place_at order) (let same : index_before (length lines) (suc j) ≡ j = grind (arith, nat_tests) in same)
 
   small : (i : ℕ) → i < length lines → (line i).time < 2 ^ 20
@@ -142,7 +123,7 @@ module _ (lines : List Line) (few : length lines ≤ 2 ^ 20) (from : LinesFrom 0
     follows_place i (suc j) h k e some =
         let n = length lines in
         let before = before_is i j h e in
-        let here : place_at order (suc j) ≡ i = ap (place_at order) (sym e) ∙ (index_is (length lines) order order_permutes i h).1 in
+        let here : place_at order (suc j) ≡ i = ap (place_at order) (sym e) ∙ (index_is (length lines) order order_long order_permutes i h).1 in
         subst (λ x. Follows (line x) (line i)) (sym before) (subst (λ x. Follows (line (place_at order j)) (line x)) here (follows_at j k))
 
     module _ (a : ℕ) (within : a < length lines) (least : (i : ℕ) → i < length lines → key (line a) ≤ key (line i)) where
@@ -151,7 +132,7 @@ module _ (lines : List Line) (few : length lines ≤ 2 ^ 20) (from : LinesFrom 0
       a_first = elim (cases_eq (index_in a order) 0) [
         | inl e ↦ e
         | inr some ↦
-            let f = follows_place a (index_in a order) within (index_is (length lines) order order_permutes a within).0 refl some in
+            let f = follows_place a (index_in a order) within (index_is (length lines) order order_long order_permutes a within).0 refl some in
             let hp : p a < length lines = permutes.below a within in
             let g = follows_rises (line (p a)) (line a) (small (p a) hp) (small a within) f in
             let h = least (p a) hp in
@@ -160,16 +141,16 @@ module _ (lines : List Line) (few : length lines ≤ 2 ^ 20) (from : LinesFrom 0
 
       pub follows : (i : ℕ) → i < length lines → i ≢ a → Follows (line (p i)) (line i)
       follows i h other =
-          let f = index_is (length lines) order order_permutes i h in
+          let f = index_is (length lines) order order_long order_permutes i h in
           follows_place i (index_in i order) h f.0 refl
-          (λ e. other (sym f.1 ∙ ap (place_at order) (e ∙ sym a_first) ∙ (index_is (length lines) order order_permutes a within).1))
+          (λ e. other (sym f.1 ∙ ap (place_at order) (e ∙ sym a_first) ∙ (index_is (length lines) order order_long order_permutes a within).1))
 
       pub begins : (line a).old ≡ 0
       begins =
           let long = length-each_below (length lines) (λ j. line (place_at order j)) in
           let f = sorted.first zero_line (omega arith) in
           let at = each_below-at (length lines) 0 (λ j. line (place_at order j)) zero_line (omega arith) in
-          let here : place_at order 0 ≡ a = ap (place_at order) (sym a_first) ∙ (index_is (length lines) order order_permutes a within).1 in
+          let here : place_at order 0 ≡ a = ap (place_at order) (sym a_first) ∙ (index_is (length lines) order order_long order_permutes a within).1 in
           ap (λ x. (line x).old) (sym here) ∙ ap (λ (m : Line). m.old) (sym at) ∙ f
 
       -- keys rise along the order
@@ -204,10 +185,10 @@ module _ (lines : List Line) (few : length lines ≤ 2 ^ 20) (from : LinesFrom 0
 
       pub nearest : (i q : ℕ) → i < length lines → i ≢ a → q < length lines → key (line q) < key (line i) → key (line q) ≤ key (line (p i))
       nearest i q h other k less =
-          let f = index_is (length lines) order order_permutes i h in
-          let g = index_is (length lines) order order_permutes q k in
+          let f = index_is (length lines) order order_long order_permutes i h in
+          let g = index_is (length lines) order order_long order_permutes q k in
           nearest_at i q (index_in i order) (index_in q order) h f.0 g.0 refl f.1 g.1
-          (λ e. other (sym f.1 ∙ ap (place_at order) (e ∙ sym a_first) ∙ (index_is (length lines) order order_permutes a within).1)) less
+          (λ e. other (sym f.1 ∙ ap (place_at order) (e ∙ sym a_first) ∙ (index_is (length lines) order order_long order_permutes a within).1)) less
 
       pub near : (i q : ℕ) → i < length lines → i ≢ a → q < length lines → (line q).cell + 1 ≡ (line i).cell
           → ((line (p i)).cell ≡ (line i).cell) ⊎ ((line (p i)).cell + 1 ≡ (line i).cell)

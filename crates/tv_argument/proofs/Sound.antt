@@ -1,13 +1,5 @@
 -- The memory argument is sound.
-use Rattle.tv_core.proofs.Common.{◌≡◌, ◌≢◌, ℕ, suc, ◌-◌, ◌<◌, ◌≤◌, ◌^◌, List, length, map, refl, sym, ap, ◌∙◌, arith, subst, pow-le-pow_right, length-map}
-use Rattle.tv_core.proofs.Common.{Circuit, turns, Assigns, Meets, Line}
-use Rattle.tv_benes.proofs.NetworkLaws.{network_sound}
-use Rattle.tv_benes.proofs.Permutations.{through_permutes}
-use Rattle.tv_benes.proofs.ThroughLaws.{through_places}
-use Rattle.tv_benes.specs.Network.{network_of, bit_in}
-use Rattle.tv_benes.specs.Places.{output}
-use Rattle.tv_benes.specs.Through.{through}
-use Rattle.tv_benes.specs.declared.shape.Net.{Net}
+use Rattle.tv_core.proofs.Common.{◌≡◌, ◌≢◌, ℕ, ◌<◌, ◌≤◌, ◌^◌, List, length, map, refl, ◌∙◌, arith, subst, length-map, Circuit, turns, Assigns, Meets, Line}
 use Rattle.tv_core.proofs.LoopLaws.{turn_met}
 use Rattle.tv_core.proofs.MeetsLaws.{parts}
 use Rattle.tv_core.specs.Lines.{Honest, pair_value}
@@ -18,13 +10,21 @@ use Rattle.tv_lines.proofs.PredecessorLaws.{follows_sound}
 use Rattle.tv_lines.proofs.StartsLaws.{boot_line_sound, least_line_sound}
 use Rattle.tv_lines.specs.Ordered.{Follows}
 use Rattle.tv_lines.specs.PackedLines.{LineInRange, packed_item, line_value}
-use Rattle.tv_lines.specs.Placed.{LinesFrom, line_in, number_in}
-use Rattle.tv_argument.proofs.Counts.{PermutesPlaces}
-use Rattle.tv_argument.proofs.Honesty.{PaddedFrom, honest_places}
-use Rattle.tv_argument.proofs.Parts.{at_place, each_line, in_range, number_is}
+use Rattle.tv_lines.specs.Placed.{LinesFrom, no_line, line_in}
+use Rattle.tv_network.proofs.NetworkLaws.{network_sound}
+use Rattle.tv_network.specs.Network.{network_of, output_of}
+use Rattle.tv_network.specs.Stages.{wire_bit}
+use Rattle.tv_network.specs.declared.shape.Network.{Network}
+use Rattle.tv_stages.proofs.Reorders.{permuted}
+use Rattle.tv_stages.specs.Stages.{source}
+use Rattle.tv_stages.specs.declared.nets.Net.{Net}
+use Rattle.tv_argument.proofs.Honesty.{honest_places}
+use Rattle.tv_argument.proofs.Parts.{at_place, each_place, in_range, number_is}
+use Rattle.tv_argument.proofs.Sizes.{argument_is}
 use Rattle.tv_argument.specs.Argument.{ArgumentIsSound}
-use Rattle.tv_argument.specs.Checks.{Checks, check_of, IsOfKind, IsPadded, AreOfKinds}
-use Rattle.tv_argument.specs.Memory.{items_of, checked_network_of, argument_of}
+use Rattle.tv_argument.specs.Checks.{Checks, check_of, IsOfKind, AreOfKinds}
+use Rattle.tv_argument.specs.Costs.{network_on}
+use Rattle.tv_argument.specs.Memory.{items_of, checks_of, argument_of}
 use Rattle.tv_argument.specs.declared.kinds.Kind.{Kind}
 use Rattle.tv_argument.specs.declared.kinds.Kind.TheVariants.{ZeroOld, Least, Boot, Within}
 
@@ -50,78 +50,52 @@ begins_kind z (Boot c) least next item line assigns suits met = absurd (suits.0 
 begins_kind z (Within m) least next item line assigns suits met = absurd (suits.0 refl)
 
 -- ---- all
-padding : (n l : ℕ) (lines : List Line) → length lines ≡ n → IsPadded l lines → PaddedFrom n l (number_in lines)
-padding n l lines many p = record {
-  cells = λ i j h k m. omega (arith, p.cells i (omega arith), p.nulls j k (omega arith));
-  olds = λ j k m. p.olds j k (omega arith);
-  news = λ i j h k m same. p.news i (omega arith) (same ∙ p.nulls j k (omega arith));
-}
-
-module _ (z : List ℕ) (net : Net) (checks : Checks) (h : ℕ) (lines : List LineLc) (next : ℕ) (few : suc h ≤ 20) (many : length lines ≡ 2 ^ suc h)
+module _ (z : List ℕ) (net : Net) (checks : Checks) (lines : List LineLc) (next : ℕ) (few : length lines ≤ 2 ^ 20)
     (from : LinesFrom 0 (map (line_value z) lines)) (kinds : AreOfKinds checks (map (line_value z) lines)) (assigns : Assigns z) where
-  abbrev numbers : List Line
-  numbers = map (line_value z) lines
+  abbrev network : Network
+  network = network_on net (length lines)
 
   abbrev line : ℕ → Line
   line i = line_value z (line_in lines i)
 
-  abbrev item : ℕ → Pair
-  item = items_of lines
-
   -- the place whose item comes out at a place
   abbrev place : ℕ → ℕ
-  place = through net h (bit_in z net h next) (λ j. j)
+  place = source net (length lines) (wire_bit z network next)
 
-  long : length numbers ≡ 2 ^ suc h
-  long = length-map lines (line_value z) ∙ many
+  long : length (map (line_value z) lines) ≡ length lines
+  long = length-map lines (line_value z)
 
-  moved : PermutesPlaces (2 ^ suc h) place
-  moved = through_permutes net h (bit_in z net h next) (λ j. j)
-
-  same_lines : ◌≡◌ {A = ℕ → Line} (number_in numbers) line
-  same_lines = λ d i. number_is z h lines few many from i d
-
-  padded : PaddedFrom (2 ^ suc h) checks.count line
-  padded = subst (PaddedFrom (2 ^ suc h) checks.count) same_lines (padding (2 ^ suc h) checks.count numbers long kinds.padded)
-
-  is_of : (i : ℕ) → i < checks.count → IsOfKind checks.least i (line i) (checks.kind i)
-  is_of i k = subst (λ l. IsOfKind checks.least i l (checks.kind i)) (number_is z h lines few many from i) (kinds.kinds i k)
+  is_of : (i : ℕ) → i < length lines → IsOfKind checks.least i (line i) (checks.kind i)
+  is_of i k = subst (λ l. IsOfKind checks.least i l (checks.kind i)) (number_is z lines few from i) (kinds.kinds i (omega (arith, long)))
 
   ranged : (i : ℕ) → LineInRange (line i)
-  ranged i = in_range z h lines few many from i
+  ranged i = in_range z lines few from i
 
-  brings : Meets z (network_of net h item next).list → (i : ℕ) → i < 2 ^ suc h
-      → pair_value z (output (network_of net h item next).answer i) ≡ packed_item (line (place i))
+  brings : Meets z (network_of network (items_of lines) next).list → (i : ℕ) → i < length lines
+      → pair_value z (output_of network next i) ≡ packed_item (line (place i))
   brings met i k =
-      (network_sound z net next h item assigns met).outputs i k
-      ∙ through_places net h (bit_in z net h next) (λ j. pair_value z (item j)) i
+      network_sound z network next (items_of lines) assigns met i k
+      ∙ permuted.pairs net (length lines) (wire_bit z network next) (λ j. pair_value z (items_of lines j)) i
       ∙ item_right z (line_in lines (place i)) (ranged (place i))
 
-  pub level_sound : Meets z (checked_network_of net checks h lines next).list → Honest (map (line_value z) lines)
-  unfolding checked_network_of
-  level_sound met =
-      let n : ℕ = 2 ^ suc h in
-      let w = kinds.within in
-      let both = parts z (network_of net h item) _ next met in
-      let last = (network_of net h item next).answer in
-      let first = (network_of net h item next).next in
-      let piece : ℕ → Circuit (Unit {0}) = λ i. check_of (checks.kind i) (output last i) (line_in lines i) in
-      let small : n ≤ 2 ^ 20 = pow-le-pow_right (omega arith) few in
-      let checked : (i : ℕ) → i < checks.count → Meets z (piece i (turns i (λ i _. piece i) tt first).next).list =
-      λ i k. turn_met z (λ i _. piece i) tt first checks.count i k both.1 in
-      subst Honest (each_line (line_value z) lines n many) (honest_places n checks.count checks.least place line small moved (record {
-        least = kinds.least;
-        within = omega (arith, long);
-        times = λ i k. (at_place z h lines few many from i k).0;
-        begins = begins_kind z (checks.kind checks.least) checks.least _ (output last checks.least) (line_in lines checks.least) assigns
-            (is_of checks.least kinds.least) (checked checks.least kinds.least);
-        follows = λ i k other. follows_kind z (checks.kind i) checks.least i _ (output last i) (line_in lines i) (line (place i)) assigns (is_of i k) other
-            (ranged (place i)) (ranged i)
-            (brings both.0 i (omega (arith, long))) (checked i k);
-        padded = padded;
+  pub argument_sound : Meets z (argument_of net checks lines next).list → Honest (map (line_value z) lines)
+  argument_sound met =
+      let both = parts z (network_of network (items_of lines)) (λ _. checks_of net checks lines next) next
+      (subst (λ c. Meets z c.list) (argument_is net checks lines next) met) in
+      let end = (network_of network (items_of lines) next).next in
+      let piece : ℕ → Circuit (Unit {0}) = λ i. check_of (checks.kind i) (output_of network next i) (line_in lines i) in
+      let checked : (i : ℕ) → i < length lines → Meets z (piece i (turns i (λ i _. piece i) tt end).next).list =
+      λ i k. turn_met z (λ i _. piece i) tt end (length lines) i k both.1 in
+      let least : checks.least < length lines = let w = kinds.least in omega (arith, long) in
+      subst Honest (each_place (line_value z) no_line lines)
+      (honest_places (length lines) checks.least place line few (permuted.sources net (length lines) (wire_bit z network next)) (record {
+        least = least;
+        times = λ i k. (at_place z lines few from i k).0;
+        begins = begins_kind z (checks.kind checks.least) checks.least _ (output_of network next checks.least) (line_in lines checks.least) assigns
+            (is_of checks.least least) (checked checks.least least);
+        follows = λ i k other. follows_kind z (checks.kind i) checks.least i _ (output_of network next i) (line_in lines i) (line (place i)) assigns
+            (is_of i k) other (ranged (place i)) (ranged i) (brings both.0 i k) (checked i k);
       }))
 
 pub memory_sound : (net : Net) → ArgumentIsSound (argument_of net)
-memory_sound net z checks k lines next some small many from kinds assigns met =
-    let same : suc (k - 1) ≡ k = omega arith in
-    level_sound z net checks (k - 1) lines next (omega arith) (many ∙ ap (λ n. 2 ^ n) (sym same)) from kinds assigns met
+memory_sound net z checks lines next few from kinds assigns met = argument_sound z net checks lines next few from kinds assigns met

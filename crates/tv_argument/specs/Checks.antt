@@ -3,7 +3,6 @@
 use Rattle.std.specs.Prelude.{◌≡◌, ◌≢◌, ◌⊎◌, ℕ, ◌+◌, ◌^◌, ◌<◌, ◌≤◌, List, [], length}
 use Rattle.tv_core.specs.Circuits.{Circuit, pure}
 use Rattle.tv_core.specs.Lines.{Line}
-use Rattle.tv_core.specs.declared.limits.TheConstants.{NULL_CELL}
 use Rattle.tv_core.specs.declared.lines.LineLc.{LineLc}
 use Rattle.tv_core.specs.declared.lines.Pair.{Pair}
 use Rattle.tv_lines.specs.Ordered.{key}
@@ -13,10 +12,8 @@ use Rattle.tv_lines.specs.Starts.{boot_line_of, boot_line_terms, least_line_of, 
 use Rattle.tv_argument.specs.declared.kinds.Kind.{Kind}
 use Rattle.tv_argument.specs.declared.kinds.Kind.TheVariants.{ZeroOld, Least, Boot, Within}
 
--- the lines at the places below `count` are checked, each by the kind of its place; that at `least` is the least of all,
--- and those from `count` on are padding, which no constraint checks
+-- each line is checked by the kind of its place; that at `least` is the least of all
 pub record Checks : Type 0 where
-  pub count : ℕ
   pub least : ℕ
   pub kind : ℕ → Kind
 
@@ -61,10 +58,9 @@ IsShortKind Least = Unit {0}
 IsShortKind (Boot c) = Unit {0}
 IsShortKind (Within m) = m ≤ 31
 
--- at most n lines are checked, by short reaches
-pub record AreShort (checks : Checks) (n : ℕ) : Type 0 where
-  pub count : checks.count ≤ n
-  pub kinds : (i : ℕ) → i < checks.count → IsShortKind (checks.kind i)
+-- n lines are checked by short reaches
+abbrev pub AreShort : Checks → ℕ → Type 0
+AreShort checks n = (i : ℕ) → i < n → IsShortKind (checks.kind i)
 
 -- ---- what the lines have to be so that the checks are sound
 -- the line at place i is of a kind: the least line alone is `ZeroOld` or `Least`; a `ZeroOld` line and a `Boot` line have an
@@ -75,20 +71,10 @@ IsOfKind least i line Least = i ≡ least
 IsOfKind least i line (Boot c) = (i ≢ least) × (c < 2 ^ 31) × (line.cell ≡ c + 1) × (line.old ≡ 0)
 IsOfKind least i line (Within m) = (i ≢ least) × (m ≤ 31)
 
--- no line is of a cell after the null cell, each of the null cell leaves 0, and from place l on stand lines of it that
--- begin at 0
-pub record IsPadded (l : ℕ) (lines : List Line) : Type 0 where
-  pub cells : (i : ℕ) → i < length lines → (number_in lines i).cell ≤ NULL_CELL
-  pub news : (i : ℕ) → i < length lines → (number_in lines i).cell ≡ NULL_CELL → (number_in lines i).new ≡ 0
-  pub nulls : (j : ℕ) → l ≤ j → j < length lines → (number_in lines j).cell ≡ NULL_CELL
-  pub olds : (j : ℕ) → l ≤ j → j < length lines → (number_in lines j).old ≡ 0
-
--- the least line is checked, and each checked line is of its kind; the others are padding
+-- the least line is one of these, and each line is of its kind
 pub record AreOfKinds (checks : Checks) (lines : List Line) : Type 0 where
-  pub least : checks.least < checks.count
-  pub within : checks.count ≤ length lines
-  pub kinds : (i : ℕ) → i < checks.count → IsOfKind checks.least i (number_in lines i) (checks.kind i)
-  pub padded : IsPadded checks.count lines
+  pub least : checks.least < length lines
+  pub kinds : (i : ℕ) → i < length lines → IsOfKind checks.least i (number_in lines i) (checks.kind i)
 
 -- ---- and so that they are complete
 -- a line of a cell is among these
@@ -105,7 +91,7 @@ IsNear lines i Least = Unit {0}
 IsNear lines i (Boot c) = HasCell lines c × ((j : ℕ) → j < i → (number_in lines j).cell ≢ (number_in lines i).cell)
 IsNear lines i (Within m) = (m ≡ 31) ⊎ ((i < 2 ^ m) × ((c : ℕ) × ((number_in lines i).cell ≡ c + 1) × HasCell lines c))
 
--- no line's key is below that of the least line, and each checked line is near its predecessor
+-- no line's key is below that of the least line, and each line is near its predecessor
 pub record AreNear (checks : Checks) (lines : List Line) : Type 0 where
   pub least : (i : ℕ) → i < length lines → key (number_in lines checks.least) ≤ key (number_in lines i)
-  pub kinds : (i : ℕ) → i < checks.count → IsNear lines i (checks.kind i)
+  pub kinds : (i : ℕ) → i < length lines → IsNear lines i (checks.kind i)

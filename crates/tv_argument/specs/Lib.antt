@@ -3,8 +3,6 @@ pub mod Checks
 pub mod Costs
 pub mod Memory
 pub mod Order
-pub use Rattle.tv_benes.specs.Items
-pub use Rattle.tv_benes.specs.Places
 pub use Rattle.tv_core.specs.Below
 pub use Rattle.tv_core.specs.Values
 pub use Rattle.tv_core.specs.Loops
@@ -12,3 +10,4 @@ pub use Rattle.tv_core.specs.Sinks
 pub use Rattle.tv_lines.specs.Ordered
 pub use Rattle.tv_lines.specs.PackedLines
 pub use Rattle.tv_lines.specs.Placed
+pub use Rattle.tv_network.specs.Filling

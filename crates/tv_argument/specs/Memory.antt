@@ -1,13 +1,6 @@
 -- The memory argument: a permutation network brings to each line, at its own place in time order, the item of its
 -- predecessor in address order, and the line is checked against it there.
-use Rattle.std.specs.Prelude.{◌≡◌, ℕ, ◌+◌, ◌-◌, ◌*◌, ◌^◌, ◌≤◌, Bool, List, ◌++◌, length, All}
-use Rattle.tv_benes.specs.Costs.{column_terms, inner_terms}
-use Rattle.tv_benes.specs.Items.{pair_at}
-use Rattle.tv_benes.specs.Levels.{network_wires}
-use Rattle.tv_benes.specs.Network.{network_of, network_values}
-use Rattle.tv_benes.specs.Places.{output}
-use Rattle.tv_benes.specs.Through.{through}
-use Rattle.tv_benes.specs.declared.shape.Net.{Net}
+use Rattle.std.specs.Prelude.{◌≡◌, ℕ, ◌+◌, ◌^◌, ◌<◌, ◌≤◌, Bool, List, ◌++◌, length, All}
 use Rattle.tv_core.specs.Below.{joined_below, sum_below}
 use Rattle.tv_core.specs.Circuits.{Circuit, ◌>>=◌}
 use Rattle.tv_core.specs.Combinations.{top}
@@ -21,70 +14,76 @@ use Rattle.tv_core.specs.declared.lines.PairNum.{PairNum}
 use Rattle.tv_lines.specs.PackedLines.{pack_item, unpacked}
 use Rattle.tv_lines.specs.Placed.{line_in, number_in}
 use Rattle.tv_argument.specs.Checks.{Checks, AreShort, check_of, check_values, check_made, check_added, check_terms}
+use Rattle.tv_argument.specs.Costs.{network_on, network_made}
+use Rattle.tv_network.specs.Filling.{pair_at}
+use Rattle.tv_network.specs.Network.{network_of, network_terms, network_values, output_of}
+use Rattle.tv_stages.specs.Stages.{through_stages}
+use Rattle.tv_stages.specs.declared.nets.Net.{Net}
 
--- the combinations of a line have at most 32 terms each, over wires below a number
+-- a line's combinations have at most 14 terms each, and its time one, over wires below a number
 pub record IsMade (wires : ℕ) (line : LineLc) : Type 0 where
   pub cell : top line.cell ≤ wires
   pub time : top line.time ≤ wires
   pub old : top line.old ≤ wires
   pub new : top line.new ≤ wires
-  pub cell_short : length line.cell ≤ 32
-  pub time_short : length line.time ≤ 32
-  pub old_short : length line.old ≤ 32
-  pub new_short : length line.new ≤ 32
+  pub cell_short : length line.cell ≤ 14
+  pub time_short : length line.time ≤ 1
+  pub old_short : length line.old ≤ 14
+  pub new_short : length line.new ≤ 14
 
 -- ---- the circuit
 -- the items of lines
 abbrev pub items_of : List LineLc → ℕ → Pair
 items_of lines i = pack_item (line_in lines i)
 
--- the items of 2 ^ (h + 1) lines go through a network of level h, and each checked line is checked against what comes
--- out at its place
-unfoldable pub checked_network_of : Net → Checks → ℕ → List LineLc → Circuit (Unit {0})
-checked_network_of net checks h lines = do
-  last ← network_of net h (items_of lines)
-  sequence checks.count (λ i. check_of (checks.kind i) (output last i) (line_in lines i))
+-- each line is checked against the output at its place of a network whose wires begin at `first`
+abbrev pub checks_of : Net → Checks → List LineLc → ℕ → Circuit (Unit {0})
+checks_of net checks lines first =
+    sequence (length lines) (λ i. check_of (checks.kind i) (output_of (network_on net (length lines)) first i) (line_in lines i))
 
--- the memory argument over 2 ^ k lines
-abbrev pub argument_of : Net → Checks → ℕ → List LineLc → Circuit (Unit {0})
-argument_of net checks k lines = checked_network_of net checks (k - 1) lines
+-- the items of all lines go through a network, and its outputs are checked
+unfoldable pub argument_of : Net → Checks → List LineLc → Circuit (Unit {0})
+argument_of net checks lines = do
+  first ← network_of (network_on net (length lines)) (items_of lines)
+  checks_of net checks lines first
 
--- how many wires it makes, and how many constraints
+-- how many wires it makes for so many lines, and how many constraints
 abbrev pub argument_made : Net → Checks → ℕ → ℕ
-argument_made net checks k = network_wires net (k - 1) + sum_below checks.count (λ i. check_made (checks.kind i))
+argument_made net checks count = network_made net count + sum_below count (λ i. check_made (checks.kind i))
 
 abbrev pub argument_added : Net → Checks → ℕ → ℕ
-argument_added net checks k = network_wires net (k - 1) + sum_below checks.count (λ i. check_added (checks.kind i))
+argument_added net checks count = network_made net count + sum_below count (λ i. check_added (checks.kind i))
 
 -- ---- what it costs
--- the terms of the network's first column, a switch for each two neighbours, of its other columns, and of all checks
+-- the terms of the network, whose wires begin at `first`, and of all checks
 abbrev pub argument_terms : Net → Checks → ℕ → List LineLc → ℕ
-argument_terms net checks k lines =
-    column_terms (2 ^ (k - 1)) (items_of lines) + inner_terms net (k - 1)
-    + sum_below checks.count (λ i. check_terms (checks.kind i) (line_in lines i))
+argument_terms net checks first lines =
+    network_terms (network_on net (length lines)) first (items_of lines)
+    + sum_below (length lines) (λ i. check_terms (checks.kind i) (line_in lines i))
 
--- how many constraints the argument emits, and how many terms they have over lines of wires before its own: at most 2 ^ 10 a
--- line
+-- how many constraints the argument emits, and how many terms they have over lines of wires before its own: fewer than
+-- 2 ^ 44
 pub record ArgumentCosts : Type 0 where
-  pub constraints : (net : Net) (checks : Checks) (k : ℕ) (lines : List LineLc) (next : ℕ) → 1 ≤ k
-      → length (argument_of net checks k lines next).list ≡ argument_added net checks k
-  pub terms : (net : Net) (checks : Checks) (k : ℕ) (lines : List LineLc) (next : ℕ) → 1 ≤ next → 1 ≤ k → length lines ≡ 2 ^ k → checks.count ≤ 2 ^ k
-      → All (IsMade next) lines → terms_in (argument_of net checks k lines next).list ≡ argument_terms net checks k lines
-  pub few : (net : Net) (checks : Checks) (k : ℕ) (lines : List LineLc) (next : ℕ) → 1 ≤ k → k ≤ 20 → length lines ≡ 2 ^ k → AreShort checks (2 ^ k)
-      → All (IsMade next) lines → argument_terms net checks k lines ≤ 2 ^ k * 2 ^ 10
+  pub constraints : (net : Net) (checks : Checks) (lines : List LineLc) (next : ℕ)
+      → length (argument_of net checks lines next).list ≡ argument_added net checks (length lines)
+  pub terms : (net : Net) (checks : Checks) (lines : List LineLc) (next : ℕ) → 1 ≤ next → All (IsMade next) lines
+      → terms_in (argument_of net checks lines next).list ≡ argument_terms net checks next lines
+  pub few : (net : Net) (checks : Checks) (lines : List LineLc) (next : ℕ) → length lines ≤ 2 ^ 20 → AreShort checks (length lines)
+      → All (IsMade next) lines → argument_terms net checks next lines < 2 ^ 44
 
 -- ---- its combinations are normal
 -- over lines of wires before the argument's own, whatever their combinations are
 abbrev pub MemoryIsNormal : Type 0
-MemoryIsNormal = (net : Net) (checks : Checks) (k : ℕ) (lines : List LineLc) (next : ℕ) → 1 ≤ next → 1 ≤ k → length lines ≡ 2 ^ k → AreShort checks (2 ^ k)
-    → All (IsMade next) lines → AreNormal (argument_of net checks k lines next).list
+MemoryIsNormal = (net : Net) (checks : Checks) (lines : List LineLc) (next : ℕ) → 1 ≤ next → AreShort checks (length lines)
+    → All (IsMade next) lines → AreNormal (argument_of net checks lines next).list
 
 -- ---- the values
 -- the values of the checks of lines, against the lines that the pairs at some places stand for
 abbrev pub checks_values : Checks → (ℕ → PairNum) → List Line → List ℕ
-checks_values checks item lines = joined_below checks.count (λ i. check_values (checks.kind i) (unpacked (item i)) (number_in lines i))
+checks_values checks item lines = joined_below (length lines) (λ i. check_values (checks.kind i) (unpacked (item i)) (number_in lines i))
 
 -- the values of a network with some bits, on items, and of the checks of lines against its outputs
-abbrev pub routed_values : Net → Checks → ℕ → (ℕ → Bool) → List PairNum → List Line → List ℕ
-routed_values net checks k bit items lines =
-    network_values net (k - 1) bit (pair_at items) ++ checks_values checks (through net (k - 1) bit (pair_at items)) lines
+abbrev pub routed_values : Net → Checks → (ℕ → ℕ → Bool) → List PairNum → List Line → List ℕ
+routed_values net checks bit items lines =
+    network_values (network_on net (length items)) bit (pair_at items)
+    ++ checks_values checks (through_stages net (length items) bit (pair_at items)) lines

@@ -1,11 +1,11 @@
 //! The predecessors of lines in address order.
-ghost use Rattle.std.specs.Prelude.{◌≡◌, ◌%◌, ◌^◌, ◌≤◌, length, map, IfOk};
+ghost use Rattle.std.specs.Prelude.{◌≡◌, ◌%◌, ◌^◌, ◌≤◌, length, slice_index, map, IfOk};
 ghost use Rattle.tv_lines.specs.Ordered.{key};
 ghost use Rattle.tv_lines.specs.PackedLines.{unpacked};
 ghost use Rattle.tv_lines.specs.Placed.{LinesFrom};
 ghost use Rattle.tv_argument.specs.Order.{address_order, previous_order, predecessors};
 ghost use Rattle.tv_argument.specs.Order.{AddressOrderIsRight, PredecessorsAreRight};
-ghost use Rattle.tv_route.specs.Permutations.{Permutes};
+ghost use Rattle.tv_stages.specs.Stages.{IsReordering};
 
 use std::alloc::{AllocError, Global};
 use tv_core::PairNum;
@@ -25,7 +25,7 @@ pub fn predecessors(alloc: Global, pairs: &[PairNum]) -> Result<Vec<u32>, AllocE
 
 // Returns for each place the one before it in `order`; the one before the first is the last.
 fn previous(alloc: Global, order: &[u32]) -> Result<Vec<u32>, AllocError>
-    requires { Permutes (length order.now) order.now }
+    requires { IsReordering (length order.now) (λ i. slice_index order.now i) }
     ensures { IfOk result (λ found. found.items ≡ previous_order order.now) }
 {
     let mut found = Vec::from_slice(alloc, order)?;

@@ -1,7 +1,5 @@
 //! The argument's constraints, and its laws.
-ghost use Rattle.std.specs.Prelude.{◌≡◌, ◌^◌, ◌≤◌, length, All};
-ghost use Rattle.tv_benes.specs.Places.{output, AreBelow};
-ghost use Rattle.tv_benes.specs.declared.shape.Net.{Net};
+ghost use Rattle.std.specs.Prelude.{◌≡◌, ◌+◌, ◌^◌, ◌≤◌, length, All};
 ghost use Rattle.tv_core.specs.Below.{sum_below};
 ghost use Rattle.tv_core.specs.Loops.{sequence};
 ghost use Rattle.tv_core.specs.Sinks.{Emits, Room};
@@ -11,58 +9,81 @@ ghost use Rattle.tv_lines.specs.Compact.{line_lc};
 ghost use Rattle.tv_argument.specs.Argument.{ArgumentIsSound, ArgumentIsComplete};
 ghost use Rattle.tv_argument.specs.Checks.{AreShort, IsShortKind, check_of, check_made};
 ghost use Rattle.tv_argument.specs.Checks.{check_added};
+ghost use Rattle.tv_argument.specs.Costs.{network_on};
 ghost use Rattle.tv_argument.specs.Memory.{IsMade, argument_of, argument_made, argument_added};
 ghost use Rattle.tv_argument.specs.Memory.{ArgumentCosts, MemoryIsNormal};
 ghost use Rattle.tv_argument.specs.Order.{argument_values};
+ghost use Rattle.tv_network.specs.Network.{network_wires, output_of};
+ghost use Rattle.tv_stages.specs.declared.nets.Net.{Net};
 
 use crate::kinds::Kind;
 use crate::lines::{CompactLines, LineItems};
-use tv_benes::{Ends, Net, routing_network};
 use tv_core::{Pair, Put, Scratch, Sink};
 use tv_lines::{CompactLine, boot_line, follows, least_line};
+use tv_network::{Network, Outputs, network};
+use tv_stages::Net;
 
-/// Constrains 2^`k` lines in time order, `k` from 1 to 20, to be honest: the old word of each is
-/// the new word of the latest earlier line of its cell, or 0. A permutation network brings to each
-/// line the item of its predecessor in address order, and the line is checked against it at its own
-/// place, as its kind says. Asks for each line twice, and allocates nothing. It makes the network's
+/// How far apart the bound stages of an argument's network are: of three stages in a row one is
+/// bound, and two are open.
+pub(crate) const RATE: u32 = 3;
+
+// The network of `count` lines.
+pub(crate) fn network_on(net: Net, count: u32) -> Network
+    ensures { result ≡ network_on net count }
+{
+    Network {
+        net,
+        items: count,
+        rate: RATE,
+    }
+}
+
+/// Constrains at most 2^20 lines in time order to be honest: the old word of each is the new word
+/// of the latest earlier line of its cell, or 0. A permutation network brings to each line the item
+/// of its predecessor in address order, and the line is checked against it at its own place, as its
+/// kind says. Asks for each line some few times, and allocates nothing. It makes the network's
 /// wires, with a constraint for each, and those of the checks: `m + 1` wires and `m + 3`
 /// constraints for a line within `m` bits, 1 constraint for a boot line or the least line.
-pub fn memory<S: Sink, L: CompactLines>(s: &mut S, net: Net, k: u32, lines: &L) -> Put<()>
-    requires some { 1 ≤ k }
-    requires few { k ≤ 20 }
-    requires many { length (L.lines lines.now) ≡ 2 ^ k }
-    requires checks { AreShort (L.checks lines.now) (2 ^ k) }
-    requires room { Room S.meaning s.old (argument_made net (L.checks lines.now) k)
-        (argument_added net (L.checks lines.now) k) }
+pub fn memory<S: Sink, L: CompactLines>(s: &mut S, net: Net, lines: &L) -> Put<()>
+    requires few { length (L.lines lines.now) ≤ 2 ^ 20 }
+    requires checks { AreShort (L.checks lines.now) (length (L.lines lines.now)) }
+    requires room { let count = length (L.lines lines.now)
+        in Room S.meaning s.old (argument_made net (L.checks lines.now) count)
+        (argument_added net (L.checks lines.now) count) }
     requires made { All (IsMade (S.meaning.wires s.old)) (L.lines lines.now) }
-    ensures emits { Emits S.meaning s.old s.new
-        (argument_of net (L.checks lines.now) k (L.lines lines.now))
-        (argument_made net (L.checks lines.now) k) (argument_added net (L.checks lines.now) k)
-        result }
+    ensures emits { let count = length (L.lines lines.now)
+        in Emits S.meaning s.old s.new
+        (argument_of net (L.checks lines.now) (L.lines lines.now))
+        (argument_made net (L.checks lines.now) count)
+        (argument_added net (L.checks lines.now) count) result }
 {
-    let last = routing_network(s, net, k, &LineItems { lines })?;
-    check_all(s, lines, &last)
+    let on = network_on(net, lines.count());
+    let first = network(s, on, &LineItems { lines })?;
+    check_all(s, lines, &Outputs::new(on, first))
 }
 
 // Checks each line against what the network brings to its place.
-fn check_all<S: Sink, L: CompactLines>(s: &mut S, lines: &L, last: &Ends) -> Put<()>
+fn check_all<S: Sink, L: CompactLines>(s: &mut S, lines: &L, outputs: &Outputs) -> Put<()>
+    requires few { length (L.lines lines.now) ≤ 2 ^ 20 }
     requires checks { AreShort (L.checks lines.now) (length (L.lines lines.now)) }
-    requires room { Room S.meaning s.old
-        (sum_below (L.checks lines.now).count (λ i. check_made ((L.checks lines.now).kind i)))
-        (sum_below (L.checks lines.now).count (λ i. check_added ((L.checks lines.now).kind i))) }
+    requires room { let count = length (L.lines lines.now)
+        in Room S.meaning s.old (sum_below count (λ i. check_made ((L.checks lines.now).kind i)))
+        (sum_below count (λ i. check_added ((L.checks lines.now).kind i))) }
     requires made { All (IsMade (S.meaning.wires s.old)) (L.lines lines.now) }
-    requires below { AreBelow last.now (length (L.lines lines.now)) (S.meaning.wires s.old) }
-    ensures emits { Emits S.meaning s.old s.new
-        (sequence (L.checks lines.now).count (λ i. check_of ((L.checks lines.now).kind i)
-        (output last.now i) (line_in (L.lines lines.now) i)))
-        (sum_below (L.checks lines.now).count (λ i. check_made ((L.checks lines.now).kind i)))
-        (sum_below (L.checks lines.now).count (λ i. check_added ((L.checks lines.now).kind i)))
-        result }
+    requires many { outputs.now.network.items ≡ length (L.lines lines.now) }
+    requires below { outputs.now.first + network_wires outputs.now.network
+        ≤ S.meaning.wires s.old }
+    ensures emits { let count = length (L.lines lines.now)
+        in Emits S.meaning s.old s.new
+        (sequence count (λ i. check_of ((L.checks lines.now).kind i)
+        (output_of outputs.now.network outputs.now.first i) (line_in (L.lines lines.now) i)))
+        (sum_below count (λ i. check_made ((L.checks lines.now).kind i)))
+        (sum_below count (λ i. check_added ((L.checks lines.now).kind i))) result }
 {
     let mut scratch = Scratch::new();
     let mut item = Pair::empty();
-    for i in 0..lines.checked() {
-        last.set_item(i, &mut item);
+    for i in 0..lines.count() {
+        outputs.set_item(i, &mut item);
         check(s, &mut scratch, lines.kind(i), &lines.line(i), &item)?;
     }
     Ok(())
@@ -108,8 +129,8 @@ pub fn argument_is_complete()
         (argument_made net) }
 {}
 
-/// The constraints of `memory`, by the kinds of the lines, and their terms, by the lines, at most
-/// 2^10 a line.
+/// The constraints of `memory`, by the kinds of the lines, and their terms, by the lines: fewer
+/// than 2^44.
 #[tactic(auto, using(crate::proofs::Costs::memory_cost))]
 pub fn argument_costs()
     ensures { ArgumentCosts }

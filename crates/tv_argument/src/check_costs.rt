@@ -1,10 +1,11 @@
 //! What the parts of the argument cost.
-ghost use Rattle.std.specs.Prelude.{◌≡◌, ◌^◌, ◌≤◌};
+ghost use Rattle.std.specs.Prelude.{◌≡◌, ◌^◌, ◌<◌, ◌≤◌};
 ghost use Rattle.tv_argument.specs.Checks.{IsShortKind, check_made, check_added};
 ghost use Rattle.tv_argument.specs.Costs.{ChecksAreCheap, network_made};
 
+use crate::argument::network_on;
 use crate::kinds::Kind;
-use tv_benes::{Net, network_wires};
+use tv_stages::Net;
 
 /// Returns how many wires the check of a line of a kind makes.
 pub fn check_made(kind: Kind) -> u32
@@ -31,14 +32,14 @@ pub fn check_added(kind: Kind) -> u32
     }
 }
 
-/// Returns how many wires the argument's network on 2^`k` items makes, `k` from 1 to 20; it has as
+/// Returns how many wires the argument's network on `count` items makes, at most 2^20; it has as
 /// many constraints.
-pub fn network_made(net: Net, k: u32) -> u64
-    requires some { 1 ≤ k }
-    requires few { k ≤ 20 }
-    ensures { result ≡ network_made net k }
+pub fn network_made(net: Net, count: u32) -> u64
+    requires few { count ≤ 2 ^ 20 }
+    ensures is { result ≡ network_made net count }
+    ensures few { result < 2 ^ 34 }
 {
-    network_wires(net, k)
+    network_on(net, count).wires()
 }
 
 /// Checks with short reaches are cheap, in wires and in constraints.

@@ -8,9 +8,9 @@ ghost use Rattle.tv_argument.specs.Checks.{Checks};
 ghost use Rattle.tv_argument.specs.Memory.{items_of};
 
 use crate::kinds::Kind;
-use tv_benes::Inputs;
 use tv_core::{Line, Pair};
 use tv_lines::CompactLine;
+use tv_network::Inputs;
 
 /// Lines by their indexes, and how each is checked. Contracts see them as a list and as `Checks`.
 pub trait CompactLines {
@@ -23,13 +23,13 @@ pub trait CompactLines {
         requires { i < length (lines self.now) }
         ensures is { line_lc result ≡ line_in (lines self.now) i };
 
-    /// Returns how many lines are checked: those with an index below this. The others are padding.
-    fn checked(&self) -> u32
-        ensures { result ≡ (checks self.now).count };
+    /// Returns how many lines there are.
+    fn count(&self) -> u32
+        ensures { result ≡ length (lines self.now) };
 
     /// Returns how line `i` is checked.
     fn kind(&self, i: u32) -> Kind
-        requires { i < (checks self.now).count }
+        requires { i < length (lines self.now) }
         ensures { result ≡ (checks self.now).kind i };
 }
 
@@ -42,18 +42,14 @@ pub trait LineNumbers {
 
     /// Returns line `i`, except for its new word, which may be any.
     fn line(&self, i: u32) -> Line
-        requires { i < (checks self.now).count }
+        requires { i < length (lines self.now) }
         ensures cell { result.cell ≡ (number_in (lines self.now) i).cell }
         ensures time { result.time ≡ (number_in (lines self.now) i).time }
         ensures old { result.old ≡ (number_in (lines self.now) i).old };
 
-    /// Returns how many lines are checked: those with an index below this.
-    fn checked(&self) -> u32
-        ensures { result ≡ (checks self.now).count };
-
     /// Returns how line `i` is checked.
     fn kind(&self, i: u32) -> Kind
-        requires { i < (checks self.now).count }
+        requires { i < length (lines self.now) }
         ensures { result ≡ (checks self.now).kind i };
 }
 
@@ -67,12 +63,6 @@ impl<'a, L: CompactLines> Inputs for LineItems<'a, L> {
     ghost pair = { λ p i. items_of (L.lines p.lines.now) i };
 
     ghost count = { λ p. length (L.lines p.lines.now) };
-
-    fn at(&self, i: u32) -> Pair {
-        let mut pair = Pair::empty();
-        self.set_item(i, &mut pair);
-        pair
-    }
 
     fn set_item(&self, i: u32, item: &mut Pair) {
         self.lines.line(i).item(item);

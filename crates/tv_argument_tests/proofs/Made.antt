@@ -2,9 +2,6 @@
 use Rattle.tv_core.proofs.Common.{◌≡◌, ℕ, ◌+◌, ◌*◌, ◌<◌, ◌≤◌, List, [], ◌∷◌, ◌++◌, length, All, refl, sym, ◌∙◌, subst, arith, rules, length-each_below}
 use Rattle.tv_core.proofs.Common.{constant, wire, Line}
 use Rattle.std.proofs.lemmas.List.Elements.{All-from_get_or}
-use Rattle.tv_benes.specs.Levels.{bound, network_wires}
-use Rattle.tv_benes.specs.declared.shape.Net.{Net}
-use Rattle.tv_benes.specs.declared.shape.Net.TheVariants.{Benes, Waksman}
 use Rattle.tv_core.specs.declared.lines.LineLc.{LineLc}
 use Rattle.tv_lines.proofs.Neighbours.{each_below-at}
 use Rattle.tv_lines.specs.Placed.{no_line, line_in, IsLine, LinesFrom}
@@ -12,6 +9,11 @@ use Rattle.tv_argument.specs.Memory.{IsMade}
 use Rattle.tv_route.specs.Permutations.{IsRoutable, Permutes}
 use Rattle.tv_core.specs.Below.{sum_below}
 use Rattle.tv_argument.specs.Checks.{AreShort, check_made, check_added}
+use Rattle.tv_argument.specs.Costs.{network_made}
+use Rattle.tv_network.specs.Stages.{wires_before}
+use Rattle.tv_stages.specs.Stages.{stage_count, height, depth, switch_count, number_count, middle_count, pairs, gap_size}
+use Rattle.tv_stages.specs.declared.nets.Net.{Net}
+use Rattle.tv_stages.specs.declared.nets.Net.TheVariants.{Benes, Waksman}
 use Rattle.tv_argument_tests.specs.Wired.{line_at, eight_lines, kind_at, eight_checks}
 
 pub eight : length eight_lines ≡ 8
@@ -49,23 +51,23 @@ pub more_placed : (t : ℕ) (ls : List Line) (l : Line) → LinesFrom t ls → l
 more_placed t [] l from time is = (time ∙ omega arith, is, tt)
 more_placed t (m ∷ ls) l from time is = (from.0, from.1, more_placed (t + 1) ls l from.2 (time ∙ omega arith) is)
 
--- a network on them makes 84 wires by Benes, 73 by Waksman
-pub few_wires : (net : Net) → network_wires net 2 ≤ 84
-unfolding bound
+-- a network on them makes 76 wires by Benes, 69 by Waksman
+pub few_wires : (net : Net) → network_made net 8 ≤ 76
+unfolding wires_before stage_count height depth switch_count number_count middle_count pairs gap_size
 few_wires Benes = omega arith
 few_wires Waksman = omega arith
 
--- its checks make 132 wires and put 144 constraints
-pub checks_made : sum_below 7 (λ i. check_made (kind_at i)) ≡ 132
+-- its checks make 164 wires and put 178 constraints
+pub checks_made : sum_below 8 (λ i. check_made (kind_at i)) ≡ 164
 unfolding sum_below
 checks_made = refl
 
-pub checks_added : sum_below 7 (λ i. check_added (kind_at i)) ≡ 144
+pub checks_added : sum_below 8 (λ i. check_added (kind_at i)) ≡ 178
 unfolding sum_below
 checks_added = refl
 
 pub are_short : AreShort eight_checks 8
-are_short = record { count = omega arith; kinds = λ i h. search rules }
+are_short i h = search rules
 
 -- a permutation of four places has settings
 pub routable : (p : List ℕ) → length p ≡ 4 → Permutes (length p) p → IsRoutable p

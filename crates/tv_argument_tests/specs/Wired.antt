@@ -14,9 +14,9 @@ line_at i = record { cell = wire (3 * i + 1); time = constant i; old = wire (3 *
 abbrev pub eight_lines : List LineLc
 eight_lines = each_below 8 line_at
 
--- line 0 is the least, line 1 is of the cell after 0, line 3 is near its predecessor; line 7 is padding
+-- line 0 is the least, line 1 is of the cell after 0, line 3 is near its predecessor
 abbrev pub kind_at : ℕ → Kind
 kind_at i = if i == 0 then Least else if i == 1 then Boot 0 else if i == 3 then Within 3 else Within 31
 
 abbrev pub eight_checks : Checks
-eight_checks = record { count = 7; least = 0; kind = kind_at }
+eight_checks = record { least = 0; kind = kind_at }

@@ -7,15 +7,15 @@ use crate::wired::{FIRST, Numbered, Wired, wires_of};
 use std::alloc::Global;
 use std::test::Fail;
 use tv_argument::{fill_argument, memory, predecessors};
-use tv_benes::Net;
 use tv_core::{F, Line, ListValues, Put, Sink, TestSink};
-use tv_route::{is_permutation, routing_settings};
+use tv_route::is_permutation;
+use tv_stages::{Net, settings_for};
 
 fn put<S: Sink>(s: &mut S, net: Net) -> Put<()>
     requires room { Room S.meaning s.old 400 400 }
     requires lines { 25 ≤ S.meaning.wires s.old }
 {
-    memory(s, net, 3, &Wired)
+    memory(s, net, &Wired)
 }
 
 // 1, the lines, and the values for their predecessors, of which each is at its place.
@@ -30,17 +30,9 @@ fn assignment(
     if before.len() != 8 || !is_permutation(alloc, before)? {
         return Err(Fail::from("no permutation"));
     }
-    let settings = routing_settings(alloc, net, before)?;
-    let mut spare = pairs.clone()?;
-    fill_argument(
-        &mut values,
-        net,
-        3,
-        &mut pairs,
-        &mut spare,
-        settings.as_slice(),
-        &Numbered { lines },
-    )?;
+    let settings = settings_for(alloc, net, before)?;
+    let lines = Numbered { lines };
+    fill_argument(&mut values, net, &mut pairs, settings.as_slice(), &lines)?;
     Ok(values)
 }
 
@@ -60,7 +52,7 @@ fn a_sort_finds_the_predecessors(rt: HostRuntime) -> Result<(), Fail> {
 
 #[test]
 fn honest_lines_meet_it(rt: HostRuntime) -> Result<(), Fail> {
-    for (net, made, added) in [(Net::Benes, 216, 228), (Net::Waksman, 205, 217)] {
+    for (net, made, added) in [(Net::Benes, 240, 254), (Net::Waksman, 233, 247)] {
         let values = assignment(rt.alloc(), net, &honest(), &PREDECESSORS)?;
         let met = (values.as_slice().len(), held(values.as_slice(), net)?);
         assert_eq!(rt; met, (25 + made, (added, added)));
@@ -68,9 +60,9 @@ fn honest_lines_meet_it(rt: HostRuntime) -> Result<(), Fail> {
     Ok(())
 }
 
-// The wires of two old words that no constraint reads: that of line 1, a boot line, and that of
-// line 7, which is padding. Both are 0 by the kind of the line.
-const UNREAD: [usize; 2] = [5, 23];
+// The wire of an old word that no constraint reads: that of line 1, a boot line, which is 0 by the
+// kind of the line.
+const UNREAD: usize = 5;
 
 // Each other wire is pinned, be it a line's, a switch's bit, a number after a switch or a bit of a
 // reach: with another value there, and the rest as it was, a constraint fails.
@@ -81,8 +73,8 @@ fn an_altered_value_fails(rt: HostRuntime) -> Result<(), Fail> {
     for i in 1..z.len() {
         let kept = z[i];
         z[i] = F::ONE - kept;
-        let fails = held(&z, Net::Waksman)?.1 < 217;
-        assert!(rt; fails != UNREAD.contains(&i), "{i}");
+        let fails = held(&z, Net::Waksman)?.1 < 247;
+        assert!(rt; fails != (i == UNREAD), "{i}");
         z[i] = kept;
     }
     Ok(())
@@ -118,7 +110,7 @@ static DISHONEST: [Numbers; 9] = [
 fn dishonest_lines_fail(rt: HostRuntime) -> Result<(), Fail> {
     for numbers in &DISHONEST {
         let held = held_with(rt.alloc(), line_of(numbers))?;
-        assert!(rt; held < 228, "{numbers:?}");
+        assert!(rt; held < 254, "{numbers:?}");
     }
     Ok(())
 }

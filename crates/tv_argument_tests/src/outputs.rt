@@ -1,15 +1,14 @@
-//! Which of four items come out of a network, by its constraints over the values of its generator,
-//! and where they are moved along. Item i is the pair of the numbers i and i + 1,000,000.
+//! Which of four items come out of a network, by its constraints over the values of its generator.
+//! Item i is the pair of the numbers i and i + 1,000,000.
 ghost use Rattle.std.specs.Prelude.{◌≡◌, ◌≤◌, ◌+◌, ◌*◌, ◌^◌, false, IfOk};
-ghost use Rattle.tv_benes.specs.Levels.{network_wires};
 ghost use Rattle.tv_benes.specs.Places.{wires_at};
+ghost use Rattle.tv_benes.specs.Through.{switches};
 
 use crate::gadgets::values_in;
 use std::alloc::Global;
 use std::test::Fail;
 use tv_benes::{
-    Inputs, Net, fill_network, fill_routing_network, network, network_wires, route_items,
-    routing_network,
+    Inputs, Net, fill_network, fill_routing_network, network, routing_network, routing_switches,
 };
 use tv_core::{F, Lc, ListValues, Pair, PairNum, Put, TestSink, Wire, give_values};
 use tv_waksman::{fill_network_w, network_w};
@@ -42,13 +41,13 @@ fn items() -> [PairNum; 4] {
     })
 }
 
-// 1 and these numbers, for a network that doesn't make too many wires.
+// 1 and these numbers, for a network of no more than six switches.
 fn beginning(alloc: Global, net: Net) -> Result<ListValues, Fail>
     ensures whole { IfOk result (λ values. values.broken ≡ false) }
-    ensures few { IfOk result (λ _. network_wires net 1 ≤ 26) }
+    ensures few { IfOk result (λ _. switches net 1 ≤ 6) }
 {
-    if network_wires(net, 2) > 26 {
-        return Err(Fail::from("too many wires"));
+    if routing_switches(net, 2) > 6 {
+        return Err(Fail::from("too many switches"));
     }
     let [a, b, c, d] = items();
     let mut values = ListValues::new(alloc);
@@ -94,14 +93,6 @@ pub fn sent_by_waksman(alloc: Global, bits: &[bool]) -> Result<[u64; 4], Fail> {
     let outputs = network_w(&mut tests, 2, &Four)?;
     let outputs = [outputs.at(0), outputs.at(1), outputs.at(2), outputs.at(3)];
     come_out(values.as_slice(), &tests, outputs)
-}
-
-/// Which item stands at each place once they are moved along.
-pub fn moved(alloc: Global, net: Net, bits: &[bool]) -> Result<[u64; 4], Fail> {
-    let (mut items, mut spare) = (items(), items());
-    let mut values = ListValues::new(alloc);
-    route_items(&mut values, net, 2, &mut items, &mut spare, bits)?;
-    places(items)
 }
 
 /// The first constraint of a network that fails where no bit is set and 1 is added to the value of

@@ -30,7 +30,8 @@ pub fn line_of(numbers: &Numbers) -> Line {
     line(cell, time, old, new)
 }
 
-/// Honest lines in time order: two words of an image, two steps' lines, and padding.
+/// Honest lines in time order: two words of an image, and lines of three steps, the last of a cell
+/// far above.
 pub fn honest() -> [Line; 8] {
     [
         line(0, 0, 0, 5),

@@ -17,7 +17,7 @@ pub struct Wired;
 /// The numbers of eight lines.
 #[derive(Clone, Copy)]
 pub struct Numbered<'a> {
-    pub lines: &'a [Line; 8],
+    pub lines: &'a [Line],
 }
 
 fn kind(i: u32) -> Kind
@@ -46,8 +46,8 @@ impl CompactLines for Wired {
         }
     }
 
-    fn checked(&self) -> u32 {
-        7
+    fn count(&self) -> u32 {
+        8
     }
 
     fn kind(&self, i: u32) -> Kind {
@@ -62,10 +62,6 @@ impl<'a> LineNumbers for Numbered<'a> {
 
     fn line(&self, i: u32) -> Line {
         self.lines[i as usize]
-    }
-
-    fn checked(&self) -> u32 {
-        7
     }
 
     fn kind(&self, i: u32) -> Kind {

@@ -84,12 +84,12 @@ block_wires w state time at = record {
   value = at + operand_at w;
 }
 
--- the combinations of a line have at most 32 terms
+-- the combinations of a line have at most 14 terms, and its time has one
 pub record IsShortLine (line : LineLc) : Type 0 where
-  pub cell : length line.cell ≤ 32
-  pub time : length line.time ≤ 32
-  pub old : length line.old ≤ 32
-  pub new : length line.new ≤ 32
+  pub cell : length line.cell ≤ 14
+  pub time : length line.time ≤ 1
+  pub old : length line.old ≤ 14
+  pub new : length line.new ≤ 14
 
 -- a block returns those wires; its lines are short, and of the state's program counter and wires that the block makes;
 -- so are the state after it, and where it takes a word

@@ -50,7 +50,7 @@ pub fn steps_are_given()
 {}
 
 /// Says which wires a block returns: all of it follows from its first wire, the wires of the state
-/// before it and the time. A line's combinations have at most 32 terms.
+/// before it and the time. A line's combinations have at most 14 terms.
 #[tactic(auto, using(crate::proofs::Placed::block_places))]
 pub fn block_is_placed()
     ensures { BlockPlaces }

@@ -69,7 +69,7 @@ pub fn next_state<const W: u32>(first: Wire) -> StateWires
 
 /// Returns line 0, 1 or 2 of a step from a state, the step's first wire being `first`: those of the
 /// two words of its instruction, and that of its data word, at `time` and the two times after it. A
-/// combination has at most 32 terms.
+/// combination has at most 14 terms, and the time has one.
 pub fn block_line<const W: u32>(
     first: Wire,
     state: &StateWires,

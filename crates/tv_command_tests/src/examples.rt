@@ -2,7 +2,7 @@
 //! and that of `shrink` of its two names. They are no tests, so they are proved where the crate is
 //! proved without its tests too.
 ghost use Rattle.std.specs.Prelude.{◌≡◌, [], ◌∷◌, codes, Some, None};
-ghost use Rattle.tv_benes.specs.declared.shape.Net.TheVariants.{Benes, Waksman};
+ghost use Rattle.tv_stages.specs.declared.nets.Net.TheVariants.{Benes, Waksman};
 ghost use Rattle.tv_top.specs.Build.{net_word};
 ghost use Rattle.tv_plan.specs.Disasm.{width_word};
 ghost use Rattle.tv_plan.specs.Plan.{name_at, refusal_of};

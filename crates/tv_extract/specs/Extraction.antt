@@ -1,7 +1,7 @@
 -- The run that an assignment of a program's system has, whether or not it satisfies the system.
 use Rattle.std.specs.Prelude.{◌≡◌, ℕ, ◌^◌, ◌==◌, nat_lt, if◌then◌else◌, List, [], ◌∷◌, length, slice_index, Result, Ok, Err}
 use Rattle.std.specs.List.{range_with_len}
-use Rattle.tv_benes.specs.declared.shape.Net.{Net}
+use Rattle.tv_stages.specs.declared.nets.Net.{Net}
 use Rattle.tv_block.specs.Block.{block_of}
 use Rattle.tv_step.specs.Machine.{start, end_of}
 use Rattle.tv_step.specs.declared.end.End.{End}

@@ -1,6 +1,6 @@
 -- What an extracted run is, and that each satisfying assignment has one.
 use Rattle.std.specs.Prelude.{◌≡◌, ℕ, ◌≤◌, List, length, slice_index, Ok}
-use Rattle.tv_benes.specs.declared.shape.Net.{Net}
+use Rattle.tv_stages.specs.declared.nets.Net.{Net}
 use Rattle.tv_block.specs.Block.{block_of}
 use Rattle.tv_core.specs.Constraints.{Sat}
 use Rattle.tv_core.specs.Laws.{HasFrom}

@@ -10,9 +10,9 @@ ghost use Rattle.tv_extract.specs.Extraction.{word_at, words_at, run_in, answeri
 
 use crate::run::{ExtractFault, Run};
 use std::alloc::Global;
-use tv_benes::Net;
 use tv_core::{F, Wire};
 use tv_layout::{ANSWER, spot, tape_wire, wires};
+use tv_stages::Net;
 use tv_step::{End, Machine, NotRun};
 use tv_word::Words;
 

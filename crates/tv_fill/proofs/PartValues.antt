@@ -1,14 +1,12 @@
 -- The values of a filling, given part by part.
 use Rattle.tv_core.proofs.Common.{◌≡◌, ℕ, Bool, List, length, Result, ap₂, ◌∙◌, joined_below, GivesAll, Line}
-use Rattle.tv_benes.specs.Items.{bit_at}
-use Rattle.tv_benes.specs.declared.shape.Net.{Net}
+use Rattle.tv_stages.specs.declared.nets.Net.{Net}
 use Rattle.tv_core.proofs.ValuesChain.{gives_then_refused, gives_refused_then, gives_in_then}
 use Rattle.tv_core.specs.Values.{ValuesMeaning, GivesSome, GivesIn}
 use Rattle.tv_core.specs.declared.lines.PairNum.{PairNum}
 use Rattle.tv_core.specs.declared.sink.SinkFault.{SinkFault}
-use Rattle.tv_argument.specs.Memory.{routed_values}
 use Rattle.tv_step.specs.declared.lines.TraceState.{TraceState}
-use Rattle.tv_fill.specs.Filled.{Parts, front_values, filled_values, filled_lines, filled_checks}
+use Rattle.tv_fill.specs.Filled.{Parts, front_values, filled_values, memory_values}
 use Rattle.tv_fill.specs.TraceValues.{traced_values}
 
 -- these parts
@@ -57,8 +55,7 @@ module _ {V : Type 0} (m : ValuesMeaning V) (w v t k : ℕ) (net : Net) (image x
       gives_then_refused m (front_values w v x) _ old mid new fault p (gives_refused_then m steps _ mid new fault q)
 
   pub all_given : (old mid last new : V) (result : Result (Unit {0}) SinkFault) → GivesAll m old mid (front_values w v x) → GivesAll m mid last steps
-      → GivesIn m last new (routed_values net (filled_checks (length image) (length x) (length lines) k) k (bit_at bits) items
-      (filled_lines image x lines k)) result → GivesIn m old new all result
+      → GivesIn m last new (memory_values (parts_of v t k net image x aux states lines items bits)) result → GivesIn m old new all result
   unfolding filled_values
   all_given old mid last new result p q r =
       gives_in_then m (front_values w v x) _ old mid new result p (gives_in_then m steps _ mid last new result q r)

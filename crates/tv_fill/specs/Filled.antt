@@ -1,7 +1,7 @@
 -- The values for a run, and what a call that prepares or passes them does.
 use Rattle.std.specs.Prelude.{◌≡◌, ◌⊎◌, ℕ, ◌+◌, ◌-◌, ◌*◌, ◌^◌, ◌<◌, ◌≤◌, Bool, List, ◌∷◌, ◌++◌, length, replicate, slice_index, Result, Ok, Err}
-use Rattle.tv_benes.specs.Items.{bit_at}
-use Rattle.tv_benes.specs.declared.shape.Net.{Net}
+use Rattle.tv_stages.specs.Stages.{bit_in}
+use Rattle.tv_stages.specs.declared.nets.Net.{Net}
 use Rattle.tv_bits.specs.Bits.{bits_values}
 use Rattle.tv_core.specs.Below.{joined_below}
 use Rattle.tv_core.specs.Values.{ValuesMeaning, GivesAll, GivesSome}
@@ -13,7 +13,6 @@ use Rattle.tv_fill.specs.declared.fault.FillFault.{FillFault}
 use Rattle.tv_fill.specs.declared.fault.FillFault.TheVariants.{NoRun, Failed, Memory}
 use Rattle.tv_layout.specs.Checks.{least_place, line_kind}
 use Rattle.tv_layout.specs.RunInputs.{RunInput}
-use Rattle.tv_layout.specs.Sound.{padding}
 use Rattle.tv_layout.specs.Systems.{run_values}
 use Rattle.tv_layout.specs.declared.places.TheConstants.{STATE_WIRES}
 use Rattle.tv_argument.specs.Checks.{Checks}
@@ -35,18 +34,16 @@ pub record Filled : Type 0 where
 abbrev pub front_values : ℕ → ℕ → List ℕ → List ℕ
 front_values w v x = (1 ∷ v ∷ x) ++ (joined_below (length x) (λ i. bits_values (slice_index x i) w) ++ replicate STATE_WIRES 0)
 
--- the lines of an image's and a tape's words, those of steps, and padding up to 2 ^ k
-abbrev pub filled_lines : List ℕ → List ℕ → List Line → ℕ → List Line
-filled_lines image x steps k =
-    let count = length image + length x + length steps in
-    (boot_lines image x ++ steps) ++ padding count (2 ^ k - count)
+-- the lines of an image's and a tape's words, and those of steps
+abbrev pub filled_lines : List ℕ → List ℕ → List Line → List Line
+filled_lines image x steps = boot_lines image x ++ steps
 
--- how they are checked, by how many there are of each
-abbrev pub filled_checks : ℕ → ℕ → ℕ → ℕ → Checks
-filled_checks words n steps k = record { count = words + n + steps; least = least_place words n; kind = line_kind k words n }
+-- how they are checked, by how many words there are, and of how many bits times are
+abbrev pub filled_checks : ℕ → ℕ → ℕ → Checks
+filled_checks words n k = record { least = least_place words n; kind = line_kind k words n }
 
--- what it is made of: the answer, the image, the tapes, the steps with their states and lines, the items of 2 ^ k lines,
--- and the bits of the network that moves them
+-- what it is made of: the answer, the image, the tapes, the steps with their states and lines, the items of all lines,
+-- whose times have k bits, and the bits of the network that moves them
 pub record Parts : Type 0 where
   pub answer : ℕ
   pub image : List ℕ
@@ -60,25 +57,27 @@ pub record Parts : Type 0 where
   pub k : ℕ
   pub bits : List Bool
 
--- the front, then the t steps, and the memory argument over 2 ^ k lines, whose items a network with these bits moves
+-- the memory argument, whose items a network with these bits moves
+abbrev pub memory_values : Parts → List ℕ
+memory_values parts =
+    routed_values parts.net (filled_checks (length parts.image) (length parts.tape) parts.k)
+    (bit_in parts.net (length parts.items) parts.bits) parts.items (filled_lines parts.image parts.tape parts.lines)
+
+-- the front, then the t steps, and the memory argument
 unfoldable pub filled_values : ℕ → Parts → List ℕ
 filled_values w parts =
     front_values w parts.answer parts.tape
-    ++ (joined_below parts.t (traced_values w (length parts.tape) parts.states parts.aux parts.lines)
-    ++ routed_values parts.net (filled_checks (length parts.image) (length parts.tape) (length parts.lines) parts.k) parts.k (bit_at parts.bits) parts.items
-    (filled_lines parts.image parts.tape parts.lines parts.k))
+    ++ (joined_below parts.t (traced_values w (length parts.tape) parts.states parts.aux parts.lines) ++ memory_values parts)
 
--- the parts fit each other and the spare items, and the count is that of their values
-pub record PartsFit (w : ℕ) (parts : Parts) (spare : List PairNum) (count : ℕ) : Type 0 where
+-- the parts fit each other, and the count is that of their values
+pub record PartsFit (w : ℕ) (parts : Parts) (count : ℕ) : Type 0 where
   pub width : IsWidth w
   pub short : length parts.tape < 2 ^ 29
-  pub some : 1 ≤ parts.k
   pub few : parts.k ≤ 20
   pub states_many : length parts.states ≡ parts.t + 1
   pub lines_many : length parts.lines ≡ 3 * parts.t
-  pub items_many : length parts.items ≡ 2 ^ parts.k
-  pub spare_many : length spare ≡ 2 ^ parts.k
-  pub lines_fit : length parts.image + length parts.tape + length parts.lines ≤ 2 ^ parts.k
+  pub items_many : length parts.items ≡ length parts.image + length parts.tape + length parts.lines
+  pub items_few : length parts.items ≤ 2 ^ 20
   pub steps : (i : ℕ) → i < parts.t → StepInRange w (length parts.tape) parts.states parts.aux parts.lines i
   pub counted : count ≡ length (filled_values w parts)
 

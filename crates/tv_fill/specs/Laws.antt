@@ -1,5 +1,5 @@
 -- What a filling is good for.
-use Rattle.tv_benes.specs.declared.shape.Net.{Net}
+use Rattle.tv_stages.specs.declared.nets.Net.{Net}
 use Rattle.tv_block.specs.Block.{block_of}
 use Rattle.tv_fill.specs.Filled.{Filled, IsFilling}
 use Rattle.tv_layout.specs.Places.{WithinLimits, runs_like}

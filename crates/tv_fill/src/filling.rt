@@ -1,6 +1,6 @@
 //! The values of a run, prepared and then passed to a taker.
-ghost use Rattle.std.specs.Prelude.{◌≡◌, ◌*◌, ◌/◌, ◌^◌, ◌<◌, ◌≤◌, false, length, map, IfOk};
-ghost use Rattle.std.specs.Prelude.{IfErr, OnOk};
+ghost use Rattle.std.specs.Prelude.{◌≡◌, ◌*◌, ◌/◌, ◌^◌, ◌<◌, ◌≤◌, false, length, map, slice_index};
+ghost use Rattle.std.specs.Prelude.{IfOk, IfErr, OnOk};
 ghost use Rattle.tv_core.specs.Values.{GivesIn};
 ghost use Rattle.tv_fill.specs.Filled.{IsFilling, FillsIn};
 ghost use Rattle.tv_layout.specs.Places.{WithinLimits, runs_like};
@@ -8,8 +8,8 @@ ghost use Rattle.tv_layout.specs.RunInputs.{run_on};
 ghost use Rattle.tv_lines.specs.PackedLines.{unpacked};
 ghost use Rattle.tv_lines.specs.Placed.{LinesFrom};
 ghost use Rattle.tv_argument.specs.Order.{predecessors};
-ghost use Rattle.tv_route.specs.Permutations.{IsRoutable};
-ghost use Rattle.tv_route.specs.Route.{route_of};
+ghost use Rattle.tv_stages.specs.Settings.{settings_of};
+ghost use Rattle.tv_stages.specs.Stages.{IsReordering};
 ghost use Rattle.tv_step.specs.Range.{AreWords};
 ghost use Rattle.tv_step.specs.RunTrace.{IsRefused};
 
@@ -21,10 +21,9 @@ use crate::steps::Steps;
 use std::alloc::{AllocError, Global};
 use std::marker::Model;
 use tv_argument::{fill_argument, predecessors};
-use tv_benes::Net;
-use tv_core::{F, PairNum, Put, Values};
+use tv_core::{PairNum, Put, Values};
 use tv_layout::{log_of, wires};
-use tv_route::{Settings, routing_settings};
+use tv_stages::{Net, Settings, settings_for};
 use tv_step::{Lines, States, Trace, TraceFault, trace};
 
 /// A run that answers, ready to assign the values of its system's wires. Contracts see its answer
@@ -41,9 +40,8 @@ pub struct Filling<'a, const W: u32> {
     t: u32,
     states: States,
     lines: Lines,
-    // The items of 2^`k` lines, in time order, and scratch space of the same length.
+    // The items of all lines, in time order. The times have `k` bits.
     items: Vec<PairNum>,
-    spare: Vec<PairNum>,
     net: Net,
     k: u32,
     // The settings that bring to each line the item of its predecessor in address order.
@@ -84,7 +82,7 @@ impl<'a, const W: u32> Model for Filling<'a, W> {
       net = f.net;
       k = f.k;
       bits = f.settings;
-    }) f.spare.items f.count };
+    }) f.count };
 }
 
 impl<'a, const W: u32> Filling<'a, W> {
@@ -119,7 +117,6 @@ impl<'a, const W: u32> Filling<'a, W> {
             states,
             lines,
             mut items,
-            mut spare,
             net,
             k,
             settings,
@@ -134,9 +131,7 @@ impl<'a, const W: u32> Filling<'a, W> {
         fill_argument(
             v,
             net,
-            k,
             items.as_mut_slice(),
-            spare.as_mut_slice(),
             settings.as_slice(),
             &RunLines {
                 image,
@@ -150,10 +145,10 @@ impl<'a, const W: u32> Filling<'a, W> {
 
 /// Runs the machine for at most `t` steps on an image and two tapes, and makes the values of the
 /// wires of its system over a network ready, where it answers. `NoRun` comes exactly where it
-/// doesn't, with how it ends. Beside the machine's own memory it takes at most 160 bytes for each
-/// of the 2^k lines of the system. The returned `Filling` keeps at most 100 bytes per line, scratch
-/// space for `give` included, and borrows the image and the tapes. It takes the run's time twice,
-/// and then a time that grows as k times the lines.
+/// doesn't, with how it ends. Beside the machine's own memory it takes at most 120 bytes for each
+/// line of the system. The returned `Filling` keeps at most 80 bytes per line, and borrows the image
+/// and the tapes. It takes the run's time twice, and then a time that grows as the lines times
+/// their number's logarithm.
 ///
 /// Words have `W` bits, 16 or 32, and the image fits in memory. It has at most 131,072 of them, and
 /// so has the primary tape; `t` is from 1 to 262,144.
@@ -179,13 +174,8 @@ pub fn prepare<'a, const W: u32>(
         states,
     } = trace::<W>(alloc, image, tape, aux, t)?;
     let k = log_of((image.len() + tape.len()) as u32 + 3 * t);
-    let items = pack_items(alloc, image, tape, lines.as_slice(), k)?;
+    let items = pack_items(alloc, image, tape, lines.as_slice())?;
     let settings = settings_to_predecessors(alloc, net, &items)?;
-    let zeros = PairNum {
-        first: F::ZERO,
-        second: F::ZERO,
-    };
-    let spare = Vec::from_elem(alloc, zeros, items.len())?;
     Ok(Filling {
         answer,
         count: wires::<W>(image, tape.len() as u32, t, net),
@@ -196,7 +186,6 @@ pub fn prepare<'a, const W: u32>(
         states,
         lines,
         items,
-        spare,
         net,
         k,
         settings,
@@ -212,12 +201,13 @@ fn settings_to_predecessors(
 ) -> Result<Settings, AllocError>
     requires few { length items.now ≤ 2 ^ 20 }
     requires times { LinesFrom 0 (map unpacked items.now) }
-    requires routable { IsRoutable (predecessors (map unpacked items.now)) }
+    requires permutes { let order = predecessors (map unpacked items.now)
+        in IsReordering (length order) (λ i. slice_index order i) }
     ensures { IfOk result (λ settings. settings
-        ≡ route_of net (predecessors (map unpacked items.now))) }
+        ≡ settings_of net (predecessors (map unpacked items.now))) }
 {
     let order = predecessors(alloc, items)?;
-    routing_settings(alloc, net, &order)
+    settings_for(alloc, net, &order)
 }
 
 /// Assigns the values of the wires of a system over a network, for the run of at most `t` steps on

@@ -7,8 +7,8 @@ use tv_core::Line;
 use tv_core::limits::TAPE_CELLS;
 use tv_layout::line_kind;
 
-// All 2^`k` lines of a run: those of the image's and the tape's words, those of its steps, and
-// padding.
+// The lines of a run, whose times have `k` bits: those of the image's and the tape's words, and
+// those of its steps.
 #[derive(Clone, Copy)]
 pub(crate) struct RunLines<'a> {
     pub(crate) image: &'a [u32],
@@ -16,14 +16,13 @@ pub(crate) struct RunLines<'a> {
     pub(crate) steps: &'a [Line],
     pub(crate) k: u32,
     ghost few: { k ≤ 20 },
-    ghost fits: { length image.now + length tape.now + length steps.now ≤ 2 ^ k },
+    ghost fits: { length image.now + length tape.now + length steps.now ≤ 2 ^ 20 },
 }
 
 impl<'a> LineNumbers for RunLines<'a> {
-    ghost lines = { λ l. filled_lines l.image.now l.tape.now l.steps.now l.k };
+    ghost lines = { λ l. filled_lines l.image.now l.tape.now l.steps.now };
 
-    ghost checks = { λ l. filled_checks (length l.image.now) (length l.tape.now)
-        (length l.steps.now) l.k };
+    ghost checks = { λ l. filled_checks (length l.image.now) (length l.tape.now) l.k };
 
     fn line(&self, i: u32) -> Line {
         let words = self.image.len() as u32;
@@ -36,10 +35,6 @@ impl<'a> LineNumbers for RunLines<'a> {
         } else {
             self.steps[(i - boot) as usize]
         }
-    }
-
-    fn checked(&self) -> u32 {
-        (self.image.len() + self.tape.len() + self.steps.len()) as u32
     }
 
     fn kind(&self, i: u32) -> Kind {

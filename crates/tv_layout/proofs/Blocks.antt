@@ -1,13 +1,12 @@
 -- What a system needs of a step's circuit. A system's laws stand on these records alone; that the circuit of tv_block has
 -- them is proved in Systems, and of its sizes here.
-use Rattle.std.specs.Prelude.{◌≡◌, ℕ, ◌+◌, ◌/◌, ◌^◌, ◌<◌, ◌≤◌, Bool, List, length, Option, Some, is_some}
+use Rattle.std.specs.Prelude.{◌≡◌, ℕ, ◌+◌, ◌/◌, ◌^◌, ◌<◌, Bool, List, length, Option, Some, is_some}
 use Rattle.tv_block.specs.Block.{transition_in, IsMachineStep, block_of}
 use Rattle.tv_block.specs.Complete.{olds_of, block_made}
 use Rattle.tv_inputs.specs.States.{state_in}
 use Rattle.tv_block.specs.declared.records.Block.{Block}
 use Rattle.tv_inputs.specs.declared.records.StateWires.{StateWires}
 use Rattle.tv_core.proofs.Common.{Assigns, Meets, HasFrom, InField, IsWidth}
-use Rattle.tv_core.specs.declared.limits.TheConstants.{NULL_CELL}
 use Rattle.tv_step.specs.Rows.{word_size}
 use Rattle.tv_numbers.specs.Numbers.{Transition, lines_in}
 use Rattle.tv_numbers.specs.Shown.{MayTake}
@@ -32,14 +31,10 @@ step_sized w width = record {
   three = λ n state time next. block_sizes.three w n state time next;
 }
 
--- the cells of a step's lines: it fetches its instruction's two words from neighbouring cells, which stand before the
--- null cell, and no line is of a cell after that; one of the null cell leaves 0
+-- the cells of a step's first two lines: it fetches its instruction's two words from neighbouring cells
 pub record HasCells (w : ℕ) (b : Transition) : Type 0 where
   pub first : b.first.cell ≡ b.now.pc / word_size w
   pub second : b.second.cell ≡ b.first.cell + 1
-  pub low : b.second.cell < NULL_CELL
-  pub within : b.data_line.cell ≤ NULL_CELL
-  pub null : b.data_line.cell ≡ NULL_CELL → b.data_line.new ≡ 0
 
 pub record IsSoundStep (w : ℕ) (z x : List ℕ) (time : ℕ) (state : StateWires) (made : Block) : Type 0 where
   pub machine : IsMachineStep w z x time state made

@@ -95,11 +95,3 @@ pub boot_lines_placed : (image x : List ℕ) → AreWords 32 image → AreWords 
 boot_lines_placed image x words tape i j =
     LinesFrom-append 0 (length image) (boot_from 0 0 image) (boot_from TAPE_CELLS (length image) x) (omega (arith, length-boot_from 0 0 image))
     (boot_placed 0 0 image words (omega arith)) (boot_placed TAPE_CELLS (length image) x tape (omega arith))
-
-pub padding_placed : (time more : ℕ) → LinesFrom time (padding time more)
-padding_placed time zero = tt
-padding_placed time (suc more) = (refl, record { cell = omega arith; old = omega arith; new = omega arith }, padding_placed (time + 1) more)
-
-pub length-padding : (time more : ℕ) → length (padding time more) ≡ more
-length-padding time zero = refl
-length-padding time (suc more) = ap suc (length-padding (time + 1) more)

@@ -2,31 +2,30 @@
 use Rattle.tv_core.proofs.Common.{◌≡◌, ◌≢◌, ℕ, ◌+◌, ◌-◌, ◌*◌, ◌/◌, ◌<◌, ◌≤◌, ◌^◌, List, length, map, inl, inr, refl, sym, ap, ◌∙◌, subst, arith, cases_eq}
 use Rattle.tv_core.proofs.Common.{cases_lt, ne_eqb, eq-eqb, slice_index, Assigns, Meets, HasFrom, Line, for_widths, IsWidth}
 use Rattle.std.proofs.Common.{zero-add}
-use Rattle.tv_core.specs.declared.limits.TheConstants.{CELL_BITS, TAPE_CELLS, NULL_CELL}
+use Rattle.tv_core.specs.declared.limits.TheConstants.{CELL_BITS, TAPE_CELLS}
 use Rattle.tv_lines.specs.Ordered.{key}
 use Rattle.tv_lines.specs.PackedLines.{line_value}
 use Rattle.tv_lines.specs.Placed.{zero_line, number_in}
 use Rattle.tv_argument.proofs.Parts.{placed}
-use Rattle.tv_argument.specs.Checks.{IsOfKind, IsPadded, AreOfKinds, HasCell, IsNear, AreNear}
+use Rattle.tv_argument.specs.Checks.{IsOfKind, AreOfKinds, HasCell, IsNear, AreNear}
 use Rattle.tv_argument.specs.declared.kinds.Kind.{Kind}
 use Rattle.tv_argument.specs.declared.kinds.Kind.TheVariants.{ZeroOld, Within}
 use Rattle.tv_numbers.specs.Numbers.{Transition, lines_in}
 use Rattle.tv_numbers.specs.Views.{View}
 use Rattle.tv_step.specs.Range.{AreWords}
 use Rattle.tv_step.specs.Rows.{word_size}
-use Rattle.tv_step.specs.Trace.{null_line}
 use Rattle.tv_inputs.specs.States.{state_in}
 use Rattle.tv_layout.proofs.Blocks.{BlockSizes, HasCells, BlockIsSound}
 use Rattle.tv_layout.proofs.LineKinds.{of_image, first_boot, later_boot, least_first, some_first, later_first}
 use Rattle.tv_layout.proofs.MemoryCosts.{tape_kind, first_kinds, second_kinds, third_kinds}
-use Rattle.tv_layout.proofs.NumberPlaces.{written_at, all, long, at_image, at_tape, at_step, at_padding, each_checked, below_three}
+use Rattle.tv_layout.proofs.NumberPlaces.{written_at, all, long, at_image, at_tape, at_step, each_checked, below_three}
 use Rattle.tv_layout.proofs.FirstState.{HoldsZeros, first_view}
 use Rattle.tv_layout.proofs.Positions.{log_above, log_within}
 use Rattle.tv_layout.proofs.Steps.{transition_at, cells}
-use Rattle.tv_layout.proofs.Whole.{few, short, early, spare, filled, lines_valued, all_placed}
+use Rattle.tv_layout.proofs.Whole.{few, short, early, own_valued, own_placed}
 use Rattle.tv_layout.specs.Blocks.{BlockCircuit}
 use Rattle.tv_layout.specs.Checks.{least_place, boot_kind, first_kind, line_kind, checks_of}
-use Rattle.tv_layout.specs.Layout.{steps_of, state_at, system_lines}
+use Rattle.tv_layout.specs.Layout.{steps_of, state_at, own_lines}
 use Rattle.tv_layout.specs.Places.{WithinLimits, boot_count, line_count, log_of, tape_at, zero_wires_at, first_at, runs_like}
 
 -- ---- the least line
@@ -84,15 +83,15 @@ module _ (w : ℕ) (block : BlockCircuit) (made : ℕ) (sizes : BlockSizes block
   three i = refl
 
   abbrev numbers : List Line
-  numbers = all image x t f three (spare (runs_like w image x t))
+  numbers = all image x t f three
 
   cells_at : (i : ℕ) → i < t → HasCells w (here i)
   cells_at i h =
       cells block made sizes z x (boot_count image (length x)) (zero_wires_at w (length x)) (first_at w (length x)) w fits.width law t assigns
       (short (runs_like w image x t) fits) (early (runs_like w image x t) fits) zeros_there met i h
 
-  many : length numbers ≡ 2 ^ k
-  many = long image x t f three (spare (runs_like w image x t)) ∙ filled (runs_like w image x t) fits
+  many : length numbers ≡ count
+  many = long image x t f three
 
   within : count ≤ 2 ^ k
   within = log_above count (few (runs_like w image x t) fits)
@@ -101,7 +100,7 @@ module _ (w : ℕ) (block : BlockCircuit) (made : ℕ) (sizes : BlockSizes block
   small = log_within count (few (runs_like w image x t) fits)
 
   time_at : (i : ℕ) → i < length numbers → (number_in numbers i).time ≡ i
-  time_at i h = (placed 0 numbers (all_placed w block made sizes law image x z t fits assigns words has zeros_there met) i zero_line h).0 ∙ omega arith
+  time_at i h = (placed 0 numbers (own_placed w block made sizes law image x z t fits assigns words has zeros_there met) i zero_line h).0 ∙ omega arith
 
   -- ---- of their kinds
   on_image : (i : ℕ) → i < length image → IsOfKind least i (written_at i i (slice_index image i)) (line_kind k (length image) (length x) i)
@@ -159,67 +158,29 @@ module _ (w : ℕ) (block : BlockCircuit) (made : ℕ) (sizes : BlockSizes block
       (after (3 * j + 2) (λ e. omega (arith, e)), omega arith))
       r i
 
-  -- ---- padding
-  abbrev LeavesNull : ℕ → Line → Type 0
-  LeavesNull i line = (line.cell ≤ NULL_CELL) × (line.cell ≡ NULL_CELL → line.new ≡ 0)
-
-  below_null : (line : Line) → line.cell < NULL_CELL → (line.cell ≤ NULL_CELL) × (line.cell ≡ NULL_CELL → line.new ≡ 0)
-  below_null line h = (omega (arith, h), λ same. absurd (omega (arith, same, h)))
-
-  step_leaves : (j r : ℕ) → j < t → r < 3 → LeavesNull (length image + length x + (3 * j + r)) (number_in (f j) r)
-  step_leaves j r h i =
-      let at = cells_at j h in
-      below_three (λ r. LeavesNull (length image + length x + (3 * j + r)) (number_in (f j) r))
-      (below_null (here j).first (omega (arith, at.second, at.low))) (below_null (here j).second at.low) (at.within, at.null) r i
-
-  leaves : (i : ℕ) → i < length numbers → LeavesNull i (number_in numbers i)
-  leaves i h = elim (cases_lt i count) [
-    | inl checked ↦
-        each_checked image x t f three (spare (runs_like w image x t)) LeavesNull
-        (λ i h. below_null (written_at i i (slice_index image i)) (omega (arith, h, fits.image_fits)))
-        (λ i h. below_null (written_at (TAPE_CELLS + i) (length image + i) (slice_index x i)) (omega (arith, h, fits.tape_fits)))
-        step_leaves i checked
-    | inr past ↦
-        let room : i < count + spare (runs_like w image x t) = omega (arith, h, many, filled (runs_like w image x t) fits) in
-        subst (LeavesNull i) (sym (at_padding image x t f three (spare (runs_like w image x t)) i past room)) (omega arith, λ same. refl)
-  ]
-
-  padding_is : (i : ℕ) → count ≤ i → i < length numbers → number_in numbers i ≡ null_line i
-  padding_is i past h = at_padding image x t f three (spare (runs_like w image x t)) i past (omega (arith, h, many, filled (runs_like w image x t) fits))
-
-  padded : IsPadded count numbers
-  padded = record {
-    cells = λ i h. (leaves i h).0;
-    news = λ i h. (leaves i h).1;
-    nulls = λ j h i. ap (λ (l : Line). l.cell) (padding_is j h i);
-    olds = λ j h i. ap (λ (l : Line). l.old) (padding_is j h i);
-  }
-
-  least_checked : least < count
+  least_checked : least < length numbers
   least_checked = elim (cases_eq (length image) 0) [
-    | inl none ↦ let at = least_none (length image) (length x) none in omega (arith, at, none, fits.some)
-    | inr some ↦ let at = least_some (length image) (length x) some in omega (arith, at, some)
+    | inl none ↦ let at = least_none (length image) (length x) none in omega (arith, at, none, many, fits.some)
+    | inr some ↦ let at = least_some (length image) (length x) some in omega (arith, at, some, many)
   ]
 
   numbers_of_kinds : AreOfKinds (checks_of (runs_like w image x t)) numbers
   numbers_of_kinds = record {
     least = least_checked;
-    within = omega (arith, many, within);
-    kinds = each_checked image x t f three (spare (runs_like w image x t))
+    kinds = each_checked image x t f three
         (λ i line. IsOfKind least i line (line_kind k (length image) (length x) i)) on_image on_tape on_step;
-    padded = padded;
   }
 
-  pub are_of_kinds : AreOfKinds (checks_of (runs_like w image x t)) (map (line_value z) (system_lines block (runs_like w image x t)))
+  pub are_of_kinds : AreOfKinds (checks_of (runs_like w image x t)) (map (line_value z) (own_lines block (runs_like w image x t)))
   are_of_kinds = subst (AreOfKinds (checks_of (runs_like w image x t)))
-      (sym (lines_valued w block made sizes law image x z t fits assigns words has zeros_there met)) numbers_of_kinds
+      (sym (own_valued w block made sizes law image x z t fits assigns words has zeros_there met)) numbers_of_kinds
 
   -- ---- near their predecessors
   cell_of_image : (i : ℕ) → i < length image → (number_in numbers i).cell ≡ i
-  cell_of_image i h = ap (λ (l : Line). l.cell) (at_image image x t f three (spare (runs_like w image x t)) i h)
+  cell_of_image i h = ap (λ (l : Line). l.cell) (at_image image x t f three i h)
 
   cell_of_tape : (i : ℕ) → i < length x → (number_in numbers (length image + i)).cell ≡ TAPE_CELLS + i
-  cell_of_tape i h = ap (λ (l : Line). l.cell) (at_tape image x t f three (spare (runs_like w image x t)) i h)
+  cell_of_tape i h = ap (λ (l : Line). l.cell) (at_tape image x t f three i h)
 
   near_boot : (place cell i : ℕ) (first : Kind) → IsNear numbers place first
       → (i ≢ 0 → HasCell numbers (cell + i - 1) × ((j : ℕ) → j < place → (number_in numbers j).cell ≢ (number_in numbers place).cell))
@@ -233,7 +194,7 @@ module _ (w : ℕ) (block : BlockCircuit) (made : ℕ) (sizes : BlockSizes block
   image_near i h =
       subst (IsNear numbers i) (sym (of_image k (length image) (length x) i h))
       (near_boot i 0 i ZeroOld tt (λ e. (
-        record { place = i - 1; below = omega (arith, many, within, h, e); is = cell_of_image (i - 1) (omega (arith, h)) ∙ omega arith },
+        record { place = i - 1; below = omega (arith, many, h, e); is = cell_of_image (i - 1) (omega (arith, h)) ∙ omega arith },
         λ j l same. omega (arith, cell_of_image j (omega (arith, l, h)), cell_of_image i h, same, l),
       )))
 
@@ -243,7 +204,7 @@ module _ (w : ℕ) (block : BlockCircuit) (made : ℕ) (sizes : BlockSizes block
       (near_boot (length image + i) TAPE_CELLS i (Within CELL_BITS) (inl refl) (λ e.
       let before : i - 1 < length x = omega (arith, h) in
       let at : TAPE_CELLS + (i - 1) ≡ TAPE_CELLS + i - 1 = omega (arith, e) in (
-        record { place = length image + (i - 1); below = omega (arith, many, within, h, e); is = cell_of_tape (i - 1) before ∙ at },
+        record { place = length image + (i - 1); below = omega (arith, many, h, e); is = cell_of_tape (i - 1) before ∙ at },
         λ j l same. elim (cases_lt j (length image)) [
           | inl booted ↦ omega (arith, cell_of_image j booted, cell_of_tape i h, same, booted, fits.image_fits)
           | inr past ↦
@@ -256,14 +217,14 @@ module _ (w : ℕ) (block : BlockCircuit) (made : ℕ) (sizes : BlockSizes block
       )))
 
   cell_of_step : (j r : ℕ) → j < t → r < 3 → (number_in numbers (length image + length x + (3 * j + r))).cell ≡ (number_in (f j) r).cell
-  cell_of_step j r h i = ap (λ (l : Line). l.cell) (at_step image x t f three (spare (runs_like w image x t)) j r h i)
+  cell_of_step j r h i = ap (λ (l : Line). l.cell) (at_step image x t f three j r h i)
 
   second_near : (j : ℕ) → j < t → IsNear numbers (length image + length x + (3 * j + 1)) (Within k)
   second_near j h =
       let at = cells_at j h in
       let fetched : HasCell numbers (here j).first.cell = record {
         place = length image + length x + (3 * j + 0);
-        below = omega (arith, many, within, h);
+        below = omega (arith, many, h);
         is = cell_of_step j 0 h (omega arith);
       } in
       let place : length image + length x + (3 * j + 1) < 2 ^ k = omega (arith, within, h) in
@@ -292,7 +253,7 @@ module _ (w : ℕ) (block : BlockCircuit) (made : ℕ) (sizes : BlockSizes block
   first_key : length image ≡ 0 → key (number_in numbers (length x)) ≤ length x
   first_key none =
       let place : length image + length x + (3 * 0 + 0) ≡ length x = omega (arith, none) in
-      let there : length x < length numbers = omega (arith, many, within, none, fits.some) in
+      let there : length x < length numbers = omega (arith, many, none, fits.some) in
       let cell : (number_in numbers (length x)).cell ≡ 0 =
       ap (λ p. (number_in numbers p).cell) (sym place) ∙ cell_of_step 0 0 (omega (arith, fits.some)) (omega arith)
       ∙ (cells_at 0 (omega (arith, fits.some))).first
@@ -318,8 +279,8 @@ module _ (w : ℕ) (block : BlockCircuit) (made : ℕ) (sizes : BlockSizes block
         let zero_key : key (number_in numbers 0)
         ≡ 0 = omega (
           arith,
-          ap (λ (l : Line). l.cell) (at_image image x t f three (spare (runs_like w image x t)) 0 (omega (arith, some))),
-          ap (λ (l : Line). l.time) (at_image image x t f three (spare (runs_like w image x t)) 0 (omega (arith, some))),
+          ap (λ (l : Line). l.cell) (at_image image x t f three 0 (omega (arith, some))),
+          ap (λ (l : Line). l.time) (at_image image x t f three 0 (omega (arith, some))),
         ) in
         subst (λ a. key (number_in numbers a) ≤ key (number_in numbers i)) (sym (least_some (length image) (length x) some)) (omega (arith, zero_key))
   ]
@@ -327,10 +288,10 @@ module _ (w : ℕ) (block : BlockCircuit) (made : ℕ) (sizes : BlockSizes block
   numbers_near : AreNear (checks_of (runs_like w image x t)) numbers
   numbers_near = record {
     least = least_key;
-    kinds = each_checked image x t f three (spare (runs_like w image x t))
+    kinds = each_checked image x t f three
         (λ i _. IsNear numbers i (line_kind k (length image) (length x) i)) image_near tape_near step_near;
   }
 
-  pub are_near : AreNear (checks_of (runs_like w image x t)) (map (line_value z) (system_lines block (runs_like w image x t)))
+  pub are_near : AreNear (checks_of (runs_like w image x t)) (map (line_value z) (own_lines block (runs_like w image x t)))
   are_near = subst (AreNear (checks_of (runs_like w image x t)))
-      (sym (lines_valued w block made sizes law image x z t fits assigns words has zeros_there met)) numbers_near
+      (sym (own_valued w block made sizes law image x z t fits assigns words has zeros_there met)) numbers_near

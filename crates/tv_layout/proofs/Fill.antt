@@ -6,7 +6,7 @@ use Rattle.std.proofs.Common.{replicate, add-zero}
 use Rattle.std.proofs.Math.Seq.{take-append_seam}
 use Rattle.std.proofs.lemmas.List.{get_or-append-add, get_or-replicate, get_or-take, get_or-drop, length-take}
 use Rattle.std.proofs.lemmas.List.Elements.{All-weaker, All-replicate, All-from_get_or, All-tail}
-use Rattle.tv_benes.specs.declared.shape.Net.{Net}
+use Rattle.tv_stages.specs.declared.nets.Net.{Net}
 use Rattle.tv_bits.proofs.SizeLaws.{bits_in_field}
 use Rattle.tv_bits.specs.Bits.{bits_values}
 use Rattle.tv_core.proofs.CombinationLaws.{Sat-from_Meets}
@@ -21,26 +21,25 @@ use Rattle.tv_argument.specs.Memory.{argument_made}
 use Rattle.tv_argument.specs.Order.{argument_values}
 use Rattle.tv_step.proofs.EndLaws.{end_answers}
 use Rattle.tv_step.proofs.RangeLaws.{start_in_range, run_keeps_range, answer_is_word, word_at}
-use Rattle.tv_step.specs.Cells.{boot_lines}
+use Rattle.tv_step.specs.Cells.{boot_lines, run_lines}
 use Rattle.tv_step.specs.Machine.{start, state_after, Accepts}
 use Rattle.tv_step.specs.Range.{AreWords, StateInRange}
 use Rattle.tv_step.specs.Reads.{ended_after, Reads}
 use Rattle.tv_step.specs.Runs.{Answering}
 use Rattle.tv_layout.proofs.Ends.{at_place, words_met, zero_wires_met, tie_met}
 use Rattle.tv_layout.proofs.FirstState.{HoldsZeros}
-use Rattle.tv_layout.proofs.Positions.{layout_meets, layout_next, last_of, log_some, log_within, memory_at}
-use Rattle.tv_layout.proofs.RunLines.{input, run_placed, run_few, run_honest}
+use Rattle.tv_layout.proofs.Positions.{layout_meets, layout_next, last_of, after_steps}
+use Rattle.tv_layout.proofs.RunLines.{input, run_many, run_few, run_placed, run_honest}
 use Rattle.tv_layout.proofs.StepsFill.{steps_met, steps_lines, steps_take, last_said}
 use Rattle.tv_layout.proofs.TakenWords.{taken_of_is}
-use Rattle.tv_layout.proofs.Whole.{few, short, early, spare, lines_valued, lines_many}
+use Rattle.tv_layout.proofs.Whole.{few, short, early, own_valued, own_many}
 use Rattle.tv_layout.proofs.Blocks.{BlockSizes, BlockIsSound, BlockIsComplete}
 use Rattle.tv_layout.specs.Blocks.{BlockCircuit, BlockValues}
 use Rattle.tv_layout.proofs.Checked.{are_of_kinds, are_near}
 use Rattle.tv_layout.specs.Checks.{checks_of}
-use Rattle.tv_layout.specs.Layout.{steps_of, system_lines, layout_of, layout, taken_of}
-use Rattle.tv_layout.specs.Places.{WithinLimits, boot_count, line_count, log_of, tape_at, zero_wires_at, first_at, runs_like, ProgramRuns, runs_of}
+use Rattle.tv_layout.specs.Layout.{steps_of, own_lines, layout_of, layout, taken_of}
+use Rattle.tv_layout.specs.Places.{WithinLimits, boot_count, line_count, tape_at, zero_wires_at, first_at, runs_like, ProgramRuns, runs_of}
 use Rattle.tv_layout.specs.RunInputs.{run_on}
-use Rattle.tv_layout.specs.Sound.{padding, all_lines}
 use Rattle.tv_layout.specs.Values.{run_step_values, fill, IsFill}
 use Rattle.tv_layout.specs.declared.places.TheConstants.{STATE_WIRES}
 use Rattle.tv_word.proofs.WidthLaws.{word_small}
@@ -65,9 +64,6 @@ module _ (w : ℕ) (net : Net) (block : BlockCircuit) (made : ℕ) (values : Blo
     (complete : BlockIsComplete w block made values)
     (image x aux : List ℕ) (t v : ℕ) (fits : WithinLimits (runs_like w image x t)) (x_words : AreWords w x) (aux_words : AreWords w aux) (small : v < 2 ^ w)
     (runs : Answering w (start w image x aux) t v) where
-  abbrev count : ℕ
-  count = line_count (runs_like w image x t)
-
   abbrev bits : List ℕ
   bits = joined_below (length x) (λ i. bits_values (slice_index x i) w)
 
@@ -75,7 +71,7 @@ module _ (w : ℕ) (net : Net) (block : BlockCircuit) (made : ℕ) (values : Blo
   blocks = joined_below t (run_step_values values w image x aux)
 
   abbrev lasts : List ℕ
-  lasts = argument_values net (checks_of (runs_like w image x t)) (log_of (line_count (runs_like w image x t))) (all_lines w image x aux t)
+  lasts = argument_values net (checks_of (runs_like w image x t)) (run_lines w image x aux t)
 
   abbrev z : List ℕ
   z = 1 ∷ ((v ∷ x) ++ (bits ++ (replicate STATE_WIRES 0 ++ (blocks ++ lasts))))
@@ -109,7 +105,7 @@ module _ (w : ℕ) (net : Net) (block : BlockCircuit) (made : ℕ) (values : Blo
       (InField-joined_below (λ i. bits_values (slice_index x i) w) (length x) (λ i h. bits_in_field (slice_index x i) w))
       (InField-append (replicate STATE_WIRES 0) (blocks ++ lasts) (All-replicate (λ v. v < P) STATE_WIRES 0 (omega arith))
       (InField-append blocks lasts (InField-joined_below (run_step_values values w image x aux) t (λ i h. block_small i))
-      ((memory_complete net).below (checks_of (runs_like w image x t)) (log_of (line_count (runs_like w image x t))) (all_lines w image x aux t)
+      ((memory_complete net).below (checks_of (runs_like w image x t)) (run_lines w image x aux t)
       (run_few w image x aux t fits x_words aux_words) (run_placed w image x aux t fits x_words aux_words))))))
 
   assigns : Assigns z
@@ -121,7 +117,7 @@ module _ (w : ℕ) (net : Net) (block : BlockCircuit) (made : ℕ) (values : Blo
     tape_bits : HasFrom z (2 + length x) bits
     zero_wires : HoldsZeros z (zero_wires_at w (length x))
     steps : HasFrom z (first_at w (length x)) blocks
-    last : HasFrom z (memory_at w made (length x) t) lasts
+    last : HasFrom z (after_steps w made (length x) t) lasts
 
   has_parts : HasParts
   has_parts =
@@ -135,7 +131,7 @@ module _ (w : ℕ) (net : Net) (block : BlockCircuit) (made : ℕ) (values : Blo
       (λ k. HasFrom z k (replicate STATE_WIRES 0 ++ (blocks ++ lasts))) q b.1 in
       let o = HasFrom-split z (zero_wires_at w (length x)) (replicate STATE_WIRES 0) (blocks ++ lasts) c in
       let d = HasFrom-split z (first_at w (length x)) blocks lasts o.1 in
-      let r : first_at w (length x) + length blocks ≡ memory_at w made (length x) t = ap (λ k. first_at w (length x) + k) length-blocks in
+      let r : first_at w (length x) + length blocks ≡ after_steps w made (length x) t = ap (λ k. first_at w (length x) + k) length-blocks in
       record {
         public = a.0;
         tape_bits = b.0;
@@ -157,12 +153,15 @@ module _ (w : ℕ) (net : Net) (block : BlockCircuit) (made : ℕ) (values : Blo
       (input w image x aux t fits x_words aux_words) assigns (early (runs_like w image x t) fits) has_parts.zero_wires has_steps runs
 
   -- the lines are those of the run
-  lines_are : map (line_value z) (system_lines block (runs_like w image x t)) ≡ all_lines w image x aux t
+  lines_are : map (line_value z) (own_lines block (runs_like w image x t)) ≡ run_lines w image x aux t
   lines_are =
-      lines_valued w block made sizes law image x z t fits assigns x_words has_parts.public.1 has_parts.zero_wires met_steps
-      ∙ ap (λ (l : List Line). (boot_lines image x ++ l) ++ padding (line_count (runs_like w image x t)) (spare (runs_like w image x t)))
+      own_valued w block made sizes law image x z t fits assigns x_words has_parts.public.1 has_parts.zero_wires met_steps
+      ∙ ap (λ (l : List Line). boot_lines image x ++ l)
       (steps_lines w block made sizes values law complete image x aux z (zero_wires_at w (length x)) (first_at w (length x)) t v
       (input w image x aux t fits x_words aux_words) assigns (early (runs_like w image x t) fits) has_parts.zero_wires has_steps runs t (omega arith))
+
+  many_lines : length (own_lines block (runs_like w image x t)) ≡ line_count (runs_like w image x t)
+  many_lines = own_many w block made sizes law image x z t fits assigns x_words has_parts.public.1 has_parts.zero_wires met_steps
 
   answer_small : v < P
   answer_small = let fit = word_small w fits.width v small in omega arith
@@ -177,15 +176,14 @@ module _ (w : ℕ) (net : Net) (block : BlockCircuit) (made : ℕ) (values : Blo
         zero_wires = zero_wires_met w fits.width z assigns (zero_wires_at w (length x)) has_parts.zero_wires;
         steps = met_steps;
         tie = tie_met w fits.width z assigns (last_of block made sizes net (runs_like w image x t))
-            (memory_at w made (length x) t) v said.0 said.1 has_parts.public.0 answer_small;
-        honest = (memory_complete net).met z (checks_of (runs_like w image x t)) (log_of count) (system_lines block (runs_like w image x t)) (memory_at w made
-            (length x) t) (log_some count) (log_within count (few (runs_like w image x t) fits))
-            (lines_many w block made sizes law image x z t fits assigns x_words has_parts.public.1 has_parts.zero_wires met_steps)
+            (after_steps w made (length x) t) v said.0 said.1 has_parts.public.0 answer_small;
+        honest = (memory_complete net).met z (checks_of (runs_like w image x t)) (own_lines block (runs_like w image x t)) (after_steps w made (length x) t)
+            (omega (arith, many_lines, few (runs_like w image x t) fits))
             (subst (LinesFrom 0) (sym lines_are) (run_placed w image x aux t fits x_words aux_words))
             (are_of_kinds w block made sizes law image x z t fits assigns x_words has_parts.public.1 has_parts.zero_wires met_steps)
             (are_near w block made sizes law image x z t fits assigns x_words has_parts.public.1 has_parts.zero_wires met_steps)
             (subst Honest (sym lines_are) (run_honest w image x aux t fits x_words aux_words)) assigns
-            (subst (λ l. HasFrom z (memory_at w made (length x) t) (argument_values net (checks_of (runs_like w image x t)) (log_of count) l))
+            (subst (λ l. HasFrom z (after_steps w made (length x) t) (argument_values net (checks_of (runs_like w image x t)) l))
             (sym lines_are) has_parts.last);
       })
 
@@ -196,9 +194,10 @@ module _ (w : ℕ) (net : Net) (block : BlockCircuit) (made : ℕ) (values : Blo
       let b = length-append bits (replicate STATE_WIRES 0 ++ (blocks ++ lasts)) in
       let c = length-append blocks lasts in
       let d = length-append (replicate STATE_WIRES 0) (blocks ++ lasts) in
-      let m = (memory_complete net).many (checks_of (runs_like w image x t)) (log_of count) (all_lines w image x aux t) in
-      let e = layout_next block made sizes net (runs_like w image x t) (argument_made net (checks_of (runs_like w image x t)) (log_of count))
-      (λ at. (memory_complete net).next (checks_of (runs_like w image x t)) (log_of count) (system_lines block (runs_like w image x t)) at) in
+      let m = (memory_complete net).many (checks_of (runs_like w image x t)) (run_lines w image x aux t)
+      ∙ ap (argument_made net (checks_of (runs_like w image x t))) (run_many w image x aux t fits x_words aux_words ∙ sym many_lines) in
+      let e = layout_next block made sizes net (runs_like w image x t) _
+      (λ at. (memory_complete net).next (checks_of (runs_like w image x t)) (own_lines block (runs_like w image x t)) at) in
       omega (arith, a, b, c, d, m, length-bits, length-blocks, e)
 
   taken_is : taken_of block (runs_like w image x t) z ≡ Reads w image x aux t

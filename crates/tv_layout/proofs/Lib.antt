@@ -16,7 +16,6 @@ mod Run
 pub mod RunLines
 mod Sound
 mod SpotPlaces
-mod StepCells
 mod Steps
 mod StepsFill
 pub mod SystemSizes

@@ -1,5 +1,5 @@
 -- A line of a system by its place, and what it is made of.
-use Rattle.tv_core.proofs.Common.{◌≡◌, ℕ, zero, suc, ◌+◌, ◌-◌, ◌*◌, ◌/◌, ◌%◌, ◌<◌, ◌≤◌, ◌^◌, List, [], ◌∷◌, ◌++◌, length, map, All, inl, inr, refl, sym, ap}
+use Rattle.tv_core.proofs.Common.{◌≡◌, ℕ, zero, suc, ◌+◌, ◌-◌, ◌*◌, ◌/◌, ◌%◌, ◌<◌, ◌≤◌, ◌^◌, List, [], ◌∷◌, length, map, All, inl, inr, refl, sym, ap}
 use Rattle.tv_core.proofs.Common.{ap₂, ◌∙◌, arith, subst, get_or, range_with_len, slice_index, cases_lt, length-append, length-map, joined_below, pure, turns}
 use Rattle.tv_core.proofs.Common.{◌>>=◌, wire, constant, top, Combination, IsWidth}
 use Rattle.std.proofs.Common.{add-zero}
@@ -21,8 +21,9 @@ use Rattle.tv_lines.specs.Placed.{no_line, line_in}
 use Rattle.tv_argument.specs.Memory.{IsMade}
 use Rattle.tv_layout.proofs.Positions.{steps_next, log_above}
 use Rattle.tv_layout.proofs.Blocks.{step_sized}
-use Rattle.tv_layout.specs.Layout.{steps_of, state_at, block_at, line_of_word, boot_wires, boot_lines_of, padding_of, system_lines, step_block}
-use Rattle.tv_layout.specs.Places.{WithinLimits, boot_count, line_count, log_of, tape_at, zero_wires_at, first_at, ProgramRuns}
+use Rattle.tv_layout.proofs.Whole.{few}
+use Rattle.tv_layout.specs.Layout.{steps_of, state_at, block_at, line_of_word, boot_wires, boot_lines_of, padding_of, own_lines, system_lines, step_block}
+use Rattle.tv_layout.specs.Places.{WithinLimits, boot_count, line_count, log_of, tape_at, zero_wires_at, first_at, memory_at, ProgramRuns}
 use Rattle.tv_layout.specs.StateBefore.{state_before}
 
 -- ---- lines that no step makes
@@ -88,6 +89,9 @@ step_line runs j =
     (boot_count runs.image runs.n + 3 * (j / 3)) (first_at runs.width runs.n + j / 3 * block_made runs.width)).lines (j % 3)
 
 module _ (runs : ProgramRuns) (fits : WithinLimits runs) where
+  abbrev own : List LineLc
+  own = own_lines (block_of runs.width) runs
+
   abbrev all_lines : List LineLc
   all_lines = system_lines (block_of runs.width) runs
 
@@ -103,9 +107,6 @@ module _ (runs : ProgramRuns) (fits : WithinLimits runs) where
   three : (j : ℕ) → length (blocks j) ≡ 3
   three j = ap (λ (b : Block). length b.lines) (block_is runs.width fits.width runs.n (boot_count runs.image runs.n) _ _ j)
 
-  few : line_count runs ≤ 2 ^ 20
-  few = omega (arith, fits.image_fits, fits.tape_fits, fits.steps_fit)
-
   length-written : length (boot_wires 0 0 (map constant runs.image)) ≡ length runs.image
   length-written = length-boot_wires 0 0 (map constant runs.image) ∙ length-map runs.image constant
 
@@ -115,29 +116,31 @@ module _ (runs : ProgramRuns) (fits : WithinLimits runs) where
   length-boot : length (boot_lines_of runs.image runs.n) ≡ boot_count runs.image runs.n
   length-boot = length-append (boot_wires 0 0 (map constant runs.image)) tape ∙ ap₂ (λ a b. a + b) length-written length-tape
 
-  length-front : length (boot_lines_of runs.image runs.n ++ stepped) ≡ line_count runs
-  length-front =
+  pub own_number : length own ≡ line_count runs
+  unfolding own_lines
+  own_number =
       let b = length-boot in
       let s = length-thirds no_line blocks three runs.t in
       length-append (boot_lines_of runs.image runs.n) stepped ∙ omega arith
 
   pub line_number : length all_lines ≡ 2 ^ log_of (line_count runs)
-  unfolding system_lines
   line_number =
-      let front = length-front in
-      let above = log_above (line_count runs) few in
+      let front = own_number in
+      let above = log_above (line_count runs) (few runs fits) in
       let last = length-padding_of (line_count runs) (2 ^ log_of (line_count runs) - line_count runs) in
-      length-append (boot_lines_of runs.image runs.n ++ stepped) _ ∙ omega arith
+      length-append own _ ∙ omega arith
 
   module _ (i : ℕ) where
+    pub in_own : i < line_count runs → line_in all_lines i ≡ line_in own i
+    in_own h = get_or_append_left own _ no_line i (omega (arith, h, own_number))
+
     pub in_image : i < length runs.image → line_in all_lines i ≡ line_of_word i i (constant (slice_index runs.image i))
-    unfolding system_lines
+    unfolding own_lines
     in_image h =
         let b = length-boot in
-        let f = length-front in
         let l = length-written in
         let m = length-map runs.image constant in
-        get_or_append_left (boot_lines_of runs.image runs.n ++ stepped) _ no_line i (omega arith)
+        in_own (omega arith)
         ∙ get_or_append_left (boot_lines_of runs.image runs.n) stepped no_line i (omega arith)
         ∙ get_or_append_left (boot_wires 0 0 (map constant runs.image)) tape no_line i (omega arith)
         ∙ boot_wires_at 0 0 (map constant runs.image) i (omega arith)
@@ -145,13 +148,12 @@ module _ (runs : ProgramRuns) (fits : WithinLimits runs) where
 
     pub in_tape : length runs.image ≤ i → i < boot_count runs.image runs.n
         → line_in all_lines i ≡ line_of_word (TAPE_CELLS + (i - length runs.image)) i (wire (tape_at + (i - length runs.image)))
-    unfolding system_lines
+    unfolding own_lines
     in_tape above h =
         let b = length-boot in
-        let f = length-front in
         let k : ℕ = i - length runs.image in
         let z : length runs.image + k ≡ i = omega arith in
-        get_or_append_left (boot_lines_of runs.image runs.n ++ stepped) _ no_line i (omega arith)
+        in_own (omega arith)
         ∙ get_or_append_left (boot_lines_of runs.image runs.n) stepped no_line i (omega arith)
         ∙ get_or-append_right (boot_wires 0 0 (map constant runs.image)) tape (length runs.image) i no_line length-written above
         ∙ boot_wires_at TAPE_CELLS (length runs.image) (map wire (range_with_len tape_at runs.n)) k
@@ -159,24 +161,23 @@ module _ (runs : ProgramRuns) (fits : WithinLimits runs) where
         (get_or-map-range_with_len wire tape_at runs.n k (tape_at + k) [] (omega arith) refl)
 
     pub in_steps : boot_count runs.image runs.n ≤ i → i < line_count runs → line_in all_lines i ≡ step_line runs (i - boot_count runs.image runs.n)
-    unfolding system_lines
+    unfolding own_lines
     in_steps above h =
         let j : ℕ = i - boot_count runs.image runs.n in
-        get_or_append_left (boot_lines_of runs.image runs.n ++ stepped) _ no_line i (omega (arith, length-front))
+        in_own h
         ∙ get_or-append_right (boot_lines_of runs.image runs.n) stepped (boot_count runs.image runs.n) i no_line length-boot above
         ∙ thirds no_line blocks three runs.t j (omega arith)
         ∙ ap (λ (b : Block). line_in b.lines (j % 3)) (block_is runs.width fits.width runs.n (boot_count runs.image runs.n) _ _ (j / 3))
 
     pub in_padding : line_count runs ≤ i → i < 2 ^ log_of (line_count runs) → line_in all_lines i ≡ line_of_word NULL_CELL i []
-    unfolding system_lines
     in_padding above h =
         let k : ℕ = i - line_count runs in
         let z : line_count runs + k ≡ i = omega arith in
-        get_or-append_right (boot_lines_of runs.image runs.n ++ stepped) _ (line_count runs) i no_line length-front above
+        get_or-append_right own _ (line_count runs) i no_line own_number above
         ∙ padding_of_at (line_count runs) _ k (omega arith) ∙ ap (λ at. line_of_word NULL_CELL at []) z
 
 -- ---- what it is made of
-word_made : (wires cell time : ℕ) (word : Combination) → 1 ≤ wires → top word ≤ wires → length word ≤ 32 → IsMade wires (line_of_word cell time word)
+word_made : (wires cell time : ℕ) (word : Combination) → 1 ≤ wires → top word ≤ wires → length word ≤ 14 → IsMade wires (line_of_word cell time word)
 word_made wires cell time word some h short = record {
   cell = omega arith;
   time = omega arith;
@@ -218,15 +219,15 @@ pc_before w width zero_wires first (suc i) h = omega (arith, block_places.after 
 
 module _ (runs : ProgramRuns) (fits : WithinLimits runs) where
   abbrev made : ℕ → Type 0
-  made i = IsMade (first_at runs.width runs.n + runs.t * block_made runs.width) (line_in (system_lines (block_of runs.width) runs) i)
+  made i = IsMade (memory_at runs) (line_in (system_lines (block_of runs.width) runs) i)
 
-  step_made : (j : ℕ) → j < runs.t * 3 → IsMade (first_at runs.width runs.n + runs.t * block_made runs.width) (step_line runs j)
+  step_made : (j : ℕ) → j < runs.t * 3 → IsMade (memory_at runs) (step_line runs j)
   step_made j h =
       let q : ℕ = j / 3 in
       let after : q + 1 ≤ runs.t = omega arith in
       block_line_made runs.width fits.width (state_before runs.width (zero_wires_at runs.width runs.n) (first_at runs.width runs.n) q)
       (boot_count runs.image runs.n + 3 * q) (first_at runs.width runs.n + q * block_made runs.width)
-      (first_at runs.width runs.n + runs.t * block_made runs.width)
+      (memory_at runs)
       (pc_before runs.width fits.width (zero_wires_at runs.width runs.n) (first_at runs.width runs.n) q (omega arith))
       (more (first_at runs.width runs.n) q runs.t (block_made runs.width) after) (j % 3) (omega arith)
     where
@@ -247,5 +248,7 @@ module _ (runs : ProgramRuns) (fits : WithinLimits runs) where
     ]
   ]
 
-  pub lines_made : All (IsMade (first_at runs.width runs.n + runs.t * block_made runs.width)) (system_lines (block_of runs.width) runs)
-  lines_made = All-from_get_or (IsMade _) (system_lines (block_of runs.width) runs) no_line (λ i h. line_made i (omega (arith, line_number runs fits)))
+  pub lines_made : All (IsMade (memory_at runs)) (own_lines (block_of runs.width) runs)
+  lines_made = All-from_get_or (IsMade _) (own_lines (block_of runs.width) runs) no_line (λ i h.
+      let within : i < line_count runs = omega (arith, h, own_number runs fits) in
+      subst (IsMade _) (in_own runs fits i within) (line_made i (omega (arith, within, log_above (line_count runs) (few runs fits)))))

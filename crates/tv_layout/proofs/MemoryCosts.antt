@@ -9,7 +9,7 @@ use Rattle.tv_argument.specs.declared.kinds.Kind.TheVariants.{ZeroOld, Boot, Wit
 use Rattle.tv_layout.proofs.LineKinds.{first_boot, later_boot, later_first, of_image, of_tape, of_steps, first_line_kind, second_line_kind, third_line_kind}
 use Rattle.tv_layout.specs.Checks.{boot_kind, first_kind, step_kind, line_kind, checks_of}
 use Rattle.tv_layout.specs.Sizes.{step_cost, check_costs, in_row, checks_total, memory_wires, memory_constraints}
-use Rattle.tv_benes.specs.declared.shape.Net.{Net}
+use Rattle.tv_stages.specs.declared.nets.Net.{Net}
 use Rattle.tv_argument.specs.Checks.{check_made, check_added}
 use Rattle.tv_argument.specs.Costs.{network_made}
 use Rattle.tv_argument.specs.Memory.{argument_made, argument_added}
@@ -119,11 +119,12 @@ module _ (k words n : ℕ) where
       (λ j h. ap f (third_kinds j))
 
 module _ (net : Net) (runs : ProgramRuns) where
-  abbrev k : ℕ
-  k = log_of (line_count runs)
+  pub wires_are : argument_made net (checks_of runs) (line_count runs) ≡ memory_wires net runs
+  wires_are =
+      ap (λ s. network_made net (line_count runs) + s)
+      (kinds_sum (log_of (line_count runs)) (length runs.image) runs.n runs.t check_made (λ c. refl))
 
-  pub wires_are : argument_made net (checks_of runs) k ≡ memory_wires net runs
-  wires_are = ap (λ s. network_made net k + s) (kinds_sum k (length runs.image) runs.n runs.t check_made (λ c. refl))
-
-  pub constraints_are : argument_added net (checks_of runs) k ≡ memory_constraints net runs
-  constraints_are = ap (λ s. network_made net k + s) (kinds_sum k (length runs.image) runs.n runs.t check_added (λ c. refl))
+  pub constraints_are : argument_added net (checks_of runs) (line_count runs) ≡ memory_constraints net runs
+  constraints_are =
+      ap (λ s. network_made net (line_count runs) + s)
+      (kinds_sum (log_of (line_count runs)) (length runs.image) runs.n runs.t check_added (λ c. refl))

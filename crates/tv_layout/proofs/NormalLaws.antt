@@ -1,5 +1,5 @@
 -- Every combination of a system is normal: its parts' are, one after another.
-use Rattle.tv_core.proofs.Common.{◌≡◌, ℕ, zero, suc, ◌+◌, ◌*◌, ◌^◌, ◌<◌, [], sym, subst, arith, fresh, here, put, pure, ◌>>=◌, wire, constant, sequence}
+use Rattle.tv_core.proofs.Common.{◌≡◌, ℕ, zero, suc, ◌+◌, ◌*◌, ◌^◌, ◌<◌, [], length, sym, subst, arith, fresh, here, put, pure, ◌>>=◌, wire, constant, sequence}
 use Rattle.tv_core.proofs.Common.{IsNormal, AreNormal, width_short, IsWidth}
 use Rattle.tv_bits.proofs.NormalLaws.{wire_normal, constant_normal, bits_of_normal}
 use Rattle.tv_bits.specs.Bits.{bits_of}
@@ -13,14 +13,14 @@ use Rattle.tv_argument.proofs.NormalLaws.{memory_normal}
 use Rattle.tv_inputs.proofs.NormalStates.{row_apart}
 use Rattle.tv_inputs.specs.States.{StateUnder, StateIsApart}
 use Rattle.tv_layout.proofs.FirstState.{first_under}
-use Rattle.tv_layout.proofs.LinePlaces.{state_is, line_number, lines_made}
-use Rattle.tv_layout.proofs.Positions.{steps_next, last_of, layout_list, memory_at, log_some}
+use Rattle.tv_layout.proofs.LinePlaces.{state_is, lines_made}
+use Rattle.tv_layout.proofs.Positions.{steps_next, last_of, layout_list}
 use Rattle.tv_layout.proofs.SystemSizes.{checks_short}
 use Rattle.tv_layout.proofs.Blocks.{step_sized}
 use Rattle.tv_layout.specs.Checks.{checks_of}
-use Rattle.tv_layout.specs.Layout.{word_of, words_of, zero_wire_of, zero_wires_of, tie_of, before_steps, step_of, steps_of, state_at, system_lines}
+use Rattle.tv_layout.specs.Layout.{word_of, words_of, zero_wire_of, zero_wires_of, tie_of, before_steps, step_of, steps_of, state_at, own_lines}
 use Rattle.tv_layout.specs.Normal.{SystemIsNormal}
-use Rattle.tv_layout.specs.Places.{boot_count, line_count, log_of, tape_at, zero_wires_at}
+use Rattle.tv_layout.specs.Places.{boot_count, memory_at, tape_at, zero_wires_at}
 use Rattle.tv_layout.specs.StateBefore.{state_before}
 use Rattle.tv_layout.specs.declared.places.TheConstants.{STATE_WIRES}
 
@@ -91,12 +91,11 @@ pub system_normal : SystemIsNormal
 system_normal net runs fits =
     let zero_wires = zero_wires_at runs.width runs.n in
     let last = last_of (block_of runs.width) (block_made runs.width) (step_sized runs.width fits.width) net runs in
-    let at = memory_at runs.width (block_made runs.width) runs.n runs.t in
     let short : runs.n < 2 ^ 29 = omega (arith, fits.tape_fits) in
-    let checked = memory_normal net (checks_of runs) (log_of (line_count runs)) (system_lines (block_of runs.width) runs) at (omega arith)
-    (log_some (line_count runs)) (line_number runs fits) (checks_short runs fits) (lines_made runs fits) in
+    let own = own_lines (block_of runs.width) runs in
+    let checked = memory_normal net (checks_of runs) own (memory_at runs) (omega arith) (checks_short runs fits (length own)) (lines_made runs fits) in
     subst AreNormal (sym (layout_list (block_of runs.width) (block_made runs.width) (step_sized runs.width fits.width) net runs))
     (normal_both _ _ (words_normal runs.width fits.width tape_at runs.n (2 + runs.n))
     (normal_both _ _ (zeros_normal zero_wires)
     (normal_both _ _ (steps_normal runs.width fits.width zero_wires (omega arith) runs.n (boot_count runs.image runs.n) short runs.t)
-    (normal_both _ _ (tie_normal last at) checked))))
+    (normal_both _ _ (tie_normal last (memory_at runs)) checked))))

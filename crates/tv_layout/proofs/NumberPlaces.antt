@@ -1,5 +1,5 @@
--- All lines of a system in numbers, by their places.
-use Rattle.tv_core.proofs.Common.{◌≡◌, ℕ, zero, suc, ◌+◌, ◌-◌, ◌*◌, ◌/◌, ◌%◌, ◌<◌, ◌≤◌, List, [], ◌∷◌, ◌++◌, length, inl, inr, refl, sym, ap, ap₂, ◌∙◌, arith}
+-- The lines of the runs in numbers, by their places.
+use Rattle.tv_core.proofs.Common.{◌≡◌, ℕ, zero, suc, ◌+◌, ◌-◌, ◌*◌, ◌/◌, ◌%◌, ◌<◌, List, [], ◌∷◌, ◌++◌, length, inl, inr, refl, sym, ap, ap₂, ◌∙◌, arith}
 use Rattle.tv_core.proofs.Common.{subst, cases_lt, length-append, slice_index, joined_below, Line}
 use Rattle.std.proofs.Common.{add-zero, zero-add}
 use Rattle.std.proofs.lemmas.List.{get_or_append_left, get_or-append_right}
@@ -7,9 +7,7 @@ use Rattle.tv_core.specs.declared.limits.TheConstants.{TAPE_CELLS}
 use Rattle.tv_layout.proofs.LinePlaces.{thirds, length-thirds}
 use Rattle.tv_lines.specs.Placed.{zero_line, number_in}
 use Rattle.tv_step.specs.Cells.{boot_from, boot_lines}
-use Rattle.tv_step.specs.Trace.{null_line}
-use Rattle.tv_layout.proofs.Boot.{length-boot_from, length-boot_lines, length-padding}
-use Rattle.tv_layout.specs.Sound.{padding}
+use Rattle.tv_layout.proofs.Boot.{length-boot_from, length-boot_lines}
 
 -- a line that writes a word into a cell at a time
 abbrev pub written_at : ℕ → ℕ → ℕ → Line
@@ -24,88 +22,63 @@ boot_from_at cell time (v ∷ vs) (suc i) h =
     let b : time + suc i ≡ time + 1 + i = omega arith in
     rw (a, b) (boot_from_at (cell + 1) (time + 1) vs i (omega arith))
 
-padding_at : (time more i : ℕ) → i < more → number_in (padding time more) i ≡ null_line (time + i)
-padding_at time zero i h = absurd (omega arith)
-padding_at time (suc more) zero h = rw (add-zero time) refl
-padding_at time (suc more) (suc i) h = let a : time + suc i ≡ time + 1 + i = omega arith in rw a (padding_at (time + 1) more i (omega arith))
-
 -- ---- lines of an image's and a tape's words, and others after them
-module _ (image x : List ℕ) (steps rest : List Line) where
-  long-front : length (boot_lines image x ++ steps) ≡ length image + length x + length steps
-  long-front = length-append (boot_lines image x) steps ∙ ap (λ n. n + length steps) (length-boot_lines image x)
-
-  pub word_of_image : (i : ℕ) → i < length image → number_in ((boot_lines image x ++ steps) ++ rest) i ≡ written_at i i (slice_index image i)
+module _ (image x : List ℕ) (steps : List Line) where
+  pub word_of_image : (i : ℕ) → i < length image → number_in (boot_lines image x ++ steps) i ≡ written_at i i (slice_index image i)
   word_of_image i h =
-      get_or_append_left (boot_lines image x ++ steps) rest zero_line i (omega (arith, long-front))
-      ∙ get_or_append_left (boot_lines image x) steps zero_line i (omega (arith, length-boot_lines image x))
+      get_or_append_left (boot_lines image x) steps zero_line i (omega (arith, length-boot_lines image x))
       ∙ get_or_append_left (boot_from 0 0 image) (boot_from TAPE_CELLS (length image) x) zero_line i (omega (arith, length-boot_from 0 0 image))
       ∙ boot_from_at 0 0 image i h
       ∙ ap (λ p. written_at p p (slice_index image i)) (zero-add i)
 
   pub word_of_tape : (i : ℕ) → i < length x
-      → number_in ((boot_lines image x ++ steps) ++ rest) (length image + i) ≡ written_at (TAPE_CELLS + i) (length image + i) (slice_index x i)
+      → number_in (boot_lines image x ++ steps) (length image + i) ≡ written_at (TAPE_CELLS + i) (length image + i) (slice_index x i)
   word_of_tape i h =
       let e : length image + i - length image ≡ i = omega arith in
-      get_or_append_left (boot_lines image x ++ steps) rest zero_line (length image + i) (omega (arith, long-front))
-      ∙ get_or_append_left (boot_lines image x) steps zero_line (length image + i) (omega (arith, length-boot_lines image x))
+      get_or_append_left (boot_lines image x) steps zero_line (length image + i) (omega (arith, length-boot_lines image x))
       ∙ get_or-append_right (boot_from 0 0 image) (boot_from TAPE_CELLS (length image) x) (length image) (length image + i) zero_line
       (length-boot_from 0 0 image) (omega arith)
       ∙ ap (number_in (boot_from TAPE_CELLS (length image) x)) e
       ∙ boot_from_at TAPE_CELLS (length image) x i h
 
-  pub line_of_steps : (j : ℕ) → j < length steps → number_in ((boot_lines image x ++ steps) ++ rest) (length image + length x + j) ≡ number_in steps j
-  line_of_steps j h =
+  pub line_of_steps : (j : ℕ) → number_in (boot_lines image x ++ steps) (length image + length x + j) ≡ number_in steps j
+  line_of_steps j =
       let e : length image + length x + j - (length image + length x) ≡ j = omega arith in
-      get_or_append_left (boot_lines image x ++ steps) rest zero_line (length image + length x + j) (omega (arith, long-front))
-      ∙ get_or-append_right (boot_lines image x) steps (length image + length x) (length image + length x + j) zero_line
+      get_or-append_right (boot_lines image x) steps (length image + length x) (length image + length x + j) zero_line
       (length-boot_lines image x) (omega arith)
       ∙ ap (number_in steps) e
 
-module _ (image x : List ℕ) (t : ℕ) (f : ℕ → List Line) (three : (i : ℕ) → length (f i) ≡ 3) (more : ℕ) where
+module _ (image x : List ℕ) (t : ℕ) (f : ℕ → List Line) (three : (i : ℕ) → length (f i) ≡ 3) where
   abbrev boot : ℕ
   boot = length image + length x
 
-  abbrev count : ℕ
-  count = length image + length x + 3 * t
-
-  abbrev front : List Line
-  front = boot_lines image x ++ joined_below t f
-
   abbrev pub all : List Line
-  all = (boot_lines image x ++ joined_below t f) ++ padding (length image + length x + 3 * t) more
+  all = boot_lines image x ++ joined_below t f
 
   long-steps : length (joined_below t f) ≡ t * 3
   long-steps = length-thirds zero_line f three t
 
-  all-front : length front ≡ count
-  all-front = long-front image x (joined_below t f) (padding count more) ∙ omega (arith, long-steps)
-
-  pub long : length all ≡ count + more
-  long = length-append front (padding count more) ∙ omega (arith, all-front, length-padding count more)
+  pub long : length all ≡ length image + length x + 3 * t
+  long = length-append (boot_lines image x) (joined_below t f) ∙ omega (arith, length-boot_lines image x, long-steps)
 
   -- ---- at each place
   pub at_image : (i : ℕ) → i < length image → number_in all i ≡ written_at i i (slice_index image i)
-  at_image i h = word_of_image image x (joined_below t f) (padding count more) i h
+  at_image i h = word_of_image image x (joined_below t f) i h
 
   pub at_tape : (i : ℕ) → i < length x → number_in all (length image + i) ≡ written_at (TAPE_CELLS + i) (length image + i) (slice_index x i)
-  at_tape i h = word_of_tape image x (joined_below t f) (padding count more) i h
+  at_tape i h = word_of_tape image x (joined_below t f) i h
 
   pub at_step : (j r : ℕ) → j < t → r < 3 → number_in all (length image + length x + (3 * j + r)) ≡ number_in (f j) r
   at_step j r h i =
       let step : (3 * j + r) / 3 ≡ j = omega arith in
       let place : (3 * j + r) % 3 ≡ r = omega arith in
-      line_of_steps image x (joined_below t f) (padding count more) (3 * j + r) (omega (arith, long-steps))
+      line_of_steps image x (joined_below t f) (3 * j + r)
       ∙ thirds zero_line f three t (3 * j + r) (omega arith) ∙ ap₂ (λ (m p : ℕ). number_in (f m) p) step place
-
-  pub at_padding : (i : ℕ) → count ≤ i → i < count + more → number_in all i ≡ null_line i
-  at_padding i h k =
-      let e : count + (i - count) ≡ i = omega arith in
-      get_or-append_right front (padding count more) count i zero_line all-front h ∙ padding_at count more (i - count) (omega arith) ∙ ap null_line e
 
   -- so what holds at each place of its line holds at each place
   pub each_checked : (Q : ℕ → Line → Type 0) → ((i : ℕ) → i < length image → Q i (written_at i i (slice_index image i)))
       → ((i : ℕ) → i < length x → Q (length image + i) (written_at (TAPE_CELLS + i) (length image + i) (slice_index x i)))
-      → ((j r : ℕ) → j < t → r < 3 → Q (length image + length x + (3 * j + r)) (number_in (f j) r)) → (i : ℕ) → i < count → Q i (number_in all i)
+      → ((j r : ℕ) → j < t → r < 3 → Q (length image + length x + (3 * j + r)) (number_in (f j) r)) → (i : ℕ) → i < length all → Q i (number_in all i)
   each_checked Q on_image on_tape on_steps i h = elim (cases_lt i (length image)) [
     | inl here ↦ subst (Q i) (sym (at_image i here)) (on_image i here)
     | inr past ↦ elim (cases_lt i boot) [
@@ -118,7 +91,7 @@ module _ (image x : List ℕ) (t : ℕ) (f : ℕ → List Line) (three : (i : �
           let j : ℕ = (i - boot) / 3 in
           let r : ℕ = (i - boot) % 3 in
           let e : boot + (3 * j + r) ≡ i = omega arith in
-          let within : j < t = omega (arith, h, later) in
+          let within : j < t = omega (arith, h, later, long) in
           let small : r < 3 = omega arith in
           subst (λ p. Q p (number_in all p)) e (subst (Q (boot + (3 * j + r))) (sym (at_step j r within small)) (on_steps j r within small))
     ]

@@ -3,7 +3,7 @@ use Rattle.tv_core.proofs.Common.{◌≡◌, ℕ, zero, suc, ◌+◌, ◌*◌, �
 use Rattle.tv_core.proofs.Common.{here, put, pure, turns, ◌>>=◌, wire, Meets}
 use Rattle.std.proofs.lemmas.Bool.Decides.{leb_tells}
 use Rattle.std.specs.Prelude.{nat_le}
-use Rattle.tv_benes.specs.declared.shape.Net.{Net}
+use Rattle.tv_stages.specs.declared.nets.Net.{Net}
 use Rattle.tv_bits.proofs.BitsLaws.{bits_next}
 use Rattle.tv_core.proofs.LoopLaws.{turns-next}
 use Rattle.tv_layout.proofs.Blocks.{BlockSizes}
@@ -13,9 +13,9 @@ use Rattle.tv_layout.specs.Places.{log_from, log_of, boot_count, tape_at, zero_w
 use Rattle.tv_layout.specs.declared.places.TheConstants.{STATE_WIRES}
 use Rattle.tv_block.specs.declared.records.Reached.{Reached}
 
--- where the wires of the memory argument begin, each step making the same number
-abbrev pub memory_at : ℕ → ℕ → ℕ → ℕ → ℕ
-memory_at w made n t = first_at w n + t * made
+-- where the wires after t steps begin, each step making the same number
+abbrev pub after_steps : ℕ → ℕ → ℕ → ℕ → ℕ
+after_steps w made n t = first_at w n + t * made
 
 word_next : (w first i next : ℕ) → (word_of w first i next).next ≡ next + w
 unfolding pure ◌>>=◌
@@ -58,8 +58,8 @@ module _ (block : BlockCircuit) (made : ℕ) (sizes : BlockSizes block made) whe
     pub layout_list : (layout_of block net runs (2 + runs.n)).list ≡ (words_of runs.width tape_at runs.n (2 + runs.n)).list
         ++ ((zero_wires_of (zero_wires_at runs.width runs.n)).list
         ++ ((steps_of block runs.n (boot_count runs.image runs.n) runs.t (zero_wires_at runs.width runs.n) (first_at runs.width runs.n)).list
-        ++ ((tie_of last_of (memory_at runs.width made runs.n runs.t)).list
-        ++ (lines_argument block net runs (memory_at runs.width made runs.n runs.t)).list)))
+        ++ ((tie_of last_of (after_steps runs.width made runs.n runs.t)).list
+        ++ (lines_argument block net runs (after_steps runs.width made runs.n runs.t)).list)))
     unfolding layout_of tie_of put ◌>>=◌
     layout_list =
         rw (words_next runs.width tape_at runs.n (2 + runs.n))
@@ -70,8 +70,8 @@ module _ (block : BlockCircuit) (made : ℕ) (sizes : BlockSizes block made) whe
       pub words : Meets z (words_of runs.width tape_at runs.n (2 + runs.n)).list
       pub zero_wires : Meets z (zero_wires_of (zero_wires_at runs.width runs.n)).list
       pub steps : Meets z (steps_of block runs.n (boot_count runs.image runs.n) runs.t (zero_wires_at runs.width runs.n) (first_at runs.width runs.n)).list
-      pub tie : Meets z (tie_of last_of (memory_at runs.width made runs.n runs.t)).list
-      pub honest : Meets z (lines_argument block net runs (memory_at runs.width made runs.n runs.t)).list
+      pub tie : Meets z (tie_of last_of (after_steps runs.width made runs.n runs.t)).list
+      pub honest : Meets z (lines_argument block net runs (after_steps runs.width made runs.n runs.t)).list
 
     pub layout_met : (z : List ℕ) → Meets z (layout_of block net runs (2 + runs.n)).list → LayoutMet z
     layout_met z meets =
@@ -87,13 +87,13 @@ module _ (block : BlockCircuit) (made : ℕ) (sizes : BlockSizes block made) whe
 
     -- where it ends
     pub layout_next : (argument_made : ℕ) → ((at : ℕ) → (lines_argument block net runs at).next ≡ at + argument_made)
-        → (layout_of block net runs (2 + runs.n)).next ≡ memory_at runs.width made runs.n runs.t + argument_made
+        → (layout_of block net runs (2 + runs.n)).next ≡ after_steps runs.width made runs.n runs.t + argument_made
     unfolding layout_of tie_of put ◌>>=◌
     layout_next argument_made ends =
         rw (words_next runs.width tape_at runs.n (2 + runs.n))
         (rw (zero_wires_next (zero_wires_at runs.width runs.n), zero_wires_answer (zero_wires_at runs.width runs.n))
         (rw (steps_next runs.n (boot_count runs.image runs.n) runs.t (zero_wires_at runs.width runs.n) (first_at runs.width runs.n))
-        (ends (memory_at runs.width made runs.n runs.t))))
+        (ends (after_steps runs.width made runs.n runs.t))))
 
 -- ---- the logarithm
 record IsLog (k count most : ℕ) : Type 0 where

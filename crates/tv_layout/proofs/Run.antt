@@ -104,8 +104,8 @@ module _ (w : ℕ) (block : BlockCircuit) (made : ℕ) (sizes : BlockSizes block
               left k ∙ none_later m (suc i) (omega arith) after;
         }
 
-    module _ (aux : List ℕ) (all : aux ≡ joined_below t taken) (input : IsInput w image x aux) (pad : List Line)
-        (honest : Honest ((boot_lines image x ++ joined_below t lines) ++ pad)) (starts : Matches x (here 0).now (start w image x aux)) where
+    module _ (aux : List ℕ) (all : aux ≡ joined_below t taken) (input : IsInput w image x aux)
+        (honest : Honest (boot_lines image x ++ joined_below t lines)) (starts : Matches x (here 0).now (start w image x aux)) where
       abbrev now : ℕ → State
       now i = state_after w i (start w image x aux)
 
@@ -121,15 +121,14 @@ module _ (w : ℕ) (block : BlockCircuit) (made : ℕ) (sizes : BlockSizes block
       olds_held : (i : ℕ) → i < t → Known i → HoldsOlds w x (here i) (now i)
       olds_held i h known =
           let s = split_at lines t i h in
-          let place : (boot_lines image x ++ joined_below t lines) ++ pad ≡ run_lines w image x aux i ++ (lines i ++ (s.rest ++ pad)) =
-          ap (λ l. (boot_lines image x ++ l) ++ pad) s.is
-          ∙ ap (λ l. l ++ pad) (sym (append_assoc (boot_lines image x) (joined_below i lines) (lines i ++ s.rest)))
-          ∙ append_assoc (boot_lines image x ++ joined_below i lines) (lines i ++ s.rest) pad
-          ∙ ap₂ (λ a b. a ++ b) (ap (λ l. boot_lines image x ++ l) known.are) (append_assoc (lines i) s.rest pad) in
+          let place : boot_lines image x ++ joined_below t lines ≡ run_lines w image x aux i ++ (lines i ++ s.rest) =
+          ap (λ l. boot_lines image x ++ l) s.is
+          ∙ sym (append_assoc (boot_lines image x) (joined_below i lines) (lines i ++ s.rest))
+          ∙ ap (λ l. (boot_lines image x ++ l) ++ (lines i ++ s.rest)) known.are in
           let whole = HonestFrom-from_Honest (λ _. 0) _ honest in
-          let back = HonestFrom-right (λ _. 0) (run_lines w image x aux i) (lines i ++ (s.rest ++ pad)) (subst (HonestFrom (λ _. 0)) place whole) in
+          let back = HonestFrom-right (λ _. 0) (run_lines w image x aux i) (lines i ++ s.rest) (subst (HonestFrom (λ _. 0)) place whole) in
           holds w x (time + 3 * i) (here i) (now i) (does i h) (memory_after (run_lines w image x aux i)) (lines_leave_the_state w image x aux i input)
-          (s.rest ++ pad) back
+          s.rest back
 
       fits_aux : (i : ℕ) → i < t → Known i → AuxFits w (now i) (here i).takes (here i).word (later (suc i) (t - suc i))
       fits_aux i h known = aux_fits i (t - suc i) (now i) (omega arith) (range i) known.matches (olds_held i h known)

@@ -1,4 +1,4 @@
--- All lines of a run are in range, stand at their times, and are honest.
+-- The lines of a run are in range, stand at their times, and are honest, with padding too.
 use Rattle.tv_core.proofs.Common.{◌≡◌, ℕ, zero, suc, ◌+◌, ◌*◌, ◌/◌, ◌<◌, ◌≤◌, ◌^◌, List, [], ◌∷◌, length, refl, sym, ap₂, ◌∙◌, arith, length-append, Line}
 use Rattle.tv_core.proofs.Common.{IsWidth}
 use Rattle.std.proofs.lemmas.List.{get_or_past}
@@ -19,9 +19,9 @@ use Rattle.tv_step.specs.Range.{AreWords, StateInRange}
 use Rattle.tv_step.specs.Rows.{word_size}
 use Rattle.tv_step.specs.State.{State}
 use Rattle.tv_step.specs.Trace.{looked_at, data_line, step_lines, lines_of, null_line}
-use Rattle.tv_layout.proofs.Boot.{LinesFrom-append, length-boot_lines, boot_lines_placed, padding_placed, length-padding}
-use Rattle.tv_layout.proofs.Whole.{words_32, spare, filled, power_few}
-use Rattle.tv_layout.specs.Places.{WithinLimits, boot_count, line_count, runs_like, log_of}
+use Rattle.tv_layout.proofs.Boot.{LinesFrom-append, length-boot_lines, boot_lines_placed}
+use Rattle.tv_layout.proofs.Whole.{words_32, few, spare}
+use Rattle.tv_layout.specs.Places.{WithinLimits, boot_count, line_count, runs_like}
 use Rattle.tv_layout.specs.Sound.{padding, all_lines}
 use Rattle.tv_word.proofs.WidthLaws.{word_small}
 
@@ -72,37 +72,26 @@ module _ (w : ℕ) (image x aux : List ℕ) (t : ℕ) (fits : WithinLimits (runs
     aux_words = aux_words;
   }
 
-  abbrev count : ℕ
-  count = line_count (runs_like w image x t)
-
-  abbrev more : ℕ
-  more = spare (runs_like w image x t)
-
-  steps_many : length (lines_of w (length x) (length image + length x) (start w image x aux) t) ≡ 3 * t
-  steps_many = lines_are_three_a_step w (length x) (length image + length x) (start w image x aux) t
-
-  run_many : length (run_lines w image x aux t) ≡ line_count (runs_like w image x t)
+  pub run_many : length (run_lines w image x aux t) ≡ line_count (runs_like w image x t)
   run_many =
+      let steps = lines_are_three_a_step w (length x) (length image + length x) (start w image x aux) t in
       length-append (boot_lines image x) (lines_of w (length x) (length image + length x) (start w image x aux) t)
-      ∙ ap₂ (λ a b. a + b) (length-boot_lines image x) steps_many
+      ∙ ap₂ (λ a b. a + b) (length-boot_lines image x) steps
 
-  pub run_placed : LinesFrom 0 (all_lines w image x aux t)
+  pub run_few : length (run_lines w image x aux t) ≤ 2 ^ 20
+  run_few = omega (arith, run_many, few (runs_like w image x t) fits)
+
+  pub run_placed : LinesFrom 0 (run_lines w image x aux t)
   run_placed =
-      LinesFrom-append 0 count (run_lines w image x aux t) (padding count more) (omega (arith, run_many))
-      (LinesFrom-append 0 (boot_count image (length x)) (boot_lines image x) (lines_of w (length x) (length image + length x) (start w image x aux) t)
+      LinesFrom-append 0 (boot_count image (length x)) (boot_lines image x) (lines_of w (length x) (length image + length x) (start w image x aux) t)
       (omega (arith, length-boot_lines image x))
       (boot_lines_placed image x (words_32 w fits.width image fits.words) (words_32 w fits.width x x_words) (omega (arith, fits.image_fits))
       (omega (arith, fits.tape_fits)))
       (trace_placed w fits.width (length x) (omega (arith, fits.tape_fits)) (length image + length x) (start w image x aux)
-      (start_in_range w fits.width image x aux x_words aux_words) t)) (padding_placed count more)
+      (start_in_range w fits.width image x aux x_words aux_words) t)
 
-  pub all_many : length (all_lines w image x aux t) ≡ 2 ^ log_of (line_count (runs_like w image x t))
-  all_many =
-      length-append (run_lines w image x aux t) (padding count more)
-      ∙ omega (arith, length-padding count more, run_many, filled (runs_like w image x t) fits)
-
-  pub run_few : length (all_lines w image x aux t) ≤ 2 ^ 20
-  run_few = omega (arith, all_many, power_few (runs_like w image x t) fits)
+  pub run_honest : Honest (run_lines w image x aux t)
+  run_honest = lines_are_honest w image x aux t input
 
   -- the null cell holds 0
   null_there : memory_after (run_lines w image x aux t) NULL_CELL ≡ 0
@@ -111,9 +100,12 @@ module _ (w : ℕ) (image x aux : List ℕ) (t : ℕ) (fits : WithinLimits (runs
       ∙ cell_of_tape w x (state_after w t (start w image x aux)).memory (2 ^ 29)
       ∙ get_or_past x (2 ^ 29) 0 (omega (arith, fits.tape_fits))
 
-  pub run_honest : Honest (all_lines w image x aux t)
-  run_honest =
-      let front = HonestFrom-from_Honest (λ _. 0) (run_lines w image x aux t) (lines_are_honest w image x aux t input) in
+  -- so padding after them is honest
+  pub all_honest : Honest (all_lines w image x aux t)
+  all_honest =
+      let count : ℕ = line_count (runs_like w image x t) in
+      let more : ℕ = spare (runs_like w image x t) in
+      let front = HonestFrom-from_Honest (λ _. 0) (run_lines w image x aux t) run_honest in
       let all = HonestFrom-append (λ _. 0) (run_lines w image x aux t) (padding count more) front
       (padding_honest (memory_after (run_lines w image x aux t)) count more null_there) in
       λ earlier line later e. Honest-from_HonestFrom (λ _. 0) (all_lines w image x aux t) earlier line later all e

@@ -1,7 +1,7 @@
 -- A satisfying assignment of a system is a run.
 use Rattle.tv_core.proofs.Common.{◌≡◌, ℕ, suc, ◌+◌, ◌-◌, ◌*◌, ◌<◌, ◌≤◌, ◌^◌, true, List, ◌++◌, length, map, refl, sym, ap, ◌∙◌, arith, subst, eq-eqb}
-use Rattle.tv_core.proofs.Common.{slice_index, joined_below, Assigns, Meets, HasFrom, Line}
-use Rattle.tv_benes.specs.declared.shape.Net.{Net}
+use Rattle.tv_core.proofs.Common.{slice_index, joined_below, Assigns, Meets, HasFrom}
+use Rattle.tv_stages.specs.declared.nets.Net.{Net}
 use Rattle.tv_core.proofs.CombinationLaws.{Assigns-from_Sat, Meets-from_Sat}
 use Rattle.tv_core.specs.Constraints.{Sat}
 use Rattle.tv_core.specs.Lines.{Honest}
@@ -17,19 +17,20 @@ use Rattle.tv_step.specs.Range.{AreWords}
 use Rattle.tv_block.specs.Block.{reached}
 use Rattle.tv_layout.proofs.Ends.{words_there, are_words, zero_wires_there, tie_there}
 use Rattle.tv_layout.proofs.FirstState.{HoldsZeros, first_view}
-use Rattle.tv_layout.proofs.Positions.{layout_met, last_of, log_some, log_within}
+use Rattle.tv_layout.proofs.Positions.{layout_met, last_of}
+use Rattle.tv_layout.proofs.RunLines.{all_honest}
 use Rattle.tv_layout.proofs.Run.{Known, known_at, takes_at, accepts, reads_all}
 use Rattle.tv_layout.proofs.Steps.{step, transition_at, last_step, does, taken_words}
 use Rattle.tv_layout.proofs.TakenWords.{taken_in, taken_at_is, taken_of_is}
-use Rattle.tv_layout.proofs.Whole.{few, short, early, spare, lines, lines_valued, all_placed, lines_many}
+use Rattle.tv_layout.proofs.Whole.{few, short, early, spare, lines, own_valued, lines_valued, own_placed, own_many}
 use Rattle.tv_inputs.specs.States.{state_in}
 use Rattle.tv_layout.proofs.Blocks.{BlockSizes, BlockIsSound}
 use Rattle.tv_layout.specs.Blocks.{BlockCircuit}
 use Rattle.tv_layout.proofs.Checked.{are_of_kinds}
 use Rattle.tv_layout.specs.Checks.{checks_of}
-use Rattle.tv_layout.specs.Layout.{steps_of, state_at, system_lines, taken_of, layout}
-use Rattle.tv_layout.specs.Places.{WithinLimits, boot_count, line_count, log_of, tape_at, zero_wires_at, first_at, ProgramRuns, runs_of, runs_like}
-use Rattle.tv_layout.specs.Sound.{padding, IsRun}
+use Rattle.tv_layout.specs.Layout.{steps_of, state_at, own_lines, system_lines, taken_of, layout}
+use Rattle.tv_layout.specs.Places.{WithinLimits, boot_count, line_count, tape_at, zero_wires_at, first_at, ProgramRuns, runs_of, runs_like}
+use Rattle.tv_layout.specs.Sound.{padding, all_lines, IsRun}
 
 -- the first state's wires hold the start
 pub starts : (block : BlockCircuit) (w : ℕ) (image x aux z : List ℕ) (time zero_wires first : ℕ) → HoldsZeros z zero_wires
@@ -42,7 +43,7 @@ module _ (w : ℕ) (block : BlockCircuit) (made : ℕ) (sizes : BlockSizes block
     (fits : WithinLimits (runs_like w image x t))
     (assigns : Assigns z) (words : AreWords w x) (has : HasFrom z tape_at x) (zeros_there : HoldsZeros z (zero_wires_at w (length x)))
     (met : Meets z (steps_of block (length x) (boot_count image (length x)) t (zero_wires_at w (length x)) (first_at w (length x))).list)
-    (honest : Honest (map (line_value z) (system_lines block (runs_like w image x t))))
+    (honest : Honest (map (line_value z) (own_lines block (runs_like w image x t))))
     (answers : slice_index z (steps_of block (length x) (boot_count image (length x)) t (zero_wires_at w (length x)) (first_at w (length x))).answer.answers
     ≡ 1)
     (value : slice_index z (steps_of block (length x) (boot_count image (length x)) t (zero_wires_at w (length x)) (first_at w (length x))).answer.value
@@ -77,18 +78,15 @@ module _ (w : ℕ) (block : BlockCircuit) (made : ℕ) (sizes : BlockSizes block
     aux_words = aux_words;
   }
 
-  abbrev pad : List Line
-  pad = padding (line_count (runs_like w image x t)) (spare (runs_like w image x t))
-
-  lines_honest : Honest ((boot_lines image x ++ joined_below t (lines w block made sizes law image x z t fits assigns words has zeros_there met)) ++ pad)
-  lines_honest = subst Honest (lines_valued w block made sizes law image x z t fits assigns words has zeros_there met) honest
+  lines_honest : Honest (boot_lines image x ++ joined_below t (lines w block made sizes law image x z t fits assigns words has zeros_there met))
+  lines_honest = subst Honest (own_valued w block made sizes law image x z t fits assigns words has zeros_there met) honest
 
   begins : Matches x (here 0).now (start w image x aux)
   begins = starts block w image x aux z (boot_count image (length x)) (zero_wires_at w (length x)) (first_at w (length x)) zeros_there
 
-  known : (i : ℕ) → i ≤ t → Known w block made sizes image x z (zero_wires_at w (length x)) (first_at w (length x)) t each_does aux aux_is input pad
+  known : (i : ℕ) → i ≤ t → Known w block made sizes image x z (zero_wires_at w (length x)) (first_at w (length x)) t each_does aux aux_is input
       lines_honest begins i
-  known i h = known_at w block made sizes image x z (zero_wires_at w (length x)) (first_at w (length x)) t each_does aux aux_is input pad lines_honest
+  known i h = known_at w block made sizes image x z (zero_wires_at w (length x)) (first_at w (length x)) t each_does aux aux_is input lines_honest
       begins i h
 
   -- the last step
@@ -105,6 +103,11 @@ module _ (w : ℕ) (block : BlockCircuit) (made : ℕ) (sizes : BlockSizes block
   last_value : (m : ℕ) → m + 1 ≡ t → (here m).value ≡ slice_index z 1
   last_value m e = ap (λ r. slice_index z r.value) (sym (last_is m e)) ∙ value
 
+  all_are : map (line_value z) (system_lines block (runs_like w image x t)) ≡ all_lines w image x aux t
+  all_are =
+      lines_valued w block made sizes law image x z t fits assigns words has zeros_there met
+      ∙ ap (λ l. (boot_lines image x ++ l) ++ padding (line_count (runs_like w image x t)) (spare (runs_like w image x t))) (known t (omega arith)).are
+
   pub is_run : IsRun block (runs_like w image x t) x z
   is_run =
       let some : t - 1 + 1 ≡ t = omega (arith, fits.some) in
@@ -112,17 +115,16 @@ module _ (w : ℕ) (block : BlockCircuit) (made : ℕ) (sizes : BlockSizes block
         tape = words;
         answer = subst (λ v. v < 2 ^ w) (last_value (t - 1) some) ((each_does (t - 1) (omega (arith, fits.some))).value (last_answers (t - 1) some));
         taken = aux_words;
-        honest = honest;
-        lines = lines_valued w block made sizes law image x z t fits assigns words has zeros_there met
-            ∙ ap (λ l. (boot_lines image x ++ l) ++ pad) (known t (omega arith)).are;
+        honest = subst Honest (sym all_are) (all_honest w image x aux t fits words aux_words);
+        lines = all_are;
         states = λ i h. (known i h).matches;
         takes = λ i h. taken_at_is z (step block made sizes z x (boot_count image (length x)) (zero_wires_at w (length x)) (first_at w (length x)) i).spot
-            ∙ takes_at w block made sizes image x z (zero_wires_at w (length x)) (first_at w (length x)) t each_does aux aux_is input pad lines_honest
+            ∙ takes_at w block made sizes image x z (zero_wires_at w (length x)) (first_at w (length x)) t each_does aux aux_is input lines_honest
             begins i h;
         accepts = subst (λ v. Accepts w image x aux t v) (last_value (t - 1) some)
-            (accepts w block made sizes image x z (zero_wires_at w (length x)) (first_at w (length x)) t each_does aux aux_is input pad lines_honest
+            (accepts w block made sizes image x z (zero_wires_at w (length x)) (first_at w (length x)) t each_does aux aux_is input lines_honest
             begins (t - 1) some (last_answers (t - 1) some));
-        reads = reads_all w block made sizes image x z (zero_wires_at w (length x)) (first_at w (length x)) t each_does aux aux_is input pad
+        reads = reads_all w block made sizes image x z (zero_wires_at w (length x)) (first_at w (length x)) t each_does aux aux_is input
             lines_honest begins;
       }
 
@@ -135,11 +137,11 @@ sound_like w net block made sizes law image x z t fits has sat =
     let words = are_words w fits.width z assigns tape_at x has (words_there w fits.width z assigns tape_at (length x) _ met.words) in
     let zeros_there = zero_wires_there w fits.width z assigns (zero_wires_at w (length x)) met.zero_wires in
     let tie = tie_there w fits.width z assigns (last_of block made sizes net (runs_like w image x t)) _ met.tie in
-    let count : ℕ = line_count (runs_like w image x t) in
-    let honest = memory_sound net z (checks_of (runs_like w image x t)) (log_of count) (system_lines block (runs_like w image x t)) _ (log_some count)
-    (log_within count (few (runs_like w image x t) fits)) (lines_many w block made sizes law image x z t fits assigns words has zeros_there met.steps)
-    (subst (LinesFrom 0) (sym (lines_valued w block made sizes law image x z t fits assigns words has zeros_there met.steps))
-    (all_placed w block made sizes law image x z t fits assigns words has zeros_there met.steps))
+    let many = own_many w block made sizes law image x z t fits assigns words has zeros_there met.steps in
+    let honest = memory_sound net z (checks_of (runs_like w image x t)) (own_lines block (runs_like w image x t)) _
+    (omega (arith, many, few (runs_like w image x t) fits))
+    (subst (LinesFrom 0) (sym (own_valued w block made sizes law image x z t fits assigns words has zeros_there met.steps))
+    (own_placed w block made sizes law image x z t fits assigns words has zeros_there met.steps))
     (are_of_kinds w block made sizes law image x z t fits assigns words has zeros_there met.steps)
     assigns met.honest in
     is_run w block made sizes law image x z t fits assigns words has zeros_there met.steps honest tie.0 tie.1

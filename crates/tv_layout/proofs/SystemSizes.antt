@@ -1,37 +1,38 @@
 -- The counts of a system, by what its parts cost, and at most: its wires and constraints within the limits are numbers of 32
 -- bits.
-use Rattle.tv_core.proofs.Common.{◌≡◌, ℕ, suc, ◌+◌, ◌-◌, ◌*◌, ◌<◌, ◌≤◌, ◌^◌, length, ap, ◌∙◌, arith, List, sym, subst, ◌++◌, refl, ap₂, pow-le-pow_right}
+use Rattle.tv_core.proofs.Common.{◌≡◌, ℕ, zero, suc, ◌+◌, ◌-◌, ◌*◌, ◌<◌, ◌≤◌, ◌^◌, length, ap, ◌∙◌, arith, List, sym, subst, ◌++◌, refl, ap₂, pow-le-pow_right}
 use Rattle.tv_core.proofs.Common.{width_short, for_widths, terms_in, each_below, pure, here, fresh, put, ◌>>=◌, turns, Constraint, IsWidth}
 use Rattle.std.proofs.Math.Nat.{mul-le-mul, mul-le-mul_left}
-use Rattle.tv_benes.proofs.Most.{switches_most, network_few}
-use Rattle.tv_benes.specs.Through.{switches}
-use Rattle.tv_benes.specs.declared.shape.Net.{Net}
-use Rattle.tv_benes.specs.declared.shape.Net.TheVariants.{Benes, Waksman}
+use Rattle.std.proofs.lemmas.Nat.{pow_pos}
+use Rattle.tv_stages.specs.declared.nets.Net.{Net}
+use Rattle.tv_stages.specs.declared.nets.Net.TheVariants.{Benes, Waksman}
 use Rattle.tv_block.proofs.BlockChain.{block_counted}
 use Rattle.tv_block.specs.Complete.{block_made, block_added}
 use Rattle.tv_argument.proofs.CheckCosts.{checks_cheap}
-use Rattle.tv_argument.specs.Checks.{AreShort, Checks}
-use Rattle.tv_argument.specs.Costs.{network_made}
+use Rattle.tv_argument.proofs.Complete.{memory_complete}
+use Rattle.tv_argument.proofs.Costs.{memory_cost}
+use Rattle.tv_network.proofs.NetworkLaws.{network_counted}
+use Rattle.tv_layout.proofs.Whole.{few, power_few}
+use Rattle.tv_argument.specs.Checks.{AreShort}
+use Rattle.tv_argument.specs.Costs.{network_on, network_made}
 use Rattle.tv_layout.proofs.LineKinds.{kinds_short}
 use Rattle.tv_layout.proofs.MemoryCosts.{wires_are, constraints_are}
-use Rattle.tv_layout.proofs.Positions.{log_above, log_within, log_some, layout_next, memory_at, layout_list}
+use Rattle.tv_layout.proofs.Positions.{log_above, log_within, log_some, layout_next, after_steps, layout_list}
 use Rattle.tv_layout.specs.Checks.{checks_of}
-use Rattle.tv_layout.specs.Places.{WithinLimits, line_count, log_of, ProgramRuns, boot_count, tape_at, zero_wires_at, first_at, runs_of}
+use Rattle.tv_layout.specs.Places.{WithinLimits, line_count, log_of, memory_at, ProgramRuns, boot_count, tape_at, zero_wires_at, first_at, runs_of}
 use Rattle.tv_layout.specs.Sizes.{memory_wires, memory_constraints, system_made, system_added, network_most, system_most, system_terms, SystemIsSized}
 use Rattle.tv_layout.specs.declared.places.TheConstants.{STATE_WIRES}
 use Rattle.tv_block.specs.Block.{block_of}
 use Rattle.tv_block.specs.Costs.{block_terms}
 use Rattle.tv_core.specs.declared.lines.LineLc.{LineLc}
-use Rattle.tv_argument.proofs.Complete.{memory_complete}
-use Rattle.tv_argument.proofs.Costs.{memory_cost}
-use Rattle.tv_argument.specs.Memory.{argument_made, argument_terms}
-use Rattle.tv_layout.proofs.LinePlaces.{line_number, lines_made}
+use Rattle.tv_argument.specs.Memory.{argument_made, argument_added, argument_terms}
+use Rattle.tv_layout.proofs.LinePlaces.{own_number, lines_made}
 use Rattle.tv_layout.proofs.Blocks.{step_sized}
-use Rattle.tv_layout.specs.Layout.{system_lines, word_of, words_of, zero_wire_of, zero_wires_of, step_of, steps_of, tie_of, before_steps, layout_of}
+use Rattle.tv_layout.specs.Layout.{own_lines, word_of, words_of, zero_wire_of, zero_wires_of, step_of, steps_of, tie_of, before_steps, layout_of}
 use Rattle.tv_layout.specs.Layout.{lines_argument}
 use Rattle.tv_layout.specs.Systems.{system_of}
 use Rattle.std.proofs.lemmas.List.{append-nil}
-use Rattle.tv_benes.proofs.Measures.{IsMeasure, lengths, terms, same_turns}
+use Rattle.tv_network.proofs.CostLaws.{IsMeasure, lengths, terms, turns_cost, sum_same}
 use Rattle.tv_bits.specs.Bit.{bit_of}
 use Rattle.tv_bits.specs.Bits.{new_bit, new_bits_of, bits_of}
 use Rattle.tv_block.specs.declared.records.Reached.{Reached}
@@ -74,28 +75,29 @@ module _ (m : List Constraint → ℕ) (law : IsMeasure m) (w : ℕ) (width : Is
   steps_cost : (time t zero_wires next : ℕ) → m (steps_of (block_of w) n time t zero_wires next).list ≡ t * step
   unfolding steps_of pure ◌>>=◌
   steps_cost time t zero_wires next =
-      same_turns m law (step_of (block_of w) n time) (before_steps zero_wires) next step t
+      turns_cost m law (step_of (block_of w) n time) (before_steps zero_wires) next (λ _. step) t
       (λ i inside last at. ap m (append-nil (block_of w n last.next (time + 3 * i) at).list) ∙ parts.steps last.next (time + 3 * i) at)
+      ∙ sum_same t step
 
   words_cost : (first next : ℕ) → m (words_of w first n next).list ≡ n * word
   unfolding words_of
-  words_cost first next = same_turns m law (λ i _. word_of w first i) tt next word n (λ i inside a at. parts.words first i at)
+  words_cost first next = turns_cost m law (λ i _. word_of w first i) tt next (λ _. word) n (λ i inside a at. parts.words first i at) ∙ sum_same n word
 
   layout_cost : (net : Net) (image : List ℕ) (t memory : ℕ)
-      → m (lines_argument (block_of w) net (runs_of w image n t) (memory_at w (block_made w) n t)).list ≡ memory
+      → m (lines_argument (block_of w) net (runs_of w image n t) (after_steps w (block_made w) n t)).list ≡ memory
       → m (layout_of (block_of w) net (runs_of w image n t) (2 + n)).list ≡ n * word + start + t * step + tie + memory
   layout_cost net image t memory is =
       let words = (words_of w tape_at n (2 + n)).list in
       let none = (zero_wires_of (zero_wires_at w n)).list in
       let steps = (steps_of (block_of w) n (boot_count image n) t (zero_wires_at w n) (first_at w n)).list in
       let last = (steps_of (block_of w) n (boot_count image n) t (zero_wires_at w n) (first_at w n)).answer in
-      let end = (tie_of last (memory_at w (block_made w) n t)).list in
-      let rest = (lines_argument (block_of w) net (runs_of w image n t) (memory_at w (block_made w) n t)).list in
+      let end = (tie_of last (after_steps w (block_made w) n t)).list in
+      let rest = (lines_argument (block_of w) net (runs_of w image n t) (after_steps w (block_made w) n t)).list in
       ap m (layout_list (block_of w) (block_made w) (step_sized w width) net (runs_of w image n t))
       ∙ law.adds words (none ++ (steps ++ (end ++ rest))) ∙ ap₂ (λ a b. a + b) (words_cost tape_at (2 + n))
       (law.adds none (steps ++ (end ++ rest)) ∙ ap₂ (λ a b. a + b) (parts.zero_wires (zero_wires_at w n))
       (law.adds steps (end ++ rest) ∙ ap₂ (λ a b. a + b) (steps_cost (boot_count image n) t (zero_wires_at w n) (first_at w n))
-      (law.adds end rest ∙ ap₂ (λ a b. a + b) (parts.ties last (memory_at w (block_made w) n t)) is)))
+      (law.adds end rest ∙ ap₂ (λ a b. a + b) (parts.ties last (after_steps w (block_made w) n t)) is)))
       ∙ regroup (n * word) start (t * step) tie memory
     where
       regroup : (a b c d e : ℕ) → a + (b + (c + (d + e))) ≡ a + b + c + d + e
@@ -103,7 +105,7 @@ module _ (m : List Constraint → ℕ) (law : IsMeasure m) (w : ℕ) (width : Is
 
 -- ---- in constraints and in terms
 module _ (net : Net) (runs : ProgramRuns) (width : IsWidth runs.width) (memory : ℕ) where
-  pub layout_count : length (lines_argument (block_of runs.width) net runs (memory_at runs.width (block_made runs.width) runs.n runs.t)).list ≡ memory
+  pub layout_count : length (lines_argument (block_of runs.width) net runs (after_steps runs.width (block_made runs.width) runs.n runs.t)).list ≡ memory
       → length (layout_of (block_of runs.width) net runs (2 + runs.n)).list
       ≡ runs.n * (runs.width + 1) + STATE_WIRES + runs.t * block_added runs.width + 2 + memory
   layout_count is =
@@ -111,7 +113,7 @@ module _ (net : Net) (runs : ProgramRuns) (width : IsWidth runs.width) (memory :
       (record { words = word_count _ width; zero_wires = zeros_count; steps = block_counted.constraints _ width runs.n; ties = tie_count })
       net runs.image runs.t memory is
 
-  pub layout_terms : terms_in (lines_argument (block_of runs.width) net runs (memory_at runs.width (block_made runs.width) runs.n runs.t)).list ≡ memory
+  pub layout_terms : terms_in (lines_argument (block_of runs.width) net runs (after_steps runs.width (block_made runs.width) runs.n runs.t)).list ≡ memory
       → terms_in (layout_of (block_of runs.width) net runs (2 + runs.n)).list
       ≡ runs.n * (4 * runs.width + 2) + 2 * STATE_WIRES + runs.t * block_terms runs.width runs.n + 6 + memory
   layout_terms is =
@@ -120,40 +122,41 @@ module _ (net : Net) (runs : ProgramRuns) (width : IsWidth runs.width) (memory :
       net runs.image runs.t memory is
 
 -- ---- how large it is at most
--- ---- the network
-pub made_few : (net : Net) (k : ℕ) → network_made net k ≤ 5 * switches net (k - 1)
-made_few net k = network_few net (k - 1)
+-- the network of at most 2 ^ (h + 1) lines
+level_most : (net : Net) (h : ℕ) → 5 * ((2 * h + 1) * 2 ^ h) + 4 ≤ network_most net (suc h)
+level_most Benes h =
+    let some = pow_pos h in
+    let power : 2 ^ suc h ≡ 2 * 2 ^ h = omega arith in
+    let level : 2 * suc h - 1 ≡ 2 * h + 1 = omega arith in
+    rw (power, level) (omega (arith, some))
+level_most Waksman zero = omega arith
+level_most Waksman (suc h) =
+    let power : 2 ^ suc (suc h) ≡ 2 * 2 ^ suc h = omega arith in
+    let level : suc (suc h) - 1 ≡ suc h = omega arith in
+    rw (power, level) (omega arith)
 
-pub switches_few : (net : Net) (h : ℕ) → h ≤ 19 → switches net h ≤ 39 * 2 ^ 19
-switches_few net h few =
-    let some = switches_most net h in
-    let level : 2 * h + 1 ≤ 39 = omega (arith, few) in
-    let power : 2 ^ h ≤ 2 ^ 19 = pow-le-pow_right (omega arith) few in
-    let most : (2 * h + 1) * 2 ^ h ≤ 39 * 2 ^ 19 = mul-le-mul level power in
-    omega (arith, some, most)
+network_few : (net : Net) (k count : ℕ) → 1 ≤ k → count ≤ 2 ^ k → network_made net count ≤ network_most net k
+network_few net zero count some within = absurd (omega arith)
+network_few net (suc h) count some within =
+    let e : h + 1 ≡ suc h = omega arith in
+    let wires = network_counted.most (network_on net count) h (rw e within) in
+    omega (arith, wires, level_most net h)
 
--- with the checks it is a number of 64 bits
-pub memory_fits : (net : Net) (k checks : ℕ) → k ≤ 20 → checks ≤ 2 ^ 31 → network_made net k + checks < 2 ^ 64
-memory_fits net k checks few most = let switches = switches_few net (k - 1) (omega (arith, few)) in omega (arith, switches, made_few net k, most)
-
-network_is : (net : Net) (h : ℕ) → 10 * switches net h ≡ network_most net (suc h)
-network_is Benes h =
-    let e : 2 ^ suc h ≡ 2 * 2 ^ h = omega arith in
-    let f : 2 * suc h - 1 ≡ 2 * h + 1 = omega arith in
-    rw (e, f) (omega arith)
-network_is Waksman h =
-    let e : 2 ^ suc h ≡ 2 * 2 ^ h = omega arith in
-    let f : suc h - 1 ≡ h = omega arith in
-    rw (e, f) (omega arith)
+most_few : (net : Net) (k : ℕ) → k ≤ 20 → network_most net k ≤ 2 ^ 28
+most_few Benes k few =
+    let power : 2 ^ k ≤ 2 ^ 20 = pow-le-pow_right (omega arith) few in
+    let level : 2 * k - 1 ≤ 39 = omega (arith, few) in
+    let most : 2 ^ k * (2 * k - 1) ≤ 2 ^ 20 * 39 = mul-le-mul power level in
+    omega (arith, most)
+most_few Waksman k few =
+    let power : 2 ^ k ≤ 2 ^ 20 = pow-le-pow_right (omega arith) few in
+    let level : k - 1 ≤ 19 = omega (arith, few) in
+    let most : 2 ^ k * (k - 1) ≤ 2 ^ 20 * 19 = mul-le-mul power level in
+    omega (arith, most)
 
 -- ---- the checks
-pub checks_short : (runs : ProgramRuns) → WithinLimits runs → AreShort (checks_of runs) (2 ^ log_of (line_count runs))
-checks_short runs fits =
-    let count : line_count runs ≤ 2 ^ 20 = omega (arith, fits.image_fits, fits.tape_fits, fits.steps_fit) in
-    record {
-      count = log_above (line_count runs) count;
-      kinds = λ i h. kinds_short (log_of (line_count runs)) (length runs.image) runs.n i (log_within (line_count runs) count);
-    }
+pub checks_short : (runs : ProgramRuns) → WithinLimits runs → (n : ℕ) → AreShort (checks_of runs) n
+checks_short runs fits n i h = kinds_short (log_of (line_count runs)) (length runs.image) runs.n i (log_within (line_count runs) (few runs fits))
 
 -- ---- all of it
 pub record SystemFits (net : Net) (runs : ProgramRuns) : Type 0 where
@@ -166,57 +169,54 @@ module _ (net : Net) (runs : ProgramRuns) (fits : WithinLimits runs) where
   abbrev k : ℕ
   k = log_of (line_count runs)
 
-  some : 1 ≤ k
-  some = log_some (line_count runs)
+  log_few : k ≤ 20
+  log_few = log_within (line_count runs) (few runs fits)
 
-  few : k ≤ 20
-  few = log_within (line_count runs) (omega (arith, fits.image_fits, fits.tape_fits, fits.steps_fit))
+  above : line_count runs ≤ 2 ^ k
+  above = log_above (line_count runs) (few runs fits)
 
-  -- the network's share, as the bound has it
-  network_share : 10 * switches net (k - 1) ≡ network_most net k
-  network_share =
-      let same : suc (k - 1) ≡ k = omega (arith, some) in
-      network_is net (k - 1) ∙ ap (network_most net) same
+  network_small : network_made net (line_count runs) ≤ network_most net k
+  network_small = network_few net k (line_count runs) (log_some (line_count runs)) above
 
-  memory_few : memory_wires net runs ≤ 5 * switches net (k - 1) + 2 ^ k * 2 ^ 6
-  memory_few = let sum = checks_cheap.few_made (checks_of runs) (2 ^ k) (checks_short runs fits) in
-      omega (arith, sum, wires_are net runs, made_few net k)
+  memory_few : memory_wires net runs ≤ network_most net k + 2 ^ k * 2 ^ 6
+  memory_few =
+      let sum = checks_cheap.few_made (checks_of runs) (line_count runs) (checks_short runs fits (line_count runs)) in
+      omega (arith, sum, wires_are net runs, network_small, above)
 
-  constraints_few : memory_constraints net runs ≤ 5 * switches net (k - 1) + 2 ^ k * 2 ^ 6
-  constraints_few = let sum = checks_cheap.few_added (checks_of runs) (2 ^ k) (checks_short runs fits) in
-      omega (arith, sum, constraints_are net runs, made_few net k)
+  constraints_few : memory_constraints net runs ≤ network_most net k + 2 ^ k * 2 ^ 6
+  constraints_few =
+      let sum = checks_cheap.few_added (checks_of runs) (line_count runs) (checks_short runs fits (line_count runs)) in
+      omega (arith, sum, constraints_are net runs, network_small, above)
 
   wires_small : 2 + runs.n + system_made net runs ≤ system_most net runs
   wires_small =
       let words : runs.n * runs.width ≤ runs.n * 32 = mul-le-mul_left runs.n (width_short runs.width fits.width) in
       let steps : runs.t * block_made runs.width ≤ runs.t * 2 ^ 11 = mul-le-mul_left runs.t (block_counted.cheap runs.width fits.width).wires in
-      most (runs.n * runs.width) (runs.t * block_made runs.width) (memory_wires net runs) (switches net (k - 1)) (network_most net k) (2 ^ k)
-      words steps memory_few network_share
+      most (runs.n * runs.width) (runs.t * block_made runs.width) (memory_wires net runs) (network_most net k) (2 ^ k) words steps memory_few
     where
-      most : (a b c s m p : ℕ) → a ≤ runs.n * 32 → b ≤ runs.t * 2 ^ 11 → c ≤ 5 * s + p * 2 ^ 6 → 10 * s ≡ m
+      most : (a b c m p : ℕ) → a ≤ runs.n * 32 → b ≤ runs.t * 2 ^ 11 → c ≤ m + p * 2 ^ 6
           → 2 + runs.n + (a + STATE_WIRES + b + c) ≤ 2048 * runs.t + m + 200 * p + 40 * (runs.n + 1) + 64
-      most a b c s m p d e f g = omega arith
+      most a b c m p d e f = omega arith
 
   constraints_small : system_added net runs ≤ system_most net runs
   constraints_small =
       let short : runs.width + 1 ≤ 33 = omega (arith, width_short runs.width fits.width) in
       let words : runs.n * (runs.width + 1) ≤ runs.n * 33 = mul-le-mul_left runs.n short in
       let steps : runs.t * block_added runs.width ≤ runs.t * 2 ^ 11 = mul-le-mul_left runs.t (block_counted.cheap runs.width fits.width).constraints in
-      most (runs.n * (runs.width + 1)) (runs.t * block_added runs.width) (memory_constraints net runs) (switches net (k - 1)) (network_most net k)
-      (2 ^ k) words steps constraints_few network_share
+      most (runs.n * (runs.width + 1)) (runs.t * block_added runs.width) (memory_constraints net runs) (network_most net k) (2 ^ k)
+      words steps constraints_few
     where
-      most : (a b c s m p : ℕ) → a ≤ runs.n * 33 → b ≤ runs.t * 2 ^ 11 → c ≤ 5 * s + p * 2 ^ 6 → 10 * s ≡ m
+      most : (a b c m p : ℕ) → a ≤ runs.n * 33 → b ≤ runs.t * 2 ^ 11 → c ≤ m + p * 2 ^ 6
           → a + STATE_WIRES + b + 2 + c ≤ 2048 * runs.t + m + 200 * p + 40 * (runs.n + 1) + 64
-      most a b c s m p d e f g = omega arith
+      most a b c m p d e f = omega arith
 
   all_fit : system_most net runs < 2 ^ 32
   all_fit =
-      let s = switches_few net (k - 1) (omega (arith, few)) in
-      let power : 2 ^ k ≤ 2 ^ 20 = pow-le-pow_right (omega arith) few in
-      small (network_most net k) (2 ^ k) (switches net (k - 1)) s power network_share
+      let power : 2 ^ k ≤ 2 ^ 20 = power_few runs fits in
+      small (network_most net k) (2 ^ k) (most_few net k log_few) power
     where
-      small : (m p s : ℕ) → s ≤ 39 * 2 ^ 19 → p ≤ 2 ^ 20 → 10 * s ≡ m → 2048 * runs.t + m + 200 * p + 40 * (runs.n + 1) + 64 < 2 ^ 32
-      small m p s a b c = omega (arith, a, b, c, fits.tape_fits, fits.steps_fit)
+      small : (m p : ℕ) → m ≤ 2 ^ 28 → p ≤ 2 ^ 20 → 2048 * runs.t + m + 200 * p + 40 * (runs.n + 1) + 64 < 2 ^ 32
+      small m p a b = omega (arith, a, b, fits.tape_fits, fits.steps_fit)
 
   pub system_fits : SystemFits net runs
   system_fits = record {
@@ -227,41 +227,46 @@ module _ (net : Net) (runs : ProgramRuns) (fits : WithinLimits runs) where
   }
 
   -- ---- the counts
-  abbrev lines : List LineLc
-  lines = system_lines (block_of runs.width) runs
+  abbrev own : List LineLc
+  own = own_lines (block_of runs.width) runs
 
-  abbrev checks : Checks
-  checks = checks_of runs
+  pub own_few : length own ≤ 2 ^ 20
+  own_few = omega (arith, own_number runs fits, few runs fits)
 
-  -- where the memory argument begins
-  abbrev at : ℕ
-  at = memory_at runs.width (block_made runs.width) runs.n runs.t
+  pub own_wires : argument_made net (checks_of runs) (length own) ≡ memory_wires net runs
+  own_wires = ap (argument_made net (checks_of runs)) (own_number runs fits) ∙ wires_are net runs
+
+  pub own_constraints : argument_added net (checks_of runs) (length own) ≡ memory_constraints net runs
+  own_constraints = ap (argument_added net (checks_of runs)) (own_number runs fits) ∙ constraints_are net runs
+
+  pub network_room : memory_at runs + network_made net (length own) < 2 ^ 32
+  network_room = omega (arith, own_wires, system_fits.wires)
 
   pub system_wires : (system_of net runs).wires ≡ 2 + runs.n + system_made net runs
   system_wires =
-      layout_next (block_of runs.width) (block_made runs.width) (step_sized runs.width fits.width) net runs (argument_made net checks k)
-      (λ at. (memory_complete net).next checks k lines at) ∙ omega (arith, wires_are net runs)
+      layout_next (block_of runs.width) (block_made runs.width) (step_sized runs.width fits.width) net runs
+      (argument_made net (checks_of runs) (length own)) (λ at. (memory_complete net).next (checks_of runs) own at) ∙ omega (arith, own_wires)
 
   system_count : length (system_of net runs).constraints ≡ system_added net runs
   system_count =
-      layout_count net runs fits.width (memory_constraints net runs) (memory_cost.constraints net checks k lines at some ∙ constraints_are net runs)
+      layout_count net runs fits.width (memory_constraints net runs)
+      (memory_cost.constraints net (checks_of runs) own (memory_at runs) ∙ own_constraints)
 
   system_term_count : terms_in (system_of net runs).constraints ≡ system_terms net runs
   system_term_count =
-      layout_terms net runs fits.width (argument_terms net checks k lines)
-      (memory_cost.terms net checks k lines at (omega arith) some (line_number runs fits) (checks_short runs fits).count (lines_made runs fits))
+      layout_terms net runs fits.width (argument_terms net (checks_of runs) (memory_at runs) own)
+      (memory_cost.terms net (checks_of runs) own (memory_at runs) (omega arith) (lines_made runs fits))
 
   terms_small : system_terms net runs < 2 ^ 60
   terms_small =
       let each : 4 * runs.width + 2 ≤ 130 = omega (arith, width_short runs.width fits.width) in
       let words : runs.n * (4 * runs.width + 2) ≤ 2 ^ 17 * 130 = mul-le-mul fits.tape_fits each in
       let steps : runs.t * block_terms runs.width runs.n ≤ 2 ^ 18 * 2 ^ 14 = mul-le-mul fits.steps_fit (block_counted.few runs.width fits.width runs.n) in
-      let power : 2 ^ k ≤ 2 ^ 20 = pow-le-pow_right (omega arith) few in
-      let memory = memory_cost.few net checks k lines at some few (line_number runs fits) (checks_short runs fits) (lines_made runs fits) in
-      most (runs.n * (4 * runs.width + 2)) (runs.t * block_terms runs.width runs.n) (argument_terms net checks k lines) (2 ^ k) words steps memory power
+      most (runs.n * (4 * runs.width + 2)) (runs.t * block_terms runs.width runs.n) (argument_terms net (checks_of runs) (memory_at runs) own) words steps
+      (memory_cost.few net (checks_of runs) own (memory_at runs) own_few (checks_short runs fits (length own)) (lines_made runs fits))
     where
-      most : (a b m p : ℕ) → a ≤ 2 ^ 17 * 130 → b ≤ 2 ^ 18 * 2 ^ 14 → m ≤ p * 2 ^ 10 → p ≤ 2 ^ 20 → a + 2 * STATE_WIRES + b + 6 + m < 2 ^ 60
-      most a b m p c d e f = omega arith
+      most : (a b m : ℕ) → a ≤ 2 ^ 17 * 130 → b ≤ 2 ^ 18 * 2 ^ 14 → m < 2 ^ 44 → a + 2 * STATE_WIRES + b + 6 + m < 2 ^ 60
+      most a b m c d e = omega arith
 
 pub system_sized : SystemIsSized
 system_sized net runs fits =

@@ -1,17 +1,15 @@
 -- The circuit of tv_block has what a system needs of a step.
-use Rattle.tv_core.proofs.Common.{ℕ, ◌-◌, length, sym, subst, arith, List, Option, IsWidth, flag_of}
+use Rattle.tv_core.proofs.Common.{ℕ, ◌-◌, length, refl, sym, subst, arith, List, Option, IsWidth, flag_of}
 use Rattle.tv_block.proofs.BlockLaws.{step_in, block_sound}
 use Rattle.tv_block.proofs.MachineFills.{machine_step_met, machine_values_fit}
 use Rattle.tv_block.specs.Block.{block_of}
 use Rattle.tv_block.specs.Complete.{block_made, step_values, MeetsMachineStep}
-use Rattle.tv_inputs.specs.States.{state_in}
 use Rattle.tv_inputs.specs.declared.records.StateWires.{StateWires}
 use Rattle.tv_step.specs.State.{State}
 use Rattle.tv_word.proofs.FlagLaws.{flag_small}
 use Rattle.tv_layout.proofs.Fill.{fill_complete, layout_reduces}
 use Rattle.tv_layout.proofs.Sound.{layout_sound}
 use Rattle.tv_layout.proofs.Blocks.{HasCells, BlockIsSound, BlockIsComplete, Given, step_sized}
-use Rattle.tv_layout.proofs.StepCells.{numbers_have_cells}
 use Rattle.tv_layout.specs.Systems.{SystemIsSound, SystemIsComplete, SystemReduces}
 
 module _ (w : ℕ) (width : IsWidth w) where
@@ -20,7 +18,7 @@ module _ (w : ℕ) (width : IsWidth w) where
       let is = step_in w width z (length x) state time next short early assigns range met in
       record {
         machine = block_sound w width z x state time next short early assigns range met;
-        cells = subst (HasCells w) (sym is.same) (numbers_have_cells w width (length x) time (state_in z state) is.head is.tail is.word is.takes is.at_numbers);
+        cells = subst (HasCells w) (sym is.same) (record { first = refl; second = refl });
       }
 
   met_by : (z x : List ℕ) (state : StateWires) (time next : ℕ) (st : State) (word : Option ℕ) → Given w (step_values w) z x state time next st word

@@ -1,4 +1,4 @@
--- All lines of a system, in an assignment that meets its steps.
+-- The lines of a system, in an assignment that meets its steps.
 use Rattle.tv_core.proofs.Common.{◌≡◌, ℕ, ◌+◌, ◌-◌, ◌*◌, ◌<◌, ◌≤◌, ◌^◌, List, ◌++◌, length, map, sym, ap, ap₂, ◌∙◌, arith, pow-le-pow_right, length-append}
 use Rattle.tv_core.proofs.Common.{length-map, joined_below, Assigns, Meets, HasFrom, Line, IsWidth}
 use Rattle.std.proofs.lemmas.List.{map-append}
@@ -8,13 +8,13 @@ use Rattle.tv_lines.specs.Placed.{LinesFrom}
 use Rattle.tv_numbers.specs.Numbers.{lines_in}
 use Rattle.tv_step.specs.Cells.{boot_lines}
 use Rattle.tv_step.specs.Range.{AreWords}
-use Rattle.tv_layout.proofs.Boot.{boot_lines_valued, padding_valued, LinesFrom-append, length-boot_lines, boot_lines_placed, padding_placed, length-padding}
+use Rattle.tv_layout.proofs.Boot.{boot_lines_valued, padding_valued, LinesFrom-append, length-boot_lines, boot_lines_placed}
 use Rattle.tv_layout.proofs.FirstState.{HoldsZeros}
 use Rattle.tv_layout.proofs.Positions.{log_above, log_within}
 use Rattle.tv_layout.proofs.Steps.{transition_at, lines_in_transition, length-lines_in_transition, lines_placed}
 use Rattle.tv_layout.proofs.Blocks.{BlockSizes, BlockIsSound}
 use Rattle.tv_layout.specs.Blocks.{BlockCircuit}
-use Rattle.tv_layout.specs.Layout.{boot_lines_of, steps_of, system_lines, step_block}
+use Rattle.tv_layout.specs.Layout.{boot_lines_of, steps_of, own_lines, system_lines}
 use Rattle.tv_layout.specs.Places.{WithinLimits, boot_count, line_count, log_of, tape_at, zero_wires_at, first_at, ProgramRuns, runs_like}
 use Rattle.tv_layout.specs.Sound.{padding}
 use Rattle.tv_word.proofs.WidthLaws.{word_small}
@@ -30,9 +30,6 @@ module _ (runs : ProgramRuns) where
   module _ (fits : WithinLimits runs) where
     pub few : line_count runs ≤ 2 ^ 20
     few = omega (arith, fits.image_fits, fits.tape_fits, fits.steps_fit)
-
-    pub filled : line_count runs + spare ≡ 2 ^ log_of (line_count runs)
-    filled = omega (arith, log_above (line_count runs) few)
 
     pub power_few : 2 ^ log_of (line_count runs) ≤ 2 ^ 20
     power_few = pow-le-pow_right (omega arith) (log_within (line_count runs) few)
@@ -50,42 +47,32 @@ module _ (w : ℕ) (block : BlockCircuit) (made : ℕ) (sizes : BlockSizes block
   abbrev pub lines : ℕ → List Line
   lines i = lines_in (transition_at block made sizes z x (boot_count image (length x)) (zero_wires_at w (length x)) (first_at w (length x)) i)
 
+  pub own_valued : map (line_value z) (own_lines block (runs_like w image x t)) ≡ boot_lines image x ++ joined_below t lines
+  unfolding own_lines
+  own_valued =
+      map-append (line_value z) (boot_lines_of image (length x)) _ ∙ ap₂ (λ (u v : List Line). u ++ v)
+      (boot_lines_valued z assigns image x (words_32 w fits.width image fits.words) (omega (arith, fits.image_fits)) (omega (arith, fits.tape_fits)) has)
+      (lines_in_transition block made sizes z x (boot_count image (length x)) (zero_wires_at w (length x)) (first_at w (length x)) t)
+
   pub lines_valued : map (line_value z) (system_lines block (runs_like w image x t))
       ≡ (boot_lines image x ++ joined_below t lines) ++ padding (line_count (runs_like w image x t)) (spare (runs_like w image x t))
-  unfolding system_lines
   lines_valued =
-      let count : ℕ = line_count (runs_like w image x t) in
-      let a = boot_lines_valued z assigns image x (words_32 w fits.width image fits.words) (omega (arith, fits.image_fits))
-      (omega (arith, fits.tape_fits)) has in
-      let b = lines_in_transition block made sizes z x (boot_count image (length x)) (zero_wires_at w (length x)) (first_at w (length x)) t in
-      let c = padding_valued z assigns count (spare (runs_like w image x t))
-      (omega (arith, filled (runs_like w image x t) fits, power_few (runs_like w image x t) fits)) in
-      map-append (line_value z) (boot_lines_of image (length x)
-      ++ joined_below t (λ i. (step_block block (runs_like w image x t) i).lines)) _ ∙ ap₂ (λ (u v : List Line). u ++ v)
-      (map-append (line_value z) (boot_lines_of image (length x)) _ ∙ ap₂ (λ (u v : List Line). u ++ v) a b) c
+      map-append (line_value z) (own_lines block (runs_like w image x t)) _ ∙ ap₂ (λ (u v : List Line). u ++ v) own_valued
+      (padding_valued z assigns (line_count (runs_like w image x t)) (spare (runs_like w image x t))
+      (omega (arith, log_above (line_count (runs_like w image x t)) (few (runs_like w image x t) fits), power_few (runs_like w image x t) fits)))
 
-  steps_many : length (joined_below t lines) ≡ t * 3
-  steps_many = length-lines_in_transition block made sizes z x (boot_count image (length x)) (zero_wires_at w (length x)) (first_at w (length x)) t
+  own_long : length (boot_lines image x ++ joined_below t lines) ≡ line_count (runs_like w image x t)
+  own_long =
+      let steps = length-lines_in_transition block made sizes z x (boot_count image (length x)) (zero_wires_at w (length x)) (first_at w (length x)) t in
+      length-append (boot_lines image x) (joined_below t lines) ∙ omega (arith, length-boot_lines image x, steps)
 
-  pub all_placed : LinesFrom 0 ((boot_lines image x ++ joined_below t lines) ++ padding (line_count (runs_like w image x t)) (spare (runs_like w image x t)))
-  all_placed =
-      let e = length-append (boot_lines image x) (joined_below t lines) in
-      let g = length-boot_lines image x in
-      LinesFrom-append 0 (line_count (runs_like w image x t)) (boot_lines image x ++ joined_below t lines)
-      (padding (line_count (runs_like w image x t)) (spare (runs_like w image x t))) (omega (arith, e, g, steps_many))
-      (LinesFrom-append 0 (boot_count image (length x)) (boot_lines image x) (joined_below t lines) (omega (arith, g))
+  pub own_placed : LinesFrom 0 (boot_lines image x ++ joined_below t lines)
+  own_placed =
+      LinesFrom-append 0 (boot_count image (length x)) (boot_lines image x) (joined_below t lines) (omega (arith, length-boot_lines image x))
       (boot_lines_placed image x (words_32 w fits.width image fits.words) (words_32 w fits.width x words) (omega (arith, fits.image_fits))
       (omega (arith, fits.tape_fits)))
       (lines_placed block made sizes z x (boot_count image (length x)) (zero_wires_at w (length x)) (first_at w (length x)) w fits.width law t assigns
-      (short (runs_like w image x t) fits) (early (runs_like w image x t) fits) zeros_there met t (omega arith)))
-      (padding_placed (line_count (runs_like w image x t)) (spare (runs_like w image x t)))
+      (short (runs_like w image x t) fits) (early (runs_like w image x t) fits) zeros_there met t (omega arith))
 
-  pub lines_many : length (system_lines block (runs_like w image x t)) ≡ 2 ^ log_of (line_count (runs_like w image x t))
-  lines_many =
-      let e = length-append (boot_lines image x) (joined_below t lines) in
-      let f = length-append (boot_lines image x ++ joined_below t lines) (padding (line_count (runs_like w image x t)) (spare (runs_like w image x t))) in
-      let g = length-boot_lines image x in
-      let h = length-padding (line_count (runs_like w image x t)) (spare (runs_like w image x t)) in
-      let l : length ((boot_lines image x ++ joined_below t lines) ++ padding (line_count (runs_like w image x t)) (spare (runs_like w image x t)))
-      ≡ 2 ^ log_of (line_count (runs_like w image x t)) = omega (arith, e, f, g, h, steps_many, filled (runs_like w image x t) fits) in
-      sym (length-map (system_lines block (runs_like w image x t)) (line_value z)) ∙ ap length lines_valued ∙ l
+  pub own_many : length (own_lines block (runs_like w image x t)) ≡ line_count (runs_like w image x t)
+  own_many = sym (length-map (own_lines block (runs_like w image x t)) (line_value z)) ∙ ap length own_valued ∙ own_long

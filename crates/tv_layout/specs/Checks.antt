@@ -25,17 +25,16 @@ first_kind words step = if words == 0 && step == 0 then Least else Within CELL_B
 abbrev pub step_kind : ℕ → ℕ → ℕ → Kind
 step_kind k words j = if j % 3 == 0 then first_kind words (j / 3) else if j % 3 == 1 then Within k else Within CELL_BITS
 
--- line i of all 2 ^ k, of an image of this many words and a tape of n
+-- line i of all, fewer than 2 ^ k or as many, of an image of this many words and a tape of n
 abbrev pub line_kind : ℕ → ℕ → ℕ → ℕ → Kind
 line_kind k words n i =
     if nat_lt i words then boot_kind ZeroOld 0 i
     else if nat_lt i (words + n) then boot_kind (Within CELL_BITS) TAPE_CELLS (i - words)
     else step_kind k words (i - (words + n))
 
--- all lines but padding are checked
+-- each line is checked, but padding
 abbrev pub checks_of : ProgramRuns → Checks
 checks_of runs = record {
-  count = line_count runs;
   least = least_place (length runs.image) runs.n;
   kind = line_kind (log_of (line_count runs)) (length runs.image) runs.n;
 }

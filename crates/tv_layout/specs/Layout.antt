@@ -2,7 +2,7 @@
 -- tape's words, the steps in a row, and an argument that their lines of memory are honest.
 use Rattle.std.specs.Prelude.{ℕ, zero, suc, ◌+◌, ◌-◌, ◌*◌, ◌^◌, ◌==◌, if◌then◌else◌, List, [], ◌∷◌, ◌++◌, length, map, slice_index}
 use Rattle.std.specs.List.{range_with_len}
-use Rattle.tv_benes.specs.declared.shape.Net.{Net}
+use Rattle.tv_stages.specs.declared.nets.Net.{Net}
 use Rattle.tv_bits.specs.Bits.{bits_of}
 use Rattle.tv_core.specs.Below.{joined_below}
 use Rattle.tv_core.specs.Circuits.{Circuit, fresh, here, put, pure, turns, ◌>>=◌}
@@ -118,11 +118,13 @@ module _ (block : BlockCircuit) where
   abbrev pub step_block : ProgramRuns → ℕ → Block
   step_block runs i = block_at runs.n (boot_count runs.image runs.n) (zero_wires_at runs.width runs.n) (first_at runs.width runs.n) i
 
-  -- all lines in time order: boot lines, those of the steps, and padding up to 2 ^ k
-  unfoldable pub system_lines : ProgramRuns → List LineLc
-  system_lines runs =
-      (boot_lines_of runs.image runs.n ++ joined_below runs.t (λ i. (step_block runs i).lines))
-      ++ padding_of (line_count runs) (2 ^ log_of (line_count runs) - line_count runs)
+  -- the lines of the runs in time order: boot lines, and those of the steps
+  unfoldable pub own_lines : ProgramRuns → List LineLc
+  own_lines runs = boot_lines_of runs.image runs.n ++ joined_below runs.t (λ i. (step_block runs i).lines)
+
+  -- all lines: these, and padding up to 2 ^ k, which are constants that no constraint has
+  abbrev pub system_lines : ProgramRuns → List LineLc
+  system_lines runs = own_lines runs ++ padding_of (line_count runs) (2 ^ log_of (line_count runs) - line_count runs)
 
   -- the wires at which the steps that take a word of the auxiliary tape in an assignment have it, in order; and these
   -- words
@@ -132,9 +134,9 @@ module _ (block : BlockCircuit) where
   abbrev pub taken_of : ProgramRuns → List ℕ → List ℕ
   taken_of runs z = map (slice_index z) (taken_wires runs z)
 
-  -- the argument that all lines are honest
+  -- the argument that the lines are honest
   abbrev pub lines_argument : Net → ProgramRuns → Circuit (Unit {0})
-  lines_argument net runs = argument_of net (checks_of runs) (log_of (line_count runs)) (system_lines runs)
+  lines_argument net runs = argument_of net (checks_of runs) (own_lines runs)
 
   -- the circuit of a system, after its public wires
   unfoldable pub layout_of : Net → ProgramRuns → Circuit (Unit {0})

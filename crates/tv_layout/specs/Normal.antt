@@ -1,5 +1,5 @@
 -- That every combination of a system is normal.
-use Rattle.tv_benes.specs.declared.shape.Net.{Net}
+use Rattle.tv_stages.specs.declared.nets.Net.{Net}
 use Rattle.tv_core.specs.Normal.{AreNormal}
 use Rattle.tv_layout.specs.Places.{WithinLimits, ProgramRuns}
 use Rattle.tv_layout.specs.Systems.{system_of}

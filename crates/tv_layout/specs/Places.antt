@@ -1,6 +1,7 @@
 -- What a system is made for, how many lines it has, and where its parts stand.
 use Rattle.std.specs.Prelude.{ℕ, zero, suc, ◌+◌, ◌*◌, ◌^◌, ◌≤◌, nat_le, if◌then◌else◌, List, length}
 use Rattle.tv_core.specs.declared.limits.TheConstants.{IMAGE_WORDS, TAPE_WORDS, STEPS}
+use Rattle.tv_block.specs.Complete.{block_made}
 use Rattle.tv_step.specs.Range.{AreWords}
 use Rattle.tv_word.specs.Widths.{IsWidth}
 use Rattle.tv_layout.specs.declared.places.TheConstants.{STATE_WIRES}
@@ -58,3 +59,7 @@ zero_wires_at w n = 2 + n + n * w
 -- the wires of the first step
 abbrev pub first_at : ℕ → ℕ → ℕ
 first_at w n = zero_wires_at w n + STATE_WIRES
+
+-- and those of the memory argument, after all steps
+abbrev pub memory_at : ProgramRuns → ℕ
+memory_at runs = first_at runs.width runs.n + runs.t * block_made runs.width

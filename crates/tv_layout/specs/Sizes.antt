@@ -1,7 +1,7 @@
 -- How many wires, constraints and terms a system has.
 use Rattle.std.specs.Prelude.{◌≡◌, ℕ, ◌+◌, ◌-◌, ◌*◌, ◌^◌, ◌<◌, ◌≤◌, ◌==◌, if◌then◌else◌, length}
-use Rattle.tv_benes.specs.declared.shape.Net.{Net}
-use Rattle.tv_benes.specs.declared.shape.Net.TheVariants.{Benes, Waksman}
+use Rattle.tv_stages.specs.declared.nets.Net.{Net}
+use Rattle.tv_stages.specs.declared.nets.Net.TheVariants.{Benes, Waksman}
 use Rattle.tv_block.specs.Block.{block_of}
 use Rattle.tv_block.specs.Complete.{block_made, block_added}
 use Rattle.tv_block.specs.Costs.{block_terms}
@@ -15,8 +15,8 @@ use Rattle.tv_argument.specs.declared.kinds.Kind.{Kind}
 use Rattle.tv_argument.specs.declared.kinds.Kind.TheVariants.{ZeroOld, Boot, Within}
 use Rattle.tv_layout.specs.Checks.{first_kind, checks_of}
 use Rattle.tv_layout.specs.declared.totals.CheckCosts.{CheckCosts}
-use Rattle.tv_layout.specs.Layout.{system_lines}
-use Rattle.tv_layout.specs.Places.{ProgramRuns, WithinLimits, line_count, log_of}
+use Rattle.tv_layout.specs.Layout.{own_lines}
+use Rattle.tv_layout.specs.Places.{ProgramRuns, WithinLimits, line_count, log_of, memory_at}
 use Rattle.tv_layout.specs.Systems.{system_of}
 use Rattle.tv_layout.specs.declared.places.TheConstants.{STATE_WIRES}
 
@@ -58,10 +58,10 @@ of_system cost runs =
 
 -- ---- the memory argument: its network and its checks
 abbrev pub memory_wires : Net → ProgramRuns → ℕ
-memory_wires net runs = network_made net (log_of (line_count runs)) + of_system check_made runs
+memory_wires net runs = network_made net (line_count runs) + of_system check_made runs
 
 abbrev pub memory_constraints : Net → ProgramRuns → ℕ
-memory_constraints net runs = network_made net (log_of (line_count runs)) + of_system check_added runs
+memory_constraints net runs = network_made net (line_count runs) + of_system check_added runs
 
 -- ---- what is emitted
 -- the wires after the public ones: the bits of the tape's words, the first state's, the steps, and the memory argument
@@ -72,11 +72,11 @@ system_made net runs = runs.n * runs.width + STATE_WIRES + runs.t * block_made r
 abbrev pub system_added : Net → ProgramRuns → ℕ
 system_added net runs = runs.n * (runs.width + 1) + STATE_WIRES + runs.t * block_added runs.width + 2 + memory_constraints net runs
 
--- the terms of the constraints, of the same parts: those of the memory argument are a sum over its lines
+-- the terms of the constraints, of the same parts: those of the memory argument are a sum over its switches and lines
 abbrev pub system_terms : Net → ProgramRuns → ℕ
 system_terms net runs =
     runs.n * (4 * runs.width + 2) + 2 * STATE_WIRES + runs.t * block_terms runs.width runs.n + 6
-    + argument_terms net (checks_of runs) (log_of (line_count runs)) (system_lines (block_of runs.width) runs)
+    + argument_terms net (checks_of runs) (memory_at runs) (own_lines (block_of runs.width) runs)
 
 -- ---- what it is at most
 abbrev pub network_most : Net → ℕ → ℕ
@@ -90,8 +90,8 @@ size_most net k n t = 2048 * t + network_most net k + 200 * 2 ^ k + 40 * (n + 1)
 abbrev pub system_most : Net → ProgramRuns → ℕ
 system_most net runs = size_most net (log_of (line_count runs)) runs.n runs.t
 
--- The counts of a system within the limits, and at most: wires and constraints in closed form, and terms up to the sum
--- over the lines. They are numbers of 32 bits, and of 60 bits.
+-- The counts of a system within the limits, and at most: wires and constraints by the number of lines, and terms up to
+-- the sum over switches and lines. They are numbers of 32 bits, and of 60 bits.
 pub record IsSized (net : Net) (runs : ProgramRuns) (system : System) : Type 0 where
   pub wires : system.wires ≡ 2 + runs.n + system_made net runs
   pub constraints : length system.constraints ≡ system_added net runs

@@ -1,6 +1,6 @@
 -- The system of a program over the circuit of one step that tv_block puts, and what is claimed of it.
 use Rattle.std.specs.Prelude.{◌≡◌, ℕ, List, length}
-use Rattle.tv_benes.specs.declared.shape.Net.{Net}
+use Rattle.tv_stages.specs.declared.nets.Net.{Net}
 use Rattle.tv_block.specs.Block.{block_of}
 use Rattle.tv_block.specs.Complete.{step_values}
 use Rattle.tv_core.specs.Constraints.{System, Sat}

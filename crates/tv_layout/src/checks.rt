@@ -6,12 +6,12 @@ ghost use Rattle.tv_argument.specs.Checks.{IsShortKind};
 use tv_argument::Kind;
 use tv_core::limits::{CELL_BITS, TAPE_CELLS};
 
-/// Returns how line `i` of a system of 2^`k` lines is checked, its image having `words` words and
-/// its tape `n`; `i` is below the number of lines before padding. The line of the image's first
-/// word is the least one, and has no old word; an image without words has none, and then the least
-/// line is the first of the steps. Each other word at boot stands in the cell after that of the
-/// line before. A step's second line is of the cell after the first line's, so its predecessor is
-/// near.
+/// Returns how line `i` of a system is checked, its image having `words` words and its tape `n`. It
+/// has at most 2^`k` lines before padding, and `i` is below their number. The line of the image's
+/// first word is the least one, and has no old word; an image without words has none, and then the
+/// least line is the first of the steps. Each other word at boot stands in the cell after that of
+/// the line before. A step's second line is of the cell after the first line's, so its predecessor
+/// is near.
 pub fn line_kind(words: u32, n: u32, k: u32, i: u32) -> Kind
     requires few { k ≤ 20 }
     requires boot { words + n ≤ 2 ^ 20 }

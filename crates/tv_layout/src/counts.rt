@@ -6,15 +6,16 @@ ghost use Rattle.tv_layout.specs.Sizes.{memory_constraints, memory_wires};
 ghost use Rattle.tv_layout.specs.Systems.{system_of};
 
 use crate::lines::LayoutLines;
-use crate::places::{STATE_WIRES, log_of, public_wires};
+use crate::places::{STATE_WIRES, log_of, memory_at, public_wires};
 use crate::system::emit_system;
 use crate::totals::{constraint_costs, total, wire_costs};
 use tv_argument::{argument_terms, network_made};
-use tv_benes::Net;
 use tv_block::{step_costs, step_terms};
 use tv_core::{CountSink, Counts};
+use tv_stages::Net;
 
-/// Returns how many wires the system has that `emit_system` emits. Takes constant time.
+/// Returns how many wires the system has that `emit_system` emits. Takes time that grows with the
+/// logarithm of the lines.
 pub fn wires<const W: u32>(image: &[u32], n: u32, t: u32, net: Net) -> u32
     requires { WithinLimits (runs_of W image.now n t) }
     ensures is { result ≡ (system_of net (runs_of W image.now n t)).wires }
@@ -25,8 +26,8 @@ pub fn wires<const W: u32>(image: &[u32], n: u32, t: u32, net: Net) -> u32
 }
 
 /// Returns the sizes of the system that `emit_system` emits, from the costs of its parts. Wires and
-/// constraints take constant time, and the terms of the memory argument are a sum over its lines: a
-/// small part of the time of emitting the system. Allocates nothing.
+/// constraints take time that grows with the logarithm of the lines, and the terms of the memory
+/// argument are a sum over its switches and lines. Allocates nothing.
 pub fn sizes<const W: u32>(image: &[u32], n: u32, t: u32, net: Net) -> Counts
     requires { WithinLimits (runs_of W image.now n t) }
     ensures counts { result ≡ system_counts (system_of net (runs_of W image.now n t)) }
@@ -58,7 +59,8 @@ fn terms<const W: u32>(image: &[u32], n: u32, t: u32, net: Net) -> u64
     ensures few { result < 2 ^ 60 }
 {
     let k = log_of_lines::<W>(image, n, t);
-    let memory = argument_terms(net, k, &LayoutLines::<W> { image, n, t, k });
+    let first = memory_at::<W>(n, t);
+    let memory = argument_terms(net, first, &LayoutLines::<W> { image, n, t, k });
     let steps = u64::from(t) * u64::from(step_terms::<W>(n));
     u64::from(n * (4 * W + 2) + 2 * STATE_WIRES) + steps + 6 + memory
 }
@@ -81,7 +83,7 @@ fn memory_wires<const W: u32>(image: &[u32], n: u32, t: u32, net: Net) -> u64
 {
     let words = image.len() as u32;
     let k = log_of_lines::<W>(image, n, t);
-    network_made(net, k) + total(&wire_costs(k, words), words, n, t)
+    network_made(net, words + n + 3 * t) + total(&wire_costs(k, words), words, n, t)
 }
 
 // Its constraints.
@@ -91,7 +93,7 @@ fn memory_constraints<const W: u32>(image: &[u32], n: u32, t: u32, net: Net) -> 
 {
     let words = image.len() as u32;
     let k = log_of_lines::<W>(image, n, t);
-    network_made(net, k) + total(&constraint_costs(k, words), words, n, t)
+    network_made(net, words + n + 3 * t) + total(&constraint_costs(k, words), words, n, t)
 }
 
 /// Emits a system into a sink that counts, which proves that each combination has at most 128

@@ -1,12 +1,12 @@
 //! A system's lines, by their indexes.
 ghost use Rattle.std.specs.Prelude.{◌≡◌, ◌+◌, ◌*◌, ◌/◌, ◌%◌, ◌^◌, ◌≤◌, ◌<◌};
-ghost use Rattle.tv_benes.specs.declared.shape.Net.{Net};
+ghost use Rattle.tv_stages.specs.declared.nets.Net.{Net};
 ghost use Rattle.tv_block.specs.Block.{block_of};
 ghost use Rattle.tv_block.specs.Complete.{block_made};
 ghost use Rattle.tv_block.specs.Places.{block_wires, IsShortLine};
 ghost use Rattle.tv_block.specs.Under.{LineUnder};
 ghost use Rattle.tv_layout.specs.Checks.{checks_of};
-ghost use Rattle.tv_layout.specs.Layout.{system_lines, line_of_word};
+ghost use Rattle.tv_layout.specs.Layout.{own_lines, system_lines, line_of_word};
 ghost use Rattle.tv_layout.specs.Places.{WithinLimits, line_count, log_of, zero_wires_at, first_at};
 ghost use Rattle.tv_layout.specs.Systems.{system_of};
 ghost use Rattle.tv_layout.specs.StateBefore.{state_before};
@@ -27,7 +27,7 @@ use tv_lines::{Cell, CompactLine, Word};
 /// Returns line `i` of a program's system, in time order: the lines of the image, of the words of
 /// the primary tape, of the steps, and padding up to 2^k lines, where k is `log_of` of the number
 /// of lines before the padding. `i` is below 2^k; the other arguments are those of `emit_system`.
-/// Takes constant time and no memory. The combinations have at most 32 terms, of wires of the
+/// Takes constant time and no memory. The combinations have at most 14 terms, of wires of the
 /// system, over either network. A `LineLc` has some 8 KB.
 pub fn line<const W: u32>(image: &[u32], n: u32, t: u32, i: u32) -> LineLc
     requires fits { WithinLimits (runs_of W image.now n t) }
@@ -104,20 +104,20 @@ fn state_before<const W: u32>(n: u32, step: u32) -> StateWires
     }
 }
 
-// All lines of a program's system, by their indexes.
+// The lines of a program's system but padding, by their indexes.
 #[derive(Clone, Copy)]
 pub(crate) struct LayoutLines<'a, const W: u32> {
     pub(crate) image: &'a [u32],
     pub(crate) n: u32,
     pub(crate) t: u32,
-    // There are 2^`k`.
+    // The times of lines have `k` bits.
     pub(crate) k: u32,
     ghost fits: { ∥ WithinLimits (runs_of W image.now n t) ∥₁ },
     ghost log: { k ≡ log_of (line_count (runs_of W image.now n t)) },
 }
 
 impl<'a, const W: u32> CompactLines for LayoutLines<'a, W> {
-    ghost lines = { λ l. system_lines (block_of W) (runs_of W l.image.now l.n l.t) };
+    ghost lines = { λ l. own_lines (block_of W) (runs_of W l.image.now l.n l.t) };
 
     ghost checks = { λ l. checks_of (runs_of W l.image.now l.n l.t) };
 
@@ -125,7 +125,7 @@ impl<'a, const W: u32> CompactLines for LayoutLines<'a, W> {
         compact_line::<W>(self.image, self.n, self.t, i)
     }
 
-    fn checked(&self) -> u32 {
+    fn count(&self) -> u32 {
         self.image.len() as u32 + self.n + 3 * self.t
     }
 

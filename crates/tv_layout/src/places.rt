@@ -68,3 +68,13 @@ pub(crate) fn step_at<const W: u32>(n: u32, step: u32) -> Wire
 {
     zero_wires_at::<W>(n).offset(STATE_WIRES + step * step_costs::<W>().wires)
 }
+
+// The first wire of the memory argument, after `t` steps.
+pub(crate) fn memory_at<const W: u32>(n: u32, t: u32) -> Wire
+    requires width { IsWidth W }
+    requires few { n ≤ TAPE_WORDS }
+    requires some { t ≤ STEPS }
+    ensures { result ≡ first_at W n + t * block_made W }
+{
+    zero_wires_at::<W>(n).offset(STATE_WIRES + t * step_costs::<W>().wires)
+}

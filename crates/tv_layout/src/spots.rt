@@ -1,14 +1,14 @@
 //! Where the steps take words of the auxiliary tape.
 ghost use Rattle.std.specs.Prelude.{◌≡◌, ℕ, ◌<◌};
-ghost use Rattle.tv_benes.specs.declared.shape.Net.{Net};
+ghost use Rattle.tv_stages.specs.declared.nets.Net.{Net};
 ghost use Rattle.tv_block.specs.Block.{block_of};
 ghost use Rattle.tv_layout.specs.Layout.{block_at};
 ghost use Rattle.tv_layout.specs.Places.{WithinLimits, zero_wires_at, first_at, runs_of};
 ghost use Rattle.tv_layout.specs.Systems.{system_of};
 
 use crate::places::step_at;
-use tv_benes::Net;
 use tv_block::{Spot, block_spot};
+use tv_stages::Net;
 
 /// Returns where a step of the system of an image, a primary tape of `n` words and `t` steps takes
 /// a word of the auxiliary tape; the step is below `t`. Both wires are below the system's number of

@@ -13,10 +13,10 @@ use crate::lines::LayoutLines;
 use crate::places::{ANSWER, STATE_WIRES, log_of, tape_wire};
 use crate::sequence::steps;
 use tv_argument::memory;
-use tv_benes::Net;
 use tv_bits::bits;
 use tv_block::Reached;
 use tv_core::{F, Lc, Put, Sink, Wire};
+use tv_stages::Net;
 
 /// Emits the system of a program's runs of `t` steps on primary tapes of `n` words, over a network.
 /// The sink has the constant wire and the public ones, which are the answer's and the tape's, and
@@ -46,7 +46,7 @@ pub fn emit_system<const W: u32, S: Sink>(
     let last = steps::<W, S>(s, n, t, zero_wires)?;
     tie(s, &last)?;
     let k = log_of(image.len() as u32 + n + 3 * t);
-    memory(s, net, k, &LayoutLines::<W> { image, n, t, k })
+    memory(s, net, &LayoutLines::<W> { image, n, t, k })
 }
 
 // Constrains `n` wires from a first one on to words.

@@ -22,7 +22,7 @@ pub(crate) struct CheckCosts {
     pub(crate) step: u32,
 }
 
-// How many wires checks make, for 2^`k` lines and an image of `words` words.
+// How many wires checks make, for at most 2^`k` lines and an image of `words` words.
 pub(crate) fn wire_costs(k: u32, words: u32) -> CheckCosts
     requires few { k ≤ 20 }
     ensures is { result ≡ check_costs check_made k words }

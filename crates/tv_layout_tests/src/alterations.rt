@@ -5,11 +5,11 @@ ghost use Rattle.tv_step.specs.Range.{AreWords};
 
 use std::alloc::Global;
 use std::test::Fail;
-use tv_benes::Net;
 use tv_core::{F, ListValues, Put, TestSink};
 use tv_extract::extract;
 use tv_fill::fill_system;
 use tv_layout::{emit_system, wires};
+use tv_stages::Net;
 
 // `answer 0`, and `answer 1`.
 const IMAGE: [u32; 2] = [0xfc00_0000, 0];
@@ -37,9 +37,10 @@ fn first_failed(image: &[u32], z: &[F]) -> Put<Option<u32>>
 /// 32 bits, at wires 3 to 34, and then their sum, constraint 32. The 20 wires of the first state,
 /// from wire 35 on, have one constraint each, from 33 on. After the 311 wires and 324 constraints
 /// of the step, the second of two constraints binds the answer. The network's wires begin at 366
-/// and have one constraint each, from 379 on. A switch of its first or last column has five: its
-/// bit, which is still one if it is altered, and the numbers that it passes. The last column begins
-/// at 430, after 20 wires of the first one and 22 of each network within.
+/// and have one constraint each, from 379 on. A switch of its first or last stage has five: its bit,
+/// which is still one if it is altered, and the numbers that it passes. Of six lines, the stages
+/// have 3, 2, 2, 2 and 3 switches, and the last one's wires begin at 399, after 15 of the first
+/// stage and 6 of each stage between.
 static ALTERED: [(&str, usize, u32); 11] = [
     ("answer", 1, 378),
     ("word of the tape", 2, 32),
@@ -48,10 +49,10 @@ static ALTERED: [(&str, usize, u32); 11] = [
     ("bit of a switch", 366, 380),
     ("cell after a switch", 367, 380),
     ("time and word after a switch", 368, 381),
-    ("cell after the network", 441, 454),
-    ("time and word after the network", 442, 455),
-    ("next cell after the network", 443, 456),
-    ("next time and word after the network", 444, 457),
+    ("cell after the network", 410, 423),
+    ("time and word after the network", 411, 424),
+    ("next cell after the network", 412, 425),
+    ("next time and word after the network", 413, 426),
 ];
 
 // The first constraint of its system that fails where a wire has 1 less its value.

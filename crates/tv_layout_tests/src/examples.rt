@@ -1,6 +1,6 @@
 //! What the definition of a system says of its lines.
 ghost use Rattle.std.specs.Prelude.{◌≡◌, ◌-◌, ◌^◌, ℕ, [], ◌∷◌};
-ghost use Rattle.tv_benes.specs.declared.shape.Net.TheVariants.{Benes};
+ghost use Rattle.tv_stages.specs.declared.nets.Net.TheVariants.{Benes};
 ghost use Rattle.tv_layout.specs.Places.{line_count, log_of, runs_of};
 ghost use Rattle.tv_layout.specs.Sizes.{size_most};
 

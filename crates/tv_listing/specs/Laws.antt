@@ -1,6 +1,6 @@
 -- What the listing of a satisfying assignment is.
 use Rattle.std.specs.Prelude.{◌≡◌, ℕ, ◌≤◌, List, length}
-use Rattle.tv_benes.specs.declared.shape.Net.{Net}
+use Rattle.tv_stages.specs.declared.nets.Net.{Net}
 use Rattle.tv_block.specs.Block.{block_of}
 use Rattle.tv_core.specs.Constraints.{Sat}
 use Rattle.tv_core.specs.Laws.{HasFrom}

@@ -3,6 +3,6 @@ mod Files
 mod Finish
 pub mod Others
 mod Rows
-mod Sizes
+pub mod Sizes
 mod Systems
 pub mod StreamLaws

@@ -4,7 +4,7 @@ use Rattle.tv_core.proofs.Common.{ne_eqb}
 use Rattle.std.proofs.Common.{max}
 use Rattle.std.proofs.lemmas.Bool.{eqb-false}
 use Rattle.std.proofs.lemmas.List.{take_all}
-use Rattle.tv_benes.specs.declared.shape.Net.{Net}
+use Rattle.tv_stages.specs.declared.nets.Net.{Net}
 use Rattle.tv_core.specs.declared.limits.TheConstants.{TAPE_WORDS, STEPS}
 use Rattle.tv_extract.proofs.ExtractLaws.{extracted_is_run, run_miscounted, satisfying_have_runs}
 use Rattle.tv_extract.specs.Extraction.{run_in, IsFaultOf}

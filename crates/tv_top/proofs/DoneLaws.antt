@@ -2,7 +2,7 @@
 use Rattle.tv_core.proofs.Common.{◌≡◌, ◌≤◌, ◌^◌, ℕ, List, [], ◌∷◌, length, Result, Ok, Err, Some, inl, inr, refl, sym, ◌∙◌}
 use Rattle.tv_asm.specs.Assembly.{assembled}
 use Rattle.tv_asm.specs.declared.fault.AsmFault.{AsmFault}
-use Rattle.tv_benes.specs.declared.shape.Net.{Net}
+use Rattle.tv_stages.specs.declared.nets.Net.{Net}
 use Rattle.tv_check.proofs.Room.{has_room}
 use Rattle.tv_check.proofs.Verdicts.{yes_exactly}
 use Rattle.tv_check.specs.Verdict.{HasRoom}

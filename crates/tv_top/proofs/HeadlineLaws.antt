@@ -5,7 +5,7 @@ use Rattle.std.proofs.Common.{◌↔◌}
 use Rattle.std.specs.Prelude.{nat_le, Result, Some, ◌^◌}
 use Rattle.std.proofs.lemmas.Bool.{le-leb, leb-true}
 use Rattle.std.proofs.lemmas.List.{drop_more}
-use Rattle.tv_benes.specs.declared.shape.Net.{Net}
+use Rattle.tv_stages.specs.declared.nets.Net.{Net}
 use Rattle.tv_check.proofs.Verdicts.{yes_exactly}
 use Rattle.tv_check.specs.Verdict.{HasRoom, judge}
 use Rattle.tv_check.specs.declared.verdict.Verdict.{Verdict}

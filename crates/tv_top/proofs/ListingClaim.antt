@@ -1,7 +1,7 @@
 -- `listing`: what it promises.
 use Rattle.tv_core.proofs.Common.{[], ◌∷◌, refl, arith}
 use Rattle.std.proofs.Common.{codes}
-use Rattle.tv_benes.specs.declared.shape.Net.TheVariants.{Benes}
+use Rattle.tv_stages.specs.declared.nets.Net.TheVariants.{Benes}
 use Rattle.tv_listing.proofs.Traces.{satisfying_are_listed}
 use Rattle.tv_top.specs.Build.{program_system, program_runs}
 use Rattle.tv_top.specs.Assignment.{assigned_of}

@@ -4,7 +4,7 @@ use Rattle.tv_core.proofs.Common.{Constraint, value}
 use Rattle.std.proofs.Common.{codes, count_by}
 use Rattle.std.proofs.lemmas.List.Elements.{All-head, All-tail}
 use Rattle.std.proofs.lemmas.List.Sums.{sum_by-cons}
-use Rattle.tv_benes.specs.declared.shape.Net.TheVariants.{Benes}
+use Rattle.tv_stages.specs.declared.nets.Net.TheVariants.{Benes}
 use Rattle.tv_core.specs.Constraints.{Holds}
 use Rattle.tv_core.specs.Meanings.{holds, product_in}
 use Rattle.tv_core.specs.declared.limits.TheConstants.{DRAWS}

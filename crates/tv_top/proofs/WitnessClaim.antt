@@ -1,7 +1,7 @@
 -- `witness`: what it promises.
 use Rattle.tv_core.proofs.Common.{◌≡◌, ◌≤◌, ℕ, true, List, [], ◌∷◌, length, Ok, refl, sym, arith}
 use Rattle.std.proofs.Common.{codes}
-use Rattle.tv_benes.specs.declared.shape.Net.{Net}
+use Rattle.tv_stages.specs.declared.nets.Net.{Net}
 use Rattle.tv_core.specs.declared.limits.TheConstants.{STEPS}
 use Rattle.tv_layout.proofs.Systems.{system_complete}
 use Rattle.tv_layout.specs.RunInputs.{run_on}

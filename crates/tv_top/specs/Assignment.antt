@@ -1,6 +1,6 @@
 -- A program and an assignment of its system, which `extract` and `listing` read, and the run that it has.
 use Rattle.std.specs.Prelude.{◌≡◌, ℕ, ◌==◌, List, [], ◌∷◌, ◌++◌, Option, Result, Ok, Err, IfOk, if◌then◌else◌}
-use Rattle.tv_benes.specs.declared.shape.Net.{Net}
+use Rattle.tv_stages.specs.declared.nets.Net.{Net}
 use Rattle.tv_core.specs.Constraints.{Sat}
 use Rattle.tv_extract.specs.Extraction.{run_in}
 use Rattle.tv_extract.specs.Runs.{IsRunOf, HasRunIn}

@@ -1,8 +1,8 @@
 -- `build TEXT N T SYSTEM`, which may have one more word, `waksman`: the system of a program's runs.
 use Rattle.std.specs.Prelude.{◌≡◌, ◌≢◌, ◌<◌, ◌≤◌, ◌^◌, ℕ, codes, List, [], ◌∷◌, Option, Some, None, Result, IfOk, if◌then◌else◌}
 use Rattle.std.specs.Str.{bytes_eq}
-use Rattle.tv_benes.specs.declared.shape.Net.{Net}
-use Rattle.tv_benes.specs.declared.shape.Net.TheVariants.{Benes, Waksman}
+use Rattle.tv_stages.specs.declared.nets.Net.{Net}
+use Rattle.tv_stages.specs.declared.nets.Net.TheVariants.{Benes, Waksman}
 use Rattle.tv_core.specs.Constraints.{System}
 use Rattle.tv_core.specs.Normal.{AreNormal}
 use Rattle.tv_core.specs.declared.limits.TheConstants.{TAPE_WORDS, STEPS}

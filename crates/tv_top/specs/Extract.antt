@@ -1,7 +1,7 @@
 -- `extract TEXT N T WITNESS TAPE AUX`, which may have one more word, `waksman`: the run that an assignment of a
 -- program's system has.
 use Rattle.std.specs.Prelude.{◌≡◌, ◌≢◌, ◌<◌, ◌≤◌, ◌^◌, ℕ, codes, List, [], ◌∷◌, Some, Option, None}
-use Rattle.tv_benes.specs.declared.shape.Net.{Net}
+use Rattle.tv_stages.specs.declared.nets.Net.{Net}
 use Rattle.tv_core.specs.declared.limits.TheConstants.{TAPE_WORDS, STEPS}
 use Rattle.tv_extract.specs.declared.run.Run.{Run}
 use Rattle.tv_files.specs.Outside.{Names, WhereKnown}

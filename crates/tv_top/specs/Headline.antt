@@ -3,7 +3,7 @@
 use Rattle.std.specs.Prelude.{◌≡◌, ◌↔◌, ℕ, ◌^◌, ◌≤◌, List, [], ◌∷◌, length, map, Ok}
 use Rattle.std.specs.List.{AllByRecursion}
 use Rattle.tv_asm.specs.Assembly.{assembled}
-use Rattle.tv_benes.specs.declared.shape.Net.{Net}
+use Rattle.tv_stages.specs.declared.nets.Net.{Net}
 use Rattle.tv_block.specs.Block.{block_of}
 use Rattle.tv_check.specs.Verdict.{judge}
 use Rattle.tv_check.specs.declared.verdict.Verdict.TheVariants.{Yes}

@@ -1,6 +1,6 @@
 -- `trial SEED K`: the system of a program drawn from a number, tested on the values of its run.
 use Rattle.std.specs.Prelude.{◌≡◌, ◌<◌, ◌≤◌, ◌^◌, ℕ, ◌+◌, ◌%◌, ◌⊎◌, codes, List, [], ◌∷◌, ◌++◌, length, Some, Ok, sum_by, count_by, Option, None}
-use Rattle.tv_benes.specs.declared.shape.Net.TheVariants.{Benes}
+use Rattle.tv_stages.specs.declared.nets.Net.TheVariants.{Benes}
 use Rattle.tv_block.specs.Block.{block_of}
 use Rattle.tv_core.specs.Constraints.{System}
 use Rattle.tv_core.specs.Meanings.{product_in, holds}

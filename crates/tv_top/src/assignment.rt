@@ -9,13 +9,13 @@ ghost use Rattle.tv_top.specs.Assignment.{assigned_flaws, kept_in, kept_of, kept
 ghost use Rattle.tv_top.specs.Build.{program_system};
 
 use std::alloc::Global;
-use tv_benes::Net;
 use tv_extract::{ExtractFault, NotRun, Run, extract};
 use tv_files::Files;
 use tv_layout::wires;
 use tv_plan::{
     Finish, Place, Program, Steps, Stop, TapeWords, Width, read_first_witness, read_program,
 };
+use tv_stages::Net;
 use tv_wtns::FirstValues;
 
 /// A program, and of an assignment as many values as the program's system has wires.

@@ -11,7 +11,6 @@ ghost use Rattle.tv_top.specs.Build.{program_system, build_asks, build_form};
 
 use crate::words::{granted, net_word, number};
 use std::alloc::Global;
-use tv_benes::Net;
 use tv_core::Put;
 use tv_files::Files;
 use tv_layout::{emit_system, sizes};
@@ -19,6 +18,7 @@ use tv_plan::{
     Finish, Job, Place, Program, Refusal, Steps, Stop, TapeWords, Width, read_program, streamed,
 };
 use tv_r1cs_write::StreamSink;
+use tv_stages::Net;
 
 /// The words of `build`.
 #[derive(Drop)]

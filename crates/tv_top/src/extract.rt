@@ -8,10 +8,10 @@ ghost use Rattle.tv_top.specs.Extract.{run_written, extract_asks, extract_form};
 use crate::assignment::{not_run, read_assigned, run_of};
 use crate::words::{granted, net_word, number};
 use std::alloc::Global;
-use tv_benes::Net;
 use tv_extract::Run;
 use tv_files::Files;
 use tv_plan::{Finish, Job, Place, Refusal, Steps, Stop, TapeWords, write_bytes};
+use tv_stages::Net;
 use tv_step::End;
 use tv_tape::tape_text;
 

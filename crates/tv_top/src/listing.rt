@@ -11,11 +11,11 @@ ghost use Rattle.tv_top.specs.Listing.{listing_asks, listing_form};
 use crate::assignment::{Assignment, not_run, read_assigned, run_of};
 use crate::words::{granted, number};
 use std::alloc::{AllocError, Global};
-use tv_benes::Net;
 use tv_extract::Run;
 use tv_files::Files;
 use tv_listing::{By, listing};
 use tv_plan::{Finish, Job, Place, Refusal, Steps, Stop, TapeWords, Width, write_bytes};
+use tv_stages::Net;
 
 /// The words of `listing`.
 #[derive(Drop)]

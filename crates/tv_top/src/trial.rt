@@ -1,6 +1,6 @@
 //! `trial SEED K`: the system of a program drawn from a number, tested on the values of its run.
 ghost use Rattle.std.specs.Prelude.{◌≡◌, ◌^◌, ◌<◌, ◌≤◌, length, IfOk, refl};
-ghost use Rattle.tv_benes.specs.declared.shape.Net.TheVariants.{Benes};
+ghost use Rattle.tv_stages.specs.declared.nets.Net.TheVariants.{Benes};
 ghost use Rattle.tv_core.specs.declared.limits.TheConstants.{DRAWS};
 ghost use Rattle.tv_layout.specs.Places.{WithinLimits, runs_of, runs_like};
 ghost use Rattle.tv_layout.specs.RunInputs.{run_on};
@@ -11,13 +11,13 @@ ghost use Rattle.tv_top.specs.Trial.{tested, trial_of, trial_asks, trial_form};
 
 use crate::words::number;
 use std::alloc::{AllocError, Global};
-use tv_benes::Net;
 use tv_core::{F, ListValues, TestSink};
 use tv_draw::draw;
 use tv_files::Files;
 use tv_fill::{FillFault, fill_system};
 use tv_layout::{emit_system, public_wires, sizes};
 use tv_plan::{Draws, Finish, Job, Refusal, Stop, Trial, What};
+use tv_stages::Net;
 
 /// The words of `trial`.
 #[derive(Drop)]

@@ -10,7 +10,6 @@ ghost use Rattle.tv_top.specs.Witness.{witness_ends, witness_asks, witness_form}
 
 use crate::words::{net_word, number};
 use std::alloc::Global;
-use tv_benes::Net;
 use tv_core::Put;
 use tv_files::Files;
 use tv_fill::{Filling, prepare};
@@ -18,6 +17,7 @@ use tv_plan::{
     Finish, Inputs, Job, Place, Refusal, Steps, Stop, What, Width, keep_apart, read_inputs,
     streamed,
 };
+use tv_stages::Net;
 use tv_step::TraceFault;
 use tv_wtns::FileValues;
 

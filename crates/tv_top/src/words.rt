@@ -4,8 +4,8 @@ ghost use Rattle.tv_plan.specs.Plan.{named, refusal_of};
 ghost use Rattle.tv_top.specs.Build.{net_word, size_amounts};
 ghost use Rattle.tv_word.specs.Numeral.{numeral};
 
-use tv_benes::Net;
 use tv_plan::{Place, Refusal, Steps, TapeWords, What, keep_apart};
+use tv_stages::Net;
 use tv_word::decimal_of;
 
 /// The number that a word is.

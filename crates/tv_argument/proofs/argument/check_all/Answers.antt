@@ -1,5 +1,6 @@
-use Rattle.tv_core.proofs.Common.{◌≡◌, ◌<◌, sym, ap, arith, refused_whole, emits_as, emits_no_turn, emits_turn, turn_some}
+use Rattle.tv_core.proofs.Common.{◌≡◌, ◌<◌, length, sym, ap, arith, refused_whole, emits_as, emits_no_turn, emits_turn, turn_some}
 use Rattle.tv_core.proofs.BelowLaws.{sum_below-zero}
+use Rattle.tv_argument.proofs.Made.{output_made}
 use Rattle.tv_argument.proofs.Parts.{sum_next, sum_most}
 use Rattle.tv_core.proofs.Rooms.{room_left}
 use Rattle.tv_argument.specs.Checks.{check_made, check_added}
@@ -12,16 +13,21 @@ pub check-requires-clause-room : goal.check-requires-clause-room
 check-requires-clause-room g c =
     let checks = g.L.CompactLines.checks c.args.lines.now in
     let i = c.loop-i.i in
-    let below : i < checks.count = omega (arith, c.loop-i-test.true, c.checked-i-end.ensures) in
+    let below : i < length (g.L.CompactLines.lines c.args.lines.now) = omega (arith, c.loop-i-test.true, c.count-i-end.ensures) in
     let made : check_made c.kind.result ≡ check_made (checks.kind i) = ap check_made c.kind.ensures in
     let added : check_added c.kind.result ≡ check_added (checks.kind i) = ap check_added c.kind.ensures in
     room_left c.requires.room c.loop-i.invariant.emits.grows (omega (
       arith,
       made,
       added,
-      sum_most checks.count i (λ i. check_made (checks.kind i)) below,
-      sum_most checks.count i (λ i. check_added (checks.kind i)) below,
+      sum_most (length (g.L.CompactLines.lines c.args.lines.now)) i (λ i. check_made (checks.kind i)) below,
+      sum_most (length (g.L.CompactLines.lines c.args.lines.now)) i (λ i. check_added (checks.kind i)) below,
     ))
+
+pub check-requires-clause-item : goal.check-requires-clause-item
+check-requires-clause-item g c =
+    rw c.set_item.ensures (output_made c.args.outputs.now.network c.args.outputs.now.first c.loop-i.i (g.S.Sink.meaning.wires c.loop-i.s)
+    (omega (arith, c.requires.many, c.loop-i-test.true, c.count-i-end.ensures)) (omega (arith, c.requires.below, c.loop-i.invariant.emits.grows.wires)))
 
 pub loop-i-preserved : goal.loop-i-preserved
 loop-i-preserved g c =
@@ -30,7 +36,6 @@ loop-i-preserved g c =
 
 pub returns-in_err-check : goal.returns-in_err-check
 returns-in_err-check g c =
-    let checks = g.L.CompactLines.checks c.args.lines.now in
-    let below : c.loop-i.i < checks.count = omega (arith, c.loop-i-test.true, c.checked-i-end.ensures) in
+    let below : c.loop-i.i < length (g.L.CompactLines.lines c.args.lines.now) = omega (arith, c.loop-i-test.true, c.count-i-end.ensures) in
     let one = rw (c.kind.ensures, c.set_item.ensures, c.line.ensures.is) at c.in_err-check.ensures.emits in
     refused_whole _ _ _ c.from_residual.ensures (turn_some _ _ _ c.loop-i.invariant.emits below one)

@@ -1,6 +1,5 @@
 use Rattle.tv_core.proofs.Common.{◌≡◌, ℕ, ◌<◌, List, length, refl, ap, ◌∙◌, arith, gives_refused, Line}
 use Rattle.std.proofs.lemmas.List.{get_or_read_under}
-use Rattle.tv_benes.specs.Items.{pair_at}
 use Rattle.tv_core.proofs.JoinedLaws.{gives_no_list, gives_list, gives_list_refused}
 use Rattle.tv_core.specs.declared.lines.PairNum.{PairNum}
 use Rattle.tv_lines.specs.PackedLines.{unpacked}
@@ -8,6 +7,7 @@ use Rattle.tv_lines.specs.Placed.{number_in}
 use Rattle.tv_argument.proofs.FillingLaws.{check_same, given_all, given_some}
 use Rattle.tv_argument.specs.Checks.{check_values}
 use Rattle.tv_argument.specs.declared.kinds.Kind.{Kind}
+use Rattle.tv_network.specs.Filling.{pair_at}
 use Rattle.tv_argument.proofs.values.fill_checks.Goals as goal
 
 -- the values of one check, as they were asked for
@@ -23,8 +23,7 @@ pub loop-i-preserved : goal.loop-i-preserved
 loop-i-preserved g c =
     let m = g.V.Values.giving in
     let i = c.loop-i.i in
-    let within : i < length c.args.items.now = omega (arith, c.loop-i-test.true, c.checked-i-end.ensures, c.requires.checks.count) in
-    let read : c.index-items-i.result ≡ pair_at c.args.items.now i = get_or_read_under _ _ _ _ _ c.index-items-i.is within refl in
+    let read : c.index-items-i.result ≡ pair_at c.args.items.now i = get_or_read_under _ _ _ _ _ c.index-items-i.is c.loop-i-test.true refl in
     let same = one c.kind.result _ c.args.items.now c.index-items-i.result i c.line.result
     (number_in (g.L.LineNumbers.lines c.args.lines.now) i) c.kind.ensures read c.line.ensures.cell c.line.ensures.time c.line.ensures.old in
     record {
@@ -36,9 +35,8 @@ pub returns-in_err-fill_check-clause-gives : goal.returns-in_err-fill_check-clau
 returns-in_err-fill_check-clause-gives g c =
     let m = g.V.Values.giving in
     let i = c.loop-i.i in
-    let below : i < (g.L.LineNumbers.checks c.args.lines.now).count = omega (arith, c.loop-i-test.true, c.checked-i-end.ensures) in
-    let within : i < length c.args.items.now = omega (arith, c.loop-i-test.true, c.checked-i-end.ensures, c.requires.checks.count) in
-    let read : c.index-items-i.result ≡ pair_at c.args.items.now i = get_or_read_under _ _ _ _ _ c.index-items-i.is within refl in
+    let below : i < length (g.L.LineNumbers.lines c.args.lines.now) = omega (arith, c.loop-i-test.true, c.requires.items) in
+    let read : c.index-items-i.result ≡ pair_at c.args.items.now i = get_or_read_under _ _ _ _ _ c.index-items-i.is c.loop-i-test.true refl in
     let same = one c.kind.result _ c.args.items.now c.index-items-i.result i c.line.result
     (number_in (g.L.LineNumbers.lines c.args.lines.now) i) c.kind.ensures read c.line.ensures.cell c.line.ensures.time c.line.ensures.old in
     gives_refused m _ _ _ c.from_residual.result c.from_residual.ensures.1

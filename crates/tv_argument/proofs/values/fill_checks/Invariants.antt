@@ -1,7 +1,7 @@
 use Rattle.tv_core.proofs.Common.{◌≡◌, false, joined_below, GivesAll}
-use Rattle.tv_benes.specs.Items.{pair_at}
 use Rattle.tv_lines.specs.PackedLines.{unpacked}
 use Rattle.tv_lines.specs.Placed.{number_in}
+use Rattle.tv_network.specs.Filling.{pair_at}
 use Rattle.tv_argument.specs.Checks.{check_values}
 use Rattle.tv_argument.proofs.values.fill_checks.Given as goal
 

@@ -1,6 +1,6 @@
 use Rattle.tv_core.proofs.Common.{◌≡◌, ℕ, length, ap, ◌∙◌, arith}
 use Rattle.tv_fill.proofs.PartValues.{parts_of}
-use Rattle.tv_fill.proofs.Prepared.{log_few, lines_fit, lines_in_range, packed_as, items_few, items_placed, routable, parts_fit, values_are}
+use Rattle.tv_fill.proofs.Prepared.{lines_fit, lines_in_range, packed_as, items_few, items_placed, permutes, parts_fit, values_are}
 use Rattle.tv_fill.specs.Filled.{filled_values}
 use Rattle.tv_layout.specs.RunInputs.{run_on}
 use Rattle.tv_layout.specs.Systems.{run_values}
@@ -8,12 +8,8 @@ use Rattle.tv_fill.proofs.filling.prepare.Goals as goal
 
 pub pack_items-requires-clause-few : goal.pack_items-requires-clause-few
 pack_items-requires-clause-few g c =
-    rw c.log_of-k.ensures.is (log_few _ c.args.net _ _ _ _ c.requires.limits c.requires.tape_words c.requires.aux_words)
-
-pub pack_items-requires-clause-fits : goal.pack_items-requires-clause-fits
-pack_items-requires-clause-fits g c =
-    rw c.log_of-k.ensures.is (lines_fit _ c.args.net _ _ _ _ c.requires.limits c.requires.tape_words c.requires.aux_words _
-    (c.as_slice.ensures ∙ c.in_ok-answer.ensures.trace.lines))
+    lines_fit _ c.args.net _ _ _ _ c.requires.limits c.requires.tape_words c.requires.aux_words _
+    (c.as_slice.ensures ∙ c.in_ok-answer.ensures.trace.lines)
 
 pub pack_items-requires-clause-steps : goal.pack_items-requires-clause-steps
 pack_items-requires-clause-steps g c =
@@ -22,31 +18,29 @@ pack_items-requires-clause-steps g c =
 
 pub settings_to_predecessors-requires-clause-few : goal.settings_to_predecessors-requires-clause-few
 settings_to_predecessors-requires-clause-few g c =
-    let packed = packed_as c.args.image.now c.args.tape.now _ _ _ _ _ c.in_ok-items.ensures c.as_slice.ensures c.log_of-k.ensures.is in
+    let packed = packed_as c.args.image.now c.args.tape.now _ _ _ c.in_ok-items.ensures c.as_slice.ensures in
     rw c.deref.ensures.value (items_few _ c.args.net _ _ _ _ c.requires.limits c.requires.tape_words c.requires.aux_words _
     c.in_ok-answer.ensures.trace.lines _ c.in_ok-answer.ensures.trace.states _ packed)
 
 pub settings_to_predecessors-requires-clause-times : goal.settings_to_predecessors-requires-clause-times
 settings_to_predecessors-requires-clause-times g c =
-    let packed = packed_as c.args.image.now c.args.tape.now _ _ _ _ _ c.in_ok-items.ensures c.as_slice.ensures c.log_of-k.ensures.is in
+    let packed = packed_as c.args.image.now c.args.tape.now _ _ _ c.in_ok-items.ensures c.as_slice.ensures in
     rw c.deref.ensures.value (items_placed _ c.args.net _ _ _ _ c.requires.limits c.requires.tape_words c.requires.aux_words _
     c.in_ok-answer.ensures.trace.lines _ c.in_ok-answer.ensures.trace.states _ packed)
 
-pub settings_to_predecessors-requires-clause-routable : goal.settings_to_predecessors-requires-clause-routable
-settings_to_predecessors-requires-clause-routable g c =
-    let packed = packed_as c.args.image.now c.args.tape.now _ _ _ _ _ c.in_ok-items.ensures c.as_slice.ensures c.log_of-k.ensures.is in
-    rw c.deref.ensures.value (routable _ c.args.net _ _ _ _ c.requires.limits c.requires.tape_words c.requires.aux_words _
+pub settings_to_predecessors-requires-clause-permutes : goal.settings_to_predecessors-requires-clause-permutes
+settings_to_predecessors-requires-clause-permutes g c =
+    let packed = packed_as c.args.image.now c.args.tape.now _ _ _ c.in_ok-items.ensures c.as_slice.ensures in
+    rw c.deref.ensures.value (permutes _ c.args.net _ _ _ _ c.requires.limits c.requires.tape_words c.requires.aux_words _
     c.in_ok-answer.ensures.trace.lines _ c.in_ok-answer.ensures.trace.states _ packed)
 
 pub invariant_of-result : goal.invariant_of-result
 invariant_of-result g c =
-    let packed = packed_as c.args.image.now c.args.tape.now _ _ _ _ _ c.in_ok-items.ensures c.as_slice.ensures c.log_of-k.ensures.is in
+    let packed = packed_as c.args.image.now c.args.tape.now _ _ _ c.in_ok-items.ensures c.as_slice.ensures in
     let set = rw c.deref.ensures.value at c.in_ok-settings.ensures in
-    let many : length c.in_ok-spare.spare.items
-    ≡ length c.in_ok-items.items.items = omega (arith, c.in_ok-spare.spare.ok.0, c.in_ok-items.items.ok.0, c.in_ok-spare.ensures.len, c.len.ensures) in
     let fit = parts_fit _ c.args.net _ _ _ _ c.requires.limits c.requires.tape_words c.requires.aux_words _
     c.in_ok-answer.ensures.trace.lines _ c.in_ok-answer.ensures.trace.states _ packed
-    _ set _ c.in_ok-answer.ensures.trace.answer _ c.wires.ensures.is _ many in
+    _ set _ c.in_ok-answer.ensures.trace.answer _ c.wires.ensures.is in
     rw c.log_of-k.ensures.is fit
 
 pub returns-clause-filling : goal.returns-clause-filling
@@ -57,7 +51,7 @@ returns-clause-filling g c =
     let lines = c.in_ok-answer.field-0.lines in
     let items = c.in_ok-items.items.items in
     let bits = c.in_ok-settings.settings in
-    let packed = packed_as c.args.image.now c.args.tape.now _ _ _ _ _ c.in_ok-items.ensures c.as_slice.ensures c.log_of-k.ensures.is in
+    let packed = packed_as c.args.image.now c.args.tape.now _ _ _ c.in_ok-items.ensures c.as_slice.ensures in
     let set = rw c.deref.ensures.value at c.in_ok-settings.ensures in
     let whole = values_are _ c.args.net _ _ _ _ c.requires.limits c.requires.tape_words c.requires.aux_words _
     c.in_ok-answer.ensures.trace.lines _ c.in_ok-answer.ensures.trace.states _ packed bits set v in

@@ -1,13 +1,10 @@
-use Rattle.tv_core.proofs.Common.{◌≡◌, ◌+◌, ◌*◌, ◌<◌, ◌^◌, All, sym, ap, ◌∙◌, subst, arith, some_then, some_first, refused_whole, then_in, emits_in}
+use Rattle.tv_core.proofs.Common.{◌≡◌, ◌+◌, ◌*◌, All, subst, arith, some_then, some_first, refused_whole, then_in, emits_in}
 use Rattle.tv_block.specs.Block.{block_of}
 use Rattle.tv_block.specs.Complete.{block_made}
-use Rattle.tv_layout.proofs.LinePlaces.{line_number, lines_made}
-use Rattle.tv_layout.proofs.MemoryCosts.{wires_are, constraints_are}
-use Rattle.tv_layout.proofs.SystemSizes.{system_fits, checks_short}
-use Rattle.tv_layout.specs.Checks.{checks_of}
-use Rattle.tv_argument.specs.Checks.{AreShort}
-use Rattle.tv_argument.specs.Memory.{IsMade, argument_made, argument_added}
-use Rattle.tv_layout.specs.Layout.{system_lines, layout_of}
+use Rattle.tv_layout.proofs.LinePlaces.{lines_made}
+use Rattle.tv_layout.proofs.SystemSizes.{system_fits, checks_short, own_few, own_wires, own_constraints}
+use Rattle.tv_argument.specs.Memory.{IsMade}
+use Rattle.tv_layout.specs.Layout.{own_lines, layout_of}
 use Rattle.tv_layout.specs.Places.{boot_count, first_at, runs_of}
 use Rattle.tv_layout.proofs.system.emit_system.Goals as goal
 
@@ -29,13 +26,11 @@ tie-requires-clause-answer_made g c =
     let zero_wires = c.in_ok-zero_wires.ensures.emits.grows in
     omega (arith, (c.in_ok-last.ensures.emits 0).grows.wires, zero_wires.wires, c.in_ok-words.ensures.emits.grows.wires, c.requires.begins)
 
-pub memory-requires-clause-many : goal.memory-requires-clause-many
-memory-requires-clause-many g c = line_number _ c.requires.fits ∙ ap (λ k. 2 ^ k) (sym c.log_of-k.ensures.is)
+pub memory-requires-clause-few : goal.memory-requires-clause-few
+memory-requires-clause-few g c = own_few c.args.net _ c.requires.fits
 
 pub memory-requires-clause-checks : goal.memory-requires-clause-checks
-memory-requires-clause-checks g c =
-    subst (λ k. AreShort (checks_of (runs_of g.row.W c.args.image.now c.args.n c.args.t)) (2 ^ k)) (sym c.log_of-k.ensures.is)
-    (checks_short _ c.requires.fits)
+memory-requires-clause-checks g c = checks_short _ c.requires.fits _
 
 pub memory-requires-clause-room : goal.memory-requires-clause-room
 memory-requires-clause-room g c =
@@ -44,17 +39,15 @@ memory-requires-clause-room g c =
     let steps = (c.in_ok-last.ensures.emits 0).grows in
     let tie = c.in_ok-tie.ensures.emits.grows in
     let fits = system_fits c.args.net _ c.requires.fits in
-    let is = sym c.log_of-k.ensures.is in
-    let checks = checks_of (runs_of g.row.W c.args.image.now c.args.n c.args.t) in
-    let wires = wires_are c.args.net (runs_of g.row.W c.args.image.now c.args.n c.args.t) in
-    let constraints = constraints_are c.args.net (runs_of g.row.W c.args.image.now c.args.n c.args.t) in
     record {
       whole = tie.whole;
       constant = omega (arith, tie.wires, steps.wires, zero_wires.wires, words.wires, c.requires.begins);
-      wires = subst (λ k. g.S.Sink.meaning.wires c.tie.new.s + argument_made c.args.net checks k < 2 ^ 32) is
-          (omega (arith, wires, fits.wires, tie.wires, steps.wires, zero_wires.wires, words.wires, c.requires.begins));
-      constraints = subst (λ k. g.S.Sink.meaning.constraints c.tie.new.s + argument_added c.args.net checks k < 2 ^ 32) is
-          (omega (arith, constraints, fits.constraints, tie.constraints, steps.constraints, zero_wires.constraints, words.constraints, c.requires.empty));
+      wires =
+          let own = own_wires c.args.net _ c.requires.fits in
+          omega (arith, own, fits.wires, tie.wires, steps.wires, zero_wires.wires, words.wires, c.requires.begins);
+      constraints =
+          let own = own_constraints c.args.net _ c.requires.fits in
+          omega (arith, own, fits.constraints, tie.constraints, steps.constraints, zero_wires.constraints, words.constraints, c.requires.empty);
     }
 
 pub memory-requires-clause-made : goal.memory-requires-clause-made
@@ -65,7 +58,7 @@ memory-requires-clause-made g c =
     let tie = c.in_ok-tie.ensures.emits.grows in
     let wires : first_at g.row.W c.args.n + c.args.t * block_made g.row.W
     ≡ g.S.Sink.meaning.wires c.tie.new.s = omega (arith, tie.wires, steps.wires, zero_wires.wires, words.wires, c.requires.begins) in
-    subst (λ wires. All (IsMade wires) (system_lines (block_of g.row.W) (runs_of g.row.W c.args.image.now c.args.n c.args.t))) wires
+    subst (λ wires. All (IsMade wires) (own_lines (block_of g.row.W) (runs_of g.row.W c.args.image.now c.args.n c.args.t))) wires
     (lines_made _ c.requires.fits)
 
 pub returns-in_err-words : goal.returns-in_err-words
@@ -95,12 +88,11 @@ returns-in_err-tie g c =
 pub returns : goal.returns
 unfolding layout_of
 returns g c =
-    let wires = wires_are c.args.net (runs_of g.row.W c.args.image.now c.args.n c.args.t) in
-    let constraints = constraints_are c.args.net (runs_of g.row.W c.args.image.now c.args.n c.args.t) in
+    let wires = own_wires c.args.net _ c.requires.fits in
+    let constraints = own_constraints c.args.net _ c.requires.fits in
     let words = rw c.tape_wire.ensures at c.in_ok-words.ensures.emits in
-    let last = rw (c.log_of-k.ensures.is) at c.memory.ensures.emits in
     record {
       emits = emits_in _ _ _ _ _ (omega (arith, wires)) (omega (arith, constraints)) (then_in _ _ _ _ _ words
           (then_in _ _ _ _ _ c.in_ok-zero_wires.ensures.emits (then_in _ _ _ _ _ (c.in_ok-last.ensures.emits (boot_count c.args.image.now c.args.n))
-          (then_in _ _ _ _ _ c.in_ok-tie.ensures.emits last))));
+          (then_in _ _ _ _ _ c.in_ok-tie.ensures.emits c.memory.ensures.emits))));
     }

@@ -1,5 +1,5 @@
 use Rattle.tv_core.proofs.Common.{◌≡◌, ℕ, ◌+◌, List, ap, ap₂, ◌∙◌, arith}
-use Rattle.tv_benes.specs.declared.shape.Net.TheVariants.{Benes}
+use Rattle.tv_stages.specs.declared.nets.Net.TheVariants.{Benes}
 use Rattle.tv_core.specs.Constraints.{System}
 use Rattle.tv_draw.specs.Program.{image_drawn, tape_drawn, aux_drawn}
 use Rattle.tv_layout.specs.Places.{runs_like}

@@ -1,5 +1,5 @@
 use Rattle.tv_core.proofs.Common.{◌≡◌, ℕ, List, [], false, Ok, Err, refl, sym, ap, ◌∙◌, arith}
-use Rattle.tv_benes.specs.declared.shape.Net.TheVariants.{Benes}
+use Rattle.tv_stages.specs.declared.nets.Net.TheVariants.{Benes}
 use Rattle.tv_core.specs.Meanings.{Kept, kept_giving}
 use Rattle.tv_fill.specs.Filled.{FillsIn}
 use Rattle.tv_fill.specs.declared.fault.FillFault.{FillFault}

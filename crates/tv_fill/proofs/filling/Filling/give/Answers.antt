@@ -1,11 +1,16 @@
 use Rattle.tv_core.proofs.Common.{List, length, ap, ap₂, refl, sym, ◌∙◌, gives_refused, Line}
-use Rattle.tv_benes.specs.Items.{bit_at}
 use Rattle.tv_core.specs.declared.lines.PairNum.{PairNum}
-use Rattle.tv_fill.proofs.PartValues.{same_filled, front_refused, steps_refused, all_given}
-use Rattle.tv_fill.specs.Filled.{Filled, filled_lines, filled_checks}
+use Rattle.tv_fill.proofs.PartValues.{parts_of, same_filled, front_refused, steps_refused, all_given}
+use Rattle.tv_fill.proofs.RunPlaces.{lines_many}
+use Rattle.tv_fill.specs.Filled.{Filled, filled_lines, memory_values}
 use Rattle.tv_argument.proofs.FillingLaws.{given_some, given_in}
-use Rattle.tv_argument.specs.Memory.{routed_values}
 use Rattle.tv_fill.proofs.filling.Filling.give.Goals as goal
+
+pub fill_argument-requires-clause-items : goal.fill_argument-requires-clause-items
+fill_argument-requires-clause-items g c =
+    let i = c.self.inside in
+    ap length c.as_mut_slice.ensures.value ∙ c.self.invariant.items_many ∙ sym (lines_many i.image.now i.tape.now i.lines)
+    ∙ ap (λ (ls : List Line). length (filled_lines i.image.now i.tape.now ls)) (sym c.as_slice-4.ensures)
 
 pub returns-in_err-fill_front-clause-gives : goal.returns-in_err-fill_front-clause-gives
 returns-in_err-fill_front-clause-gives g c =
@@ -38,8 +43,7 @@ returns-clause-gives g c =
     c.as_slice-3.ensures
     ∙ ap (λ (f : Filled). f.values) c.self.view_is in
     let same = ap₂ (λ (ls : List Line) (items : List PairNum).
-    routed_values i.net (filled_checks (length i.image.now) (length i.tape.now) (length ls) i.k) i.k (bit_at c.as_slice-3.result.now) items
-    (filled_lines i.image.now i.tape.now ls i.k))
+    memory_values (parts_of i.answer i.t i.k i.net i.image.now i.tape.now i.aux.now c.as_slice.result.now ls items c.as_slice-3.result.now))
     (c.as_slice-4.ensures ∙ sym c.as_slice-2.ensures) c.as_mut_slice.ensures.value in
     given_in m _ _ _ _ is _
     (all_given m g.row.W i.answer i.t i.k i.net i.image.now i.tape.now i.aux.now c.as_slice.result.now c.as_slice-2.result.now i.items.items

@@ -1,5 +1,5 @@
 use Rattle.tv_core.proofs.Common.{refl, ap}
-use Rattle.tv_benes.specs.declared.shape.Net.TheVariants.{Benes}
+use Rattle.tv_stages.specs.declared.nets.Net.TheVariants.{Benes}
 use Rattle.tv_extract.proofs.ExtractLaws.{extracted_is_run}
 use Rattle.tv_top.specs.Assignment.{assigned_in, assigned_run, kept_in, run_ends}
 use Rattle.tv_plan.specs.Kinds.{is_listing}
