@@ -1,6 +1,6 @@
 -- Looking into a normal combination.
 use Rattle.tv_core.proofs.Common.{◌≡◌, ℕ, zero, suc, ◌+◌, ◌*◌, ◌%◌, ◌<◌, ◌≤◌, ◌∷◌, Some, None, refl, sym, ◌∙◌, ap, ap₂, subst, arith, [], ◌++◌, not, true}
-use Rattle.tv_core.proofs.Common.{false, inl, inr, cond, length, get_or, mod-eq_of_lt, cases_lt, scaled, Combination, IsNormalFrom}
+use Rattle.tv_core.proofs.Common.{false, Bool, Constraint, inl, inr, cond, length, get_or, mod-eq_of_lt, cases_lt, scaled, Combination, IsNormalFrom}
 use Rattle.std.proofs.Common.{◌&&◌, eqb, ltb, eq-eqb, ne_eqb, ltb-true, one-mul}
 use Rattle.std.specs.List.{list_all}
 use Rattle.std.specs.Prelude.{Option, IfSome, is_some}
@@ -9,6 +9,8 @@ use Rattle.std.specs.List.Sorted.{IsNonDecreasingBy, IsPartitionPoint}
 use Rattle.tv_core.specs.declared.field.TheConstants.{P}
 use Rattle.tv_core.specs.Normal.{coefficient}
 use Rattle.tv_shrink.specs.Substitution.{has_wire, constant_in, without}
+use Rattle.std.proofs.lemmas.List.Folds.{list_all-append}
+use Rattle.tv_shrink.specs.Answers.{holds_by_constants}
 use Rattle.tv_shrink.proofs.ReplacingLaws.{found_here, found_later}
 use Rattle.tv_core.proofs.NormalLaws.{Over, IsNormalFrom-lower}
 use Rattle.tv_core.proofs.Unique.{coefficient-first, coefficient-other}
@@ -54,6 +56,29 @@ constant_in-several (t ∷ u ∷ x) some e n = sym (constant_in-more t u x n)
 pub constant_in-wired : (x : Combination) (d : ℕ × ℕ) → 0 < length x → ((get_or x 0 d).1 ≡ 0 → ⊥) → None ≡ constant_in x
 constant_in-wired [] d some e = absurd (omega arith)
 constant_in-wired (t ∷ x) d some e = sym (constant_in-other t x e)
+
+-- a constraint whose combinations are constants, or one of them isn't
+abbrev is_product : Option ℕ → Option ℕ → Option ℕ → Bool
+is_product None p q = false
+is_product (Some k) None q = false
+is_product (Some k) (Some m) None = false
+is_product (Some k) (Some m) (Some n) = eqb (k * m % P) n
+
+products : (a b c : Bool) (k m n : ℕ) → is_product (cond a (Some k) None) (cond b (Some m) None) (cond c (Some n) None)
+    ≡ ((a && (b && c)) && eqb (k * m % P) n)
+products false b c k m n = refl
+products true false c k m n = refl
+products true true false k m n = refl
+products true true true k m n = refl
+
+pub by_constants : (c : Constraint) (k m n : Option ℕ) → k ≡ constant_in c.a → m ≡ constant_in c.b → n ≡ constant_in c.c
+    → is_product k m n ≡ holds_by_constants c
+unfolding constant_in
+by_constants c k m n e f g =
+    let is_zero : (ℕ × ℕ) → Bool = λ t. eqb t.1 0 in
+    rw (e, f, g) (products (list_all is_zero c.a) (list_all is_zero c.b) (list_all is_zero c.c) (coefficient 0 c.a) (coefficient 0 c.b) (coefficient 0 c.c))
+    ∙ ap (λ b. b && eqb (coefficient 0 c.a * coefficient 0 c.b % P) (coefficient 0 c.c))
+    (sym (list_all-append is_zero c.a (c.b ++ c.c) ∙ ap (λ b. list_all is_zero c.a && b) (list_all-append is_zero c.b c.c)))
 
 -- a wire that was found
 pub above_at : (least i : ℕ) (d : ℕ × ℕ) (x : Combination) → IsNormalFrom least x → i < length x → least ≤ (get_or x i d).1

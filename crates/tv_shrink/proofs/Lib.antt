@@ -1,4 +1,4 @@
-mod Blanks
+mod ByConstants
 mod Constants
 mod Elements
 mod Gone

@@ -27,9 +27,9 @@ use Rattle.tv_r1cs_read.specs.Survey.{survey_of}
 use Rattle.tv_core.specs.Constraints.{System}
 use Rattle.tv_r1cs_read.specs.Rows.{combination_of, constraint_of, IsOver}
 use Rattle.tv_r1cs_read.specs.declared.rows.Row.{Row}
-use Rattle.tv_shrink.specs.Answers.{first_wide, read_fault, is_blank, start_row, start_rows, wide, wide_in, all_terms, most, Halted, HaltsBy, IsLong, IsSmall}
-use Rattle.tv_shrink.specs.Answers.{IsReady, IsTooWide, FaultMeans, Leaves}
-use Rattle.tv_core.specs.Normal.{normal_constraint}
+use Rattle.tv_shrink.specs.Answers.{first_wide, read_fault, holds_by_constants, start_row, start_rows, wide, wide_in, all_terms, most, Halted, HaltsBy, IsLong}
+use Rattle.tv_shrink.specs.Answers.{IsReady, IsSmall, IsTooWide, FaultMeans, Leaves}
+use Rattle.tv_core.specs.Normal.{normal_constraint, IsNormalConstraint}
 use Rattle.tv_core.proofs.NormalLaws.{Over, Over-normal, IsNormalFrom-normal}
 use Rattle.tv_shrink.specs.Tidy.{AreWithin, RowsAreNormal, IsWithin, RowIsNormal}
 use Rattle.tv_shrink.proofs.Elements.{each_pushed}
@@ -67,21 +67,23 @@ narrow_within n row over e =
       short_c = narrow_short (combination_of row.c) others.1;
     }
 
--- what holds of all rows, and of one more, unless it has no terms
+-- what holds of all rows, and of one more, unless it holds by constants
 pub each_started : (R : Option Constraint → Type 0) (rows next : List (Option Constraint)) (c : Constraint) → next ≡ rows ++ start_row c → R (Some c)
     → AllByRecursion R rows → AllByRecursion R next
 each_started R rows next c is here h =
-    subst (AllByRecursion R) (sym is) (cond_both (is_blank c) [] (Some c ∷ []) (λ more. AllByRecursion R (rows ++ more))
+    subst (AllByRecursion R) (sym is) (cond_both (holds_by_constants c) [] (Some c ∷ []) (λ more. AllByRecursion R (rows ++ more))
     (λ _. subst (AllByRecursion R) (sym (append-nil rows)) h) (λ _. each_pushed R rows (Some c) here h))
 
 pub length-start_row : (c : Constraint) → length (start_row c) ≤ 1
-length-start_row c = cond_both (is_blank c) [] (Some c ∷ []) (λ rows. length rows ≤ 1) (λ _. omega arith) (λ _. omega arith)
+length-start_row c = cond_both (holds_by_constants c) [] (Some c ∷ []) (λ rows. length rows ≤ 1) (λ _. omega arith) (λ _. omega arith)
+
+pub constraint_normal : (c : Constraint) → IsNormalConstraint (normal_constraint c)
+constraint_normal c = record { a = IsNormalFrom-normal c.a; b = IsNormalFrom-normal c.b; c = IsNormalFrom-normal c.c }
 
 pub pushed_normal : (rows next : List (Option Constraint)) (row : Constraint) → next ≡ rows ++ start_row (normal_constraint row) → RowsAreNormal rows
     → RowsAreNormal next
 pushed_normal rows next row is normal =
-    each_started RowIsNormal rows next (normal_constraint row) is
-    (record { a = IsNormalFrom-normal row.a; b = IsNormalFrom-normal row.b; c = IsNormalFrom-normal row.c }) normal
+    each_started RowIsNormal rows next (normal_constraint row) is (constraint_normal row) normal
 
 -- the first wide combination of a list and one more constraint
 pub no_wide : first_wide [] ≡ None

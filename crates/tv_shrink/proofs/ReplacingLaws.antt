@@ -150,7 +150,7 @@ module _ (z : List ℕ) (assigns : Assigns z) where
       ∙ ap (λ y. (coefficient 0 x * 1 + value y z) % P) (all_zero x e)
       ∙ omega arith
 
-  value-constant_in : (x : Combination) (k : ℕ) → constant_in x ≡ Some k → value x z ≡ k
+  pub value-constant_in : (x : Combination) (k : ℕ) → constant_in x ≡ Some k → value x z ≡ k
   unfolding constant_in
   value-constant_in x k e = constant_of (list_all (λ t. eqb t.1 0) x) x k refl e
 

@@ -17,7 +17,7 @@ use Rattle.tv_shrink.specs.Pass.{Pass, all_replaced, begun, dropped, passed, row
 use Rattle.tv_shrink.specs.Substitution.{fits, replaced_in}
 use Rattle.tv_shrink.specs.Shrunk.{left_over, place, renumbered, renumbered_in, shrink}
 use Rattle.tv_shrink.specs.Tidy.{AreWithin, pass_of}
-use Rattle.tv_shrink.proofs.Blanks.{blanks_aside, Leave}
+use Rattle.tv_shrink.proofs.ByConstants.{constants_aside, Leave}
 use Rattle.tv_shrink.proofs.Labels.{front-kept, inside-kept, is_gone, others_same, place_is}
 use Rattle.tv_shrink.proofs.Linear.{replaced_short}
 use Rattle.tv_shrink.proofs.Spans.{same_row}
@@ -171,7 +171,8 @@ shrink_is counts list last ran =
     let all = map (λ c. Some (normal_constraint c)) list in
     let full = fold (turn publics) (pass_of all []) (range_with_len 0 (length all)) in
     ap (λ (pass : Pass). left_over system pass.rows (others counts.wires pass.gone)) ran
-    ∙ sym (left_same system full (fold (turn publics) (pass_of (start_rows list) []) (range_with_len 0 (length (start_rows list)))) (blanks_aside publics list))
+    ∙ sym (left_same system full (fold (turn publics) (pass_of (start_rows list) []) (range_with_len 0 (length (start_rows list))))
+    (constants_aside publics (omega arith) list))
     ∙ ap (λ n. let pass = fold (turn publics) (pass_of all []) (range_with_len 0 n) in left_over system pass.rows (others counts.wires pass.gone))
     (length-map list (λ c. Some (normal_constraint c)))
 

@@ -1,7 +1,7 @@
 -- What shrinking the system of a file answers.
-use Rattle.std.specs.Prelude.{◌≡◌, ◌⊎◌, ℕ, ◌+◌, ◌^◌, ◌≤◌, ◌<◌, ◌==◌, nat_lt, Bool, List, [], ◌∷◌}
+use Rattle.std.specs.Prelude.{◌≡◌, ◌⊎◌, ℕ, ◌+◌, ◌*◌, ◌%◌, ◌^◌, ◌≤◌, ◌<◌, ◌==◌, nat_lt, Bool, ◌&&◌, List, [], ◌∷◌}
 use Rattle.std.specs.Prelude.{length, Option, None, Some, Ok, Result, MatchResult, if◌then◌else◌}
-use Rattle.std.specs.List.{flat_map}
+use Rattle.std.specs.List.{flat_map, list_all}
 use Rattle.std.specs.Option.{option_or}
 use Rattle.tv_container.specs.Places.{wrong}
 use Rattle.tv_container.specs.declared.why.ReadRefusal.{ReadRefusal}
@@ -14,7 +14,9 @@ use Rattle.tv_shrink.specs.declared.fault.ShrinkFault.{ShrinkFault}
 use Rattle.tv_shrink.specs.declared.fault.ShrinkFault.TheVariants as fault
 use Rattle.tv_shrink.specs.declared.shrinker.TheConstants.{MOST_TERMS}
 use Rattle.tv_core.specs.declared.lines.Counts.{Counts}
-use Rattle.tv_core.specs.Normal.{normal, normal_constraint}
+use Rattle.tv_core.specs.declared.field.TheConstants.{P}
+use Rattle.tv_core.specs.Normal.{coefficient, normal, normal_constraint}
+use Rattle.tv_shrink.specs.Spans.{row_terms}
 use Rattle.tv_shrink.specs.Tidy.{RowsAreNormal, AreWithin}
 use Rattle.tv_r1cs_write.specs.Shrunken.{Shrunken}
 use Rattle.tv_shrink.specs.Shrunk.{shrink}
@@ -110,15 +112,15 @@ pub record Halted (old new : Outside) (name : List ℕ) (why : ShrinkFault) : Ty
 abbrev pub HaltsBy : {A : Type 0} → Outside → Outside → List ℕ → Result A ShrinkFault → Type 0
 HaltsBy old new name result = MatchResult result (λ _. new ≡ old) (λ fault. Halted old new name fault)
 
--- whether a constraint has no terms, so that it says that 0 is 0
-abbrev pub is_blank : Constraint → Bool
-is_blank c = length c.a + length c.b + length c.c == 0
+-- whether a constraint has no wire but wire 0, which is 1, and holds
+abbrev pub holds_by_constants : Constraint → Bool
+holds_by_constants c = list_all (λ t. t.1 == 0) (row_terms c) && coefficient 0 c.a * coefficient 0 c.b % P == coefficient 0 c.c
 
--- a normal constraint, unless it has no terms
+-- a normal constraint, unless it holds by constants
 abbrev pub start_row : Constraint → List (Option Constraint)
-start_row c = if is_blank c then [] else Some c ∷ []
+start_row c = if holds_by_constants c then [] else Some c ∷ []
 
--- a list's constraints made normal, those of which no term is left put aside
+-- a list's constraints made normal, without those that hold by constants
 abbrev pub start_rows : List Constraint → List (Option Constraint)
 start_rows list = flat_map (λ c. start_row (normal_constraint c)) list
 

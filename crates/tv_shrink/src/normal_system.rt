@@ -21,8 +21,8 @@ pub(crate) struct NormalSystem {
 /// Reads a file in which a survey found a system within the limit of terms, its constraints made
 /// normal, up to the first combination that is too wide.
 ///
-/// Memory is that of the terms, whatever wires and constraints the file counts: a constraint of
-/// which no term is left is put aside.
+/// Memory is that of the terms, whatever wires and constraints the file counts: a constraint that
+/// holds by constants is left out.
 pub(crate) fn read<D: Files>(
     alloc: Global,
     files: &mut D,

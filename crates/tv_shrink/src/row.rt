@@ -6,6 +6,7 @@ ghost use Rattle.tv_core.specs.Combinations.{scaled};
 ghost use Rattle.tv_core.specs.Inverse.{inverse_of};
 ghost use Rattle.tv_core.specs.declared.field.TheConstants.{P};
 ghost use Rattle.tv_core.specs.Normal.{normal, IsNormalFrom, IsNormalConstraint};
+ghost use Rattle.tv_shrink.specs.Answers.{holds_by_constants};
 ghost use Rattle.tv_shrink.specs.Substitution.{constant_in, fits, fits_in, has_wire};
 ghost use Rattle.tv_shrink.specs.Substitution.{linear_form, replaced};
 ghost use Rattle.tv_shrink.specs.Tidy.{row_has, RowIsNormal};
@@ -203,6 +204,22 @@ impl Row<'_> {
             return Ok(true);
         }
         Ok(false)
+    }
+
+    /// Whether the constraint has no wire but the constant one, and holds.
+    #[inline(always)]
+    pub(crate) fn holds_by_constants(&self) -> bool
+        requires { IsNormalConstraint self.now }
+        ensures { result ≡ holds_by_constants self.now }
+    {
+        match (
+            constant_in(self.a),
+            constant_in(self.b),
+            constant_in(self.c),
+        ) {
+            (Some(a), Some(b), Some(c)) => a * b == c,
+            _ => false,
+        }
     }
 
     /// Whether each combination keeps to its most terms after a substitution; `scratch` is for its

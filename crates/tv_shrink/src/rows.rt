@@ -86,8 +86,8 @@ impl Rows {
         self.spans[at] = None;
     }
 
-    /// Appends a constraint that was read, made normal, unless it has no terms then; refused where
-    /// a combination has more than 128 then. `scratch` is for its use.
+    /// Appends a constraint that was read, made normal, unless it holds by constants; refused where
+    /// a combination has more than 128 terms then. `scratch` is for its use.
     pub(crate) fn add(
         &mut self,
         row: &tv_r1cs_read::Row,
@@ -99,7 +99,8 @@ impl Rows {
         ensures err { IfErr result (λ fault. IsTooWide fault (wide_in (constraint_of row.now))) }
     {
         let span = append_read(scratch, &mut self.terms, row)?;
-        if self.terms.len() == span.start {
+        if span.row(&self.terms).holds_by_constants() {
+            self.terms.truncate(span.start);
             return Ok(());
         }
         self.spans.push(Some(span))?;

@@ -32,10 +32,10 @@ pub fn terms_are_limited()
 /// Memory is taken for the constraints as the pass makes them, which may be longer than those that
 /// were read, up to 128 terms a combination: 16 bytes for a term, 24 for a constraint, 16 for each
 /// term of a private wire, 4 for each wire that is replaced; and 12 for each term that was read, or
-/// for each wire where the file counts fewer. A constraint that has no terms takes none. So memory
-/// is bounded by the terms, whatever wires and constraints there are. What replacements leave over
-/// is cleared away after the turn with which there may be more of it than of the rest, or than of
-/// constraints and terms.
+/// for each wire where the file counts fewer. A constraint that has no wire but the constant one,
+/// and holds, takes none. So memory is bounded by the terms, whatever wires and constraints there
+/// are. What replacements leave over is cleared away after the turn with which there may be more of
+/// it than of the rest, or than of constraints and terms.
 ///
 /// A replacement costs as much as the constraints that it changes have terms, and a look at each
 /// constraint with a wire whose number differs from its number by a multiple of the lists. A turn

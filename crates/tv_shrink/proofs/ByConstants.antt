@@ -1,60 +1,100 @@
--- Constraints without terms make no difference to a pass: what is left of the others is the same without them.
-use Rattle.tv_core.proofs.Common.{◌≡◌, ◌⊎◌, ℕ, zero, suc, ◌+◌, ◌<◌, ◌≤◌, Bool, List, ◌∷◌, ◌++◌, Option, Some, None, refl, sym, ◌∙◌, ap, ap₂, subst, arith, []}
-use Rattle.tv_core.proofs.Common.{inl, inr, true, false, cond, map, length, range_with_len, append_assoc, append-nil, length-append, length-map}
-use Rattle.tv_core.proofs.Common.{Combination, Constraint, normal}
-use Rattle.std.proofs.Common.{◌&&◌, eqb-true}
+-- Constraints that hold by constants make no difference to a pass: what is left of the others is the same without them.
+use Rattle.tv_core.proofs.Common.{◌≡◌, ◌⊎◌, ℕ, zero, suc, ◌+◌, ◌-◌, ◌*◌, ◌%◌, ◌<◌, ◌≤◌, Bool, List, ◌∷◌, ◌++◌, Option, Some, None, refl, sym, ◌∙◌, ap, ap₂}
+use Rattle.tv_core.proofs.Common.{arith, subst, [], inl, inr, true, false, cond, map, length, range_with_len, append_assoc, append-nil, length-append}
+use Rattle.tv_core.proofs.Common.{length-map, slice_index, value, value-cons, scaled, Assigns, Combination, Constraint, normal, IsNormalFrom}
+use Rattle.std.proofs.Common.{◌&&◌, eqb, eqb-true}
 use Rattle.std.specs.List.{filter_map, fold, list_all}
 use Rattle.std.specs.Option.{option_map}
 use Rattle.std.proofs.Math.Seq.{get_or-append_seam, set-append_seam}
-use Rattle.std.proofs.lemmas.Bool.{cases_Bool}
+use Rattle.std.proofs.lemmas.Bool.{and_parts, cases_Bool}
 use Rattle.std.proofs.lemmas.List.{map-append}
-use Rattle.std.proofs.lemmas.List.Elements.{filter_map-append}
+use Rattle.std.proofs.lemmas.List.Elements.{filter_map-append, All-from_recursion}
 use Rattle.std.proofs.lemmas.List.Folds.{list_all-append}
+use Rattle.tv_core.specs.Constraints.{Holds}
+use Rattle.tv_core.specs.declared.field.TheConstants.{P}
 use Rattle.tv_core.specs.Normal.{coefficient, normal_constraint}
-use Rattle.tv_shrink.specs.Answers.{is_blank, start_rows}
+use Rattle.tv_core.proofs.NormalLaws.{Over}
+use Rattle.tv_shrink.specs.Answers.{holds_by_constants, start_rows}
 use Rattle.tv_shrink.specs.Pass.{Pass, all_replaced, attempted, dropped, eliminated, linear_row, row_fits, substituted, treated, turn}
-use Rattle.tv_shrink.specs.Substitution.{constant_in, difference, fits_in, greatest_from, has_wire, linear_form, replaced_in, solved}
+use Rattle.tv_shrink.specs.Substitution.{constant_in, fits_in, greatest_from, has_wire, linear_form, replaced_in, solved}
 use Rattle.tv_shrink.specs.Tidy.{pass_of}
-use Rattle.tv_shrink.proofs.Linear.{fits-lacking, replaced-lacking}
+use Rattle.tv_shrink.proofs.Linear.{fits-lacking, linear-first, replaced-lacking}
+use Rattle.tv_shrink.proofs.ReplacingLaws.{greatest_is, value-constant_in, zero_where_holds, Over-has_wire, Over-linear_form}
 use Rattle.tv_shrink.proofs.Spans.{same_row}
 
--- the constraint without terms
-abbrev nothing : Constraint
-nothing = record { a = []; b = []; c = [] }
+-- no wire but wire 0 stands in a combination
+abbrev IsConstant : Combination → Type 0
+IsConstant x = list_all (λ t. eqb t.1 0) x ≡ true
 
-nil_of : (x : Combination) → length x ≡ 0 → x ≡ []
-nil_of [] e = refl
-nil_of (t ∷ x) e = absurd (omega (arith, e))
+over_zero : (x : Combination) → IsConstant x → Over (λ v. v ≡ 0) x
+over_zero [] e = tt
+over_zero (t ∷ x) e = let both = and_parts _ _ e in (eqb-true t.1 0 both.0, over_zero x both.1)
 
-blank_is : (c : Constraint) → is_blank c ≡ true → c ≡ nothing
-blank_is c e =
-    let none = eqb-true (length c.a + length c.b + length c.c) 0 e in
-    same_row c.a c.b c.c [] [] [] (nil_of c.a (omega (arith, none))) (nil_of c.b (omega (arith, none))) (nil_of c.c (omega (arith, none)))
+lacks : (w : ℕ) (x : Combination) → 0 < w → IsConstant x → has_wire w x ≡ false
+lacks w x some e =
+    elim (cases_Bool (has_wire w x)) [
+      | inl has ↦ absurd (omega (arith, Over-has_wire (λ v. v ≡ 0) w x (over_zero x e) has))
+      | inr none ↦ none
+    ]
 
--- it says nothing, and stays as it is
-nothing_says : linear_form nothing ≡ Some []
-unfolding linear_form constant_in difference normal coefficient
-nothing_says = refl
+constant_is : (x : Combination) → IsConstant x → constant_in x ≡ Some (coefficient 0 x)
+unfolding constant_in
+constant_is x e = ap (λ b. cond b (Some (coefficient 0 x)) None) e
 
-no_wire : (w : ℕ) → has_wire w [] ≡ false
-unfolding has_wire
-no_wire w = refl
+-- of wire 0 alone, and 0 where it is 1
+abbrev one : List ℕ
+one = 1 ∷ []
 
-module _ (w : ℕ) (r : Combination) where
-  nothing_fits : fits_in w r nothing ≡ true
-  nothing_fits = rw (fits-lacking w r [] (no_wire w)) refl
+assigns_one : Assigns one
+assigns_one = record { below = All-from_recursion (λ v. v < P) one (omega arith, tt); one = refl }
 
-  nothing_stays : replaced_in w r nothing ≡ nothing
-  nothing_stays = let same = replaced-lacking w r [] (sym (no_wire w)) in same_row _ _ _ [] [] [] same same same
+none_left : (x : Combination) → Over (λ v. v ≡ 0) x × IsNormalFrom 0 x → value x one ≡ 0 → x ≡ []
+none_left [] h e = refl
+none_left (t ∷ []) h e =
+    let first : value (t ∷ []) one ≡ (t.0 * slice_index one 0 + 0) % P = value-cons t.0 t.1 [] one
+    ∙ ap (λ w. (t.0 * slice_index one w + 0) % P) h.0.0 in
+    absurd (omega (arith, first, e, h.1.1, h.1.2))
+none_left (t ∷ u ∷ x) h e = absurd (omega (arith, h.0.1.0, h.1.3.0))
 
--- the constraints that were not dropped, and those of them that have terms
+-- a constraint that holds by constants says nothing, and stays as it is
+module _ (c : Constraint) (e : holds_by_constants c ≡ true) where
+  parts : IsConstant c.a × (IsConstant c.b × IsConstant c.c) × (coefficient 0 c.a * coefficient 0 c.b % P ≡ coefficient 0 c.c)
+  parts =
+      let is_zero : (ℕ × ℕ) → Bool = λ t. eqb t.1 0 in
+      let both = and_parts _ _ e in
+      let all = and_parts _ _ (sym (list_all-append is_zero c.a (c.b ++ c.c)) ∙ both.0) in
+      (all.0, and_parts _ _ (sym (list_all-append is_zero c.b c.c) ∙ all.1), eqb-true _ _ both.1)
+
+  nothing_said : linear_form c ≡ Some []
+  nothing_said =
+      let out = normal (scaled (coefficient 0 c.a) c.b ++ scaled (P - 1) c.c) in
+      let says : linear_form c ≡ Some out = linear-first c (coefficient 0 c.a) out (constant_is c.a parts.0) refl in
+      let is = λ (x : Combination) (k : IsConstant x). value-constant_in one assigns_one x (coefficient 0 x) (constant_is x k) in
+      let holds : Holds c one = ap₂ (λ m n. m * n % P) (is c.a parts.0) (is c.b parts.1.0) ∙ parts.2 ∙ sym (is c.c parts.1.1) in
+      says ∙ ap Some (none_left out (Over-linear_form (λ v. v ≡ 0) c out (over_zero c.a parts.0) (over_zero c.b parts.1.0) (over_zero c.c parts.1.1) says)
+      (zero_where_holds one assigns_one c out says holds))
+
+  module _ (w : ℕ) (some : 0 < w) (r : Combination) where
+    still_fits : fits_in w r c ≡ true
+    still_fits = rw (
+      fits-lacking w r c.a (lacks w c.a some parts.0),
+      fits-lacking w r c.b (lacks w c.b some parts.1.0),
+      fits-lacking w r c.c (lacks w c.c some parts.1.1),
+    ) refl
+
+    still_same : replaced_in w r c ≡ c
+    still_same =
+        let same = λ (x : Combination) (k : IsConstant x). replaced-lacking w r x (sym (lacks w x some k)) in
+        same_row _ _ _ c.a c.b c.c (same c.a parts.0) (same c.b parts.1.0) (same c.c parts.1.1)
+
+-- the constraints that were not dropped, and those of them that don't hold by constants
 abbrev somes : List (Option Constraint) → List Constraint
 somes rows = filter_map (λ row. row) rows
 
 abbrev solid : List (Option Constraint) → List Constraint
 solid [] = []
 solid (None ∷ rows) = solid rows
-solid (Some c ∷ rows) = cond (is_blank c) (solid rows) (c ∷ solid rows)
+solid (Some c ∷ rows) = cond (holds_by_constants c) (solid rows) (c ∷ solid rows)
 
 module _ (w : ℕ) (r : Combination) where
   somes_fit : (rows : List (Option Constraint)) → list_all (row_fits w r) rows ≡ list_all (fits_in w r) (somes rows)
@@ -62,23 +102,24 @@ module _ (w : ℕ) (r : Combination) where
   somes_fit (None ∷ rows) = somes_fit rows
   somes_fit (Some c ∷ rows) = ap (λ b. fits_in w r c && b) (somes_fit rows)
 
-  solid_fit : (rows : List (Option Constraint)) → list_all (row_fits w r) rows ≡ list_all (fits_in w r) (solid rows)
-  solid_fit [] = refl
-  solid_fit (None ∷ rows) = solid_fit rows
-  solid_fit (Some c ∷ rows) =
-      elim (cases_Bool (is_blank c)) [
-        | inl blank ↦
-            ap (λ b. b && list_all (row_fits w r) rows) (ap (fits_in w r) (blank_is c blank) ∙ nothing_fits w r)
-            ∙ solid_fit rows
-            ∙ ap (λ b. list_all (fits_in w r) (cond b (solid rows) (c ∷ solid rows))) (sym blank)
-        | inr full ↦
-            ap (λ b. fits_in w r c && b) (solid_fit rows) ∙ ap (λ b. list_all (fits_in w r) (cond b (solid rows) (c ∷ solid rows))) (sym full)
-      ]
-
   somes_replaced : (rows : List (Option Constraint)) → somes (all_replaced w r rows) ≡ map (replaced_in w r) (somes rows)
   somes_replaced [] = refl
   somes_replaced (None ∷ rows) = somes_replaced rows
   somes_replaced (Some c ∷ rows) = ap (λ rest. replaced_in w r c ∷ rest) (somes_replaced rows)
+
+module _ (w : ℕ) (some : 0 < w) (r : Combination) where
+  solid_fit : (rows : List (Option Constraint)) → list_all (row_fits w r) rows ≡ list_all (fits_in w r) (solid rows)
+  solid_fit [] = refl
+  solid_fit (None ∷ rows) = solid_fit rows
+  solid_fit (Some c ∷ rows) =
+      elim (cases_Bool (holds_by_constants c)) [
+        | inl idle ↦
+            ap (λ b. b && list_all (row_fits w r) rows) (still_fits c idle w some r)
+            ∙ solid_fit rows
+            ∙ ap (λ b. list_all (fits_in w r) (cond b (solid rows) (c ∷ solid rows))) (sym idle)
+        | inr full ↦
+            ap (λ b. fits_in w r c && b) (solid_fit rows) ∙ ap (λ b. list_all (fits_in w r) (cond b (solid rows) (c ∷ solid rows))) (sym full)
+      ]
 
   solid_replaced : (rows : List (Option Constraint)) → solid (all_replaced w r rows) ≡ solid (map (λ c. Some (replaced_in w r c)) (solid rows))
   solid_replaced [] = refl
@@ -86,13 +127,14 @@ module _ (w : ℕ) (r : Combination) where
   solid_replaced (Some c ∷ rows) =
       let next = replaced_in w r c in
       let rest = solid (all_replaced w r rows) in
-      elim (cases_Bool (is_blank c)) [
-        | inl blank ↦
-            ap (λ d. cond (is_blank d) rest (d ∷ rest)) (ap (replaced_in w r) (blank_is c blank) ∙ nothing_stays w r)
+      elim (cases_Bool (holds_by_constants c)) [
+        | inl idle ↦
+            ap (λ d. cond (holds_by_constants d) rest (d ∷ rest)) (still_same c idle w some r)
+            ∙ ap (λ b. cond b rest (c ∷ rest)) idle
             ∙ solid_replaced rows
-            ∙ ap (λ b. solid (map (λ d. Some (replaced_in w r d)) (cond b (solid rows) (c ∷ solid rows)))) (sym blank)
+            ∙ ap (λ b. solid (map (λ d. Some (replaced_in w r d)) (cond b (solid rows) (c ∷ solid rows)))) (sym idle)
         | inr full ↦
-            ap (λ list. cond (is_blank next) list (next ∷ list)) (solid_replaced rows)
+            ap (λ list. cond (holds_by_constants next) list (next ∷ list)) (solid_replaced rows)
             ∙ ap (λ b. solid (map (λ d. Some (replaced_in w r d)) (cond b (solid rows) (c ∷ solid rows)))) (sym full)
       ]
 
@@ -194,7 +236,7 @@ next publics cut =
     ∙ ap₂ (λ rows places. fold (turn publics) (pass_of rows new.gone) places) (sym (append_assoc new.done (new.row ∷ []) new.todo))
     (ap₂ range_with_len first (sym size.1))
 
--- two passes whose rows differ in constraints without terms, and in those that were dropped
+-- two passes whose rows differ in constraints that hold by constants, and in those that were dropped
 record Alike (x y : Cut) : Type 0 where
   done : somes x.done ≡ somes y.done
   row : x.row ≡ y.row
@@ -207,29 +249,32 @@ alike_either false false x y v w e h k = k
 alike_either true false x y v w e h k = absurd (cc)
 alike_either false true x y v w e h k = absurd (cc)
 
-eliminated_alike : (x : Combination) (o : Option ℕ) (cut other : Cut) → Alike cut other → Alike (eliminated_cut x o cut) (eliminated_cut x o other)
-eliminated_alike x None cut other alike = alike
-eliminated_alike x (Some w) cut other alike =
+eliminated_alike : (x : Combination) (o : Option ℕ) (cut other : Cut) → ((w : ℕ) → o ≡ Some w → 0 < w) → Alike cut other
+    → Alike (eliminated_cut x o cut) (eliminated_cut x o other)
+eliminated_alike x None cut other private alike = alike
+eliminated_alike x (Some w) cut other private alike =
     let r = solved w x in
+    let some = private w refl in
     alike_either (all_fit w r cut) (all_fit w r other) (substituted_cut w r cut) cut (substituted_cut w r other) other
     (ap₂ (λ b d. b && d)
     (somes_fit w r cut.done ∙ ap (list_all (fits_in w r)) alike.done ∙ sym (somes_fit w r other.done))
-    (solid_fit w r cut.todo ∙ ap (list_all (fits_in w r)) alike.todo ∙ sym (solid_fit w r other.todo)))
+    (solid_fit w some r cut.todo ∙ ap (list_all (fits_in w r)) alike.todo ∙ sym (solid_fit w some r other.todo)))
     (record {
       done = somes_replaced w r cut.done ∙ ap (map (replaced_in w r)) alike.done ∙ sym (somes_replaced w r other.done);
       row = refl;
-      todo = solid_replaced w r cut.todo
+      todo = solid_replaced w some r cut.todo
           ∙ ap (λ list. solid (map (λ c. Some (replaced_in w r c)) list)) alike.todo
-          ∙ sym (solid_replaced w r other.todo);
+          ∙ sym (solid_replaced w some r other.todo);
       gone = ap (λ list. list ++ w ∷ []) alike.gone;
     }) alike
 
-step_alike : (publics : ℕ) (o : Option Combination) (cut other : Cut) → Alike cut other → Alike (step publics o cut) (step publics o other)
-step_alike publics None cut other alike = alike
-step_alike publics (Some []) cut other alike = record { done = alike.done; row = refl; todo = alike.todo; gone = alike.gone }
-step_alike publics (Some (t ∷ x)) cut other alike = eliminated_alike (t ∷ x) (greatest_from publics (t ∷ x)) cut other alike
+step_alike : (publics : ℕ) → 0 < publics → (o : Option Combination) (cut other : Cut) → Alike cut other → Alike (step publics o cut) (step publics o other)
+step_alike publics some None cut other alike = alike
+step_alike publics some (Some []) cut other alike = record { done = alike.done; row = refl; todo = alike.todo; gone = alike.gone }
+step_alike publics some (Some (t ∷ x)) cut other alike =
+    eliminated_alike (t ∷ x) (greatest_from publics (t ∷ x)) cut other (λ w e. omega (arith, some, (greatest_is publics w (t ∷ x) e).0)) alike
 
--- passes over rows without terms: they end, or come to a row that has terms
+-- passes over rows that hold by constants: they end, or come to one that doesn't
 record Ended (publics : ℕ) (done todo : List (Option Constraint)) (gone : List ℕ) : Type 0 where
   none : solid todo ≡ []
   rows : somes (turns publics done todo gone).rows ≡ somes done
@@ -276,11 +321,11 @@ module _ (publics : ℕ) (gone : List ℕ) where
   front done [] = inl (record { none = refl; rows = ap somes (append-nil done); same = refl })
   front done (None ∷ todo) = passed_over done None todo refl refl (front (done ++ None ∷ []) todo)
   front done (Some c ∷ todo) =
-      elim (cases_Bool (is_blank c)) [
-        | inl blank ↦
-            let says : linear_form c ≡ Some [] = ap linear_form (blank_is c blank) ∙ nothing_says in
-            passed_over done (Some c) todo (ap (λ o. step publics o (record { done = done; row = Some c; todo = todo; gone = gone })) says)
-            (ap (λ b. cond b (solid todo) (c ∷ solid todo)) blank) (front (done ++ None ∷ []) todo)
+      elim (cases_Bool (holds_by_constants c)) [
+        | inl idle ↦
+            passed_over done (Some c) todo
+            (ap (λ o. step publics o (record { done = done; row = Some c; todo = todo; gone = gone })) (nothing_said c idle))
+            (ap (λ b. cond b (solid todo) (c ∷ solid todo)) idle) (front (done ++ None ∷ []) todo)
         | inr full ↦ inr (record {
           done = done;
           row = c;
@@ -327,11 +372,11 @@ somes_last x y alike =
 same_first : (c d : Constraint) (x y : List Constraint) → (let left = c ∷ x in left) ≡ d ∷ y → (c ≡ d) × (x ≡ y)
 same_first c d x y e = (cc, cc)
 
-same_turns : (n publics : ℕ) (done todo other rest : List (Option Constraint)) (gone lost : List ℕ) → length todo ≤ n → somes done ≡ somes other
+same_turns : (n publics : ℕ) → 0 < publics → (done todo other rest : List (Option Constraint)) (gone lost : List ℕ) → length todo ≤ n → somes done ≡ somes other
     → solid todo ≡ solid rest → gone ≡ lost → Leave (turns publics done todo gone) (turns publics other rest lost)
-same_turns zero publics done todo other rest gone lost within same alike goes =
+same_turns zero publics some done todo other rest gone lost within same alike goes =
     decided publics done todo other rest gone lost same alike goes (λ f h. absurd (omega (arith, f.fewer)))
-same_turns (suc n) publics done todo other rest gone lost within same alike goes =
+same_turns (suc n) publics some done todo other rest gone lost within same alike goes =
     decided publics done todo other rest gone lost same alike goes (λ f h.
     let parts = same_first f.row h.row (solid f.later) (solid h.later) (sym f.is ∙ alike ∙ h.is) in
     let cut : Cut = record { done = f.done; row = Some f.row; todo = f.later; gone = gone } in
@@ -339,10 +384,10 @@ same_turns (suc n) publics done todo other rest gone lost within same alike goes
     let x = step publics (linear_form f.row) cut in
     let y = step publics (linear_form h.row) twin in
     let begins : Alike cut twin = record { done = f.same ∙ same ∙ sym h.same; row = ap Some parts.0; todo = parts.1; gone = goes } in
-    let ends : Alike x y = subst (λ o. Alike x (step publics o twin)) (ap linear_form parts.0) (step_alike publics (linear_form f.row) cut twin begins) in
+    let ends : Alike x y = subst (λ o. Alike x (step publics o twin)) (ap linear_form parts.0) (step_alike publics some (linear_form f.row) cut twin begins) in
     let size = step_size publics (linear_form f.row) cut in
     same_leave _ _ (after publics x) (after publics y) (f.ran ∙ next publics cut) (h.ran ∙ next publics twin)
-    (same_turns n publics (x.done ++ x.row ∷ []) x.todo (y.done ++ y.row ∷ []) y.todo x.gone y.gone (omega (arith, size.1, f.fewer))
+    (same_turns n publics some (x.done ++ x.row ∷ []) x.todo (y.done ++ y.row ∷ []) y.todo x.gone y.gone (omega (arith, size.1, f.fewer))
     (somes_last x y ends) ends.todo ends.gone))
 
 solid_start : (list : List Constraint) → solid (map (λ c. Some (normal_constraint c)) list) ≡ solid (start_rows list)
@@ -351,9 +396,9 @@ solid_start (d ∷ list) =
     let c = normal_constraint d in
     let all = solid (map (λ e. Some (normal_constraint e)) list) in
     let kept = solid (start_rows list) in
-    elim (cases_Bool (is_blank c)) [
-      | inl blank ↦
-          ap (λ b. cond b all (c ∷ all)) blank ∙ solid_start list ∙ ap (λ b. solid (cond b [] (Some c ∷ []) ++ start_rows list)) (sym blank)
+    elim (cases_Bool (holds_by_constants c)) [
+      | inl idle ↦
+          ap (λ b. cond b all (c ∷ all)) idle ∙ solid_start list ∙ ap (λ b. solid (cond b [] (Some c ∷ []) ++ start_rows list)) (sym idle)
       | inr full ↦
           ap (λ b. cond b all (c ∷ all)) full
           ∙ ap (λ rest. c ∷ rest) (solid_start list)
@@ -361,10 +406,10 @@ solid_start (d ∷ list) =
           ∙ ap (λ b. solid (cond b [] (Some c ∷ []) ++ start_rows list)) (sym full)
     ]
 
--- a pass over a list's constraints leaves what a pass over those that have terms does
-pub blanks_aside : (publics : ℕ) (list : List Constraint) → (let all = map (λ c. Some (normal_constraint c)) list in
+-- a pass over a list's constraints leaves what a pass without those that hold by constants does
+pub constants_aside : (publics : ℕ) → 0 < publics → (list : List Constraint) → (let all = map (λ c. Some (normal_constraint c)) list in
     Leave (fold (turn publics) (pass_of all []) (range_with_len 0 (length all)))
     (fold (turn publics) (pass_of (start_rows list) []) (range_with_len 0 (length (start_rows list)))))
-blanks_aside publics list =
+constants_aside publics some list =
     let all = map (λ c. Some (normal_constraint c)) list in
-    same_turns (length all) publics [] all [] (start_rows list) [] [] (omega arith) refl (solid_start list) refl
+    same_turns (length all) publics some [] all [] (start_rows list) [] [] (omega arith) refl (solid_start list) refl
