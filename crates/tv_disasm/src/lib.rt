@@ -18,3 +18,4 @@ pub use laws::{
     disassembly_assembles, disassembly_fixes_its_width, disassembly_is_short,
     words_are_of_the_image,
 };
+pub use line::push_line;

@@ -9,9 +9,9 @@ use crate::operands::{push_decimal, push_operands};
 use std::alloc::AllocError;
 use tv_isa::{Instr, Operation, Shape, decode, operation_of};
 
-/// Adds the line of two words, without its end.
+/// Adds the line of two words of `W` bits, 16 or 32, without its end: at most 48 bytes.
 #[tactic(auto, unfolding(crate::specs::Disassembly::two_words_text))]
-pub(crate) fn push_line<const W: u32>(text: &mut Vec<u8>, h: u32, a: u32) -> Result<(), AllocError>
+pub fn push_line<const W: u32>(text: &mut Vec<u8>, h: u32, a: u32) -> Result<(), AllocError>
     requires { IsWidth W }
     ensures { OnOk result (text.new.items ≡ text.old.items ++ two_words_text W h a) }
 {

@@ -1,0 +1,4 @@
+pub mod Print
+pub mod Sizes
+pub mod Tools
+pub mod Trace

@@ -1,0 +1,3 @@
+pub mod Before
+pub mod Line
+pub mod Trace
