@@ -4,7 +4,8 @@ use Rattle.std.proofs.Common.{◌≡◌, ℕ, ◌+◌, ◌-◌, ◌*◌, ◌%◌
 use Rattle.tv_core.specs.declared.field.TheConstants.{P}
 use Rattle.tv_doubles.specs.Within.{IsBase}
 
-by_base : (Q : ℕ → Type 0) → Q (2 ^ 16) → Q (2 ^ 32) → (b : ℕ) → IsBase b → Q b
+-- what holds at both bases holds at a base
+pub by_base : (Q : ℕ → Type 0) → Q (2 ^ 16) → Q (2 ^ 32) → (b : ℕ) → IsBase b → Q b
 by_base Q x y b (inl e) = subst Q (sym e) x
 by_base Q x y b (inr e) = subst Q (sym e) y
 

@@ -1,0 +1,10 @@
+pub mod Differences
+pub mod Guard
+pub mod Image
+pub mod Items
+pub mod Last
+pub mod Tape
+pub mod Within
+pub use Rattle.tv_core.specs.Combinations
+pub use Rattle.tv_core.specs.Values
+pub use Rattle.tv_core.specs.Sinks

@@ -1,0 +1,5 @@
+mod ExpandLaws
+mod ListLaws
+mod MatchLaws
+mod PlaceLaws
+mod TurnLaws

@@ -1,0 +1,3 @@
+pub mod Expansion
+pub mod Places
+pub mod Matching
