@@ -95,7 +95,7 @@ PARTS = (
         "Constraints",
         "Rank-1 constraints, what satisfies them, the two networks by name, the limits, and what it means that a "
         "system reduces a program's runs.",
-        ("tv_core", "tv_benes", "tv_layout"),
+        ("tv_core", "tv_stages", "tv_layout"),
     ),
     (
         "The files",

@@ -46,7 +46,7 @@ $shrink: removes linear constraints
 
 # The number of the layout of systems. It is raised whenever `build` writes other bytes for the same arguments, and then
 # the sums below are written anew.
-layout=1
+layout=2
 version="tinyr1cs $(cat "$top/VERSION"), layout of systems $layout\\n"
 
 # What the system says of a name that isn't there, of a folder, and of a full disk.
@@ -280,18 +280,18 @@ judges() {
 judges 'mov r1, 7\nanswer r1' '' 2 8 1 'no: public wire 1\n' 0 'answer 7 at step 2\n'
 judges 'mov r1, 7\nanswer r1' '' 2 '' 1 'no: public wire 1\n' 0 'answer 7 at step 2\n'
 judges 'mov r1, 7\nanswer r1' '' 2 8 1 'no: constraint ' 11 'not a run: answer 7 at step 2\n' 1 8
-# The witness of `answer 0` in one step has 485 values: at wire 2 the 0 of the start state, at 417 the first bit of a
-# reach, and at the end the excess of the last line, 0 too. Private are the wires 2 to 484, of which 243 is the middle.
+# The witness of `answer 0` in one step has 435 values: at wire 2 the 0 of the start state, at 367 the first bit of a
+# reach, and at the end the excess of the last line, 0 too. Private are the wires 2 to 434, of which 218 is the middle.
 judges 'answer 0' 5 2 '0 4294967296' 1 'no: constraint ' 11 'not a run: wire 2 is wide\n' 2 $((1 << 32))
 judges 'answer 0' '' 1 0 1 'no: constraint ' 0 'answer 0 at step 1\n' 2 1
-judges 'answer 0' '' 1 0 1 'no: constraint ' 0 'answer 0 at step 1\n' 417 2
-judges 'answer 0' '' 1 0 1 'no: constraint ' 0 'answer 0 at step 1\n' 484 1
-judges 'answer 0' '' 1 0 1 'no: constraint ' 0 'answer 0 at step 1\n' 243
+judges 'answer 0' '' 1 0 1 'no: constraint ' 0 'answer 0 at step 1\n' 367 2
+judges 'answer 0' '' 1 0 1 'no: constraint ' 0 'answer 0 at step 1\n' 434 1
+judges 'answer 0' '' 1 0 1 'no: constraint ' 0 'answer 0 at step 1\n' 218
 fill 'answer 0' '' 1
 file public 0
-shorten 484
-says 1 'no: 484 wires, 485 wanted\n' 'check system witness public'
-says 11 'not a run: 484 wires, 485 wanted\n' 'extract text 0 1 witness tape.out aux.out'
+shorten 434
+says 1 'no: 434 wires, 435 wanted\n' 'check system witness public'
+says 11 'not a run: 434 wires, 435 wanted\n' 'extract text 0 1 witness tape.out aux.out'
 
 # What `listing` writes of a program's witness: the order, the lines, and wires with new values.
 lists() {
@@ -507,9 +507,9 @@ lays_out() {
     count $? "layout $layout: $1: $said_by: $(md5sum <system)"
 }
 
-lays_out sum 4 16 '' 0fdefc24ee1fe11b37aae3a6cb0ea609
-lays_out search 1 8 waksman 3a8287a23d5ed8e269b19b6852e80d47
-lays_out divisor 2 16 '' f50b23830108fcea26642fa3c2b128cc
+lays_out sum 4 16 '' cd033069e52c1d06e32aa03f8d68b36d
+lays_out search 1 8 waksman 84e228effb161db76a0a21e0d5547f91
+lays_out divisor 2 16 '' 3712335c33a7cbc2d764b15cdeefd94c
 
 # Drawn programs, whose systems hold on the values of their runs, each time: the draws, the steps, wires and constraints,
 # and the sum that a reader of the files that `build` and `witness` write for the same program computes.
@@ -518,9 +518,9 @@ draws() {
     for i in 1 2; do says 0 "trial: steps $2, wires $3, constraints $4, sum $5, satisfied $4\n" "trial 0 $1"; done
 }
 
-draws 63 64 42424 43770 17937812576099561875
-draws 64 65 42809 44176 3716700188187603495
-draws 1023 1024 812152 833658 7183843305306303884
+draws 63 64 33890 35236 13454647276995662329
+draws 64 65 34413 35780 17733869466957625144
+draws 1023 1024 619678 641184 16434170743931403383
 
 # Systems that are shrunk. The front of a file without labels: its wires, those that are public beside wire 0, its
 # constraints and its terms.

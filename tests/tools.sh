@@ -94,6 +94,51 @@ fi
 [ ! -s error ]
 count $? "a hint off a terminal: $(cat error)"
 
+# The other program: what it prints, and its status.
+tools=$top/crates/tinyr1cs_tools/out/tinyr1cs_tools
+prints() {
+    local wanted=$1 status=$2
+    shift 2
+    "$tools" "$@" >printed 2>error
+    [ "$?" = "$status" ] && [ "$(cat printed)" = "$wanted" ]
+    count $? "tinyr1cs-tools $*: '$(cat printed error)', wanted '$wanted' and status $status"
+}
+
+if [ -x "$tools" ]; then
+    s=$top/examples/search
+    printf 'read r1, 0\nstore.w 64, r1\nread r1, 1\n.raw 0xc8000000, 7\n' >stops
+    printf '; TinyRAM W=16 K=16\nadd r1, r1, 65535\nadd r1, r1, 1\nanswer r1\n' >wraps
+    prints $'1 0 read r1, 0; r1 0 -> 1; flag 0; taken 1 0\n2 8 store.w 64, r1; cell 16 0 -> 1; flag 0; taken 1 0
+3 16 read r1, 1; r1 1 -> 0; flag 1; taken 1 0\n4 24 .raw 0xc8000000, 7; flag 1; taken 1 0\nundefined opcode 25 at step 4' \
+        1 trace stops one empty 9
+    prints $'2 8 store.w 64, r1; cell 16 0 -> 1; flag 0; taken 1 0\n4 24 .raw 0xc8000000, 7; flag 1; taken 1 0
+undefined opcode 25 at step 4' 1 trace stops one empty 9 --from 2 --count 1
+    prints $'2 8 store.w 64, r1; cell 16 0 -> 1; flag 0; taken 1 0\nno answer in 2 steps' 1 trace --from 2 stops one empty 2
+    prints $'1 0 add r1, r1, 65535; r1 0 -> 65535; flag 0; taken 0 0\n2 4 add r1, r1, 1; r1 65535 -> 0; flag 1; taken 0 0
+3 8 answer r1; flag 1; taken 0 0\nanswer 0 at step 3' 0 trace wraps empty empty 9
+    "$t" run "$s.asm" "$s.tape" "$s.aux" 8 >ends
+    prints "$(cat ends)" 0 trace "$s.asm" "$s.tape" "$s.aux" 8 --count 0
+    prints 'bad tape: word 2, item 0' 4 trace --count 1 stops bad empty 9
+    prints 'limit: steps 0, most 262144' 7 trace stops one empty 0
+    prints '' 8 trace absent one empty 1
+    prints '' 2 trace stops one empty
+    for network in '' waksman; do
+        "$t" build "$s.asm" 1 8 system $network
+        "$t" witness "$s.asm" "$s.tape" "$s.aux" 8 witness $network
+        "$tools" sizes "$s.asm" 1 8 $network >printed
+        [ "$?" = 0 ] && [ "$(sed -n 's/^bytes //p' printed)" = "$(wc -c <system)" ] &&
+            [ "$(sed -n 's/^wires //p' printed)" = $((($(wc -c <witness) - 52) / 8)) ]
+        count $? "tinyr1cs-tools sizes $network: $(cat printed)"
+    done
+    prints 'limit: tape words 131073, most 131072' 7 sizes "$s.asm" 131073 8
+    "$t" --version 2>wanted >/dev/null
+    prints "$(sed 's/tinyr1cs/tinyr1cs-tools/' wanted)" 0 --version
+    "$tools" trace --help >printed && grep -q '^Examples:' printed && "$tools" --help >printed && grep -q '^Examples:' printed
+    count $? 'tinyr1cs-tools: help with examples'
+else
+    echo 'without tinyr1cs-tools: not all is tried'
+fi
+
 # The manual, which `man` reads without a complaint, and which has each command.
 if has man; then
     for page in "$top"/docs/*.1; do
@@ -135,7 +180,8 @@ completes 'register' tinyr1cs asm reg
 # What is installed, where the library is built too.
 if [ "$t" = "$top/crates/tinyr1cs/out/tinyr1cs" ] && [ -f "$top/crates/tinyr1cs_c/out/libtinyr1cs_c.a" ]; then
     DESTDIR=$scratch "$top/bin/install" /usr >installed 2>&1 && cmp -s "$t" usr/bin/tinyr1cs &&
-        cmp -s "$top/docs/tinyr1cs.1" usr/share/man/man1/tinyr1cs.1 && [ -f usr/include/tinyr1cs.h ] &&
+        cmp -s "$top/docs/tinyr1cs.1" usr/share/man/man1/tinyr1cs.1 && cmp -s "$tools" usr/bin/tinyr1cs-tools &&
+        [ -f usr/share/man/man1/tinyr1cs-tools.1 ] && [ -f usr/include/tinyr1cs.h ] &&
         [ -f usr/lib/libtinyr1cs_c.a ] && [ -f usr/share/bash-completion/completions/tinyr1cs ] &&
         [ -f usr/share/doc/tinyr1cs/COMMANDS.md ]
     count $? "bin/install: $(cat installed)"

@@ -3,7 +3,7 @@
 # read, a witness longer than the memory that there is, long words and words that aren't UTF-8, and one file under two
 # paths.
 #
-#     bench/edges.sh [BINARY]
+#     tests/edges.sh [BINARY]
 #
 # A line of the table is: exit status, standard output, standard error, the files that are new or changed, and the
 # command, where `$t` is the program. Each runs in a folder of its own that holds a program P, whose image I is, its

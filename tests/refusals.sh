@@ -2,7 +2,7 @@
 # The program without memory: of each command every allocation is refused in turn, once that one alone and once with
 # all after it.
 #
-#     bench/refusals.sh [BINARY]
+#     tests/refusals.sh [BINARY]
 #
 # The answer is then that of the unrefused run, with the same files; or status 9, `no memory` on standard error, at most
 # a first part of the line said, and each name that is written holding a first part of what it should hold, or what it
@@ -19,7 +19,7 @@ export LC_ALL=C
 passed=0
 failed=0
 
-cc -std=gnu11 -O1 -shared -fPIC -o "$scratch/refuse.so" "$top/bench/refuse.c" || exit 2
+cc -std=gnu11 -O1 -shared -fPIC -o "$scratch/refuse.so" "$top/tests/refuse.c" || exit 2
 
 # The example that takes a factor from the auxiliary tape, a system and values of it, and the sample of the formats.
 mkdir "$scratch/base" && cd "$scratch/base" || exit 2
