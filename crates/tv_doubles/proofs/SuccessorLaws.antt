@@ -30,7 +30,7 @@ module _ (n : ℕ) (line : ℕ → DoubleLine) (few : n ≤ 2 ^ 20) where
   place_of_key : (i : ℕ) → i < n → k i % 2 ^ 20 ≡ i
   place_of_key i h = omega arith
 
-  sorted : IsPermutation (places n (λ i. i)) order
+  pub sorted : IsPermutation (places n (λ i. i)) order
   sorted = subst (λ ps. IsPermutation ps order)
       (map_places n (key line) (λ k. k % 2 ^ 20) ∙ places-same n (λ i. key line i % 2 ^ 20) (λ i. i) place_of_key)
       (IsPermutation-map (λ k. k % 2 ^ 20) keys (rising keys) (rising_moves keys))

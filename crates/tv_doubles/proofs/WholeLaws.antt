@@ -17,7 +17,7 @@ use Rattle.tv_doubles.specs.Whole.Kind.{Step, Image, Tape, Guard}
 use Rattle.tv_doubles.specs.Within.{item_first, item_second, Joins, excess_between}
 
 -- a place whose line is the first of its double cell moves or stays, also where its time isn't checked
-joined : (p : ℕ → ℕ) (line : ℕ → DoubleLine) (i : ℕ) → IsFirst line i → Joins (line i) (line (p i))
+pub joined : (p : ℕ → ℕ) (line : ℕ → DoubleLine) (i : ℕ) → IsFirst line i → Joins (line i) (line (p i))
     → Succeeds (line i) i (line (p i)) (p i) ⊎ Stays p line i
 joined p line i first (inl (low, none)) =
     inl (record { rises = inl low; carried = λ same. absurd (omega arith); fresh = λ apart. none })
@@ -105,6 +105,10 @@ module _ (b n : ℕ) (line : ℕ → DoubleLine) (kind : ℕ → Kind) (lines : 
       | inl same ↦ omega arith
       | inr apart ↦ omega (arith, near i h apart)
     ]
+
+    pub next_cell : (i : ℕ) → i + 1 < n → gap (kind i) (m i) ≡ 1 → (line (successor n line i)).cell ≤ (line i).cell + 1
+    unfolding s
+    next_cell i h e = one_up i h e
 
     -- the reach in time and that in cells
     time_fits : (i : ℕ) → i + 1 < n → IsTimed (kind i) → (line i).cell ≡ (line (s i)).cell → s i - i - 1 < 2 ^ m i

@@ -1,5 +1,5 @@
 -- The single lines of double lines: each access of a word of a double cell is a line of its own.
-use Rattle.std.specs.Prelude.{◌≡◌, ℕ, zero, suc, ◌<◌, ◌==◌, if◌then◌else◌, Bool, true, false, List, [], ◌∷◌, ◌++◌, fold}
+use Rattle.std.specs.Prelude.{◌≡◌, ℕ, zero, suc, ◌<◌, Bool, true, false, List, [], ◌∷◌, ◌++◌}
 use Rattle.tv_core.specs.Lines.{Line, Honest, memory_after}
 use Rattle.tv_doubles.specs.Doubles.{Words, DoubleLine, HonestDoubles, before}
 

@@ -1,0 +1,15 @@
+mod Bases
+pub mod CheckCosts
+pub mod Complete
+pub mod Costs
+mod FewTerms
+mod Given
+mod ItemsRead
+pub mod Made
+pub mod NormalLaws
+pub mod Order
+pub mod Sizes
+pub mod Sound
+mod Sums
+mod Widths
+mod Written

@@ -1,0 +1,11 @@
+pub mod Argument
+pub mod Checks
+pub mod Costs
+pub mod Memory
+pub mod Order
+pub use Rattle.tv_core.specs.Below
+pub use Rattle.tv_core.specs.Values
+pub use Rattle.tv_core.specs.Loops
+pub use Rattle.tv_core.specs.Sinks
+pub use Rattle.tv_double_checks.specs.Items
+pub use Rattle.tv_network.specs.Filling
