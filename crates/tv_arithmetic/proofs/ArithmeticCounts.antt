@@ -27,7 +27,8 @@ use Rattle.tv_rows.specs.Power.{shift_power_values}
 use Rattle.tv_rows.specs.RowShift.{right_shift_of, right_shift_values}
 use Rattle.tv_rows.specs.declared.powers.ShiftPower.{ShiftPower}
 use Rattle.tv_inputs.proofs.Sized.{Sized, sized_then, none_more, sized_pure, sized_as}
-use Rattle.tv_arithmetic.specs.Arithmetic.{bitwise_ops, difference_ops, strict_ops, signed_ops, product_ops, division_ops, with_sign, rows_of, sums_of}
+use Rattle.tv_arithmetic.specs.Arithmetic.{bitwise_ops, difference_ops, strict_ops, signed_ops, product_ops, division_ops, free_ops, with_sign, rows_of}
+use Rattle.tv_arithmetic.specs.Arithmetic.{sums_of}
 use Rattle.tv_arithmetic.specs.Arithmetic.{products_of, shifts_of, arithmetic_of, decomposed_word}
 use Rattle.tv_arithmetic.specs.Arithmetic.{rows_values, sums_values, products_values, shifts_values, arithmetic_values, ArithmeticSizes, ArithmeticCosts}
 use Rattle.tv_inputs.specs.Inputs.{operation_of}
@@ -37,10 +38,10 @@ use Rattle.tv_inputs.specs.declared.records.OperandWires.{OperandWires}
 use Rattle.tv_inputs.specs.declared.records.RowWires.{RowWires}
 
 module _ (w : ℕ) (width : IsWidth w) (op other f : ℕ) (operand : OperandWires) where
-  pub rows_sized : Sized (rows_of w op) (3 * w + 3) (3 * w + 3) (11 * w + 9)
+  pub rows_sized : Sized (rows_of w op) (3 * w + 3) (3 * w + 3) (11 * w + 13)
   unfolding rows_of
   rows_sized =
-      let signed = opcode_sum op (8 ∷ []) in
+      let signed = opcode_sum op free_ops in
       sized_as
       (sized_then _ (record { end = new_bits_next w; count = new_bits_constraints w; size = new_bits_terms w })
       (λ next. sized_then _
@@ -128,7 +129,7 @@ module _ (w : ℕ) (width : IsWidth w) (op other f : ℕ) (operand : OperandWire
         (λ at. sized_then _ (shift_sized _ _).0 (λ here. sized_then _ (shift_sized _ _).1 (λ last. sized_pure _)))))
         (omega arith) (omega arith) (omega arith)
 
-  arithmetic_sized : Sized (arithmetic_of w op other f operand) (3 * w + w / 16 + 12) (3 * w + w / 16 + 22) (16 * w + w / 4 + 102)
+  arithmetic_sized : Sized (arithmetic_of w op other f operand) (3 * w + w / 16 + 12) (3 * w + w / 16 + 22) (16 * w + w / 4 + 106)
   unfolding arithmetic_of
   arithmetic_sized =
       sized_as (sized_then _ rows_sized (λ next. sized_then _ (sums_sized _) (λ at. sized_then _ (products_sized _) (λ here. sized_then _ (shifts_sized _)
@@ -151,7 +152,7 @@ unfolding rows_of pure ◌>>=◌ row_of rows_from
 rows_answer w op next =
     let from = new_bits_next w next in
     ap₂ rows_from (new_bits_answer w next)
-    (double_row_answer w (opcode_sum op (8 ∷ [])) (new_bits_of w next).next
+    (double_row_answer w (opcode_sum op free_ops) (new_bits_of w next).next
     ∙ row_same (new_bits_of w next).next ((new_bits_of w next).next + 2 * w) ((new_bits_of w next).next + (2 * w + 1)) (next + w) (next + 3 * w)
     (next + (3 * w + 1)) from (omega (arith, from)) (omega (arith, from)))
 
@@ -190,7 +191,7 @@ power_length w width a =
 
 pub rows_length : (w k x a low high : ℕ) → length (rows_values w k x a low high) ≡ 3 * w + 3
 rows_length w k x a low high =
-    let signed = flag_of (among (8 ∷ []) k) in
+    let signed = flag_of (among free_ops k) in
     length-append (bits_values (decomposed_word w k x a) w) (double_row_values w low high signed)
     ∙ ap₂ (λ m n. m + n) (length-bits (decomposed_word w k x a) w) (double_length w low high signed) ∙ (let e : w + (2 * w + 3) ≡ 3 * w + 3 = omega arith in e)
 
@@ -219,8 +220,8 @@ arithmetic_in_field w width k x a g low high l h =
     let rights = right_shift_values w low high (2 ^ (a % w)) in
     let signed = row_signed_product_values w x (bit_at v (w - 1)) a (bit_at a (w - 1)) in
     InField-append (rows_values w k x a low high) (sums_values w k x a ++ (products_values w k x a ++ shifts))
-    (InField-append (bits_values v w) (double_row_values w low high (flag_of (among (8 ∷ []) k))) (bits_in_field v w)
-    (double_row_sizes.in_field w low high (flag_of (among (8 ∷ []) k)) l h))
+    (InField-append (bits_values v w) (double_row_values w low high (flag_of (among free_ops k))) (bits_in_field v w)
+    (double_row_sizes.in_field w low high (flag_of (among free_ops k)) l h))
     (InField-append (sums_values w k x a) (products_values w k x a ++ shifts) (row_difference_sizes.in_field w (flag_of (among signed_ops k)) v a)
     (InField-append (products_values w k x a) shifts
     (InField-append (row_product_values x a) signed (row_product_sizes.in_field x a)

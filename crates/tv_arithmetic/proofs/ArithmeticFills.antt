@@ -33,7 +33,8 @@ use Rattle.tv_arithmetic.proofs.ArithmeticCounts.{rows_sized, sums_sized, produc
 use Rattle.tv_arithmetic.proofs.ArithmeticLaws.{gate, on, off, gate_bit, a_word, x_here, a_here, left_word, right_word}
 use Rattle.tv_arithmetic.proofs.ArithmeticLaws.{left_is_shift, right_is_shift, kept_word}
 use Rattle.tv_arithmetic.proofs.ArithmeticNumbers.{apart_is, Operated, operated_by, FitsRow, numbers_fit, shifted_below, place_below}
-use Rattle.tv_arithmetic.specs.Arithmetic.{bitwise_ops, difference_ops, strict_ops, signed_ops, product_ops, division_ops, shift_ops, with_sign, rows_of}
+use Rattle.tv_arithmetic.specs.Arithmetic.{bitwise_ops, difference_ops, strict_ops, signed_ops, product_ops, division_ops, shift_ops, free_ops, with_sign}
+use Rattle.tv_arithmetic.specs.Arithmetic.{rows_of}
 use Rattle.tv_arithmetic.specs.Arithmetic.{sums_of, products_of, shifts_of, arithmetic_of, decomposed_word, low_number, high_number, rows_values, sums_values}
 use Rattle.tv_arithmetic.specs.Arithmetic.{products_values, shifts_values, HasArithmetic, ArithmeticIsComplete}
 use Rattle.tv_inputs.specs.Inputs.{operation_of}
@@ -77,11 +78,11 @@ module _ (w : ℕ) (width : IsWidth w) (z : List ℕ) (op other f : ℕ) (operan
       (rows_of w op next).answer v low high
   unfolding rows_of pure ◌>>=◌
   rows_have next low high meets values =
-      let signed = opcode_sum op (8 ∷ []) in
+      let signed = opcode_sum op free_ops in
       let bits = new_bits_of w next in
       let row = double_row_of w signed bits.next in
-      let parts = HasFrom-split z next (bits_values v w) (double_row_values w low high (flag_of (among (8 ∷ []) k))) values in
-      let words = low ∷ high ∷ ratio_values (above_edge_in w high (flag_of (among (8 ∷ []) k))) low in
+      let parts = HasFrom-split z next (bits_values v w) (double_row_values w low high (flag_of (among free_ops k))) values in
+      let words = low ∷ high ∷ ratio_values (above_edge_in w high (flag_of (among free_ops k))) low in
       let lows = HasFrom-split z (next + length (bits_values v w)) (bits_values low w) (bits_values high w ++ words) parts.1 in
       let highs = HasFrom-split z (next + length (bits_values v w) + length (bits_values low w)) (bits_values high w) words lows.1 in
       let at : ℕ = next + length (bits_values v w) + length (bits_values low w) + length (bits_values high w) in
@@ -97,20 +98,20 @@ module _ (w : ℕ) (width : IsWidth w) (z : List ℕ) (op other f : ℕ) (operan
         high_wire = ap (λ (d : DoubleRow). slice_index z d.high) answer ∙ ap (slice_index z) after ∙ highs.1.1.0;
       }
 
-  rows_met : (next low high : ℕ) → FitsRow w low high (among (8 ∷ []) k) → HasFrom z next (rows_values w k x a low high) → Meets z (rows_of w op next).list
+  rows_met : (next low high : ℕ) → FitsRow w low high (among free_ops k) → HasFrom z next (rows_values w k x a low high) → Meets z (rows_of w op next).list
   unfolding rows_of pure ◌>>=◌
   rows_met next low high fits values =
-      let signed = opcode_sum op (8 ∷ []) in
+      let signed = opcode_sum op free_ops in
       let bits = new_bits_of w next in
       let row = double_row_of w signed bits.next in
-      let is_signed = gate w width z op other f operand k x a has (8 ∷ []) refl in
-      let parts = HasFrom-split z next (bits_values v w) (double_row_values w low high (flag_of (among (8 ∷ []) k))) values in
+      let is_signed = gate w width z op other f operand k x a has free_ops refl in
+      let parts = HasFrom-split z next (bits_values v w) (double_row_values w low high (flag_of (among free_ops k))) values in
       let place : next + length (bits_values v w) ≡ bits.next = ap (λ n. next + n) (length-bits v w) ∙ sym (new_bits_next w next) in
-      let there = subst (λ n. HasFrom z n (double_row_values w low high (flag_of (among (8 ∷ []) k)))) place parts.1 in
+      let there = subst (λ n. HasFrom z n (double_row_values w low high (flag_of (among free_ops k)))) place parts.1 in
       let m1 = new_bits_complete z next w v has.assigns parts.0 in
       let m2 = double_row_complete w width z bits.next signed low high has.assigns fits.low_word fits.high_word
-      (gate_bit w width z op other f operand k x a has (8 ∷ []) refl)
-      (λ e. fits.row (closed (among (8 ∷ []) k) (sym is_signed ∙ e)))
+      (gate_bit w width z op other f operand k x a has free_ops refl)
+      (λ e. fits.row (closed (among free_ops k) (sym is_signed ∙ e)))
       (subst (λ n. HasFrom z bits.next (double_row_values w low high n)) (sym is_signed) there) in
       Meets-join z bits.list _ m1 (Meets-join z row.list _ m2 tt)
 
@@ -270,9 +271,9 @@ module _ (w : ℕ) (width : IsWidth w) (z : List ℕ) (op other f : ℕ) (operan
 
 pub arithmetic_complete : ArithmeticIsComplete
 unfolding arithmetic_of pure ◌>>=◌
-arithmetic_complete w width z next op other f operand k x a o has by_zero o_word values =
+arithmetic_complete w width z next op other f operand k x a o h has by_zero o_word h_word none values =
     let low = low_number w k x a o in
-    let high = high_number w k x a in
+    let high = high_number w k x a h in
     let r = rows_of w op next in
     let sums = sums_of w op other operand r.answer r.next in
     let products = products_of w op other operand r.answer sums.next in
@@ -281,7 +282,7 @@ arithmetic_complete w width z next op other f operand k x a o has by_zero o_word
     let v2 = sums_values w k x a in
     let v3 = products_values w k x a in
     let v4 = shifts_values w x a (slice_index z f) low high in
-    let fits = numbers_fit w width x a o has.word (a_word w width z op other f operand k x a has) o_word k has.opcode.within has.opcode.used in
+    let fits = numbers_fit w width x a o h has.word (a_word w width z op other f operand k x a has) o_word h_word k has.opcode.within has.opcode.used none in
     let s1 = HasFrom-split z next v1 (v2 ++ (v3 ++ v4)) values in
     let e1 : r.next ≡ next + length v1 = (rows_sized w width op other f operand).end next ∙ ap (λ n. next + n) (sym (rows_length w k x a low high)) in
     let e2 : sums.next ≡ next + length v1 + 1 = (sums_sized w width op other f operand r.answer).end r.next ∙ ap (λ n. n + 1) e1 in
@@ -290,7 +291,7 @@ arithmetic_complete w width z next op other f operand k x a o has by_zero o_word
     let s3 = HasFrom-split z (next + length v1 + 1) v3 v4 s2.1 in
     let m1 = rows_met w width z op other f operand k x a has next low high fits s1.0 in
     let have = rows_have w width z op other f operand k x a has next low high m1 s1.0 in
-    let operated = operated_by w width z r.answer.row f k x a o have.low_wire have.high_wire by_zero in
+    let operated = operated_by w width z r.answer.row f k x a o h have.low_wire have.high_wire by_zero in
     let m2 = sums_met w width z op other f operand k x a has r.answer r.next low high have operated (subst (λ n. HasFrom z n v2) (sym e1) s2.0) in
     let m3 = products_met w width z op other f operand k x a has r.answer sums.next low high have operated (subst (λ n. HasFrom z n v3) (sym e2) s3.0) in
     let m4 = shifts_met w width z op other f operand k x a has r.answer products.next low high have operated (subst (λ n. HasFrom z n v4) (sym e3) s3.1) in

@@ -33,7 +33,8 @@ use Rattle.tv_word.proofs.FlagLaws.{flag_small}
 use Rattle.tv_arithmetic.proofs.ArithmeticNumbers.{apart_is, halves_by, shifted_below, place_below, power_below}
 use Rattle.tv_inputs.proofs.FieldNumbers.{small_word}
 use Rattle.tv_inputs.proofs.OpcodeLaws.{opcode_sum_sound}
-use Rattle.tv_arithmetic.specs.Arithmetic.{bitwise_ops, difference_ops, strict_ops, signed_ops, product_ops, division_ops, shift_ops, with_sign, rows_of}
+use Rattle.tv_arithmetic.specs.Arithmetic.{bitwise_ops, difference_ops, strict_ops, signed_ops, product_ops, division_ops, shift_ops, free_ops, with_sign}
+use Rattle.tv_arithmetic.specs.Arithmetic.{rows_of}
 use Rattle.tv_arithmetic.specs.Arithmetic.{sums_of, products_of, shifts_of, arithmetic_of, HasArithmetic, ArithmeticIsSound}
 use Rattle.tv_inputs.specs.Inputs.{operation_of}
 use Rattle.tv_inputs.specs.OpcodeSums.{opcode_sum, distinct}
@@ -77,7 +78,7 @@ pub record RowsHold (w : ℕ) (z : List ℕ) (k : ℕ) (r : RowWires) : Type 0 w
   pub v : ℕ
   pub bits : HasBits z r.x.first w v
   pub decomposes : HasRowBits w z r.row
-  pub row : among (8 ∷ []) k ≡ false → IsRow w (slice_index z r.row.low) (slice_index z r.row.high)
+  pub row : among free_ops k ≡ false → IsRow w (slice_index z r.row.low) (slice_index z r.row.high)
 
 -- what the constraints of a division and the shifts say
 pub record ShiftsHold (w : ℕ) (z : List ℕ) (r : RowWires) (f : ℕ) (operand : OperandWires) (both k x a : ℕ) : Type 0 where
@@ -133,7 +134,7 @@ module _ (w : ℕ) (width : IsWidth w) (z : List ℕ) (op other f : ℕ) (operan
   rows_sound : (next : ℕ) → Meets z (rows_of w op next).list → RowsHold w z k (rows_of w op next).answer
   unfolding rows_of pure ◌>>=◌
   rows_sound next meets =
-      let signed = opcode_sum op (8 ∷ []) in
+      let signed = opcode_sum op free_ops in
       let bits = new_bits_of w next in
       let row = double_row_of w signed bits.next in
       let m1 = Meets-split z bits.list _ meets in
@@ -142,7 +143,7 @@ module _ (w : ℕ) (width : IsWidth w) (z : List ℕ) (op other f : ℕ) (operan
         v = binary_value z bits.answer.first w;
         bits = new_bits_sound z next w has.assigns m1.0;
         decomposes = double_row_sound.decomposes w width z bits.next signed has.assigns m2.0;
-        row = λ e. double_row_sound.row w width z bits.next signed has.assigns (off (8 ∷ []) refl e) m2.0;
+        row = λ e. double_row_sound.row w width z bits.next signed has.assigns (off free_ops refl e) m2.0;
       }
 
   module _ (r : RowWires) (next : ℕ) (rows : RowsHold w z k r) where
@@ -172,7 +173,7 @@ module _ (w : ℕ) (width : IsWidth w) (z : List ℕ) (op other f : ℕ) (operan
           division = λ t.
               let is = row_division_sound.on w width z next divide other operand.word f r.x r.row rows.v has.assigns (on division_ops refl t)
               (has.divides t) x_here a_here
-              (rows.row (apart_is division_ops (8 ∷ []) k refl t)) rows.bits m1.0 in
+              (rows.row (apart_is division_ops free_ops k refl t)) rows.bits m1.0 in
               subst (λ n. IsRowDivision z r.row f x n) has.taken.word (subst (λ n. IsRowDivision z r.row f n (slice_index z operand.word)) has.held is);
           same = λ t.
               let is = row_division_sound.off w width z next divide other operand.word f r.x r.row rows.v has.assigns
@@ -182,7 +183,7 @@ module _ (w : ℕ) (width : IsWidth w) (z : List ℕ) (op other f : ℕ) (operan
               let shift = left_is_shift k t in
               let is = row_product_sound w width z power.next (opcode_sum op (11 ∷ [])) division.answer power.answer.power r.row has.assigns
               (on (11 ∷ []) refl t) (kept_small shift) (subst (λ n. n < 2 ^ w) (sym powered.power) (power_below w width a))
-              (rows.row (apart_is (11 ∷ []) (8 ∷ []) k refl t)) m3.0 in
+              (rows.row (apart_is (11 ∷ []) free_ops k refl t)) m3.0 in
               subst (λ n. IsRowProduct w z r.row (shifted_word w x a) n) powered.power
               (subst (λ n. IsRowProduct w z r.row n (slice_index z power.answer.power)) (kept_is shift) is);
           right = λ t.
@@ -190,7 +191,7 @@ module _ (w : ℕ) (width : IsWidth w) (z : List ℕ) (op other f : ℕ) (operan
               subst (λ n. IsRightShift w z r.row n (a % w)) (kept_is shift)
               (right_shift_sound w width z left.next (opcode_sum op (12 ∷ [])) division.answer power.answer.power r.row (a % w) has.assigns
               (on (12 ∷ []) refl t)
-              (kept_small shift) (place_below w width a) powered.power (rows.row (apart_is (12 ∷ []) (8 ∷ []) k refl t)) m4.0);
+              (kept_small shift) (place_below w width a) powered.power (rows.row (apart_is (12 ∷ []) free_ops k refl t)) m4.0);
           product = powered.both ∙ sym (bits_product (bit_at a 0) (bit_at a 1) (bit_at-lt a 0) (bit_at-lt a 1)) ∙ sym (ap₂ (λ m n. m * n % P) lowest second);
         }
 
@@ -208,14 +209,14 @@ module _ (w : ℕ) (width : IsWidth w) (z : List ℕ) (op other f : ℕ) (operan
           record {
             sum = λ t.
                 let is = row_sum_sound w width z next (opcode_sum op (4 ∷ [])) other operand.word r.row has.assigns (on (4 ∷ []) refl t) x_here a_here
-                (rows.row (apart_is (4 ∷ []) (8 ∷ []) k refl t)) m1.0 in
+                (rows.row (apart_is (4 ∷ []) free_ops k refl t)) m1.0 in
                 subst (λ n. IsRowSum w z r.row x n) has.taken.word (subst (λ n. IsRowSum w z r.row n (slice_index z operand.word)) has.held is);
             difference = λ t.
                 let is = row_difference_sound w width z sum.next (opcode_sum op difference_ops) (opcode_sum op signed_ops)
                 (opcode_sum op strict_ops) left right r.row x a has.assigns
                 (on difference_ops refl t) (gate_bit signed_ops refl) (gate_bit strict_ops refl)
                 (left_word r.x.first (same (apart_is difference_ops division_ops k refl t))) right_word
-                (rows.row (apart_is difference_ops (8 ∷ []) k refl t)) m2.0 in
+                (rows.row (apart_is difference_ops free_ops k refl t)) m2.0 in
                 subst (λ n. IsRowDifference w z r.row (comparing (flag_of (among signed_ops k)) n) x a) (gate strict_ops refl)
                 (subst (λ n. IsRowDifference w z r.row (comparing n (value (opcode_sum op strict_ops) z)) x a) (gate signed_ops refl) is);
             bitwise = λ t.
@@ -235,7 +236,7 @@ module _ (w : ℕ) (width : IsWidth w) (z : List ℕ) (op other f : ℕ) (operan
           record {
             product = λ t.
                 let is = row_product_sound w width z next (opcode_sum op product_ops) other operand.word r.row has.assigns (on product_ops refl t) x_here a_here
-                (rows.row (apart_is product_ops (8 ∷ []) k refl t)) m1.0 in
+                (rows.row (apart_is product_ops free_ops k refl t)) m1.0 in
                 subst (λ n. IsRowProduct w z r.row x n) has.taken.word (subst (λ n. IsRowProduct w z r.row n (slice_index z operand.word)) has.held is);
             signed_product = λ t.
                 row_signed_product_sound w width z product.next (opcode_sum op (8 ∷ [])) left right r.row x a has.assigns (on (8 ∷ []) refl t)

@@ -1,13 +1,13 @@
 -- What the double row holds by the operation of an opcode, and the halves that this makes.
 use Rattle.tv_core.proofs.Common.{◌≡◌, ℕ, ◌+◌, ◌-◌, ◌/◌, ◌%◌, ◌^◌, ◌<◌, ◌==◌, nat_lt, not, Bool, true, false, if◌then◌else◌, List, [], ◌∷◌, drop, refl, sym}
-use Rattle.tv_core.proofs.Common.{◌∙◌, ap, arith, mod-lt, slice_index, eqb-true, nat_tests, width_short, IsWidth, flag_of}
+use Rattle.tv_core.proofs.Common.{◌∙◌, ap, subst, arith, mod-lt, slice_index, eqb-true, nat_tests, width_short, IsWidth, flag_of}
 use Rattle.std.proofs.Common.{true≢false}
 use Rattle.std.proofs.Math.Pow.{pow-lt}
 use Rattle.std.specs.Prelude.{◌&&◌, bit_and, bit_xor}
 use Rattle.std.proofs.lemmas.Bool.{and_parts, not-true}
 use Rattle.tv_bits.specs.DoubleRow.{IsRow}
 use Rattle.tv_bits.specs.declared.double_rows.DoubleRow.{DoubleRow}
-use Rattle.tv_isa.specs.Opcodes.{among, chosen, unused_ops}
+use Rattle.tv_isa.specs.Opcodes.{among, chosen, memory_ops, unused_ops}
 use Rattle.tv_rows.proofs.RowDifferenceLaws.{row_difference_complete}
 use Rattle.tv_rows.proofs.RowSumLaws.{row_sum_complete}
 use Rattle.tv_rows.specs.RowDifference.{comparing, IsRowDifference}
@@ -24,7 +24,8 @@ use Rattle.tv_rows.proofs.RowShiftLaws.{right_shift_complete}
 use Rattle.tv_rows.specs.RowShift.{IsRightShift, shifted_word}
 use Rattle.tv_numbers.proofs.Cases.{out, EachOf, each_of, word_ops, compare_ops, for_opcode}
 use Rattle.tv_arithmetic.proofs.OpcodeCases.{EachEntry, by_entry}
-use Rattle.tv_arithmetic.specs.Arithmetic.{bitwise_ops, difference_ops, strict_ops, signed_ops, product_ops, division_ops, low_number, high_number}
+use Rattle.tv_arithmetic.specs.Arithmetic.{bitwise_ops, difference_ops, strict_ops, signed_ops, product_ops, division_ops, free_ops, high_numbers, low_number}
+use Rattle.tv_arithmetic.specs.Arithmetic.{high_number}
 use Rattle.tv_inputs.specs.Rows.{covers, low_halves, high_halves, AreHalves}
 
 -- ---- groups of opcodes
@@ -131,12 +132,12 @@ module _ (w : ℕ) (width : IsWidth w) (z : List ℕ) (row : DoubleRow) (f x a :
   halves_by k low high o = record { low_word = low; high_word = high; low_half = λ t. low_is k t o; high_half = λ t. high_is k t o }
 
 -- ---- the other way round: a row that holds the numbers
-module _ (w : ℕ) (width : IsWidth w) (z : List ℕ) (row : DoubleRow) (f k x a o : ℕ) where
-  module _ (low : slice_index z row.low ≡ low_number w k x a o) (high : slice_index z row.high ≡ high_number w k x a)
+module _ (w : ℕ) (width : IsWidth w) (z : List ℕ) (row : DoubleRow) (f k x a o h : ℕ) where
+  module _ (low : slice_index z row.low ≡ low_number w k x a o) (high : slice_index z row.high ≡ high_number w k x a h)
       (by_zero : among division_ops k ≡ true → slice_index z f ≡ flag_of (a == 0)) where
-    at : (ks : List ℕ) (T : ℕ → Type 0) → EachOf (λ j. slice_index z row.low ≡ low_number w j x a o → slice_index z row.high ≡ high_number w j x a → T j) ks
+    at : (ks : List ℕ) (T : ℕ → Type 0) → EachOf (λ j. slice_index z row.low ≡ low_number w j x a o → slice_index z row.high ≡ high_number w j x a h → T j) ks
         → among ks k ≡ true → T k
-    at ks T each t = each_of (λ j. slice_index z row.low ≡ low_number w j x a o → slice_index z row.high ≡ high_number w j x a → T j) ks each k t low high
+    at ks T each t = each_of (λ j. slice_index z row.low ≡ low_number w j x a o → slice_index z row.high ≡ high_number w j x a h → T j) ks each k t low high
 
     pub operated_by : Operated w z row f k x a
     operated_by = record {
@@ -161,7 +162,7 @@ module _ (w : ℕ) (width : IsWidth w) (z : List ℕ) (row : DoubleRow) (f k x a
       right = at (12 ∷ []) (λ _. IsRightShift w z row (shifted_word w x a) (a % w)) ((λ l h. record { low = l; high = h }), tt);
     }
 
--- ---- the numbers are words, and a row but at smulh
+-- ---- the numbers are words, and a row but at the free opcodes
 pub record FitsRow (w low high : ℕ) (signed : Bool) : Type 0 where
   pub low_word : low < 2 ^ w
   pub high_word : high < 2 ^ w
@@ -189,12 +190,15 @@ place_below w width a = mod-lt a (let most = width_short w width in let positive
 pub power_below : (w : ℕ) → IsWidth w → (a : ℕ) → 2 ^ (a % w) < 2 ^ w
 power_below w width a = pow-lt (place_below w width a)
 
-module _ (w : ℕ) (width : IsWidth w) (x a o : ℕ) (x_word : x < 2 ^ w) (a_word : a < 2 ^ w) (o_word : o < 2 ^ w) where
+module _ (w : ℕ) (width : IsWidth w) (x a o h : ℕ) (x_word : x < 2 ^ w) (a_word : a < 2 ^ w) (o_word : o < 2 ^ w) (h_word : h < 2 ^ w) where
   abbrev Fitting : ℕ → Type 0
-  Fitting k = FitsRow w (low_number w k x a o) (high_number w k x a) (among (8 ∷ []) k)
+  Fitting k = (among memory_ops k ≡ false → h ≡ 0) → FitsRow w (low_number w k x a o) (high_number w k x a h) (among free_ops k)
 
-  by_data : FitsRow w o 0 false
-  by_data = of_row (data_row w width o o_word)
+  by_data : h ≡ 0 → FitsRow w o h false
+  by_data none = subst (λ n. FitsRow w o n false) (sym none) (of_row (data_row w width o o_word))
+
+  by_memory : FitsRow w o h true
+  by_memory = record { low_word = o_word; high_word = h_word; row = λ e. absurd (true≢false e) }
 
   by_bits : FitsRow w (bit_and x a) (bit_xor x a) false
   by_bits = of_row (bitwise_complete.row w width x a x_word a_word)
@@ -210,23 +214,38 @@ module _ (w : ℕ) (width : IsWidth w) (x a o : ℕ) (x_word : x < 2 ^ w) (a_wor
       let division = row_division_complete.row w width x a x_word a_word in
       let left = row_product_complete.row w width v (2 ^ (a % w)) v_word (power_below w width a) in
       let right = right_shift_complete.row w width v (a % w) v_word (place_below w width a) in
-      let signed : Fitting 8 = record { low_word = words.0; high_word = words.1; row = λ e. absurd (true≢false e) } in
-      let shifts : EachOf Fitting (drop 9 word_ops) = (of_row division, (of_row division, (of_row left, (of_row right, tt)))) in
-      let products : EachOf Fitting (drop 4 word_ops) = (of_row sum, (of_row (difference 0 0 x a), (of_row product, (of_row product, (signed, shifts))))) in
-      let orders : EachOf Fitting (drop 2 compare_ops) = (of_row (difference 0 0 x a), (of_row (difference 1 1 x a), (of_row (difference 1 0 x a), tt))) in
-      for_opcode Fitting (by_bits, (by_bits, (by_bits, (by_data, products)))) (of_row (difference 0 0 x a), (of_row (difference 0 1 x a), orders))
-      (by_data, (by_data, (by_data, (by_data, (by_data, tt))))) (by_data, (by_data, (by_data, (by_data, (by_data, (by_data, tt))))))
+      let signed : Fitting 8 = λ none. record { low_word = words.0; high_word = words.1; row = λ e. absurd (true≢false e) } in
+      let shifts : EachOf Fitting (drop 9 word_ops) =
+      ((λ none. of_row division), ((λ none. of_row division), ((λ none. of_row left), ((λ none. of_row right), tt)))) in
+      let products : EachOf Fitting (drop 4 word_ops) =
+      ((λ none. of_row sum), ((λ none. of_row (difference 0 0 x a)), ((λ none. of_row product), ((λ none. of_row product), (signed, shifts))))) in
+      let orders : EachOf Fitting (drop 2 compare_ops) =
+      ((λ none. of_row (difference 0 0 x a)), ((λ none. of_row (difference 1 1 x a)), ((λ none. of_row (difference 1 0 x a)), tt))) in
+      let by_word : (false ≡ false → h ≡ 0) → FitsRow w o h false = λ none. by_data (none refl) in
+      let both : (true ≡ false → h ≡ 0) → FitsRow w o h true = λ none. by_memory in
+      for_opcode Fitting ((λ none. by_bits), ((λ none. by_bits), ((λ none. by_bits), (by_word, products))))
+      ((λ none. of_row (difference 0 0 x a)), ((λ none. of_row (difference 0 1 x a)), orders))
+      (by_word, (by_word, (by_word, (by_word, (by_word, tt))))) (both, (both, (both, (both, (by_word, (by_word, tt))))))
 
-  -- at every opcode
+-- at every opcode
+module _ (w : ℕ) (width : IsWidth w) (x a o h : ℕ) (x_word : x < 2 ^ w) (a_word : a < 2 ^ w) (o_word : o < 2 ^ w) (h_word : h < 2 ^ w) where
   abbrev AreWords : ℕ → Type 0
-  AreWords k = (low_number w k x a o < 2 ^ w) × (high_number w k x a < 2 ^ w)
+  AreWords k = (low_number w k x a o < 2 ^ w) × (high_number w k x a h < 2 ^ w)
+
+  -- the word beside is another number of the same length
+  either : (b : Bool) (c : ℕ) → (if b then c else 0) < 2 ^ w → (if b then c else h) < 2 ^ w
+  either true c small = small
+  either false c small = h_word
 
   pub numbers_are_words : (k : ℕ) → k < 32 → AreWords k
   numbers_are_words k within = by_use (among unused_ops k) refl
     where
       free : AreWords 23
-      free = (by_data.low_word, by_data.high_word)
+      free = (o_word, h_word)
 
       by_use : (b : Bool) → among unused_ops k ≡ b → AreWords k
       by_use true e = each_of AreWords unused_ops (free, (free, (free, tt))) k e
-      by_use false e = let fits = numbers_fit k within e in (fits.low_word, fits.high_word)
+      by_use false e =
+          let none : 0 < 2 ^ w = omega (arith, o_word) in
+          let fits = numbers_fit w width x a o 0 x_word a_word o_word none k within e (λ _. refl) in
+          (fits.low_word, either (covers (high_numbers w x a) k) (chosen (high_numbers w x a) k) fits.high_word)

@@ -24,7 +24,7 @@ use Rattle.tv_rows.specs.Power.{shift_power_of}
 use Rattle.tv_rows.specs.RowShift.{right_shift_of}
 use Rattle.tv_arithmetic.proofs.ArithmeticCounts.{rows_sized, sums_sized, products_sized, rows_answer}
 use Rattle.tv_inputs.proofs.NormalOpcodes.{rises_from, opcodes_normal, opcodes_top}
-use Rattle.tv_arithmetic.specs.Arithmetic.{bitwise_ops, difference_ops, strict_ops, signed_ops, product_ops, division_ops, with_sign}
+use Rattle.tv_arithmetic.specs.Arithmetic.{free_ops, bitwise_ops, difference_ops, strict_ops, signed_ops, product_ops, division_ops, with_sign}
 use Rattle.tv_arithmetic.specs.Arithmetic.{rows_of, sums_of, products_of, shifts_of, arithmetic_of}
 use Rattle.tv_inputs.specs.OpcodeSums.{opcode_sum}
 use Rattle.tv_inputs.specs.declared.records.OperandWires.{OperandWires}
@@ -46,11 +46,11 @@ module _ (w : ℕ) (width : IsWidth w) (op other f : ℕ) (operand : OperandWire
   rows_normal : (next : ℕ) → f < next → AreNormal (rows_of w op next).list
   unfolding rows_of pure ◌>>=◌
   rows_normal next tested =
-      let signed = opcode_sum op (SMULH ∷ []) in
+      let signed = opcode_sum op free_ops in
       let made = new_bits_of w next in
       let end = new_bits_next w next in
-      let below : top signed ≤ made.next = omega (arith, opcodes_top 1 op 29 (SMULH ∷ []) refl, end) in
-      let row = double_row_normal w width signed made.next (above_constant op (SMULH ∷ []) some refl) below in
+      let below : top signed ≤ made.next = omega (arith, opcodes_top 1 op 29 free_ops refl, end) in
+      let row = double_row_normal w width signed made.next (above_constant op free_ops some refl) below in
       normal_both made.list _ (new_bits_normal w next) (normal_both (double_row_of w signed made.next).list [] row tt)
 
   -- then x and the row

@@ -10,7 +10,7 @@ use Rattle.tv_core.specs.Circuits.{Circuit, pure, ◌>>=◌}
 use Rattle.tv_core.specs.Laws.{Assigns, Meets, HasFrom, Fills, InField}
 use Rattle.tv_core.specs.Meanings.{terms_in}
 use Rattle.tv_core.specs.declared.field.TheConstants.{P}
-use Rattle.tv_isa.specs.Opcodes.{among, Entry, chosen}
+use Rattle.tv_isa.specs.Opcodes.{among, Entry, chosen, memory_ops}
 use Rattle.tv_isa.specs.declared.opcode.TheConstants.{AND, OR, XOR, ADD, SUB, MULL, UMULH, SMULH, UDIV, UMOD, SHL, SHR, CMPE, CMPA, CMPAE, CMPG, CMPGE}
 use Rattle.tv_rows.specs.RowDifference.{comparing, difference_low, difference_high, row_difference_of, row_difference_values}
 use Rattle.tv_rows.specs.RowSum.{row_sum_of}
@@ -62,16 +62,21 @@ division_ops = UDIV ∷ UMOD ∷ []
 abbrev pub shift_ops : List ℕ
 shift_ops = SHL ∷ SHR ∷ []
 
+-- at these the halves of the row may be any two words: at smulh, whose product is signed, and at loads and stores, where
+-- they are the two words of a double cell of memory
+abbrev pub free_ops : List ℕ
+free_ops = SMULH ∷ memory_ops
+
 -- ---- the circuit
 -- a word of w bits, with the highest of the bits from a first one on
 abbrev pub with_sign : ℕ → ℕ → ℕ → SignedWord
 with_sign w word first = record { word = word; sign = first + (w - 1) }
 
--- w new bits, and a new double row, which is signed at smulh
+-- w new bits, and a new double row, whose halves are free at some opcodes
 unfoldable pub rows_of : ℕ → ℕ → Circuit RowWires
 rows_of w op = do
   x ← new_bits_of w
-  row ← double_row_of w (opcode_sum op (SMULH ∷ []))
+  row ← double_row_of w (opcode_sum op free_ops)
   pure (record { x = x; row = row })
 
 -- the row's number is the sum, the difference, or the and and the exclusive or of the other word and the operand
@@ -141,17 +146,17 @@ high_numbers w x a =
     ∷ (record { ops = SHR ∷ []; gives = right_high (shifted_word w x a) (a % w) })
     ∷ []
 
--- at the other opcodes the low half is the data word o, and the high half is 0
+-- at the other opcodes the low half is the data word o, and the high half is the word h beside it
 abbrev pub low_number : ℕ → ℕ → ℕ → ℕ → ℕ → ℕ
 low_number w k x a o = if covers (low_numbers w x a) k then chosen (low_numbers w x a) k else o
 
-abbrev pub high_number : ℕ → ℕ → ℕ → ℕ → ℕ
-high_number w k x a = chosen (high_numbers w x a) k
+abbrev pub high_number : ℕ → ℕ → ℕ → ℕ → ℕ → ℕ
+high_number w k x a h = if covers (high_numbers w x a) k then chosen (high_numbers w x a) k else h
 
 -- ---- the values of the wires that are made, for an opcode k, the other word x, the operand a, the number at the wire f,
 -- and the halves of the row
 abbrev pub rows_values : ℕ → ℕ → ℕ → ℕ → ℕ → ℕ → List ℕ
-rows_values w k x a low high = bits_values (decomposed_word w k x a) w ++ double_row_values w low high (flag_of (among (SMULH ∷ []) k))
+rows_values w k x a low high = bits_values (decomposed_word w k x a) w ++ double_row_values w low high (flag_of (among free_ops k))
 
 abbrev pub sums_values : ℕ → ℕ → ℕ → ℕ → List ℕ
 sums_values w k x a = row_difference_values w (flag_of (among signed_ops k)) (decomposed_word w k x a) a
@@ -207,15 +212,15 @@ ArithmeticIsSound = (w : ℕ) → IsWidth w → (z : List ℕ) (next op other f 
     → IsArithmetic w z (arithmetic_of w op other f operand next).answer f operand (operation_of k x a)
 
 -- an assignment that has these values at the wires that are made meets the constraints, and has the halves in the row;
--- the data word o is any word
+-- the data word o is any word, and so is the word h beside it at loads and stores, and else it is 0
 abbrev pub ArithmeticIsComplete : Type 0
-ArithmeticIsComplete = (w : ℕ) → IsWidth w → (z : List ℕ) (next op other f : ℕ) (operand : OperandWires) (k x a o : ℕ)
+ArithmeticIsComplete = (w : ℕ) → IsWidth w → (z : List ℕ) (next op other f : ℕ) (operand : OperandWires) (k x a o h : ℕ)
     → HasArithmetic w z (record { op = op; other = other; f = f; operand = operand }) (operation_of k x a)
-    → (among division_ops k ≡ true → slice_index z f ≡ flag_of (a == 0)) → o < 2 ^ w
-    → HasFrom z next (arithmetic_values w (operation_of k x a) (slice_index z f) (low_number w k x a o) (high_number w k x a))
+    → (among division_ops k ≡ true → slice_index z f ≡ flag_of (a == 0)) → o < 2 ^ w → h < 2 ^ w → (among memory_ops k ≡ false → h ≡ 0)
+    → HasFrom z next (arithmetic_values w (operation_of k x a) (slice_index z f) (low_number w k x a o) (high_number w k x a h))
     → Meets z (arithmetic_of w op other f operand next).list
     × (slice_index z (arithmetic_of w op other f operand next).answer.row.low ≡ low_number w k x a o)
-    × (slice_index z (arithmetic_of w op other f operand next).answer.row.high ≡ high_number w k x a)
+    × (slice_index z (arithmetic_of w op other f operand next).answer.row.high ≡ high_number w k x a h)
 
 -- at a shift the number that is tested for the flag is 0 exactly where the operand is below w, whatever the row holds
 abbrev pub ShiftTestIsSound : Type 0
@@ -244,4 +249,4 @@ pub record ArithmeticCosts : Type 0 where
   pub constraints : (w : ℕ) → IsWidth w → (op other f : ℕ) (operand : OperandWires) (next : ℕ) → length
       (arithmetic_of w op other f operand next).list ≡ 3 * w + w / 16 + 22
   pub terms : (w : ℕ) → IsWidth w → (op other f : ℕ) (operand : OperandWires) (next : ℕ) → terms_in
-      (arithmetic_of w op other f operand next).list ≡ 16 * w + w / 4 + 102
+      (arithmetic_of w op other f operand next).list ≡ 16 * w + w / 4 + 106

@@ -5,6 +5,7 @@ ghost use Rattle.tv_core.specs.Values.{GivesIn};
 ghost use Rattle.tv_core.specs.Sinks.{Emits, Room};
 ghost use Rattle.tv_rows.specs.RowDifference.{comparing, row_difference_of};
 ghost use Rattle.tv_arithmetic.specs.Arithmetic.{difference_ops, strict_ops};
+ghost use Rattle.tv_arithmetic.specs.Arithmetic.{free_ops};
 ghost use Rattle.tv_arithmetic.specs.Arithmetic.{signed_ops, decomposed_word};
 ghost use Rattle.tv_arithmetic.specs.Arithmetic.{low_number, high_number, rows_values};
 ghost use Rattle.tv_arithmetic.specs.Arithmetic.{shifts_values, arithmetic_values};
@@ -26,8 +27,8 @@ use tv_bits::{SignedWord, double_row, fill_bits, fill_double_row, new_bits_by};
 use tv_core::{F, Put, Scratch, Sink, Values, Wire};
 use tv_inputs::{ArithmeticWires, OperandWires, RowWires, opcode_wire, set_opcodes};
 use tv_isa::opcode::{
-    ADD, AND, CMPA, CMPAE, CMPE, CMPG, CMPGE, MULL, OR, SHL, SHR, SMULH, SUB, UDIV, UMOD, UMULH,
-    XOR,
+    ADD, AND, CMPA, CMPAE, CMPE, CMPG, CMPGE, LOAD_B, LOAD_W, MULL, OR, SHL, SHR, SMULH, STORE_B,
+    STORE_W, SUB, UDIV, UMOD, UMULH, XOR,
 };
 use tv_row_products::{
     below_divisor, fill_row_division, fill_row_product, fill_row_signed_product, row_division,
@@ -81,8 +82,14 @@ fn put_rows<const W: u32, S: Sink>(s: &mut S, scratch: &mut Scratch, op: Wire) -
     ensures below { IfOk result (λ made. RowUnder W (S.meaning.wires s.new) made) }
 {
     let x = new_bits_by(s, scratch, W)?;
-    let signed = [(F::ONE, opcode_wire(op, SMULH))];
-    let row = double_row::<W, S>(s, scratch, &signed)?;
+    let free = [
+        (F::ONE, opcode_wire(op, SMULH)),
+        (F::ONE, opcode_wire(op, STORE_B)),
+        (F::ONE, opcode_wire(op, LOAD_B)),
+        (F::ONE, opcode_wire(op, STORE_W)),
+        (F::ONE, opcode_wire(op, LOAD_W)),
+    ];
+    let row = double_row::<W, S>(s, scratch, &free)?;
     Ok(RowWires { x, row })
 }
 
@@ -304,7 +311,7 @@ fn fill_rows<const W: u32, V: Values>(
     ensures whole { OnOk result (V.giving.broken v.new ≡ false) }
 {
     fill_bits(v, F::from(decomposed_word::<W>(k, x, a)), W)?;
-    fill_double_row::<W, V>(v, low, high, is_signed_product(k))
+    fill_double_row::<W, V>(v, low, high, is_free(k))
 }
 
 /// Returns the number whose bits stand beside the row, for the opcode `k`, the other word `x` and
@@ -321,10 +328,11 @@ pub fn decomposed_word<const W: u32>(k: u8, x: u32, a: u32) -> u32
     }
 }
 
-fn is_signed_product(k: u8) -> bool
-    ensures { result ≡ among (SMULH ∷ []) k }
+// Whether the halves of the row may be any two words.
+fn is_free(k: u8) -> bool
+    ensures { result ≡ among free_ops k }
 {
-    k == SMULH
+    matches!(k, SMULH | STORE_B | LOAD_B | STORE_W | LOAD_W)
 }
 
 fn is_signed_order(k: u8) -> bool
@@ -355,13 +363,13 @@ fn fill_shifts<const W: u32, V: Values>(
 }
 
 /// Returns the halves of the row by the operation of the opcode `k`, for the other word `x` and the
-/// operand `a`. At an opcode that has none they are the data word `o` and 0.
-pub fn row_halves<const W: u32>(k: u8, x: u32, a: u32, o: u32) -> (u32, u32)
+/// operand `a`. At an opcode that has none they are the data word `o` and the word `beside` it.
+pub fn row_halves<const W: u32>(k: u8, x: u32, a: u32, o: u32, beside: u32) -> (u32, u32)
     requires width { IsWidth W }
     requires x_word { x < 2 ^ W }
     requires a_word { a < 2 ^ W }
     ensures low { result.0 ≡ low_number W k x a o }
-    ensures high { result.1 ≡ high_number W k x a }
+    ensures high { result.1 ≡ high_number W k x a beside }
 {
     match k {
         AND | OR | XOR => (both::<W>(x, a), differing::<W>(x, a)),
@@ -375,7 +383,7 @@ pub fn row_halves<const W: u32>(k: u8, x: u32, a: u32, o: u32) -> (u32, u32)
         UDIV | UMOD => (remainder::<W>(x, a), quotient::<W>(x, a)),
         SHL => left_halves::<W>(x, a),
         SHR => right_halves::<W>(x, a),
-        _ => (o, 0),
+        _ => (o, beside),
     }
 }
 

@@ -21,7 +21,7 @@ use Rattle.tv_inputs.proofs.TapeFills.{tapes_sizes, tapes_costs}
 use Rattle.tv_parts.proofs.WrittenFills.{written_sizes, written_costs}
 use Rattle.tv_arithmetic.specs.Arithmetic.{arithmetic_of}
 use Rattle.tv_block.specs.Block.{registers_of, computed_of, data_of, sources_of, effects_of, block_of}
-use Rattle.tv_block.specs.Complete.{block_made, block_added}
+use Rattle.tv_block.specs.Sizes.{block_made, block_added}
 use Rattle.tv_parts.specs.Flag.{next_flag_of}
 use Rattle.tv_parts.specs.Memory.{memory_of}
 use Rattle.tv_inputs.specs.OpcodeSums.{opcode_sum}
@@ -70,7 +70,7 @@ module _ (w n : ℕ) (state : StateWires) (at : ℕ) where
   tapes = tapes_of w n state op operand.answer made.next
 
   abbrev pub memory : Made StoreWires
-  memory = memory_of w state op operand.answer (data_of made.answer triple.answer.other_word) tapes.answer tapes.next
+  memory = memory_of w n state op operand.answer (data_of made.answer triple.answer.other_word) tapes.answer tapes.next
 
   abbrev pub results : Made ResultWires
   results = results_of w state op operand.answer (sources_of w made.answer memory.answer.byte) tapes.answer memory.next
@@ -116,7 +116,7 @@ module _ (w n : ℕ) (state : StateWires) (at : ℕ) where
 
     pub results_begin : memory.next ≡ at + results_at w
     results_begin =
-        let e = memory_sizes.end w width state op operand.answer (data_of made.answer triple.answer.other_word) tapes.answer tapes.next in
+        let e = memory_sizes.end w width n state op operand.answer (data_of made.answer triple.answer.other_word) tapes.answer tapes.next in
         omega (arith, memory_begins, e)
 
     pub written_begins : zero.next ≡ at + written_at w
@@ -182,14 +182,14 @@ module _ (w : ℕ) (width : IsWidth w) where
   }
 
   arithmetic_sized : (op other f : ℕ) (operand : OperandWires)
-      → Sized (arithmetic_of w op other f operand) (3 * w + w / 16 + 12) (3 * w + w / 16 + 22) (16 * w + w / 4 + 102)
+      → Sized (arithmetic_of w op other f operand) (3 * w + w / 16 + 12) (3 * w + w / 16 + 22) (16 * w + w / 4 + 106)
   arithmetic_sized op other f operand = record {
     end = arithmetic_sizes.end w width op other f operand;
     count = arithmetic_cost_laws.constraints w width op other f operand;
     size = arithmetic_cost_laws.terms w width op other f operand;
   }
 
-  computed_sized : (state : StateWires) → Sized (computed_of w state) (6 * w + w / 16 + 71) (6 * w + w / 16 + 79) (28 * w + w / 4 + 451)
+  computed_sized : (state : StateWires) → Sized (computed_of w state) (6 * w + w / 16 + 71) (6 * w + w / 16 + 79) (28 * w + w / 4 + 455)
   unfolding computed_of
   computed_sized state =
       sized_as (sized_to _ instruction_sized (λ a. sized_from _ (registers_sized state a) (sized_then _ (operand_sized _ _ _) (λ c. sized_then _ fresh_sized
@@ -209,11 +209,11 @@ module _ (w : ℕ) (width : IsWidth w) where
     }
 
     memory_sized : (t : TapeWires)
-        → Sized (memory_of w state c.instruction.op c.operand (data_of c.made c.regs.other_word) t) (w / 8 + 5) (w / 8 + 5) (2 * w + w / 8 + 37)
+        → Sized (memory_of w n state c.instruction.op c.operand (data_of c.made c.regs.other_word) t) (w / 8 + 9) (w / 8 + 9) (2 * w + w / 8 + 58)
     memory_sized t = record {
-      end = memory_sizes.end w width state c.instruction.op c.operand (data_of c.made c.regs.other_word) t;
-      count = memory_costs.constraints w width state c.instruction.op c.operand (data_of c.made c.regs.other_word) t;
-      size = memory_costs.terms w width state c.instruction.op c.operand (data_of c.made c.regs.other_word) t;
+      end = memory_sizes.end w width n state c.instruction.op c.operand (data_of c.made c.regs.other_word) t;
+      count = memory_costs.constraints w width n state c.instruction.op c.operand (data_of c.made c.regs.other_word) t;
+      size = memory_costs.terms w width n state c.instruction.op c.operand (data_of c.made c.regs.other_word) t;
     }
 
     results_sized : (byte : ℕ) (t : TapeWires)
@@ -252,7 +252,7 @@ module _ (w : ℕ) (width : IsWidth w) where
       size = pc_costs.terms w width state c.instruction.op c.operand;
     }
 
-    effects_sized : Sized (effects_of w n state c) (w / 8 + 42) (w / 8 + 47) (2 * w + w / 8 + 2 * (w / 16) + 302 + tape_terms n)
+    effects_sized : Sized (effects_of w n state c) (w / 8 + 46) (w / 8 + 51) (2 * w + w / 8 + 2 * (w / 16) + 323 + tape_terms n)
     unfolding effects_of
     effects_sized =
         sized_as (sized_then _ tapes_sized (λ h. sized_then _ (memory_sized _) (λ i. sized_then _ (results_sized _ _) (λ j. sized_then _ (zero_sized _)
@@ -265,18 +265,18 @@ module _ (w : ℕ) (width : IsWidth w) where
   block_sized n state time =
       sized_as (sized_then _ (computed_sized state) (λ a. sized_then _ (effects_sized n state (computed_of w state a).answer) (λ b. sized_pure _)))
       (omega (arith, width)) (omega (arith, width))
-      (for_widths (λ w. 28 * w + w / 4 + 451 + (2 * w + w / 8 + 2 * (w / 16) + 302 + tape_terms n + 0) ≡ block_terms w n) (omega (arith, both_terms (n == 0)))
+      (for_widths (λ w. 28 * w + w / 4 + 455 + (2 * w + w / 8 + 2 * (w / 16) + 323 + tape_terms n + 0) ≡ block_terms w n) (omega (arith, both_terms (n == 0)))
       (omega (arith, both_terms (n == 0))) w width)
 
 -- ---- its lines
-times_are : (w : ℕ) (state : StateWires) (time at : ℕ) → All (λ (line : LineLc). length line.time ≡ 1) (block_wires w state time at).lines
-times_are w state time at =
-    all_three (λ (line : LineLc). length line.time ≡ 1) (first_line w state time at) (second_line w state time at) (third_line w time at) refl refl refl
+times_are : (w n : ℕ) (state : StateWires) (time at : ℕ) → All (λ (line : LineLc). length line.time ≡ 1) (block_wires w n state time at).lines
+times_are w n state time at =
+    all_three (λ (line : LineLc). length line.time ≡ 1) (first_line w state time at) (second_line w state time at) (third_line w n state time at) refl refl refl
 
 short_lines : (w : ℕ) → All HasFewTerms (step_costs w).lines
 short_lines w =
-    let line : (cell : ℕ) → cell ≤ 2 → HasFewTerms (terms_are cell 1 1) = λ cell h. record { cell = omega (arith, h); old = omega arith; new = omega arith } in
-    all_three HasFewTerms (terms_are 1 1 1) (terms_are 2 1 1) (terms_are 1 1 1) (line 1 (omega arith)) (line 2 (omega arith)) (line 1 (omega arith))
+    let line : (cell : ℕ) → cell ≤ 10 → HasFewTerms (terms_are cell 1 1) = λ cell h. record { cell = omega (arith, h); old = omega arith; new = omega arith } in
+    all_three HasFewTerms (terms_are 1 1 1) (terms_are 2 1 1) (terms_are 10 1 1) (line 1 (omega arith)) (line 2 (omega arith)) (line 10 (omega arith))
 
 cheap : (w : ℕ) → IsWidth w → IsCheap (step_costs w)
 cheap w width = record {
@@ -292,8 +292,8 @@ pub block_counted : BlockIsCounted
 block_counted = record {
   constraints = λ w width n state time. (block_sized w width n state time).count;
   terms = λ w width n state time. (block_sized w width n state time).size;
-  lines = λ w width state time next. refl;
-  times = λ w width state time next. times_are w state time next;
+  lines = λ w width n state time next. refl;
+  times = λ w width n state time next. times_are w n state time next;
   cheap = cheap;
   few = few_terms;
 }

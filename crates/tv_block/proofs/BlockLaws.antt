@@ -12,10 +12,10 @@ use Rattle.tv_bits.specs.ZeroSign.{zero_sign_of, sign_at_zero, zero_sign_values}
 use Rattle.tv_core.proofs.CombinationLaws.{value-constant}
 use Rattle.tv_core.specs.declared.field.TheConstants.{P}
 use Rattle.tv_decode.proofs.InstructionLaws.{instruction_sound, instruction_complete, instruction_sizes}
-use Rattle.tv_decode.specs.Instructions.{imm_wire, instruction_of, IsDecoded, instruction_values, dest_bits, source_bits, register_bits}
+use Rattle.tv_decode.specs.Instructions.{imm_wire, IsDecoded, instruction_values, dest_bits, source_bits, register_bits}
 use Rattle.tv_decode.specs.declared.records.InstructionWires.{InstructionWires}
 use Rattle.tv_isa.specs.Instruction.{decode}
-use Rattle.tv_isa.specs.Opcodes.{among, store_ops, writer_ops}
+use Rattle.tv_isa.specs.Opcodes.{among, memory_ops, store_ops, writer_ops}
 use Rattle.tv_isa.specs.declared.instr.Instr.{Instr}
 use Rattle.tv_isa.specs.declared.opcode.TheConstants.{CMPE, CMOV, ANSWER, STORE_B}
 use Rattle.tv_mem.specs.Bytes.{byte_of}
@@ -23,7 +23,7 @@ use Rattle.tv_numbers.proofs.LineRows.{same_line}
 use Rattle.tv_numbers.proofs.RangeLaws.{numbers_stay_in_range}
 use Rattle.tv_numbers.proofs.StepLaws.{numbers_do, same_view}
 use Rattle.tv_numbers.specs.Laws.{DoesStep, AtNumbers}
-use Rattle.tv_numbers.specs.Numbers.{Transition, operand_word, other_word, result_in, transition_of, found, step_words}
+use Rattle.tv_numbers.specs.Numbers.{Transition, operand_word, other_word, result_in, stepped, transition_of, found, step_words, StepWords}
 use Rattle.tv_numbers.specs.Views.{View, ViewInRange}
 use Rattle.tv_step.specs.Rows.{word_size}
 use Rattle.tv_arithmetic.proofs.ArithmeticLaws.{arithmetic_sound}
@@ -36,20 +36,21 @@ use Rattle.tv_results.proofs.ResultFills.{results_sound, results_complete, resul
 use Rattle.tv_arithmetic.proofs.ShiftTests.{shift_test_sound, below_width}
 use Rattle.tv_inputs.proofs.TapeFills.{flag_test, tapes_filled, tapes_sizes}
 use Rattle.tv_inputs.proofs.TapeLaws.{tapes_sound}
-use Rattle.tv_arithmetic.specs.Arithmetic.{shift_ops, division_ops, arithmetic_of, IsArithmetic, decomposed_word, arithmetic_values, sums_values}
+use Rattle.tv_arithmetic.specs.Arithmetic.{shift_ops, division_ops, free_ops, high_number, arithmetic_of, IsArithmetic, decomposed_word, arithmetic_values}
+use Rattle.tv_arithmetic.specs.Arithmetic.{sums_values}
 use Rattle.tv_arithmetic.specs.Arithmetic.{products_values, shifts_values, HasArithmetic}
-use Rattle.tv_parts.specs.Flag.{sign_at, next_flag_of, HasFlag, flag_values}
+use Rattle.tv_parts.specs.Flag.{sign_at, HasFlag, flag_values}
 use Rattle.tv_inputs.specs.Inputs.{StepInput, input_of, operation_of}
-use Rattle.tv_parts.specs.Memory.{memory_of, AreStored, HasMemory, memory_values}
+use Rattle.tv_parts.specs.Memory.{memory_of, beside_in, AreStored, HasMemory, memory_values}
 use Rattle.tv_inputs.specs.OpcodeSums.{IsOpcode, opcode_sum}
 use Rattle.tv_inputs.specs.Operand.{operand_of, IsOperand, HasOperand, operand_values}
-use Rattle.tv_results.specs.Pc.{pc_of, HasPc, pc_values}
+use Rattle.tv_results.specs.Pc.{HasPc, pc_values}
 use Rattle.tv_inputs.specs.Results.{sign_of, results_of, HasSources, AreResults, result_number, tested_number, results_values}
 use Rattle.tv_inputs.specs.TestNumbers.{zero_ops, place_bits}
 use Rattle.tv_inputs.specs.States.{state_in}
 use Rattle.tv_inputs.specs.Tapes.{tapes_of, took, HasTapes, AreTapes, tapes_values}
 use Rattle.tv_parts.proofs.WrittenFills.{written_settled, written_complete, written_sizes}
-use Rattle.tv_parts.specs.Written.{written_of, HasWritten, written_values}
+use Rattle.tv_parts.specs.Written.{HasWritten, written_values}
 use Rattle.tv_inputs.specs.declared.records.ArithmeticWires.{ArithmeticWires}
 use Rattle.tv_inputs.specs.declared.records.OperandWires.{OperandWires}
 use Rattle.tv_inputs.specs.declared.records.ResultWires.{ResultWires}
@@ -58,8 +59,8 @@ use Rattle.tv_inputs.specs.declared.records.TapeWires.{TapeWires}
 use Rattle.tv_regs.specs.declared.triple.Triple.{Triple}
 use Rattle.tv_block.proofs.PartLaws.{opcode_of_row, op_below, dest_below, source_below, among_each, AreRegisters, registers_sound, sign_value, sign_shift}
 use Rattle.tv_block.proofs.PartLaws.{sign_division, used_again, are_numbers}
-use Rattle.tv_block.specs.Block.{registers_of, data_of, sources_of, computed_of, effects_of, block_of, word_inverse, cell_of, BlockIsStep, BlockIsSound}
-use Rattle.tv_block.specs.Block.{transition_in, IsStep}
+use Rattle.tv_block.specs.Block.{data_of, sources_of, computed_of, effects_of, block_of, word_inverse, cell_of, BlockIsStep, BlockIsSound}
+use Rattle.tv_block.specs.Block.{transition_in}
 use Rattle.tv_bits.specs.DoubleRow.{double_row_values}
 use Rattle.tv_bits.specs.Number.{number_of}
 use Rattle.tv_regs.proofs.TripleLaws.{triple_complete, triple_sizes}
@@ -68,7 +69,9 @@ use Rattle.tv_word.proofs.FlagLaws.{flag_small}
 use Rattle.tv_arithmetic.proofs.ArithmeticCounts.{arithmetic_sizes}
 use Rattle.tv_arithmetic.proofs.ArithmeticFills.{arithmetic_complete, decomposed_below}
 use Rattle.tv_block.proofs.BlockChain.{instruction, op, triple, operand, test, made, tapes, memory, results, zero, written, flag, pc}
-use Rattle.tv_block.specs.Complete.{BlockIsComplete}
+use Rattle.tv_block.proofs.DataCells.{data_cell_is}
+use Rattle.tv_block.specs.Complete.{BlockIsComplete, MeetsStep}
+use Rattle.tv_block.specs.Doubles.{BlockPlace}
 use Rattle.tv_block.specs.Values.{row_low, row_high, tested_in, test_in, effects_values, other_register, block_values}
 
 -- ---- the state
@@ -197,7 +200,7 @@ module _ {w : ℕ} {z : List ℕ} {n : ℕ} {state : StateWires} (known : Before
       input = input_of n v i low
 
       pub has_memory : (word other : ℕ) → HasBits z made.x.first w word → (i.op ≡ STORE_B → word ≡ x) → slice_index z other ≡ x
-          → HasMemory w z (record { state = state; op = op; operand = taken; tapes = t }) (data_of made other) input word
+          → HasMemory w z (record { state = state; op = op; operand = taken; tapes = t }) (data_of made other) input high word
       has_memory word other decomposed stored held = record {
         assigns = known.assigns;
         short = known.short;
@@ -207,6 +210,7 @@ module _ {w : ℕ} {z : List ℕ} {n : ℕ} {state : StateWires} (known : Before
         operand = is;
         bits = does.row.low;
         word = refl;
+        beside = refl;
         decomposed = decomposed;
         stored = stored;
         other = held;
@@ -214,10 +218,10 @@ module _ {w : ℕ} {z : List ℕ} {n : ℕ} {state : StateWires} (known : Before
         tapes = tapes;
       }
 
-      pub memory_in : (next other : ℕ) → slice_index z other ≡ x → Meets z (memory_of w state op taken (data_of made other) t next).list
-          → AreStored w z (memory_of w state op taken (data_of made other) t next).answer input
+      pub memory_in : (next other : ℕ) → slice_index z other ≡ x → Meets z (memory_of w n state op taken (data_of made other) t next).list
+          → AreStored w z (memory_of w n state op taken (data_of made other) t next).answer input high
       memory_in next other held meets =
-          memory_sound w known.width z next n state op taken (data_of made other) t v i does.bits.0 low
+          memory_sound w known.width z next n state op taken (data_of made other) t v i does.bits.0 high low
           (has_memory does.bits.0 other does.bits.1 (λ e. does.bits.1.number ∙ sym (does.same (ap (among division_ops) e)).number) held) meets
 
       pub has_sources : (byte : ℕ) → slice_index z byte ≡ byte_of low (a % word_size w)
@@ -352,99 +356,171 @@ module _ {w : ℕ} {z : List ℕ} {n : ℕ} {state : StateWires} (known : Before
   time_is t h = value-constant known.assigns t ∙ small_time t h
 
 -- ---- the step
-pub step_in : BlockIsStep
+-- z meets the constraints of each part, and its wires hold what the parts say, for the instruction's words and the halves of
+-- the row that stand there
+module _ (w : ℕ) (z : List ℕ) (n : ℕ) (state : StateWires) (at : ℕ) where
+  abbrev pub head_in : ℕ
+  head_in = slice_index z (instruction w n state at).answer.head
+
+  abbrev pub tail_in : ℕ
+  tail_in = slice_index z (instruction w n state at).answer.tail
+
+  abbrev pub row_word : ℕ
+  row_word = slice_index z (made w n state at).answer.row.low
+
+  abbrev pub row_beside : ℕ
+  row_beside = slice_index z (made w n state at).answer.row.high
+
+  abbrev pub takes_in : Bool
+  takes_in = took z (tapes w n state at).answer
+
+  abbrev pub instr_in : Instr
+  instr_in = decode w head_in tail_in
+
+  -- the state after the parts
+  abbrev state_after : StateWires
+  state_after = record {
+    pc = (pc w n state at).answer;
+    regs = (written w n state at).answer;
+    flag = (flag w n state at).answer;
+    taken_of_primary = (tapes w n state at).answer.taken;
+    aux_ended = (tapes w n state at).answer.ended;
+  }
+
+  pub record Parts : Type 0 where
+    pub decoded : IsDecoded z w (instruction w n state at).answer head_in tail_in
+    pub row : IsOpcode z (op w n state at) instr_in.op
+    pub is : IsOperand w z (operand w n state at).answer (operand_word (state_in z state) instr_in)
+    pub does : IsArithmetic w z (made w n state at).answer (test w n state at) (operand w n state at).answer
+        (operation_of instr_in.op (other_word (state_in z state) instr_in) (operand_word (state_in z state) instr_in))
+    pub tapes : AreTapes z (tapes w n state at).answer n (state_in z state) instr_in
+    pub stored : AreStored w z (memory w n state at).answer (input_of n (state_in z state) instr_in row_word) row_beside
+    pub after : state_in z state_after ≡ stepped w n (state_in z state) instr_in row_word takes_in
+
+pub parts_in : (w : ℕ) (z : List ℕ) (n : ℕ) (state : StateWires) (time at : ℕ) → Before w z n state → Meets z (block_of w n state time at).list
+    → Parts w z n state at
 unfolding block_of computed_of effects_of fresh pure ◌>>=◌
-step_in w width z n state time at short early assigns range meets =
-    let decoded = instruction_of w at in
-    let op = decoded.answer.op in
-    let regs = registers_of w state decoded.answer decoded.next in
-    let operand = operand_of w (imm_wire w decoded.answer) decoded.answer.tail regs.answer.named_word regs.next in
-    let test = operand.next in
-    let made = arithmetic_of w op regs.answer.other_word test operand.answer (operand.next + 1) in
-    let tapes = tapes_of w n state op operand.answer made.next in
-    let d = data_of made.answer regs.answer.other_word in
-    let memory = memory_of w state op operand.answer d tapes.answer tapes.next in
-    let from = sources_of w made.answer memory.answer.byte in
-    let results = results_of w state op operand.answer from tapes.answer memory.next in
-    let zeros = zero_sign_of results.answer.tested test (sign_of op) results.next in
-    let written = written_of op state regs.answer results.answer.word zeros.next in
-    let flag = next_flag_of w state op made.answer.x test tapes.answer written.next in
-    let pc = pc_of w state op operand.answer flag.next in
+parts_in w z n state time at known meets =
+    let width = known.width in
+    let decoded = instruction w n state at in
+    let row_op = op w n state at in
+    let regs = triple w n state at in
+    let taken = operand w n state at in
+    let row_made = made w n state at in
+    let t = tapes w n state at in
+    let mem = memory w n state at in
+    let from = sources_of w row_made.answer mem.answer.byte in
+    let res = results w n state at in
+    let zeros = zero w n state at in
+    let wrote = written w n state at in
+    let flags = flag w n state at in
+    let last = pc w n state at in
     let computed = computed_of w state at in
     let effects = effects_of w n state computed.answer computed.next in
-    let l4 = made.list ++ [] in
-    let l3 = operand.list ++ l4 in
+    let l4 = row_made.list ++ [] in
+    let l3 = taken.list ++ l4 in
     let l2 = regs.list ++ l3 in
-    let k7 = pc.list ++ [] in
-    let k6 = flag.list ++ k7 in
-    let k5 = written.list ++ k6 in
+    let k7 = last.list ++ [] in
+    let k6 = flags.list ++ k7 in
+    let k5 = wrote.list ++ k6 in
     let k4 = zeros.list ++ k5 in
-    let k3 = results.list ++ k4 in
-    let k2 = memory.list ++ k3 in
+    let k3 = res.list ++ k4 in
+    let k2 = mem.list ++ k3 in
     let first = Meets-split z computed.list (effects.list ++ []) meets in
     let second = Meets-split z effects.list [] first.1 in
     let m1 = Meets-split z decoded.list l2 first.0 in
     let m2 = Meets-split z regs.list l3 m1.1 in
-    let m3 = Meets-split z operand.list l4 m2.1 in
-    let m4 = Meets-split z made.list [] m3.1 in
-    let m5 = Meets-split z tapes.list k2 second.0 in
-    let m6 = Meets-split z memory.list k3 m5.1 in
-    let m7 = Meets-split z results.list k4 m6.1 in
+    let m3 = Meets-split z taken.list l4 m2.1 in
+    let m4 = Meets-split z row_made.list [] m3.1 in
+    let m5 = Meets-split z t.list k2 second.0 in
+    let m6 = Meets-split z mem.list k3 m5.1 in
+    let m7 = Meets-split z res.list k4 m6.1 in
     let m8 = Meets-split z zeros.list k5 m7.1 in
-    let m9 = Meets-split z written.list k6 m8.1 in
-    let m10 = Meets-split z flag.list k7 m9.1 in
-    let m11 = Meets-split z pc.list [] m10.1 in
-    let head = slice_index z decoded.answer.head in
-    let tail = slice_index z decoded.answer.tail in
+    let m9 = Meets-split z wrote.list k6 m8.1 in
+    let m10 = Meets-split z flags.list k7 m9.1 in
+    let m11 = Meets-split z last.list [] m10.1 in
+    let head = head_in w z n state at in
+    let tail = tail_in w z n state at in
     let i : Instr = decode w head tail in
     let v = state_in z state in
-    let o = slice_index z made.answer.row.low in
-    let takes = took z tapes.answer in
-    let known : Before w z n state = record { width = width; assigns = assigns; short = short; range = range } in
-    let size = state_sixteen w z n state range in
-    let is_decoded = instruction_sound w width z at assigns m1.0 in
-    let row = opcode_of_row z op i.op (op_below w head tail) is_decoded.opcode in
-    let are = registers_sound w width z decoded.next state decoded.answer head tail size assigns is_decoded m2.0 in
+    let o = row_word w z n state at in
+    let takes = takes_in w z n state at in
+    let size = state_sixteen w z n state known.range in
+    let is_decoded = instruction_sound w width z at known.assigns m1.0 in
+    let row = opcode_of_row z row_op i.op (op_below w head tail) is_decoded.opcode in
+    let are = registers_sound w width z decoded.next state decoded.answer head tail size known.assigns is_decoded m2.0 in
     let is = operand_in known head tail regs.next decoded.answer regs.answer.named_word is_decoded are.named m3.0 in
-    let is_test = test_shown known head tail results.next op results.answer.tested test row m8.0 in
-    let shifted : among shift_ops i.op ≡ true → (if slice_index z results.answer.tested == 0 then 1 else 0) ≡ flag_of (nat_lt (operand_word v i) w) =
-    (λ e. shift_test_sound w width z memory.next state op operand.answer from tapes.answer i.op (operand_word v i) assigns row e is m7.0) in
-    let does = arithmetic_in known head tail row is (operand.next + 1) regs.answer.other_word results.answer.tested test are.other is_test shifted m4.0 in
-    let are_tapes = tapes_in known head tail row is made.next m5.0 in
-    let stored = memory_in known head tail row is does are_tapes tapes.next regs.answer.other_word are.other m6.0 in
-    let are_results = results_in known head tail row is does are_tapes memory.next memory.answer.byte stored.byte m7.0 in
+    let is_test = test_shown known head tail res.next row_op res.answer.tested taken.next row m8.0 in
+    let shifted : among shift_ops i.op ≡ true → (if slice_index z res.answer.tested == 0 then 1 else 0) ≡ flag_of (nat_lt (operand_word v i) w) =
+    (λ e. shift_test_sound w width z mem.next state row_op taken.answer from t.answer i.op (operand_word v i) known.assigns row e is m7.0) in
+    let does = arithmetic_in known head tail row is (taken.next + 1) regs.answer.other_word res.answer.tested taken.next are.other is_test shifted m4.0 in
+    let are_tapes = tapes_in known head tail row is row_made.next m5.0 in
+    let stored = memory_in known head tail row is does are_tapes t.next regs.answer.other_word are.other m6.0 in
+    let are_results = results_in known head tail row is does are_tapes mem.next mem.answer.byte stored.byte m7.0 in
     let has_registers = has_written known head tail row is does are_tapes are are_results in
-    let regs_are = (written_settled w z n state op regs.answer results.answer.word v i o takes has_registers).sound zeros.next m9.0 in
-    let has_flags = has_flag known head tail row is does are_tapes results.answer are_results is_test in
-    let flag_is = flag_sound w width z written.next n state op made.answer.x test tapes.answer v i o (slice_index z made.answer.row.high)
-    (slice_index z results.answer.word) (slice_index z results.answer.tested) o has_flags m10.0 in
-    let pc_is = pc_sound w width z flag.next state op operand.answer v i (has_pc known head tail row is) m11.0 in
-    let head_is = value-wire assigns decoded.answer.head in
-    let tail_is = value-wire assigns decoded.answer.tail in
-    let answers = opcode_wire_is z op i.op ANSWER row (omega arith) refl in
+    let regs_are = (written_settled w z n state row_op regs.answer res.answer.word v i o takes has_registers).sound zeros.next m9.0 in
+    let has_flags = has_flag known head tail row is does are_tapes res.answer are_results is_test in
+    let flag_is = flag_sound w width z wrote.next n state row_op row_made.answer.x taken.next t.answer v i o (row_beside w z n state at)
+    (slice_index z res.answer.word) (slice_index z res.answer.tested) o has_flags m10.0 in
+    let pc_is = pc_sound w width z flags.next state row_op taken.answer v i (has_pc known head tail row is) m11.0 in
     record {
-      head = head;
-      tail = tail;
-      word = o;
-      takes = takes;
-      at_numbers = record {
-        short = short;
-        range = range;
-        head_word = is_decoded.head_word;
-        tail_word = is_decoded.tail_word;
-        data_word = does.halves.low_word;
-        used = row.used;
-        asked = are_tapes.asked;
-      };
-      same = same_transition _ _ _ _ _ _ _ _ _ _ _ _ _ _ _ _ _ _ refl
-          (same_view _ _ _ _ _ _ _ _ _ _ pc_is regs_are flag_is are_tapes.taken are_tapes.ended)
-          (same_line _ _ _ _ _ _ _ _ (head_cell known) (time_is known time (omega arith)) head_is head_is)
-          (same_line _ _ _ _ _ _ _ _ (tail_cell known) (time_is known (time + 1) (omega arith)) tail_is tail_is)
-          (same_line _ _ _ _ _ _ _ _ (value-wire assigns memory.answer.line.cell ∙ stored.cell) (time_is known (time + 2) (omega arith))
-          (value-wire assigns memory.answer.line.old ∙ stored.old) (value-wire assigns memory.answer.new ∙ stored.new))
-          refl refl (ap (λ k. k == 1) answers ∙ flag_test (i.op == ANSWER)) is.word;
-      taken = are_tapes.takes;
-      answers = answers;
+      decoded = is_decoded;
+      row = row;
+      is = is;
+      does = does;
+      tapes = are_tapes;
+      stored = stored;
+      after = same_view _ _ _ _ _ _ _ _ _ _ pc_is regs_are flag_is are_tapes.taken are_tapes.ended;
+    }
+
+-- its numbers are in range
+pub numbers_in : {w : ℕ} {z : List ℕ} {n : ℕ} {state : StateWires} {at : ℕ} → Before w z n state → Parts w z n state at
+    → AtNumbers w n (state_in z state) (step_words (head_in w z n state at) (tail_in w z n state at) (row_word w z n state at) (takes_in w z n state at))
+numbers_in known parts = record {
+  short = known.short;
+  range = known.range;
+  head_word = parts.decoded.head_word;
+  tail_word = parts.decoded.tail_word;
+  data_word = parts.does.halves.low_word;
+  used = parts.row.used;
+  asked = parts.tapes.asked;
+}
+
+-- the step that is shown
+pub step_shown : (w : ℕ) (z : List ℕ) (n : ℕ) (state : StateWires) (time at : ℕ) → time + 2 < 2 ^ 32 → Before w z n state → Parts w z n state at
+    → transition_in z state (block_of w n state time at).answer
+    ≡ transition_of w n time (state_in z state) (step_words (head_in w z n state at) (tail_in w z n state at) (row_word w z n state at)
+    (takes_in w z n state at))
+unfolding block_of computed_of effects_of fresh pure ◌>>=◌
+step_shown w z n state time at early known parts =
+    let assigns = known.assigns in
+    let mem = (memory w n state at).answer in
+    let i = instr_in w z n state at in
+    let head_is = value-wire assigns (instruction w n state at).answer.head in
+    let tail_is = value-wire assigns (instruction w n state at).answer.tail in
+    let cell = data_cell_is state known.width known.assigns known.short known.range.taken i parts.row parts.is parts.tapes parts.stored in
+    let answers = opcode_wire_is z (op w n state at) i.op ANSWER parts.row (omega arith) refl in
+    same_transition _ _ _ _ _ _ _ _ _ _ _ _ _ _ _ _ _ _ refl parts.after
+    (same_line _ _ _ _ _ _ _ _ (head_cell known) (time_is known time (omega arith)) head_is head_is)
+    (same_line _ _ _ _ _ _ _ _ (tail_cell known) (time_is known (time + 1) (omega arith)) tail_is tail_is)
+    (same_line _ _ _ _ _ _ _ _ cell (time_is known (time + 2) (omega arith)) (value-wire assigns mem.line.old ∙ parts.stored.old)
+    (value-wire assigns mem.new ∙ parts.stored.new))
+    refl refl (ap (λ k. k == 1) answers ∙ flag_test (i.op == ANSWER)) parts.is.word
+
+pub step_in : BlockIsStep
+unfolding block_of computed_of effects_of fresh pure ◌>>=◌
+step_in w width z n state time at short early assigns range meets =
+    let known : Before w z n state = record { width = width; assigns = assigns; short = short; range = range } in
+    let parts = parts_in w z n state time at known meets in
+    record {
+      head = head_in w z n state at;
+      tail = tail_in w z n state at;
+      word = row_word w z n state at;
+      takes = takes_in w z n state at;
+      at_numbers = numbers_in known parts;
+      same = step_shown w z n state time at early known parts;
+      taken = parts.tapes.takes;
+      answers = opcode_wire_is z (op w n state at) (instr_in w z n state at).op ANSWER parts.row (omega arith) refl;
     }
 
 pub block_sound : BlockIsSound
@@ -488,6 +564,23 @@ test_division : (w n : ℕ) (v : View) (i : Instr) (low high : ℕ) (takes : Boo
 test_division w n v i low high takes =
     among_each (λ k. test_by w n v i low high takes k ≡ (if operand_word v i == 0 then 1 else 0)) division_ops (refl, (refl, tt)) i.op
 
+-- ---- the word beside
+pub beside_word : (w : ℕ) (v : View) (i : Instr) (h : ℕ) → h < 2 ^ w → beside_in v i h < 2 ^ w
+beside_word w v i h small = either_word (among memory_ops i.op) h 0 (2 ^ w) small (omega (arith, small))
+
+-- at a load or store it is the high half of the row
+beside_again : (w : ℕ) (v : View) (i : Instr) (h : ℕ) → beside_in v i (row_high w v i h) ≡ beside_in v i h
+beside_again w v i h = by (among memory_ops i.op) refl
+  where
+    each : among memory_ops i.op ≡ true → high_number w i.op (other_word v i) (operand_word v i) h ≡ h
+    each = among_each (λ k. high_number w k (other_word v i) (operand_word v i) h ≡ h) memory_ops (refl, (refl, (refl, (refl, tt)))) i.op
+
+    by : (b : Bool) → among memory_ops i.op ≡ b → beside_in v i (row_high w v i h) ≡ beside_in v i h
+    by true e =
+        let touched : beside_in v i h ≡ h = ap (λ b. if b then h else 0) e in
+        ap (λ b. if b then row_high w v i h else 0) e ∙ ap (high_number w i.op (other_word v i) (operand_word v i)) touched ∙ each e ∙ sym touched
+    by false e = ap (λ b. if b then row_high w v i h else 0) e ∙ sym (ap (λ b. if b then h else 0) e)
+
 -- ---- the parts up to the arithmetic
 -- the values of the parts after it, from the halves of the row and the test
 abbrev later_values : ℕ → ℕ → View → Instr → Bool → ℕ → ℕ → ℕ → List ℕ
@@ -520,7 +613,7 @@ module _ (w : ℕ) (z : List ℕ) (n : ℕ) (state : StateWires) (at head tail :
   high_at = slice_index z (made w n state at).answer.row.high
 
   -- z meets them, and their wires hold what the parts after them take, with o as the data word
-  pub record Front (o : ℕ) (takes : Bool) : Type 0 where
+  pub record Front (o h : ℕ) (takes : Bool) : Type 0 where
     pub met1 : Meets z (instruction w n state at).list
     pub met2 : Meets z (triple w n state at).list
     pub met3 : Meets z (operand w n state at).list
@@ -533,19 +626,20 @@ module _ (w : ℕ) (z : List ℕ) (n : ℕ) (state : StateWires) (at head tail :
     pub does : IsArithmetic w z (made w n state at).answer (test w n state at) (operand w n state at).answer (operation_of instr.op x_of a_of)
     pub decomposed : HasBits z (made w n state at).answer.x.first w (decomposed_word w instr.op x_of a_of)
     pub low : low_at ≡ row_low w now instr o
+    pub high : high_at ≡ row_high w now instr h
     pub rest : HasFrom z (made w n state at).next (later_values w n now instr takes low_at high_at (slice_index z (test w n state at)))
 
-pub front : (w : ℕ) → IsWidth w → (z : List ℕ) (n : ℕ) (state : StateWires) (at head tail o : ℕ) (takes : Bool) → Assigns z
-    → AtNumbers w n (state_in z state) (step_words head tail o takes) → HasFrom z at (block_values w n (state_in z state) (step_words head tail o takes))
-    → Front w z n state at head tail o takes
-front w width z n state at head tail o takes assigns in_range has =
+pub front : (w : ℕ) → IsWidth w → (z : List ℕ) (n : ℕ) (state : StateWires) (at head tail o h : ℕ) (takes : Bool) → Assigns z
+    → h < 2 ^ w → AtNumbers w n (state_in z state) (step_words head tail o takes)
+    → HasFrom z at (block_values w n (state_in z state) (step_words head tail o takes) h) → Front w z n state at head tail o h takes
+front w width z n state at head tail o h takes assigns beside in_range has =
     let v = state_in z state in
     let range = in_range.range in
     let i : Instr = decode w head tail in
     let x = other_word v i in
     let a = operand_word v i in
     let low = row_low w v i o in
-    let high = row_high w v i in
+    let high = row_high w v i h in
     let f = test_in w (input_of n v i low) high takes in
     let known : Before w z n state = record { width = width; assigns = assigns; short = in_range.short; range = range } in
     let size = state_sixteen w z n state range in
@@ -599,10 +693,11 @@ front w width z n state at head tail o takes assigns in_range has =
       shifts = λ e. f_is ∙ test_shift w n v i low high takes width e;
       divides = λ e. subst IsBit (sym (divided e)) (flag_small (a == 0));
     } in
-    let m4 = arithmetic_complete w width z (taken.next + 1) ins.answer.op regs.answer.other_word taken.next taken.answer i.op x a o
-    operation divided in_range.data_word (subst (λ g. HasFrom z (taken.next + 1) (arithmetic_values w (operation_of i.op x a) g low high)) (sym f_is) h4.0) in
+    let m4 = arithmetic_complete w width z (taken.next + 1) ins.answer.op regs.answer.other_word taken.next taken.answer i.op x a o (beside_in v i h)
+    operation divided in_range.data_word (beside_word w v i h beside) (λ e. ap (λ b. if b then h else 0) e)
+    (subst (λ g. HasFrom z (taken.next + 1) (arithmetic_values w (operation_of i.op x a) g low high)) (sym f_is) h4.0) in
     let does = arithmetic_sound w width z (taken.next + 1) ins.answer.op regs.answer.other_word taken.next taken.answer i.op x a operation m4.0 in
-    let row_bits : List ℕ = double_row_values w low high (flag_of (among (8 ∷ []) i.op)) in
+    let row_bits : List ℕ = double_row_values w low high (flag_of (among free_ops i.op)) in
     let after_row : List ℕ = sums_values w i.op x a ++ (products_values w i.op x a ++ shifts_values w x a f low high) in
     let bits_had = HasFrom-split z (taken.next + 1) (bits_values (decomposed_word w i.op x a) w ++ row_bits) after_row h4.0 in
     let bits_at = HasFrom-split z (taken.next + 1) (bits_values (decomposed_word w i.op x a) w) row_bits bits_had.0 in
@@ -622,30 +717,13 @@ front w width z n state at head tail o takes assigns in_range has =
       does = does;
       decomposed = subst (λ k. HasBits z k w (decomposed_word w i.op x a)) (sym (ap (λ m. m.x.first) first_is)) bits_from;
       low = m4.1;
+      high = m4.2;
       rest = had_later w n v i takes z does_made.next low high f _ _ _ m4.1 m4.2 f_is h4.1;
     }
 
 -- ---- the whole step
--- the numbers in the wires are those that were assigned
-shown : (w : ℕ) (z : List ℕ) (n : ℕ) (state : StateWires) (time at head tail low : ℕ) (takes : Bool)
-    (is : IsStep w z n time state (block_of w n state time at).answer) → Assigns z
-    → slice_index z (instruction w n state at).answer.head ≡ head → slice_index z (instruction w n state at).answer.tail ≡ tail
-    → slice_index z (made w n state at).answer.row.low ≡ low → took z (tapes w n state at).answer ≡ takes
-    → transition_in z state (block_of w n state time at).answer ≡ transition_of w n time (state_in z state) (step_words head tail low takes)
-unfolding block_of computed_of effects_of fresh pure ◌>>=◌
-shown w z n state time at head tail low takes is assigns head_at tail_at low_at takes_at =
-    let v = state_in z state in
-    let head_is : is.head ≡ head = sym (ap (λ (b : Transition). b.first.old) is.same) ∙ value-wire assigns (instruction w n state at).answer.head ∙ head_at in
-    let tail_is : is.tail ≡ tail = sym (ap (λ (b : Transition). b.second.old) is.same) ∙ value-wire assigns (instruction w n state at).answer.tail ∙ tail_at in
-    let word_is : is.word ≡ low = sym (ap (λ (b : Transition). b.word) is.same) ∙ low_at in
-    let takes_is : is.takes ≡ takes = sym (ap (λ (b : Transition). b.takes) is.same) ∙ takes_at in
-    is.same
-    ∙ ap (λ k. transition_of w n time v (step_words k is.tail is.word is.takes)) head_is
-    ∙ ap (λ k. transition_of w n time v (step_words head k is.word is.takes)) tail_is
-    ∙ ap₂ (λ k b. transition_of w n time v (step_words head tail k b)) word_is takes_is
-
 -- an assignment that has the values of the parts after the arithmetic meets these
-record Back (w : ℕ) (z : List ℕ) (n : ℕ) (state : StateWires) (at : ℕ) (takes : Bool) : Type 0 where
+record Back (w : ℕ) (z : List ℕ) (n : ℕ) (state : StateWires) (at : ℕ) (i : Instr) (h : ℕ) (takes : Bool) : Type 0 where
   pub met5 : Meets z (tapes w n state at).list
   pub met6 : Meets z (memory w n state at).list
   pub met7 : Meets z (results w n state at).list
@@ -653,11 +731,13 @@ record Back (w : ℕ) (z : List ℕ) (n : ℕ) (state : StateWires) (at : ℕ) (
   pub met9 : Meets z (written w n state at).list
   pub met10 : Meets z (flag w n state at).list
   pub met11 : Meets z (pc w n state at).list
+  pub beside : slice_index z (memory w n state at).answer.line.beside ≡ beside_in (state_in z state) i h
   pub takes_is : took z (tapes w n state at).answer ≡ takes
 
-back : (w : ℕ) → IsWidth w → (z : List ℕ) (n : ℕ) (state : StateWires) (at head tail o : ℕ) (takes : Bool) → Assigns z
-    → AtNumbers w n (state_in z state) (step_words head tail o takes) → Front w z n state at head tail o takes → Back w z n state at takes
-back w width z n state at head tail o takes assigns in_range fore =
+back : (w : ℕ) → IsWidth w → (z : List ℕ) (n : ℕ) (state : StateWires) (at head tail o h : ℕ) (takes : Bool) → Assigns z
+    → AtNumbers w n (state_in z state) (step_words head tail o takes) → Front w z n state at head tail o h takes
+    → Back w z n state at (decode w head tail) h takes
+back w width z n state at head tail o h takes assigns in_range fore =
     let v = state_in z state in
     let range = in_range.range in
     let i : Instr = decode w head tail in
@@ -694,9 +774,9 @@ back w width z n state at head tail o takes assigns in_range fore =
     let r2 : List ℕ = results_values w i.op a low high finds ++ r3 in
     let d = data_of arith_made.answer regs.answer.other_word in
     let mem = memory w n state at in
-    let h6 = some_had z t.next mem.next (memory_values w (input_of n v i low) decomposed) r2
-    (memory_sizes.fills w width n state row_op taken.answer d t.answer v i decomposed low t.next) rest in
-    let m6 = memory_complete w width z t.next n state row_op taken.answer d t.answer v i decomposed low
+    let h6 = some_had z t.next mem.next (memory_values w (input_of n v i low) high decomposed) r2
+    (memory_sizes.fills w width n state row_op taken.answer d t.answer v i decomposed high low t.next) rest in
+    let m6 = memory_complete w width z t.next n state row_op taken.answer d t.answer v i decomposed high low
     (has_memory known head tail fore.row fore.is fore.does are_tapes decomposed regs.answer.other_word fore.decomposed
     (λ e. ap (λ k. decomposed_word w k x a) e) fore.are.other) h6.0 in
     let stored = memory_in known head tail fore.row fore.is fore.does are_tapes t.next regs.answer.other_word fore.are.other m6 in
@@ -733,23 +813,33 @@ back w width z n state at head tail o takes assigns in_range fore =
     let m10 = flag_complete w width z wrote.next n state row_op arith_made.answer.x taken.next t.answer v i low high word_at zero_at low
     (has_flag known head tail fore.row fore.is fore.does are_tapes res.answer are_results tested_is) h10.0 in
     let m11 = pc_complete w width z flags.next state row_op taken.answer v i (has_pc known head tail fore.row fore.is) h10.1 in
-    record { met5 = m5.0; met6 = m6; met7 = m7; met8 = m8; met9 = m9; met10 = m10; met11 = m11; takes_is = m5.1 }
+    record {
+      met5 = m5.0;
+      met6 = m6;
+      met7 = m7;
+      met8 = m8;
+      met9 = m9;
+      met10 = m10;
+      met11 = m11;
+      beside = stored.beside ∙ ap (beside_in v i) fore.high ∙ beside_again w v i h;
+      takes_is = m5.1;
+    }
   where
     fourth : (k : ℕ) → k + 4 ≡ k + 1 + 1 + 1 + 1
     fourth k = omega arith
 
 -- what it works out, and what it does
-computed_met : (w n : ℕ) (z : List ℕ) (state : StateWires) (at head tail o : ℕ) (takes : Bool) → Front w z n state at head tail o takes
+computed_met : (w n : ℕ) (z : List ℕ) (state : StateWires) (at head tail o h : ℕ) (takes : Bool) → Front w z n state at head tail o h takes
     → Meets z (computed_of w state at).list
 unfolding computed_of fresh pure ◌>>=◌
-computed_met w n z state at head tail o takes fore =
+computed_met w n z state at head tail o h takes fore =
     Meets-join z (instruction w n state at).list _ fore.met1 (Meets-join z (triple w n state at).list _ fore.met2
     (Meets-join z (operand w n state at).list _ fore.met3 (Meets-join z (made w n state at).list [] fore.met4 tt)))
 
-effects_met : (w n : ℕ) (z : List ℕ) (state : StateWires) (at : ℕ) (takes : Bool) → Back w z n state at takes
+effects_met : (w n : ℕ) (z : List ℕ) (state : StateWires) (at : ℕ) (i : Instr) (h : ℕ) (takes : Bool) → Back w z n state at i h takes
     → Meets z (effects_of w n state (computed_of w state at).answer (computed_of w state at).next).list
 unfolding computed_of effects_of fresh pure ◌>>=◌
-effects_met w n z state at takes aft =
+effects_met w n z state at i h takes aft =
     Meets-join z (tapes w n state at).list _ aft.met5 (Meets-join z (memory w n state at).list _ aft.met6
     (Meets-join z (results w n state at).list _ aft.met7 (Meets-join z (zero w n state at).list _ aft.met8
     (Meets-join z (written w n state at).list _ aft.met9 (Meets-join z (flag w n state at).list _ aft.met10
@@ -762,15 +852,38 @@ step_met w n time z state at fore aft =
     Meets-join z (computed_of w state at).list _ fore
     (Meets-join z (effects_of w n state (computed_of w state at).answer (computed_of w state at).next).list [] aft tt)
 
-pub block_complete : BlockIsComplete
-block_complete w width z n state time next head tail o takes early assigns is has =
-    let fore = front w width z n state next head tail o takes assigns is has in
-    let aft = back w width z n state next head tail o takes assigns is fore in
-    let met =
-    step_met w n time z state next (computed_met w n z state next head tail o takes fore) (effects_met w n z state next takes aft) in
-    let step = step_in w width z n state time next is.short early assigns is.range met in
-    let low = row_low w (state_in z state) (decode w head tail) o in
+-- and it shows the step, with the word beside that of its data line in its double cell
+pub record Filled (w : ℕ) (z : List ℕ) (n : ℕ) (at : BlockPlace) (by : StepWords) (h : ℕ) : Type 0 where
+  pub meets : MeetsStep w z n at by
+  pub beside : slice_index z (memory w n at.state at.next).answer.line.beside ≡ beside_in (state_in z at.state) (decode w by.head by.tail) h
+
+pub block_filled : (w : ℕ) → IsWidth w → (z : List ℕ) (n : ℕ) (state : StateWires) (time next head tail o h : ℕ) (takes : Bool) → time + 2 < 2 ^ 32 → Assigns z
+    → h < 2 ^ w → AtNumbers w n (state_in z state) (step_words head tail o takes)
+    → HasFrom z next (block_values w n (state_in z state) (step_words head tail o takes) h)
+    → Filled w z n (record { state = state; time = time; next = next }) (step_words head tail o takes) h
+block_filled w width z n state time next head tail o h takes early assigns beside is has =
+    let v = state_in z state in
+    let fore = front w width z n state next head tail o h takes assigns beside is has in
+    let aft = back w width z n state next head tail o h takes assigns is fore in
+    let met = step_met w n time z state next (computed_met w n z state next head tail o h takes fore)
+    (effects_met w n z state next (decode w head tail) h takes aft) in
+    let known : Before w z n state = record { width = width; assigns = assigns; short = is.short; range = is.range } in
+    let parts = parts_in w z n state time next known met in
+    let low = row_low w v (decode w head tail) o in
+    let o_in = row_word w z n state next in
+    let takes_is = takes_in w z n state next in
+    let tail_is = tail_in w z n state next in
     record {
-      met = met;
-      shows = shown w z n state time next head tail low takes step assigns fore.decoded.head fore.decoded.tail fore.low aft.takes_is;
+      meets = record {
+        met = met;
+        shows = step_shown w z n state time next early known parts
+            ∙ ap (λ k. transition_of w n time v (step_words k tail_is o_in takes_is)) fore.decoded.head
+            ∙ ap (λ k. transition_of w n time v (step_words head k o_in takes_is)) fore.decoded.tail
+            ∙ ap₂ (λ k b. transition_of w n time v (step_words head tail k b)) fore.low aft.takes_is;
+      };
+      beside = aft.beside;
     }
+
+pub block_complete : BlockIsComplete
+block_complete w width z n state time next head tail o h takes early assigns beside is has =
+    (block_filled w width z n state time next head tail o h takes early assigns beside is has).meets

@@ -44,7 +44,7 @@ effects_by w v step test =
 abbrev pub test_by : ℕ → ℕ → ℕ → ℕ → ℕ → Bool → ℕ
 test_by w k a low high finds = sign_at_zero (tested_number w k a low high (result_number w k a low high finds)) (sign_at k)
 
-module _ (w n : ℕ) (v : View) (head tail word : ℕ) (takes : Bool) (step : StepNumbers) (test : ℕ) where
+module _ (w n : ℕ) (v : View) (head tail word : ℕ) (takes : Bool) (beside : ℕ) (step : StepNumbers) (test : ℕ) where
   abbrev all : ℕ → Instr → Bool → ℕ → ℕ → ℕ → ℕ → ℕ → List ℕ
   all m i b low high a x f =
       instruction_values w head tail
@@ -56,8 +56,8 @@ module _ (w n : ℕ) (v : View) (head tail word : ℕ) (takes : Bool) (step : St
   test_at m i b low high = test_by w i.op (operand_word v i) low high (found w m v i low b)
 
   pub filled : step.n ≡ n → step.instr ≡ decode w head tail → step.aux ≡ takes → step.low ≡ row_low w v (decode w head tail) word
-      → step.high ≡ row_high w v (decode w head tail) → AreNumbers w v step → test ≡ test_by w step.instr.op step.operand step.low step.high step.found
-      → computed_by w v head tail step test ++ effects_by w v step test ≡ block_values w n v (step_words head tail word takes)
+      → step.high ≡ row_high w v (decode w head tail) beside → AreNumbers w v step → test ≡ test_by w step.instr.op step.operand step.low step.high step.found
+      → computed_by w v head tail step test ++ effects_by w v step test ≡ block_values w n v (step_words head tail word takes) beside
   filled count instr aux low high numbers by =
       let registers = triple_values (other_register step.instr) (tail % 16) step.instr.dest v.regs in
       let tests : test ≡ test_at step.n step.instr step.aux step.low step.high =
@@ -86,9 +86,9 @@ module _ {w : ℕ} {v : View} {step : StepNumbers} (are : AreStepNumbers w v ste
   abbrev input : StepInput
   input = input_of step.n v step.instr step.low
 
-  pub memory_is : memory_values w input step.decomposed
-      ≡ memory_values w input (decomposed_word w step.instr.op (other_word v step.instr) (operand_word v step.instr))
-  memory_is = ap (λ (x : ℕ). memory_values w input x)
+  pub memory_is : memory_values w input step.high step.decomposed
+      ≡ memory_values w input step.high (decomposed_word w step.instr.op (other_word v step.instr) (operand_word v step.instr))
+  memory_is = ap (λ (x : ℕ). memory_values w input step.high x)
       (are.decomposed ∙ ap₂ (λ (x a : ℕ). decomposed_word w step.instr.op x a) are.numbers.other are.numbers.operand)
 
   module _ {results : List ℕ} (by : results ≡ results_values w step.instr.op step.operand step.low step.high step.found) where

@@ -14,7 +14,7 @@ use Rattle.tv_inputs.specs.declared.records.StoreWires.{StoreWires}
 use Rattle.tv_inputs.specs.declared.records.TapeWires.{TapeWires}
 use Rattle.tv_parts.specs.Written.{TripleUnder}
 use Rattle.tv_regs.specs.declared.triple.Triple.{Triple}
-use Rattle.tv_block.specs.Complete.{computed_made, computed_added, effects_made, effects_added}
+use Rattle.tv_block.specs.Sizes.{computed_made, computed_added, effects_made, effects_added}
 use Rattle.tv_block.specs.Under.{InstructionUnder, ComputedUnder, BeforeUnder}
 use Rattle.tv_block.specs.declared.records.Computed.{Computed}
 
@@ -36,7 +36,7 @@ module _ {S : Type 0} {m : Meaning S} where
   computed_room w r = room_here r (omega arith)
 
   pub effects_room : (w : ℕ) {a : S} → Room m a (effects_made w) (effects_added w)
-      → Room m a (7 + (w / 8 + 5 + (5 + (1 + 24)))) (7 + (w / 8 + 5 + (8 + (2 + 25))))
+      → Room m a (7 + (w / 8 + 9 + (5 + (1 + 24)))) (7 + (w / 8 + 9 + (8 + (2 + 25))))
   effects_room w r = room_here r (omega arith)
 
   -- the next wire, and one below the next, have numbers of 32 bits
@@ -85,7 +85,19 @@ module _ {a b : ℕ} (rise : a ≤ b) where
   before_under u v = record { state = state_under u; computed = computed_under v }
 
   pub store_under : {s : StoreWires} → StoreUnder a s → StoreUnder b s
-  store_under u = record { line = record { cell = one_up u.line.cell; old = one_up u.line.old }; byte = one_up u.byte; new = one_up u.new }
+  store_under u = record {
+    line = record {
+      located = one_up u.line.located;
+      double = one_up u.line.double;
+      old = one_up u.line.old;
+      side = one_up u.line.side;
+      beside = one_up u.line.beside;
+    };
+    byte = one_up u.byte;
+    new = one_up u.new;
+    before = one_up u.before;
+    after = one_up u.after;
+  }
 
 -- ---- the instruction's wires
 module _ (w : ℕ) (width : IsWidth w) {S : Type 0} {m : Meaning S} {a b : S} {i : InstructionWires} (g : Grows m a b (2 * w + 26) (2 * w + 27))

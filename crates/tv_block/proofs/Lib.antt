@@ -1,5 +1,8 @@
 pub mod BlockChain
 pub mod BlockLaws
+mod CellTerms
+mod DataCells
+pub mod DoubleLaws
 mod FilledValues
 pub mod Growing
 pub mod MachineFills

@@ -227,9 +227,9 @@ module _ (w n : ℕ) (state : StateWires) (at : ℕ) (width : IsWidth w) where
     memory_put =
         let m = (made w n state at).answer in
         let start = memory_begins w n state at width in
-        memory_normal w width state (op w n state at) (operand w n state at).answer (data_of m (triple w n state at).answer.other_word)
+        memory_normal w width n state (op w n state at) (operand w n state at).answer (data_of m (triple w n state at).answer.other_word)
         (tapes w n state at).answer
-        (tapes w n state at).next apart.taken (omega (arith, under.taken, op_at)) (omega (arith, op_at, taken_at, width)) (omega (arith, taken_at, start))
+        (tapes w n state at).next short apart.taken (omega (arith, under.taken, op_at)) (omega (arith, op_at, taken_at, width)) (omega (arith, taken_at, start))
         (omega (arith, word_at)) (omega (arith, word_at, bits_at))
         (omega (arith, bits_at, both_at, width)) (omega (arith, row_first_at, start, width)) (omega (arith, x_at, start, width))
         (omega (arith, other_at, low_half_at, width))

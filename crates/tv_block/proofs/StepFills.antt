@@ -7,7 +7,7 @@ use Rattle.tv_step.proofs.CellLaws.{lines_in_range}
 use Rattle.tv_step.specs.Cells.{IsLine}
 use Rattle.tv_step.specs.Reads.{reads_aux}
 use Rattle.tv_step.specs.Trace.{data_line}
-use Rattle.tv_block.proofs.MachineFills.{taken_small}
+use Rattle.tv_block.proofs.MachineFills.{taken_small, word_beside_small}
 use Rattle.tv_block.specs.StepWords.{StepsAreGiven}
 use Rattle.tv_word.proofs.FlagLaws.{flag_small}
 
@@ -26,5 +26,6 @@ steps_are_given w width n m time st ended short range =
       head_word = words_are_small w width st.memory range.bytes (st.pc / (w / 8));
       tail_word = words_are_small w width st.memory range.bytes (st.pc / (w / 8) + 1);
       data_word = taken_small w st (reads_aux w st) line.old range.aux fits.old;
+      beside_word = word_beside_small w width n st range;
       values = refl;
     }

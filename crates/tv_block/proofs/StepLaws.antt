@@ -1,7 +1,7 @@
 -- A step of which a part is returned, and where the state after it stands.
 use Rattle.tv_core.proofs.Common.{ℕ, ◌+◌, ◌++◌, refl, sym, ◌∙◌, subst, arith, Circuit, pure, ◌>>=◌, PutsAll, IsWidth}
 use Rattle.std.proofs.lemmas.List.{append-nil}
-use Rattle.tv_block.specs.Complete.{block_made}
+use Rattle.tv_block.specs.Sizes.{block_made}
 use Rattle.tv_block.specs.Places.{next_state}
 use Rattle.tv_core.specs.Sinks.{Meaning, PutsSome}
 use Rattle.tv_core.specs.declared.sink.SinkFault.{SinkFault}

@@ -1,17 +1,18 @@
 -- One step as a circuit of nine parts: instruction, registers, rows, arithmetic, tapes, memory, result, registers written,
 -- flag and program counter.
-use Rattle.std.specs.Prelude.{◌≡◌, ℕ, ◌+◌, ◌-◌, ◌/◌, ◌^◌, ◌<◌, ◌==◌, Bool, List, [], ◌∷◌, ◌++◌, length, slice_index}
+use Rattle.std.specs.Prelude.{◌≡◌, ℕ, ◌+◌, ◌-◌, ◌*◌, ◌/◌, ◌%◌, ◌^◌, ◌<◌, ◌==◌, Bool, List, [], ◌∷◌, ◌++◌, length, slice_index}
 use Rattle.tv_bits.specs.Number.{number_of}
 use Rattle.tv_bits.specs.ZeroSign.{zero_sign_of}
 use Rattle.tv_core.specs.Circuits.{Circuit, fresh, pure, ◌>>=◌}
-use Rattle.tv_core.specs.Combinations.{wire, constant}
+use Rattle.tv_core.specs.Combinations.{wire, constant, scaled}
 use Rattle.tv_core.specs.Constraints.{Combination}
 use Rattle.tv_core.specs.Laws.{Assigns, Meets}
 use Rattle.tv_core.specs.declared.field.TheConstants.{P}
+use Rattle.tv_core.specs.declared.limits.TheConstants.{TAPE_CELLS, NULL_CELL}
 use Rattle.tv_decode.specs.Instructions.{instruction_of, dest_bits, source_bits, register_bits, imm_wire}
 use Rattle.tv_decode.specs.declared.records.InstructionWires.{InstructionWires}
 use Rattle.tv_isa.specs.Instruction.{decode}
-use Rattle.tv_isa.specs.Opcodes.{store_ops, place_of}
+use Rattle.tv_isa.specs.Opcodes.{memory_ops, store_ops, place_of}
 use Rattle.tv_isa.specs.declared.opcode.TheConstants.{ANSWER}
 use Rattle.tv_lines.specs.PackedLines.{line_value}
 use Rattle.tv_lines.specs.Placed.{line_in}
@@ -23,16 +24,17 @@ use Rattle.tv_regs.specs.declared.triple.Triple.{Triple}
 use Rattle.tv_word.specs.Widths.{IsWidth}
 use Rattle.tv_arithmetic.specs.Arithmetic.{arithmetic_of}
 use Rattle.tv_parts.specs.Flag.{next_flag_of}
-use Rattle.tv_parts.specs.Memory.{memory_of}
+use Rattle.tv_parts.specs.Memory.{memory_of, null_double}
 use Rattle.tv_inputs.specs.OpcodeSums.{opcode_sum}
 use Rattle.tv_inputs.specs.Operand.{operand_of}
 use Rattle.tv_results.specs.Pc.{pc_of}
 use Rattle.tv_inputs.specs.Results.{sign_of, results_of}
 use Rattle.tv_inputs.specs.States.{state_in}
-use Rattle.tv_inputs.specs.Tapes.{tapes_of}
+use Rattle.tv_inputs.specs.Tapes.{primary_in, tapes_of}
 use Rattle.tv_parts.specs.Written.{written_of}
 use Rattle.tv_inputs.specs.declared.records.ArithmeticWires.{ArithmeticWires}
 use Rattle.tv_inputs.specs.declared.records.DataWires.{DataWires}
+use Rattle.tv_inputs.specs.declared.records.LineWires.{LineWires}
 use Rattle.tv_inputs.specs.declared.records.Sources.{Sources}
 use Rattle.tv_inputs.specs.declared.records.StoreWires.{StoreWires}
 use Rattle.tv_inputs.specs.declared.records.TapeWires.{TapeWires}
@@ -62,7 +64,7 @@ computed_of w state = do
 
 -- what memory and the result are made from
 abbrev pub data_of : ArithmeticWires → ℕ → DataWires
-data_of m other = record { bits = m.row.first; word = m.row.low; x = m.x; other = other; both = m.both }
+data_of m other = record { bits = m.row.first; word = m.row.low; beside = m.row.high; x = m.x; other = other; both = m.both }
 
 abbrev pub sources_of : ℕ → ArithmeticWires → ℕ → Sources
 sources_of w m byte = record { low = m.row.low; high = m.row.high; top = m.row.first + (w - 1); byte = byte }
@@ -79,7 +81,7 @@ left_of w state c tapes memory word = do
 unfoldable pub effects_of : ℕ → ℕ → StateWires → Computed → Circuit Effects
 effects_of w n state c = do
   tapes ← tapes_of w n state c.instruction.op c.operand
-  memory ← memory_of w state c.instruction.op c.operand (data_of c.made c.regs.other_word) tapes
+  memory ← memory_of w n state c.instruction.op c.operand (data_of c.made c.regs.other_word) tapes
   results ← results_of w state c.instruction.op c.operand (sources_of w c.made memory.byte) tapes
   _ ← zero_sign_of results.tested c.test (sign_of c.instruction.op)
   written ← written_of c.instruction.op state c.regs results.word
@@ -95,6 +97,16 @@ word_inverse w = P - (P - 1) / (w / 8)
 abbrev pub cell_of : ℕ → ℕ → Combination
 cell_of w pc = (word_inverse w, pc) ∷ []
 
+-- the cell of the data line, by its double cell: at a load or store twice that and the side; the cell of a word of tape 0 where
+-- one is taken; else the null cell
+abbrev pub data_cell : ℕ → ℕ → StateWires → ℕ → TapeWires → LineWires → Combination
+data_cell w n state op t line =
+    let null = null_double w n in
+    constant ((NULL_CELL + (P - 2 * null)) % P)
+    ++ (scaled ((TAPE_CELLS + n + (P - NULL_CELL)) % P) (primary_in state t)
+    ++ (scaled ((2 * null + (P - NULL_CELL)) % P) (opcode_sum op memory_ops)
+    ++ (wire line.located ++ (wire line.double ++ wire line.side))))
+
 -- one step from a state, the primary tape having n words; the lines of its instruction's words have two times from `time`
 -- on, and that of its data word a third
 unfoldable pub block_of : ℕ → ℕ → StateWires → ℕ → Circuit Block
@@ -106,7 +118,12 @@ block_of w n state time = do
     lines =
         (record { cell = cell_of w state.pc; time = constant time; old = wire c.instruction.head; new = wire c.instruction.head })
         ∷ (record { cell = cell_of w state.pc ++ constant 1; time = constant (time + 1); old = wire c.instruction.tail; new = wire c.instruction.tail })
-        ∷ (record { cell = wire e.memory.line.cell; time = constant (time + 2); old = wire e.memory.line.old; new = wire e.memory.new })
+        ∷ (record {
+          cell = data_cell w n state c.instruction.op e.tapes e.memory.line;
+          time = constant (time + 2);
+          old = wire e.memory.line.old;
+          new = wire e.memory.new;
+        })
         ∷ [];
     spot = record { taken = e.tapes.takes; word = c.made.row.low };
     answers = c.instruction.op + place_of ANSWER;

@@ -1,8 +1,10 @@
 pub mod Block
 pub mod Complete
 pub mod Costs
+pub mod Doubles
 pub mod Normal
 pub mod Places
+pub mod Sizes
 pub mod StepWords
 pub mod Under
 pub mod Values

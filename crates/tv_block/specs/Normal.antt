@@ -5,7 +5,7 @@ use Rattle.tv_word.specs.Widths.{IsWidth}
 use Rattle.tv_inputs.specs.States.{StateUnder, StateIsApart}
 use Rattle.tv_inputs.specs.declared.records.StateWires.{StateWires}
 use Rattle.tv_block.specs.Block.{block_of}
-use Rattle.tv_block.specs.Complete.{block_made}
+use Rattle.tv_block.specs.Sizes.{block_made}
 use Rattle.tv_block.specs.Places.{next_state}
 
 -- they are where the wires of the state before it are apart and below the step's first one, and so are those of the state

@@ -7,9 +7,11 @@ use Rattle.tv_core.specs.declared.lines.LineLc.{LineLc}
 use Rattle.tv_isa.specs.Opcodes.{place_of}
 use Rattle.tv_isa.specs.declared.opcode.TheConstants.{ANSWER}
 use Rattle.tv_word.specs.Widths.{IsWidth}
+use Rattle.tv_inputs.specs.declared.records.LineWires.{LineWires}
 use Rattle.tv_inputs.specs.declared.records.StateWires.{StateWires}
-use Rattle.tv_block.specs.Block.{cell_of, block_of}
-use Rattle.tv_block.specs.Complete.{block_made}
+use Rattle.tv_inputs.specs.declared.records.TapeWires.{TapeWires}
+use Rattle.tv_block.specs.Block.{cell_of, block_of, data_cell}
+use Rattle.tv_block.specs.Sizes.{block_made}
 use Rattle.tv_block.specs.Under.{LineUnder, SpotUnder}
 use Rattle.tv_block.specs.declared.records.Block.{Block}
 
@@ -32,7 +34,7 @@ abbrev pub memory_at : ℕ → ℕ
 memory_at w = tapes_at w + 7
 
 abbrev pub results_at : ℕ → ℕ
-results_at w = memory_at w + w / 8 + 5
+results_at w = memory_at w + w / 8 + 9
 
 abbrev pub written_at : ℕ → ℕ
 written_at w = results_at w + 6
@@ -66,19 +68,39 @@ second_line w state time at = record {
   new = wire (at + (2 * w + 25));
 }
 
-abbrev pub third_line : ℕ → ℕ → ℕ → LineLc
-third_line w time at = record {
-  cell = wire (at + (memory_at w + 1));
-  time = constant (time + 2);
-  old = wire (at + (memory_at w + 2));
-  new = wire (at + (memory_at w + (w / 8 + 4)));
+-- what it does to the tapes, and the double cell of its data line
+abbrev pub tapes_wires : ℕ → ℕ → TapeWires
+tapes_wires w at = record { taken = at + (tapes_at w + 3); takes = at + (tapes_at w + 5); ended = at + (tapes_at w + 6) }
+
+abbrev pub line_wires : ℕ → ℕ → LineWires
+line_wires w at = record {
+  located = at + memory_at w;
+  double = at + (memory_at w + 1);
+  old = at + (memory_at w + 2);
+  side = at + (memory_at w + 3);
+  beside = at + (memory_at w + 4);
 }
 
--- all that a block returns, from the number of its first wire
-abbrev pub block_wires : ℕ → StateWires → ℕ → ℕ → Block
-block_wires w state time at = record {
+-- the first wire of its opcode's row, and the line's word after the step
+abbrev pub op_wire : ℕ → ℕ → ℕ
+op_wire w at = at + (w - 5)
+
+abbrev pub new_wire : ℕ → ℕ → ℕ
+new_wire w at = at + (memory_at w + (w / 8 + 6))
+
+abbrev pub third_line : ℕ → ℕ → StateWires → ℕ → ℕ → LineLc
+third_line w n state time at = record {
+  cell = data_cell w n state (op_wire w at) (tapes_wires w at) (line_wires w at);
+  time = constant (time + 2);
+  old = wire (line_wires w at).old;
+  new = wire (new_wire w at);
+}
+
+-- all that a block returns, from the number of its first wire, the primary tape having n words
+abbrev pub block_wires : ℕ → ℕ → StateWires → ℕ → ℕ → Block
+block_wires w n state time at = record {
   next = next_state w at;
-  lines = first_line w state time at ∷ second_line w state time at ∷ third_line w time at ∷ [];
+  lines = first_line w state time at ∷ second_line w state time at ∷ third_line w n state time at ∷ [];
   spot = record { taken = at + (tapes_at w + 5); word = at + (arithmetic_at w + 3 * w) };
   answers = at + (w - 5 + place_of ANSWER);
   value = at + operand_at w;
@@ -94,9 +116,9 @@ pub record IsShortLine (line : LineLc) : Type 0 where
 -- a block returns those wires; its lines are short, and of the state's program counter and wires that the block makes;
 -- so are the state after it, and where it takes a word
 pub record BlockPlaces : Type 0 where
-  pub answer : (w : ℕ) → IsWidth w → (n : ℕ) (state : StateWires) (time next : ℕ) → (block_of w n state time next).answer ≡ block_wires w state time next
-  pub short : (w : ℕ) → IsWidth w → (state : StateWires) (time next : ℕ) → All IsShortLine (block_wires w state time next).lines
-  pub below : (w : ℕ) → IsWidth w → (state : StateWires) (time next : ℕ) → state.pc < next + block_made w
-      → All (LineUnder (next + block_made w)) (block_wires w state time next).lines
+  pub answer : (w : ℕ) → IsWidth w → (n : ℕ) (state : StateWires) (time next : ℕ) → (block_of w n state time next).answer ≡ block_wires w n state time next
+  pub short : (w : ℕ) → IsWidth w → (n : ℕ) (state : StateWires) (time next : ℕ) → All IsShortLine (block_wires w n state time next).lines
+  pub below : (w : ℕ) → IsWidth w → (n : ℕ) (state : StateWires) (time next : ℕ) → state.pc < next + block_made w
+      → state.taken_of_primary < next + block_made w → All (LineUnder (next + block_made w)) (block_wires w n state time next).lines
   pub after : (w : ℕ) → IsWidth w → (next : ℕ) → (next_state w next).pc < next + block_made w
-  pub spot : (w : ℕ) → IsWidth w → (state : StateWires) (time next : ℕ) → SpotUnder (next + block_made w) (block_wires w state time next).spot
+  pub spot : (w : ℕ) → IsWidth w → (n : ℕ) (state : StateWires) (time next : ℕ) → SpotUnder (next + block_made w) (block_wires w n state time next).spot

@@ -10,7 +10,7 @@ use Rattle.tv_step.specs.State.{State}
 use Rattle.tv_step.specs.Trace.{traced_state}
 use Rattle.tv_word.specs.Widths.{IsWidth}
 use Rattle.tv_inputs.specs.Traced.{traced_view}
-use Rattle.tv_block.specs.Complete.{olds_of, step_values}
+use Rattle.tv_block.specs.Complete.{olds_of, step_values, word_beside}
 use Rattle.tv_block.specs.Values.{block_values}
 use Rattle.tv_word.specs.Word.{flag_of}
 
@@ -31,8 +31,9 @@ pub record IsTracedStep (w n m time : ℕ) (st : State) (ended : Bool) : Type 0 
   pub head_word : step_head w n st time < 2 ^ w
   pub tail_word : step_tail w n st time < 2 ^ w
   pub data_word : step_data w n st time < 2 ^ w
+  pub beside_word : word_beside w n st < 2 ^ w
   pub values : block_values w n (traced_view (traced_state n m st ended))
-      (step_words (step_head w n st time) (step_tail w n st time) (step_data w n st time) (is_some (word_taken w st)))
+      (step_words (step_head w n st time) (step_tail w n st time) (step_data w n st time) (is_some (word_taken w st))) (word_beside w n st)
       ≡ step_values w n (seen st (n - length st.primary) (flag_of ended)) (olds_of w n st time) (word_taken w st)
 
 -- each machine's step from a state in range is such a traced step

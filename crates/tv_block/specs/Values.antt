@@ -12,7 +12,7 @@ use Rattle.tv_regs.specs.Triple.{triple_values}
 use Rattle.tv_arithmetic.specs.Arithmetic.{decomposed_word, low_number, high_number, arithmetic_values}
 use Rattle.tv_parts.specs.Flag.{sign_at, flag_values}
 use Rattle.tv_inputs.specs.Inputs.{StepInput, input_of, operation_of}
-use Rattle.tv_parts.specs.Memory.{memory_values}
+use Rattle.tv_parts.specs.Memory.{beside_in, memory_values}
 use Rattle.tv_inputs.specs.Operand.{operand_values}
 use Rattle.tv_results.specs.Pc.{pc_values}
 use Rattle.tv_inputs.specs.Results.{result_number, tested_number, results_values}
@@ -27,25 +27,25 @@ use Rattle.tv_word.specs.Word.{flag_of}
 abbrev pub numbers_view : StateNum → View
 numbers_view state = record { pc = state.pc; regs = state.regs; flag = flag_of state.flag; taken = state.taken_of_primary; ended = flag_of state.aux_ended }
 
--- the halves of the row of an instruction, where the data word is o
+-- the halves of the row of an instruction, where the data word is o, and the word beside it in memory is h
 abbrev pub row_low : ℕ → View → Instr → ℕ → ℕ
 row_low w v i o = low_number w i.op (other_word v i) (operand_word v i) o
 
-abbrev pub row_high : ℕ → View → Instr → ℕ
-row_high w v i = high_number w i.op (other_word v i) (operand_word v i)
+abbrev pub row_high : ℕ → View → Instr → ℕ → ℕ
+row_high w v i h = high_number w i.op (other_word v i) (operand_word v i) (beside_in v i h)
 
 -- the numbers of a step from a view, and the word whose bits stand beside its row
 pub record AreStepNumbers (w : ℕ) (v : View) (step : StepNumbers) : Type 0 where
   pub decomposed : step.decomposed ≡ decomposed_word w step.instr.op step.other step.operand
   pub numbers : AreNumbers w v step
 
--- they are by these words, the primary tape having n words
-pub record AreBy (w n : ℕ) (v : View) (by : StepWords) (step : StepNumbers) : Type 0 where
+-- they are by these words, h being beside the data word, and the primary tape having n words
+pub record AreBy (w n : ℕ) (v : View) (by : StepWords) (h : ℕ) (step : StepNumbers) : Type 0 where
   pub count : step.n ≡ n
   pub instr : step.instr ≡ decode w by.head by.tail
   pub aux : step.aux ≡ by.takes
   pub low : step.low ≡ row_low w v (decode w by.head by.tail) by.word
-  pub high : step.high ≡ row_high w v (decode w by.head by.tail)
+  pub high : step.high ≡ row_high w v (decode w by.head by.tail) h
 
 -- from a step in numbers, with the high half of its row, and whether a word of the auxiliary tape is taken
 module _ (w : ℕ) (step : StepInput) (high : ℕ) (takes : Bool) where
@@ -64,7 +64,7 @@ module _ (w : ℕ) (step : StepInput) (high : ℕ) (takes : Bool) where
   abbrev pub effects_values : ℕ → List ℕ
   effects_values f =
       let a = operand_word step.view step.instr in
-      memory_values w step (decomposed_word w step.instr.op (other_word step.view step.instr) a)
+      memory_values w step high (decomposed_word w step.instr.op (other_word step.view step.instr) a)
       ++ (results_values w step.instr.op a step.low high (found w step.words step.view step.instr step.low takes)
       ++ (zero_sign_values tested_in (sign_at step.instr.op)
       ++ (written_values w step.words step.view step.instr step.low takes
@@ -76,12 +76,12 @@ abbrev pub other_register : Instr → ℕ
 other_register i = if among store_ops i.op then i.dest else i.source
 
 -- the values of a step's wires: from the view before it, by the words of its instruction, its data word, and whether it
--- takes that of the auxiliary tape
-abbrev pub block_values : ℕ → ℕ → View → StepWords → List ℕ
-block_values w n v by =
+-- takes that of the auxiliary tape, h being the word beside the data word in memory
+abbrev pub block_values : ℕ → ℕ → View → StepWords → ℕ → List ℕ
+block_values w n v by h =
     let i = decode w by.head by.tail in
     let low = row_low w v i by.word in
-    let high = row_high w v i in
+    let high = row_high w v i h in
     let f = test_in w (input_of n v i low) high by.takes in
     instruction_values w by.head by.tail
     ++ (triple_values (other_register i) (by.tail % 16) i.dest v.regs

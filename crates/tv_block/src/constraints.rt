@@ -3,8 +3,8 @@ ghost use Rattle.std.specs.Prelude.{◌+◌, ◌/◌, ◌≤◌, ◌<◌, ◌^�
 ghost use Rattle.tv_bits.specs.ZeroSign.{zero_sign_of};
 ghost use Rattle.tv_block.specs.Block.{registers_of, computed_of, data_of, sources_of, left_of};
 ghost use Rattle.tv_block.specs.Block.{effects_of, block_of, reached_of};
-ghost use Rattle.tv_block.specs.Complete.{computed_made, computed_added};
-ghost use Rattle.tv_block.specs.Complete.{effects_made, effects_added, block_made, block_added};
+ghost use Rattle.tv_block.specs.Sizes.{computed_made, computed_added};
+ghost use Rattle.tv_block.specs.Sizes.{effects_made, effects_added, block_made, block_added};
 ghost use Rattle.tv_block.specs.Under.{BlockUnder, InstructionUnder, ComputedUnder, BeforeUnder};
 ghost use Rattle.tv_block.specs.Under.{DoneUnder, EffectsUnder};
 ghost use Rattle.tv_core.specs.Sinks.{Emits, Room};
@@ -151,7 +151,7 @@ fn act<const W: u32, S: Sink>(
     let op = c.instruction.op;
     let a = &c.operand;
     let tapes = put_tapes::<W, S>(s, scratch, n, state, op, a)?;
-    let memory = store::<W, S>(s, scratch, state, c, &tapes)?;
+    let memory = store::<W, S>(s, scratch, n, state, c, &tapes)?;
     let results = results::<W, S>(s, scratch, state, c, memory.byte, &tapes)?;
     put_test(s, scratch, op, results.tested, c.test)?;
     leave::<W, S>(s, scratch, state, c, &tapes, &memory, results.word)
@@ -189,34 +189,36 @@ fn leave<const W: u32, S: Sink>(
     })
 }
 
-// Constrains the data line and the word in its cell after the step.
+// Constrains the data line, the words of its double cell, and the line's word after the step.
 fn store<const W: u32, S: Sink>(
     s: &mut S,
     scratch: &mut Scratch,
+    n: u32,
     state: &StateWires,
     c: &Computed,
     tapes: &TapeWires,
 ) -> Put<StoreWires>
     requires width { IsWidth W }
-    requires room { Room S.meaning s.old (W / 8 + 5) (W / 8 + 5) }
+    requires room { Room S.meaning s.old (W / 8 + 9) (W / 8 + 9) }
     requires state_made { StateUnder (S.meaning.wires s.old) state.now }
     requires computed_made { ComputedUnder W (S.meaning.wires s.old) c.now }
     requires tapes_made { TapesUnder (S.meaning.wires s.old) tapes.now }
     ensures emits { Emits S.meaning s.old s.new
-        (memory_of W state.now c.now.instruction.op c.now.operand
+        (memory_of W n state.now c.now.instruction.op c.now.operand
         (data_of c.now.made c.now.regs.other_word) tapes.now)
-        (W / 8 + 5) (W / 8 + 5) result }
+        (W / 8 + 9) (W / 8 + 9) result }
     ensures below { IfOk result (λ made. StoreUnder (S.meaning.wires s.new) made) }
 {
     let data = DataWires {
         bits: c.made.row.first,
         word: c.made.row.low,
+        beside: c.made.row.high,
         x: c.made.x,
         other: c.regs.other_word,
         both: c.made.both,
     };
     let op = c.instruction.op;
-    put_memory::<W, S>(s, scratch, state, op, &c.operand, &data, tapes)
+    put_memory::<W, S>(s, scratch, n, state, op, &c.operand, &data, tapes)
 }
 
 // Constrains the result and the number whose test for 0 is the flag.

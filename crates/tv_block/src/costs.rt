@@ -32,17 +32,17 @@ pub fn step_costs<const W: u32>() -> StepCosts
     ensures is { result ≡ step_costs W }
     ensures cheap { IsCheap result }
 {
-    let lines = [terms(1, 1, 1), terms(2, 1, 1), terms(1, 1, 1)];
+    let lines = [terms(1, 1, 1), terms(2, 1, 1), terms(10, 1, 1)];
     if W == 16 {
         StepCosts {
-            wires: 212,
-            constraints: 225,
+            wires: 216,
+            constraints: 229,
             lines,
         }
     } else {
         StepCosts {
-            wires: 311,
-            constraints: 324,
+            wires: 315,
+            constraints: 328,
             lines,
         }
     }
@@ -55,7 +55,7 @@ pub fn step_terms<const W: u32>(n: u32) -> u32
     ensures is { result ≡ block_terms W n }
     ensures few { result ≤ 2 ^ 14 }
 {
-    let most = if W == 16 { 1272 } else { 1760 };
+    let most = if W == 16 { 1297 } else { 1785 };
     if n == 0 { most - 2 } else { most }
 }
 

@@ -3,6 +3,7 @@ ghost use Rattle.tv_block.specs.Block.{BlockIsStep, BlockIsSound};
 ghost use Rattle.tv_block.specs.Complete.{BlockIsComplete, BlockSizes};
 ghost use Rattle.tv_block.specs.Complete.{OldsAreMet, MachineStepIsMet, MachineValuesFit};
 ghost use Rattle.tv_block.specs.Costs.{BlockIsCounted};
+ghost use Rattle.tv_block.specs.Doubles.{BlockHasDoubles};
 ghost use Rattle.tv_block.specs.Normal.{BlockIsNormal};
 ghost use Rattle.tv_block.specs.Places.{BlockPlaces};
 ghost use Rattle.tv_block.specs.StepWords.{StepsAreGiven};
@@ -22,11 +23,13 @@ pub fn block_is_sound()
 /// A step's circuit is complete. An assignment that has the values of a step in numbers at the
 /// wires that are made satisfies the constraints, and its wires hold that step; the data word in
 /// them is the low half of the operation's row, which is the step's data word where it loads,
-/// stores or reads. So its lines have any old words that were passed, that of the data line being 0
-/// in the null cell, and it takes a word of the auxiliary tape exactly where one was passed, which
-/// is that word. The same holds for each step of the machine from a state in range that goes on
-/// or answers, with the old words of its lines and a word of the auxiliary tape that it may take:
-/// the lines are then those of the machine's step, and the word is the one that was passed.
+/// stores or reads. The word beside it in its double cell may be any word. So its lines have any old
+/// words that were passed, that of the data line being 0 in the null cell, and it takes a word of
+/// the auxiliary tape exactly where one was passed, which is that word. The same holds for each step
+/// of the machine from a state in range that goes on or answers, with the old words of its lines,
+/// the word beside that of its data line, and a word of the auxiliary tape that it may take: the
+/// lines and the words of their double cells are then those of the machine's step, and the word is
+/// the one that was passed.
 pub fn block_is_complete()
     ensures numbers { BlockIsComplete }
     ensures olds { OldsAreMet }
@@ -42,8 +45,9 @@ pub fn block_fills()
 
 /// The values of a machine's step from a state in range are those that `fill_traced_step` assigns
 /// from what a trace holds: the numbers of the state, the old words of the step's three lines, of
-/// which the first two are the words of its instruction, and the word that it takes of the
-/// auxiliary tape, in place of the third where there is one. All that `fill_traced_step` requires
+/// which the first two are the words of its instruction, the word that it takes of the auxiliary
+/// tape, in place of the third where there is one, and the word beside that of its data line in
+/// memory. All that `fill_traced_step` requires
 /// of these holds.
 pub fn steps_are_given()
     ensures { StepsAreGiven }
@@ -70,4 +74,14 @@ pub fn block_is_counted()
 #[tactic(auto, using(crate::proofs::NormalLaws::block_normal))]
 pub fn block_is_normal()
     ensures { BlockIsNormal }
+{}
+
+/// The words that `set_instruction_words`, `set_old_words` and `set_new_words` write are those of
+/// the step's double lines. Where an assignment satisfies the constraints of a step and has a state
+/// in range at the wires before it, they hold the double cell of its instruction and that of its
+/// data line, and the words there before and after the step: those of its three lines, and beside
+/// that of its data line some word, which is 0 where the line isn't of memory. This holds whatever
+/// memory holds.
+pub fn block_has_doubles()
+    ensures { BlockHasDoubles }
 {}

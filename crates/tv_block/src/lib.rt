@@ -6,6 +6,7 @@
 
 mod constraints;
 mod costs;
+mod doubles;
 mod laws;
 mod places;
 mod records;
@@ -14,9 +15,10 @@ mod values;
 
 pub use constraints::{block, step};
 pub use costs::{LineTerms, StepCosts, step_costs, step_terms};
+pub use doubles::{set_instruction_words, set_new_words, set_old_words};
 pub use laws::{
-    block_fills, block_is_complete, block_is_counted, block_is_normal, block_is_placed,
-    block_is_sound, steps_are_given,
+    block_fills, block_has_doubles, block_is_complete, block_is_counted, block_is_normal,
+    block_is_placed, block_is_sound, steps_are_given,
 };
 pub use places::{block_line, block_spot, block_wires, next_state};
 pub use records::{Block, Computed, Effects, Reached, StateNum};

@@ -1,21 +1,22 @@
 //! The wires of a step, computed from the number of its first wire.
-ghost use Rattle.std.specs.Prelude.{◌≡◌, ◌+◌, ◌<◌, ◌^◌, ℕ};
-ghost use Rattle.tv_block.specs.Block.{word_inverse};
-ghost use Rattle.tv_block.specs.Complete.{block_made};
+ghost use Rattle.std.specs.Prelude.{◌≡◌, ◌+◌, ◌*◌, ◌<◌, ◌^◌, ℕ};
+ghost use Rattle.tv_block.specs.Block.{word_inverse, data_cell};
+ghost use Rattle.tv_block.specs.Sizes.{block_made};
 ghost use Rattle.tv_block.specs.Places.{tapes_at, memory_at, written_at, next_state, block_wires};
 ghost use Rattle.tv_block.specs.Places.{first_line, second_line, third_line, IsShortLine};
+ghost use Rattle.tv_block.specs.Places.{op_wire, tapes_wires, line_wires};
 ghost use Rattle.tv_block.specs.Under.{LineUnder, SpotUnder};
 ghost use Rattle.tv_lines.specs.Placed.{line_in};
-ghost use Rattle.tv_lines.specs.Compact.{line_lc};
 ghost use Rattle.tv_inputs.specs.States.{StateUnder};
 ghost use Rattle.tv_inputs.specs.declared.records.StateWires.{StateWires};
 ghost use Rattle.tv_word.specs.Widths.{IsWidth};
 
 use crate::records::Block;
-use tv_core::{F, P, Wire};
-use tv_inputs::{Spot, StateWires, opcode_wire};
+use tv_core::limits::{NULL_CELL, TAPE_CELLS};
+use tv_core::{F, Lc, LineLc, P, Wire};
+use tv_inputs::{Spot, StateWires, opcode_wire, plus_opcodes};
 use tv_isa::opcode::ANSWER;
-use tv_lines::{Cell, CompactLine, Word};
+use tv_parts::{MEMORY_OPS, double_cells};
 use tv_regs::wires_from;
 
 // Counted from a step's first wire, 2 W or 6 W less: the two words of its instruction and its
@@ -38,8 +39,25 @@ const ENDED: u32 = 6;
 
 const TAPES: u32 = 7;
 
-// Counted from the first wire of memory, W / 8 less: how many wires it and the result have.
-const MEMORY_AND_RESULT: u32 = 11;
+// Counted from the first wire of memory, which is the double cell of a load or store, or null's: the
+// double cell of the data line, the word in it before the step, its side, and the word beside it.
+pub(crate) const DOUBLE: u32 = 1;
+
+pub(crate) const OLD: u32 = 2;
+
+pub(crate) const SIDE: u32 = 3;
+
+pub(crate) const BESIDE: u32 = 4;
+
+// Counted likewise, W / 8 less: its word after the step; by how much the first word of the double
+// cell exceeds the word before the step and after it; how many wires memory and the result have.
+pub(crate) const NEW: u32 = 6;
+
+pub(crate) const BEFORE: u32 = 7;
+
+pub(crate) const AFTER: u32 = 8;
+
+const MEMORY_AND_RESULT: u32 = 15;
 
 // Counted from the first wire of the registers written: the registers, the flag and the program
 // counter.
@@ -67,28 +85,31 @@ pub fn next_state<const W: u32>(first: Wire) -> StateWires
     }
 }
 
-/// Returns line 0, 1 or 2 of a step from a state, the step's first wire being `first`: those of the
-/// two words of its instruction, and that of its data word, at `time` and the two times after it. A
-/// combination has at most 14 terms, and the time has one.
+/// Returns line 0, 1 or 2 of a step from a state, the step's first wire being `first`, and the
+/// primary tape having `n` words: the lines of the two words of its instruction, and that of its
+/// data word, at `time` and the two times after it. A combination has at most 14 terms, and the time
+/// has one.
 pub fn block_line<const W: u32>(
     first: Wire,
     state: &StateWires,
+    n: u32,
     time: u32,
     which: u32,
-) -> CompactLine
+) -> LineLc
     requires width { IsWidth W }
     requires within { first + block_made W < 2 ^ 32 }
     requires times { time + 2 < 2 ^ 32 }
     requires which { which < 3 }
-    ensures is { line_lc result ≡ line_in (block_wires W state.now time first).lines which }
-    ensures short { IsShortLine (line_lc result) }
+    ensures is { result ≡ line_in (block_wires W n state.now time first).lines which }
+    ensures short { IsShortLine result }
     ensures below { state.now.pc < first + block_made W →
-        LineUnder (first + block_made W) (line_lc result) }
+        state.now.taken_of_primary < first + block_made W →
+        LineUnder (first + block_made W) result }
 {
     match which {
         0 => first_line::<W>(first, state, time),
         1 => second_line::<W>(first, state, time),
-        _ => third_line::<W>(first, time),
+        _ => third_line::<W>(first, state, n, time),
     }
 }
 
@@ -96,7 +117,8 @@ pub fn block_line<const W: u32>(
 pub fn block_spot<const W: u32>(first: Wire) -> Spot
     requires width { IsWidth W }
     requires within { first + block_made W < 2 ^ 32 }
-    ensures is { (state : StateWires) (time : ℕ) → result ≡ (block_wires W state time first).spot }
+    ensures is { (n : ℕ) (state : StateWires) (time : ℕ) →
+        result ≡ (block_wires W n state time first).spot }
     ensures below { SpotUnder (first + block_made W) result }
 {
     let tapes = first.offset(tapes_at::<W>());
@@ -106,20 +128,20 @@ pub fn block_spot<const W: u32>(first: Wire) -> Spot
     }
 }
 
-/// Returns all that `block` returns for a step from a state, the step's first wire being `first`.
-/// It is the same however many words the primary tape has.
-pub fn block_wires<const W: u32>(first: Wire, state: &StateWires, _n: u32, time: u32) -> Block
+/// Returns all that `block` returns for a step from a state, the step's first wire being `first`,
+/// and the primary tape having `n` words.
+pub fn block_wires<const W: u32>(first: Wire, state: &StateWires, n: u32, time: u32) -> Block
     requires width { IsWidth W }
     requires within { first + block_made W < 2 ^ 32 }
     requires times { time + 2 < 2 ^ 32 }
-    ensures { result ≡ block_wires W state.now time first }
+    ensures { result ≡ block_wires W n state.now time first }
 {
     Block {
         next: next_state::<W>(first),
         lines: [
-            block_line::<W>(first, state, time, 0).lc(),
-            block_line::<W>(first, state, time, 1).lc(),
-            block_line::<W>(first, state, time, 2).lc(),
+            block_line::<W>(first, state, n, time, 0),
+            block_line::<W>(first, state, n, time, 1),
+            block_line::<W>(first, state, n, time, 2),
         ],
         spot: block_spot::<W>(first),
         answers: opcode_wire(first.offset(W - 5), ANSWER),
@@ -128,50 +150,107 @@ pub fn block_wires<const W: u32>(first: Wire, state: &StateWires, _n: u32, time:
 }
 
 // The line of an instruction's first word, which stays.
-fn first_line<const W: u32>(first: Wire, state: &StateWires, time: u32) -> CompactLine
+fn first_line<const W: u32>(first: Wire, state: &StateWires, time: u32) -> LineLc
     requires width { IsWidth W }
     requires within { first + block_made W < 2 ^ 32 }
-    ensures is { line_lc result ≡ first_line W state.now time first }
+    ensures is { result ≡ first_line W state.now time first }
 {
-    let head = first.offset(2 * W + HEAD);
-    CompactLine {
-        cell: Cell::Multiple(word_inverse::<W>(), state.pc),
-        time,
-        old: Word::Wired(head),
-        new: Word::Wired(head),
+    let head = head_wire::<W>(first);
+    let mut cell = Lc::empty();
+    cell.plus(word_inverse::<W>(), state.pc);
+    LineLc {
+        cell,
+        time: Lc::constant(F::from(time)),
+        old: Lc::wire(head),
+        new: Lc::wire(head),
     }
 }
 
 // The line of its second word, which is in the next cell and stays too.
-fn second_line<const W: u32>(first: Wire, state: &StateWires, time: u32) -> CompactLine
+fn second_line<const W: u32>(first: Wire, state: &StateWires, time: u32) -> LineLc
     requires width { IsWidth W }
     requires within { first + block_made W < 2 ^ 32 }
     requires times { time + 1 < 2 ^ 32 }
-    ensures is { line_lc result ≡ second_line W state.now time first }
+    ensures is { result ≡ second_line W state.now time first }
 {
-    let tail = first.offset(2 * W + TAIL);
-    CompactLine {
-        cell: Cell::After(word_inverse::<W>(), state.pc),
-        time: time + 1,
-        old: Word::Wired(tail),
-        new: Word::Wired(tail),
+    let tail = tail_wire::<W>(first);
+    let mut cell = Lc::empty();
+    cell.plus(word_inverse::<W>(), state.pc);
+    cell.plus(F::ONE, Wire(0));
+    LineLc {
+        cell,
+        time: Lc::constant(F::from(time + 1)),
+        old: Lc::wire(tail),
+        new: Lc::wire(tail),
     }
 }
 
 // The line of a step's data word.
-fn third_line<const W: u32>(first: Wire, time: u32) -> CompactLine
+fn third_line<const W: u32>(first: Wire, state: &StateWires, n: u32, time: u32) -> LineLc
     requires width { IsWidth W }
     requires within { first + block_made W < 2 ^ 32 }
     requires times { time + 2 < 2 ^ 32 }
-    ensures is { line_lc result ≡ third_line W time first }
+    ensures is { result ≡ third_line W n state.now time first }
 {
-    let memory = first.offset(memory_at::<W>());
-    CompactLine {
-        cell: Cell::Multiple(F::ONE, memory.offset(1)),
-        time: time + 2,
-        old: Word::Wired(memory.offset(2)),
-        new: Word::Wired(memory.offset(W / 8 + 4)),
+    let memory = memory_wires::<W>(first);
+    LineLc {
+        cell: data_cell::<W>(first, state, n),
+        time: Lc::constant(F::from(time + 2)),
+        old: Lc::wire(memory.offset(OLD)),
+        new: Lc::wire(memory.offset(W / 8 + NEW)),
     }
+}
+
+// The cell of a step's data word, by its double cell: ten terms.
+fn data_cell<const W: u32>(first: Wire, state: &StateWires, n: u32) -> Lc
+    requires width { IsWidth W }
+    requires within { first + block_made W < 2 ^ 32 }
+    ensures { result ≡ data_cell W n state.now (op_wire W first) (tapes_wires W first)
+        (line_wires W first) }
+{
+    let words = F::from(n);
+    let null = F::from(NULL_CELL);
+    let doubled = F::of(2) * (F::from(double_cells::<W>()) + words);
+    let factor = F::from(TAPE_CELLS) + words - null;
+    let memory = memory_wires::<W>(first);
+    let mut lc = Lc::constant(null - doubled);
+    lc.plus(-factor, state.taken_of_primary);
+    lc.plus(factor, first.offset(tapes_at::<W>() + TAKEN));
+    plus_opcodes(&mut lc, doubled - null, first.offset(W - 5), &MEMORY_OPS);
+    lc.plus(F::ONE, memory);
+    lc.plus(F::ONE, memory.offset(DOUBLE));
+    lc.plus(F::ONE, memory.offset(SIDE));
+    lc
+}
+
+// The first word of the instruction.
+#[inline]
+pub(crate) fn head_wire<const W: u32>(first: Wire) -> Wire
+    requires width { IsWidth W }
+    requires within { first + block_made W < 2 ^ 32 }
+    ensures { result ≡ first + (2 * W + 24) }
+{
+    first.offset(2 * W + HEAD)
+}
+
+// Its second word.
+#[inline]
+pub(crate) fn tail_wire<const W: u32>(first: Wire) -> Wire
+    requires width { IsWidth W }
+    requires within { first + block_made W < 2 ^ 32 }
+    ensures { result ≡ first + (2 * W + 25) }
+{
+    first.offset(2 * W + TAIL)
+}
+
+// The first wire of memory.
+#[inline]
+pub(crate) fn memory_wires<const W: u32>(first: Wire) -> Wire
+    requires width { IsWidth W }
+    requires within { first + block_made W < 2 ^ 32 }
+    ensures { result ≡ first + memory_at W }
+{
+    first.offset(memory_at::<W>())
 }
 
 // The inverse modulo P of how many bytes a word has, which divides P - 1.

@@ -18,7 +18,8 @@ use tv_step::TraceState;
 
 /// Returns the numbers of a step from a state: `n` is the number of the primary tape's words,
 /// `head` and `tail` are the words of the instruction, and `word` is the data word, which the step
-/// takes of the auxiliary tape where `takes`.
+/// takes of the auxiliary tape where `takes`; `beside` is the word beside it in memory, where it loads
+/// or stores.
 pub(crate) fn step_numbers<const W: u32>(
     n: u32,
     state: &TraceState,
@@ -26,18 +27,22 @@ pub(crate) fn step_numbers<const W: u32>(
     tail: u32,
     word: u32,
     takes: bool,
+    beside: u32,
 ) -> StepNumbers
     requires width { IsWidth W }
     requires range { ViewInRange W n (traced_view state.now) }
     requires tail_word { tail < 2 ^ W }
     requires data_word { word < 2 ^ W }
-    ensures by { AreBy W n (traced_view state.now) (step_words head tail word takes) result }
+    requires beside_word { beside < 2 ^ W }
+    ensures by { AreBy W n (traced_view state.now) (step_words head tail word takes) beside
+        result }
     ensures numbers { AreStepNumbers W (traced_view state.now) result }
 {
     let instr = decode::<W>(head, tail);
     let operand = operand::<W>(state, &instr);
     let other = other::<W>(state, &instr);
-    let (low, high) = row_halves::<W>(instr.op, other, operand, word);
+    let beside = word_beside(&instr, beside);
+    let (low, high) = row_halves::<W>(instr.op, other, operand, word, beside);
     let primary = takes_primary(n, state, &instr, operand);
     StepNumbers {
         n,
@@ -91,6 +96,13 @@ pub(crate) fn other_register(instr: &Instr) -> u8
     } else {
         instr.source
     }
+}
+
+// The word beside the data word: `word` where the instruction loads or stores, else 0.
+fn word_beside(instr: &Instr, word: u32) -> u32
+    ensures { result ≡ (if among memory_ops instr.now.op then word else 0) }
+{
+    if touches(instr.op) { word } else { 0 }
 }
 
 // Whether a word of the primary tape is taken.

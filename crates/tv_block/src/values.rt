@@ -39,7 +39,7 @@ use tv_step::TraceState;
 /// of the primary tape's words, below 2^29, and `olds` are the old words of the step's three lines:
 /// the two words of its instruction, and the word in the cell that it looks at, 0 in the null cell.
 /// `aux` is the word that it takes of the auxiliary tape, `None` where it takes none. The values
-/// are the same at each time.
+/// are the same at each time. The word beside that of the data line in its double cell is 0.
 ///
 /// It takes no memory, and refuses only where `v` does.
 pub fn fill_block<const W: u32, V: Values>(
@@ -62,7 +62,7 @@ pub fn fill_block<const W: u32, V: Values>(
 {
     let [head, tail, old] = *olds;
     let word = data_word(old, aux);
-    fill_traced_step::<W, V>(v, n, &traced(state), head, tail, word, aux.is_some())
+    fill_traced_step::<W, V>(v, n, &traced(state), head, tail, word, aux.is_some(), 0)
 }
 
 // The data word: the one that is taken of the auxiliary tape, or else the one in the cell.
@@ -91,7 +91,8 @@ fn traced(state: &StateNum) -> TraceState
 
 /// Like `fill_block`, from a state as a trace has it, the words `head` and `tail` of the
 /// instruction, and the data word. The data word is the one that the step takes of the auxiliary
-/// tape where `takes`, and else the one in the cell that it accesses.
+/// tape where `takes`, and else the one in the cell that it accesses. Where it loads or stores,
+/// `beside` is the word beside that in its double cell.
 ///
 /// All words are below 2^`W`, and the primary tape has `n` of them, fewer than 2^29. It takes no
 /// memory. Of its time most goes into the hints that are inverses.
@@ -103,18 +104,21 @@ pub fn fill_traced_step<const W: u32, V: Values>(
     tail: u32,
     word: u32,
     takes: bool,
+    beside: u32,
 ) -> Put<()>
     requires width { IsWidth W }
     requires short { n < 2 ^ 29 }
     requires range { ViewInRange W n (traced_view state.now) }
     requires tail_word { tail < 2 ^ W }
     requires data_word { word < 2 ^ W }
+    requires beside_word { beside < 2 ^ W }
     requires whole { V.giving.broken v.old ≡ false }
     ensures gives { GivesIn V.giving v.old v.new
-        (block_values W n (traced_view state.now) (step_words head tail word takes)) result }
+        (block_values W n (traced_view state.now) (step_words head tail word takes) beside)
+        result }
     ensures whole { OnOk result (V.giving.broken v.new ≡ false) }
 {
-    let step = step_numbers::<W>(n, state, head, tail, word, takes);
+    let step = step_numbers::<W>(n, state, head, tail, word, takes, beside);
     let results = results_values::<W>(&step);
     let test = test_of(step.instr.op, results[4]);
     fill_computed::<W, V>(v, state, &step, head, tail, test)?;

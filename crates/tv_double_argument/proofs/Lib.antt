@@ -3,11 +3,12 @@ pub mod CheckCosts
 pub mod Complete
 pub mod Costs
 mod FewTerms
-mod Given
+pub mod Given
 mod ItemsRead
 pub mod Made
 pub mod NormalLaws
 pub mod Order
+pub mod Same
 pub mod Sizes
 pub mod Sound
 mod Sums

@@ -1,3 +1,4 @@
+pub mod Cells
 pub mod Chain
 pub mod Doubles
 pub mod Example

@@ -1,6 +1,6 @@
+mod BesideLaws
 mod PartValues
-mod Packed
 mod Prepared
-mod RunPlaces
+mod RunParts
 mod Satisfaction
 mod TraceLaws

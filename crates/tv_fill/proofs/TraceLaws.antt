@@ -4,12 +4,12 @@ use Rattle.tv_core.proofs.Common.{slice_index, joined_below, Line, IsWidth}
 use Rattle.std.proofs.lemmas.Bool.{ltb-true}
 use Rattle.std.specs.Prelude.{slice_index_or, nat_lt, is_some, unwrap_or, if◌then◌else◌}
 use Rattle.tv_block.proofs.StepFills.{same_values, steps_are_given}
-use Rattle.tv_block.specs.Complete.{step_values, olds_of}
+use Rattle.tv_block.specs.Complete.{step_values, olds_of, word_beside}
 use Rattle.tv_block.specs.StepWords.{IsTracedStep, step_head, step_tail, step_data}
 use Rattle.tv_block.specs.Values.{block_values}
 use Rattle.tv_layout.specs.Values.{run_step_values as run_step}
 use Rattle.tv_lines.specs.Placed.{zero_line}
-use Rattle.tv_argument.proofs.FillingLaws.{joined_below-same}
+use Rattle.tv_double_argument.proofs.Same.{joined_same}
 use Rattle.tv_numbers.specs.Numbers.{step_words}
 use Rattle.tv_numbers.specs.Shown.{data_word_of}
 use Rattle.tv_step.proofs.PlaceLaws.{lines_by_place, lines_are_three_a_step, states_by_place, states_are_one_more}
@@ -90,21 +90,29 @@ module _ (w : ℕ) (image x aux : List ℕ) (t : ℕ) (width : IsWidth w) (short
       ap₂ (λ (word : Option ℕ) (old : ℕ). unwrap_or word old) (taken_is i h) (old_is i 2 h (omega arith))
       ∙ data_word_is third (word_taken w (now i))
 
-  pub steps_in_range : (i : ℕ) → i < t → StepInRange w (length x) run_states aux run_steps i
-  steps_in_range i h = record {
-    after = omega (arith, states_are_one_more w (length x) (length aux) (start w image x aux) t);
-    third = omega (arith, lines_are_three_a_step w (length x) (length image + length x) (start w image x aux) t);
-    view = rw (state_is i (omega arith)) (given i).range;
-    head = rw (head_is i h) (given i).head_word;
-    tail = rw (tail_is i h) (given i).tail_word;
-    data_word = rw (data_is i h) (given i).data_word;
-    there = there i h;
-  }
+  -- the words beside those of the data lines are the machine's
+  module _ (besides : List ℕ) (besides_many : length besides ≡ t)
+      (besides_are : (i : ℕ) → i < t → slice_index besides i ≡ word_beside w (length x) (now i)) where
+    pub steps_in_range : (i : ℕ) → i < t → StepInRange w (length x) run_states aux run_steps besides i
+    steps_in_range i h = record {
+      after = omega (arith, states_are_one_more w (length x) (length aux) (start w image x aux) t);
+      third = omega (arith, lines_are_three_a_step w (length x) (length image + length x) (start w image x aux) t);
+      view = rw (state_is i (omega arith)) (given i).range;
+      head = rw (head_is i h) (given i).head_word;
+      tail = rw (tail_is i h) (given i).tail_word;
+      data_word = rw (data_is i h) (given i).data_word;
+      has_beside = omega (arith, besides_many);
+      beside = rw (besides_are i h) (given i).beside_word;
+      there = there i h;
+    }
 
-  traced_step : (i : ℕ) → i < t → traced_values w (length x) run_states aux run_steps i ≡ run_step (step_values w) w image x aux i
-  unfolding traced_values
-  traced_step i h = same_values (λ v head tail o takes. block_values w (length x) v (step_words head tail o takes))
-      (ap traced_view (state_is i (omega arith))) (head_is i h) (tail_is i h) (data_is i h) (ap is_some (taken_is i h)) ∙ (given i).values
+    traced_step : (i : ℕ) → i < t → traced_values w (length x) run_states aux run_steps besides i ≡ run_step (step_values w) w image x aux i
+    unfolding traced_values
+    traced_step i h =
+        ap (λ u. block_values w (length x) (traced_view (traced_state_at run_states i)) (step_words (old_at run_steps (3 * i)) (old_at run_steps (3 * i + 1))
+        (data_at run_states aux run_steps i) (is_some (taken_at run_states aux i))) u) (besides_are i h)
+        ∙ same_values (λ v head tail o takes. block_values w (length x) v (step_words head tail o takes) (word_beside w (length x) (now i)))
+        (ap traced_view (state_is i (omega arith))) (head_is i h) (tail_is i h) (data_is i h) (ap is_some (taken_is i h)) ∙ (given i).values
 
-  pub traced_steps : joined_below t (traced_values w (length x) run_states aux run_steps) ≡ joined_below t (run_step (step_values w) w image x aux)
-  traced_steps = joined_below-same t _ _ (λ i h. traced_step i h)
+    pub traced_steps : joined_below t (traced_values w (length x) run_states aux run_steps besides) ≡ joined_below t (run_step (step_values w) w image x aux)
+    traced_steps = joined_same t _ _ (λ i h. traced_step i h)

@@ -1,6 +1,6 @@
 -- The values for a run, and what a call that prepares or passes them does.
 use Rattle.std.specs.Prelude.{◌≡◌, ◌⊎◌, ℕ, ◌+◌, ◌-◌, ◌*◌, ◌^◌, ◌<◌, ◌≤◌, Bool, List, ◌∷◌, ◌++◌, length, replicate, slice_index, Result, Ok, Err}
-use Rattle.tv_stages.specs.Stages.{bit_in}
+use Rattle.tv_stages.specs.Settings.{settings_of}
 use Rattle.tv_stages.specs.declared.nets.Net.{Net}
 use Rattle.tv_bits.specs.Bits.{bits_values}
 use Rattle.tv_core.specs.Below.{joined_below}
@@ -8,21 +8,21 @@ use Rattle.tv_core.specs.Values.{ValuesMeaning, GivesAll, GivesSome}
 use Rattle.tv_core.specs.Lines.{Line}
 use Rattle.tv_core.specs.declared.lines.PairNum.{PairNum}
 use Rattle.tv_core.specs.declared.sink.SinkFault.TheVariants as sinks
+use Rattle.tv_double_argument.specs.Checks.{Numbers}
+use Rattle.tv_double_argument.specs.Order.{argument_values, items_in, successors}
+use Rattle.tv_doubles.specs.Within.{DoubleInRange}
+use Rattle.tv_fill.specs.Doubles.{filled_doubles}
 use Rattle.tv_fill.specs.TraceValues.{traced_values, StepInRange}
 use Rattle.tv_fill.specs.declared.fault.FillFault.{FillFault}
 use Rattle.tv_fill.specs.declared.fault.FillFault.TheVariants.{NoRun, Failed, Memory}
-use Rattle.tv_layout.specs.Checks.{least_place, line_kind}
+use Rattle.tv_layout.specs.Places.{WithinLimits, runs_like}
 use Rattle.tv_layout.specs.RunInputs.{RunInput}
 use Rattle.tv_layout.specs.Systems.{run_values}
 use Rattle.tv_layout.specs.declared.places.TheConstants.{STATE_WIRES}
-use Rattle.tv_argument.specs.Checks.{Checks}
-use Rattle.tv_argument.specs.Memory.{routed_values}
-use Rattle.tv_step.specs.Cells.{boot_lines}
 use Rattle.tv_step.specs.Machine.{Accepts}
 use Rattle.tv_step.specs.RunTrace.{IsRefused}
 use Rattle.tv_step.specs.declared.lines.TraceState.{TraceState}
 use Rattle.tv_step.specs.declared.run_trace.TraceFault.TheVariants as traces
-use Rattle.tv_word.specs.Widths.{IsWidth}
 
 -- a filling: the run's answer, and the values that it assigns
 pub record Filled : Type 0 where
@@ -34,16 +34,8 @@ pub record Filled : Type 0 where
 abbrev pub front_values : ℕ → ℕ → List ℕ → List ℕ
 front_values w v x = (1 ∷ v ∷ x) ++ (joined_below (length x) (λ i. bits_values (slice_index x i) w) ++ replicate STATE_WIRES 0)
 
--- the lines of an image's and a tape's words, and those of steps
-abbrev pub filled_lines : List ℕ → List ℕ → List Line → List Line
-filled_lines image x steps = boot_lines image x ++ steps
-
--- how they are checked, by how many words there are, and of how many bits times are
-abbrev pub filled_checks : ℕ → ℕ → ℕ → Checks
-filled_checks words n k = record { least = least_place words n; kind = line_kind k words n }
-
--- what it is made of: the answer, the image, the tapes, the steps with their states and lines, the items of all lines,
--- whose times have k bits, and the bits of the network that moves them
+-- what it is made of: the answer, the image, the tapes, the steps with their states and lines, the words beside those of
+-- their data lines, the items of all double lines, and the settings of the network that moves them
 pub record Parts : Type 0 where
   pub answer : ℕ
   pub image : List ℕ
@@ -52,33 +44,32 @@ pub record Parts : Type 0 where
   pub t : ℕ
   pub states : List TraceState
   pub lines : List Line
+  pub besides : List ℕ
   pub items : List PairNum
   pub net : Net
-  pub k : ℕ
   pub bits : List Bool
 
--- the memory argument, whose items a network with these bits moves
-abbrev pub memory_values : Parts → List ℕ
-memory_values parts =
-    routed_values parts.net (filled_checks (length parts.image) (length parts.tape) parts.k)
-    (bit_in parts.net (length parts.items) parts.bits) parts.items (filled_lines parts.image parts.tape parts.lines)
+-- its double lines
+abbrev pub doubles_of : ℕ → Parts → Numbers
+doubles_of w parts = filled_doubles w parts.image parts.tape parts.t parts.lines parts.besides
 
 -- the front, then the t steps, and the memory argument
 unfoldable pub filled_values : ℕ → Parts → List ℕ
 filled_values w parts =
     front_values w parts.answer parts.tape
-    ++ (joined_below parts.t (traced_values w (length parts.tape) parts.states parts.aux parts.lines) ++ memory_values parts)
+    ++ (joined_below parts.t (traced_values w (length parts.tape) parts.states parts.aux parts.lines parts.besides)
+    ++ argument_values parts.net (2 ^ w) (doubles_of w parts))
 
 -- the parts fit each other, and the count is that of their values
 pub record PartsFit (w : ℕ) (parts : Parts) (count : ℕ) : Type 0 where
-  pub width : IsWidth w
-  pub short : length parts.tape < 2 ^ 29
-  pub few : parts.k ≤ 20
+  pub limits : WithinLimits (runs_like w parts.image parts.tape parts.t)
   pub states_many : length parts.states ≡ parts.t + 1
   pub lines_many : length parts.lines ≡ 3 * parts.t
-  pub items_many : length parts.items ≡ length parts.image + length parts.tape + length parts.lines
-  pub items_few : length parts.items ≤ 2 ^ 20
-  pub steps : (i : ℕ) → i < parts.t → StepInRange w (length parts.tape) parts.states parts.aux parts.lines i
+  pub besides_many : length parts.besides ≡ parts.t
+  pub steps : (i : ℕ) → i < parts.t → StepInRange w (length parts.tape) parts.states parts.aux parts.lines parts.besides i
+  pub in_range : (i : ℕ) → i < (doubles_of w parts).count → DoubleInRange (2 ^ w) ((doubles_of w parts).line i)
+  pub items : parts.items ≡ items_in (2 ^ w) (doubles_of w parts)
+  pub bits : parts.bits ≡ settings_of parts.net (successors (doubles_of w parts).count (doubles_of w parts).line)
   pub counted : count ≡ length (filled_values w parts)
 
 -- ---- for a run

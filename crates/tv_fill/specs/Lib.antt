@@ -1,3 +1,5 @@
+pub mod Besides
+pub mod Doubles
 pub mod Faults
 pub mod Filled
 pub mod Laws

@@ -32,18 +32,21 @@ taken_at states aux i = if takes_at states i then Some (slice_index aux (traced_
 abbrev pub data_at : List TraceState → List ℕ → List Line → ℕ → ℕ
 data_at states aux lines i = unwrap_or (taken_at states aux i) (old_at lines (3 * i + 2))
 
--- the values of step i, with a primary tape of n words
-unfoldable pub traced_values : ℕ → ℕ → List TraceState → List ℕ → List Line → ℕ → List ℕ
-traced_values w n states aux lines i =
+-- the values of step i, with a primary tape of n words; its data word has another one beside it
+unfoldable pub traced_values : ℕ → ℕ → List TraceState → List ℕ → List Line → List ℕ → ℕ → List ℕ
+traced_values w n states aux lines besides i =
     block_values w n (traced_view (traced_state_at states i))
     (step_words (old_at lines (3 * i)) (old_at lines (3 * i + 1)) (data_at states aux lines i) (is_some (taken_at states aux i)))
+    (slice_index besides i)
 
 -- the trace has it, and what it has of it is in range
-pub record StepInRange (w n : ℕ) (states : List TraceState) (aux : List ℕ) (lines : List Line) (i : ℕ) : Type 0 where
+pub record StepInRange (w n : ℕ) (states : List TraceState) (aux : List ℕ) (lines : List Line) (besides : List ℕ) (i : ℕ) : Type 0 where
   pub after : i + 1 < length states
   pub third : 3 * i + 2 < length lines
   pub view : ViewInRange w n (traced_view (traced_state_at states i))
   pub head : old_at lines (3 * i) < 2 ^ w
   pub tail : old_at lines (3 * i + 1) < 2 ^ w
   pub data_word : data_at states aux lines i < 2 ^ w
+  pub has_beside : i < length besides
+  pub beside : slice_index besides i < 2 ^ w
   pub there : takes_at states i ≡ true → (traced_state_at states i).aux < length aux

@@ -1,28 +1,27 @@
 //! The values of a run, prepared and then passed to a taker.
-ghost use Rattle.std.specs.Prelude.{◌≡◌, ◌*◌, ◌/◌, ◌^◌, ◌<◌, ◌≤◌, false, length, map, slice_index};
+ghost use Rattle.std.specs.Prelude.{◌≡◌, ◌^◌, ◌<◌, false, length};
 ghost use Rattle.std.specs.Prelude.{IfOk, IfErr, OnOk};
 ghost use Rattle.tv_core.specs.Values.{GivesIn};
 ghost use Rattle.tv_fill.specs.Filled.{IsFilling, FillsIn};
 ghost use Rattle.tv_layout.specs.Places.{WithinLimits, runs_like};
 ghost use Rattle.tv_layout.specs.RunInputs.{run_on};
-ghost use Rattle.tv_lines.specs.PackedLines.{unpacked};
-ghost use Rattle.tv_lines.specs.Placed.{LinesFrom};
-ghost use Rattle.tv_argument.specs.Order.{predecessors};
+ghost use Rattle.tv_double_argument.specs.Order.{successors};
 ghost use Rattle.tv_stages.specs.Settings.{settings_of};
-ghost use Rattle.tv_stages.specs.Stages.{IsReordering};
+ghost use Rattle.tv_fill.specs.Doubles.{filled_doubles};
 ghost use Rattle.tv_step.specs.Range.{AreWords};
 ghost use Rattle.tv_step.specs.RunTrace.{IsRefused};
+ghost use Rattle.tv_word.specs.Widths.{IsWidth};
 
+use crate::besides::words_beside;
+use crate::doubles::{RunDoubles, items};
 use crate::fault::FillFault;
 use crate::front::fill_front;
-use crate::items::pack_items;
-use crate::run_lines::RunLines;
 use crate::steps::Steps;
 use std::alloc::{AllocError, Global};
 use std::marker::Model;
-use tv_argument::{fill_argument, predecessors};
 use tv_core::{PairNum, Put, Values};
-use tv_layout::{log_of, wires};
+use tv_double_argument::{fill_argument, successors};
+use tv_layout::{Shape, wires};
 use tv_stages::{Net, Settings, settings_for};
 use tv_step::{Lines, States, Trace, TraceFault, trace};
 
@@ -36,15 +35,16 @@ pub struct Filling<'a, const W: u32> {
     image: &'a [u32],
     tape: &'a [u32],
     aux: &'a [u32],
-    // How many steps there are, their states, and their lines.
+    // How many steps there are, their states, their lines, and the words beside those of their data
+    // lines.
     t: u32,
     states: States,
     lines: Lines,
-    // The items of all lines, in time order. The times have `k` bits.
+    besides: Vec<u32>,
+    // The items of all double lines, in time order.
     items: Vec<PairNum>,
     net: Net,
-    k: u32,
-    // The settings that bring to each line the item of its predecessor in address order.
+    // The settings that bring to each double line the item of its successor in address order.
     settings: Settings,
 }
 
@@ -63,9 +63,9 @@ impl<'a, const W: u32> Model for Filling<'a, W> {
         t = f.t;
         states = f.states;
         lines = f.lines;
+        besides = f.besides.items;
         items = f.items.items;
         net = f.net;
-        k = f.k;
         bits = f.settings;
       });
     } };
@@ -78,9 +78,9 @@ impl<'a, const W: u32> Model for Filling<'a, W> {
       t = f.t;
       states = f.states;
       lines = f.lines;
+      besides = f.besides.items;
       items = f.items.items;
       net = f.net;
-      k = f.k;
       bits = f.settings;
     }) f.count };
 }
@@ -116,9 +116,9 @@ impl<'a, const W: u32> Filling<'a, W> {
             t,
             states,
             lines,
+            besides,
             mut items,
             net,
-            k,
             settings,
         } = self;
         fill_front::<W, V>(v, answer, tape)?;
@@ -126,29 +126,32 @@ impl<'a, const W: u32> Filling<'a, W> {
             states: states.as_slice(),
             aux,
             lines: lines.as_slice(),
+            besides: &besides,
         };
         steps.fill::<W, V>(v, tape.len() as u32, t)?;
-        fill_argument(
+        let doubles = RunDoubles {
+            shape: Shape::of::<W>(image, tape.len() as u32, t),
+            image,
+            tape,
+            steps: lines.as_slice(),
+            besides: &besides,
+        };
+        fill_argument::<W, V, RunDoubles<W>>(
             v,
             net,
             items.as_mut_slice(),
             settings.as_slice(),
-            &RunLines {
-                image,
-                tape,
-                steps: lines.as_slice(),
-                k,
-            },
+            &doubles,
         )
     }
 }
 
 /// Runs the machine for at most `t` steps on an image and two tapes, and makes the values of the
 /// wires of its system over a network ready, where it answers. `NoRun` comes exactly where it
-/// doesn't, with how it ends. Beside the machine's own memory it takes at most 120 bytes for each
-/// line of the system. The returned `Filling` keeps at most 80 bytes per line, and borrows the image
-/// and the tapes. It takes the run's time twice, and then a time that grows as the lines times
-/// their number's logarithm.
+/// doesn't, with how it ends. It takes the machine's own memory twice, one after the other, and
+/// besides at most 120 bytes for each line of the system. The returned `Filling` keeps at most 80
+/// bytes per line, and borrows the image and the tapes. It takes the run's time twice, and then a
+/// time that grows as the lines times their number's logarithm.
 ///
 /// Words have `W` bits, 16 or 32, and the image fits in memory. It has at most 131,072 of them, and
 /// so has the primary tape; `t` is from 1 to 262,144.
@@ -161,7 +164,6 @@ pub fn prepare<'a, const W: u32>(
     net: Net,
 ) -> Result<Filling<'a, W>, TraceFault>
     requires limits { WithinLimits (runs_like W image.now tape.now t) }
-    requires image { length image.now * (W / 8) ≤ 2 ^ W }
     requires tape_words { AreWords W tape.now }
     requires aux_words { AreWords W aux.now }
     requires aux { length aux.now < 2 ^ 32 }
@@ -173,9 +175,16 @@ pub fn prepare<'a, const W: u32>(
         lines,
         states,
     } = trace::<W>(alloc, image, tape, aux, t)?;
-    let k = log_of((image.len() + tape.len()) as u32 + 3 * t);
-    let items = pack_items(alloc, image, tape, lines.as_slice())?;
-    let settings = settings_to_predecessors(alloc, net, &items)?;
+    let besides = words_beside::<W>(alloc, image, lines.as_slice())?;
+    let doubles = RunDoubles {
+        shape: Shape::of::<W>(image, tape.len() as u32, t),
+        image,
+        tape,
+        steps: lines.as_slice(),
+        besides: &besides,
+    };
+    let items = items::<W>(alloc, &doubles)?;
+    let settings = settings_to_successors::<W>(alloc, net, &doubles)?;
     Ok(Filling {
         answer,
         count: wires::<W>(image, tape.len() as u32, t, net),
@@ -185,28 +194,26 @@ pub fn prepare<'a, const W: u32>(
         t,
         states,
         lines,
+        besides,
         items,
         net,
-        k,
         settings,
     })
 }
 
-// The settings that send to each line the item of its predecessor, for items of lines whose times
-// are their places. The order is kept no longer.
-fn settings_to_predecessors(
+// The settings that bring to each double line the item of its successor. The order is kept no
+// longer.
+fn settings_to_successors<const W: u32>(
     alloc: Global,
     net: Net,
-    items: &[PairNum],
+    lines: &RunDoubles<W>,
 ) -> Result<Settings, AllocError>
-    requires few { length items.now ≤ 2 ^ 20 }
-    requires times { LinesFrom 0 (map unpacked items.now) }
-    requires permutes { let order = predecessors (map unpacked items.now)
-        in IsReordering (length order) (λ i. slice_index order i) }
-    ensures { IfOk result (λ settings. settings
-        ≡ settings_of net (predecessors (map unpacked items.now))) }
+    requires width { IsWidth W }
+    ensures { let all = filled_doubles W lines.now.image.now lines.now.tape.now
+        (length lines.now.besides.now) lines.now.steps.now lines.now.besides.now
+        in IfOk result (λ settings. settings ≡ settings_of net (successors all.count all.line)) }
 {
-    let order = predecessors(alloc, items)?;
+    let order = successors(alloc, lines)?;
     settings_for(alloc, net, &order)
 }
 
@@ -225,7 +232,6 @@ pub fn fill_system<const W: u32, V: Values>(
     v: &mut V,
 ) -> Result<(), FillFault>
     requires limits { WithinLimits (runs_like W image.now tape.now t) }
-    requires image { length image.now * (W / 8) ≤ 2 ^ W }
     requires tape_words { AreWords W tape.now }
     requires aux_words { AreWords W aux.now }
     requires aux { length aux.now < 2 ^ 32 }

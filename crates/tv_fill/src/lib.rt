@@ -1,14 +1,15 @@
-//! The values of a system's wires for a run that answers: its trace is made once, the items of its
-//! lines are packed, the settings are found that bring to each line its predecessor's, and the
-//! values follow in the order of the wires.
+//! The values of a system's wires for a run that answers: its trace is made once, its memory is
+//! followed for the words beside those that it looks at, the items of its double lines are packed,
+//! the settings are found that bring to each line its successor's, and the values follow in the
+//! order of the wires.
 #![tactic(auto)]
 
+mod besides;
+mod doubles;
 mod fault;
 mod filling;
 mod front;
-mod items;
 mod laws;
-mod run_lines;
 mod steps;
 
 pub use fault::FillFault;

@@ -12,12 +12,13 @@ use tv_core::{Line, Put, Values};
 use tv_step::TraceState;
 
 // The steps of a run: the states before, between and after them, the words of the auxiliary tape,
-// and their lines, three a step.
+// their lines, three a step, and the words beside those of their data lines.
 #[derive(Clone, Copy)]
 pub(crate) struct Steps<'a> {
     pub(crate) states: &'a [TraceState],
     pub(crate) aux: &'a [u32],
     pub(crate) lines: &'a [Line],
+    pub(crate) besides: &'a [u32],
 }
 
 impl<'a> Steps<'a> {
@@ -51,10 +52,11 @@ impl<'a> Steps<'a> {
         requires width { IsWidth W }
         requires short { n < 2 ^ 29 }
         requires near { 3 * i + 2 < 2 ^ 32 }
-        requires range { StepInRange W n self.now.states.now self.now.aux.now self.now.lines.now i }
+        requires range { StepInRange W n self.now.states.now self.now.aux.now self.now.lines.now
+            self.now.besides.now i }
         requires whole { V.giving.broken v.old ≡ false }
         ensures gives { GivesIn V.giving v.old v.new (traced_values W n self.now.states.now
-            self.now.aux.now self.now.lines.now i) result }
+            self.now.aux.now self.now.lines.now self.now.besides.now i) result }
         ensures whole { OnOk result (V.giving.broken v.new ≡ false) }
     {
         let at = 3 * i;
@@ -63,7 +65,8 @@ impl<'a> Steps<'a> {
         let taken = self.taken(i);
         let word = taken.unwrap_or(self.old(at + 2));
         let state = &self.states[i as usize];
-        fill_traced_step::<W, V>(v, n, state, head, tail, word, taken.is_some())
+        let beside = self.besides[i as usize];
+        fill_traced_step::<W, V>(v, n, state, head, tail, word, taken.is_some(), beside)
     }
 
     // Assigns the values of the first `t` steps.
@@ -72,10 +75,10 @@ impl<'a> Steps<'a> {
         requires short { n < 2 ^ 29 }
         requires near { 3 * t < 2 ^ 32 }
         requires range { (i : ℕ) → i < t → StepInRange W n self.now.states.now self.now.aux.now
-            self.now.lines.now i }
+            self.now.lines.now self.now.besides.now i }
         requires whole { V.giving.broken v.old ≡ false }
         ensures gives { GivesIn V.giving v.old v.new (joined_below t (traced_values W n
-            self.now.states.now self.now.aux.now self.now.lines.now)) result }
+            self.now.states.now self.now.aux.now self.now.lines.now self.now.besides.now)) result }
         ensures whole { OnOk result (V.giving.broken v.new ≡ false) }
     {
         for i in 0..t {

@@ -76,7 +76,7 @@ fn steps<const W: u32>(n: u32) -> Put<Sizes>
 fn steps_have_their_sizes(rt: HostRuntime) -> Result<(), Fail> {
     let wide = (steps::<32>(3)?, steps::<32>(0)?);
     let narrow = (steps::<16>(3)?, steps::<16>(0)?);
-    let is_wide = wide == ((311, 324, 1760), (311, 324, 1758));
-    assert!(rt; is_wide && narrow == ((212, 225, 1272), (212, 225, 1270)));
+    let is_wide = wide == ((315, 328, 1785), (315, 328, 1783));
+    assert!(rt; is_wide && narrow == ((216, 229, 1297), (216, 229, 1295)));
     Ok(())
 }

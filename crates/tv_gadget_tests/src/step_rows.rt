@@ -76,8 +76,8 @@ fn unmet<const W: u32>(
 #[test]
 fn each_instruction_and_jump_is_met_by_its_values(rt: HostRuntime) -> Result<(), Fail> {
     for (lines, steps) in [(LINES, 36), (JUMPS, 4)] {
-        let wide = unmet::<32>(rt.alloc(), lines, steps, 324)?;
-        let narrow = unmet::<16>(rt.alloc(), lines, steps, 225)?;
+        let wide = unmet::<32>(rt.alloc(), lines, steps, 328)?;
+        let narrow = unmet::<16>(rt.alloc(), lines, steps, 229)?;
         assert_eq!(rt; (wide, narrow), (None, None));
     }
     Ok(())

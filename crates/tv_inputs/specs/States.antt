@@ -51,19 +51,25 @@ pub record TapesUnder (wires : ℕ) (t : TapeWires) : Type 0 where
 pub record DataUnder (w wires : ℕ) (d : DataWires) : Type 0 where
   pub bits : d.bits + w ≤ wires
   pub word : d.word < wires
+  pub beside : d.beside < wires
   pub x_size : d.x.n ≡ w
   pub x : d.x.first + w ≤ wires
   pub other : d.other < wires
   pub both : d.both < wires
 
 pub record LineUnder (wires : ℕ) (line : LineWires) : Type 0 where
-  pub cell : line.cell < wires
+  pub located : line.located < wires
+  pub double : line.double < wires
   pub old : line.old < wires
+  pub side : line.side < wires
+  pub beside : line.beside < wires
 
 pub record StoreUnder (wires : ℕ) (s : StoreWires) : Type 0 where
   pub line : LineUnder wires s.line
   pub byte : s.byte < wires
   pub new : s.new < wires
+  pub before : s.before < wires
+  pub after : s.after < wires
 
 -- those that the result is made from, and the result's
 pub record SourcesUnder (wires : ℕ) (from : Sources) : Type 0 where

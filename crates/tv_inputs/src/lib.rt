@@ -17,8 +17,8 @@ pub use bytes::{byte_of, byte_power};
 pub use opcode_sums::{opcode_sum_is_sound, opcode_wire, plus_opcodes, set_opcodes};
 pub use operand::{fill_operand, operand_laws, plus_upper, put_operand};
 pub use records::{
-    ArithmeticWires, DataWires, LineWires, OperandWires, ResultWires, RowWires, Sources, Spot,
-    StateWires, StoreWires, TapeWires,
+    ArithmeticWires, DataWires, LineWires, LocatedWires, OperandWires, ResultWires, RowWires,
+    Sources, Spot, StateWires, StoreWires, TapeWires,
 };
 pub use step_numbers::StepNumbers;
 pub use tapes::{fill_tapes, if_zero, inverse_where, put_tapes, tapes_laws};

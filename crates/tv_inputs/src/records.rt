@@ -35,6 +35,8 @@ pub struct DataWires {
     pub bits: Wire,
     /// The data word.
     pub word: Wire,
+    /// The word beside it in its double cell, at loads and stores.
+    pub beside: Wire,
     /// The bits of the word whose lowest byte is stored.
     pub x: Bits,
     /// The other word, which is stored as a whole.
@@ -43,24 +45,44 @@ pub struct DataWires {
     pub both: Wire,
 }
 
-/// The cell of a step's data line, and the word in it before the step.
+/// The double cell of a step's data line.
+#[derive(Clone, Copy)]
+pub struct LocatedWires {
+    /// The double cell of a load or store, or null's.
+    pub located: Wire,
+    /// The double cell.
+    pub double: Wire,
+}
+
+/// The double cell of a step's data line, and the words in it before the step.
 #[derive(Clone, Copy)]
 pub struct LineWires {
-    /// The cell.
-    pub cell: Wire,
-    /// The word in it before the step.
+    /// The double cell of a load or store, or null's.
+    pub located: Wire,
+    /// The double cell.
+    pub double: Wire,
+    /// The line's word before the step.
     pub old: Wire,
+    /// 1 where it is the second word of the double cell, else 0.
+    pub side: Wire,
+    /// The word beside it in the double cell.
+    pub beside: Wire,
 }
 
 /// What a step does to memory.
 #[derive(Clone, Copy)]
 pub struct StoreWires {
-    /// The cell of its data line, and the word in it before the step.
+    /// The double cell of its data line, and the words in it before the step.
     pub line: LineWires,
     /// The byte of the data word at the operand's address.
     pub byte: Wire,
-    /// The word in the cell after the step.
+    /// The line's word after the step.
     pub new: Wire,
+    /// By how much the first word of the double cell exceeds the line's word before the step,
+    /// modulo P.
+    pub before: Wire,
+    /// By how much it exceeds the line's word after the step, modulo P.
+    pub after: Wire,
 }
 
 /// What a step's result is chosen from.

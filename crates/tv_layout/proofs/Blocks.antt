@@ -1,13 +1,15 @@
 -- What a system needs of a step's circuit. A system's laws stand on these records alone; that the circuit of tv_block has
--- them is proved in Systems, and of its sizes here.
-use Rattle.std.specs.Prelude.{◌≡◌, ℕ, ◌+◌, ◌/◌, ◌^◌, ◌<◌, Bool, List, length, Option, Some, is_some}
-use Rattle.tv_block.specs.Block.{transition_in, IsMachineStep, block_of}
-use Rattle.tv_block.specs.Complete.{olds_of, block_made}
+-- them is proved in Systems, and of its sizes and places in StepSizes.
+use Rattle.std.specs.Prelude.{◌≡◌, ℕ, ◌+◌, ◌^◌, ◌<◌, Bool, List, length, Option, Some, is_some}
+use Rattle.tv_block.specs.Block.{transition_in, IsMachineStep}
+use Rattle.tv_block.specs.Complete.{olds_of, word_beside}
+use Rattle.tv_block.specs.Doubles.{HasDoubles}
+use Rattle.tv_block.specs.Places.{next_state}
+use Rattle.tv_block.specs.Sizes.{block_made}
 use Rattle.tv_inputs.specs.States.{state_in}
 use Rattle.tv_block.specs.declared.records.Block.{Block}
 use Rattle.tv_inputs.specs.declared.records.StateWires.{StateWires}
-use Rattle.tv_core.proofs.Common.{Assigns, Meets, HasFrom, InField, IsWidth}
-use Rattle.tv_step.specs.Rows.{word_size}
+use Rattle.tv_core.proofs.Common.{Assigns, Meets, HasFrom, InField}
 use Rattle.tv_numbers.specs.Numbers.{Transition, lines_in}
 use Rattle.tv_numbers.specs.Shown.{MayTake}
 use Rattle.tv_numbers.specs.Views.{ViewInRange, Matches}
@@ -17,34 +19,29 @@ use Rattle.tv_step.specs.Runs.{IsDefined}
 use Rattle.tv_step.specs.State.{State}
 use Rattle.tv_step.specs.Trace.{step_lines}
 use Rattle.tv_layout.specs.Blocks.{BlockCircuit, BlockValues, view_of}
-use Rattle.tv_block.proofs.SizeFills.{block_sizes}
 
 -- it makes `made` wires, and three lines, whatever its inputs
 pub record BlockSizes (block : BlockCircuit) (made : ℕ) : Type 0 where
   pub next : (n : ℕ) (state : StateWires) (time next : ℕ) → (block n state time next).next ≡ next + made
   pub three : (n : ℕ) (state : StateWires) (time next : ℕ) → length (block n state time next).answer.lines ≡ 3
 
--- that of tv_block does
-pub step_sized : (w : ℕ) → IsWidth w → BlockSizes (block_of w) (block_made w)
-step_sized w width = record {
-  next = λ n state time next. block_sizes.end w width n state time next;
-  three = λ n state time next. block_sizes.three w n state time next;
-}
+-- those of a machine with words of w bits, and the state after it is in wires of its own, by the first of them
+pub record BlockIsPlaced (w : ℕ) (block : BlockCircuit) : Type 0 where
+  pub sizes : BlockSizes block (block_made w)
+  pub after : (n : ℕ) (state : StateWires) (time next : ℕ) → (block n state time next).answer.next ≡ next_state w next
 
--- the cells of a step's first two lines: it fetches its instruction's two words from neighbouring cells
-pub record HasCells (w : ℕ) (b : Transition) : Type 0 where
-  pub first : b.first.cell ≡ b.now.pc / word_size w
-  pub second : b.second.cell ≡ b.first.cell + 1
-
-pub record IsSoundStep (w : ℕ) (z x : List ℕ) (time : ℕ) (state : StateWires) (made : Block) : Type 0 where
+-- a step of the machine from a state's wires, whose own wires begin at `next`, and its two double lines, of which that of the
+-- data line has some word beside the line's own
+pub record IsSoundStep (w : ℕ) (z x : List ℕ) (time : ℕ) (state : StateWires) (next : ℕ) (made : Block) : Type 0 where
   pub machine : IsMachineStep w z x time state made
-  pub cells : HasCells w (transition_in z state made)
+  pub beside : ℕ
+  pub doubles : HasDoubles w z (length x) state next (transition_in z state made) beside
 
 -- an assignment that satisfies its constraints, the state before being in range, has a step of the machine there
 abbrev pub BlockIsSound : ℕ → BlockCircuit → Type 0
 BlockIsSound w block = (z x : List ℕ) (state : StateWires) (time next : ℕ) → length x < 2 ^ 29 → time + 2 < 2 ^ 32 → Assigns z
     → ViewInRange w (length x) (state_in z state) → Meets z (block (length x) state time next).list
-    → IsSoundStep w z x time state (block (length x) state time next).answer
+    → IsSoundStep w z x time state next (block (length x) state time next).answer
 
 -- ---- completeness
 -- the state's wires hold a state of the machine that goes on or answers, and z has the values for it and for a word
@@ -67,7 +64,8 @@ pub record ShowsStep (w n time : ℕ) (st : State) (word : Option ℕ) (b : Tran
   pub same : (v : ℕ) → word ≡ Some v → b.word ≡ v
 
 -- The values are as many as wires and each below P for each state of the machine in range; and an assignment that is
--- given them satisfies the block's constraints, and shows the step.
+-- given them satisfies the block's constraints, and shows the step, and its double lines with the word that memory has
+-- beside the data line's.
 pub record BlockIsComplete (w : ℕ) (block : BlockCircuit) (made : ℕ) (values : BlockValues) : Type 0 where
   pub many : (n time : ℕ) (st : State) (ended : Bool) → n < 2 ^ 29 → StateInRange w st
       → length (values n (view_of n st ended) (olds_of w n st time) (word_taken w st)) ≡ made
@@ -77,3 +75,5 @@ pub record BlockIsComplete (w : ℕ) (block : BlockCircuit) (made : ℕ) (values
       → Meets z (block (length x) state time next).list
   pub shows : (z x : List ℕ) (state : StateWires) (time next : ℕ) (st : State) (word : Option ℕ) → Given w values z x state time next st word
       → ShowsStep w (length x) time st word (transition_in z state (block (length x) state time next).answer)
+  pub doubles : (z x : List ℕ) (state : StateWires) (time next : ℕ) (st : State) (word : Option ℕ) → Given w values z x state time next st word
+      → HasDoubles w z (length x) state next (transition_in z state (block (length x) state time next).answer) (word_beside w (length x) st)

@@ -1,5 +1,5 @@
--- What an assignment has at boot lines and padding, and lines whose times are their places.
-use Rattle.tv_core.proofs.Common.{◌≡◌, ℕ, zero, suc, ◌+◌, ◌<◌, ◌≤◌, ◌^◌, List, [], ◌∷◌, ◌++◌, length, map, take, refl, sym, ap, ap₂, ◌∙◌, arith, subst}
+-- What an assignment has at boot lines and padding.
+use Rattle.tv_core.proofs.Common.{◌≡◌, ℕ, zero, suc, ◌+◌, ◌<◌, ◌^◌, List, [], ◌∷◌, ◌++◌, length, map, take, refl, sym, ap, ap₂, ◌∙◌, arith}
 use Rattle.tv_core.proofs.Common.{length-append, length-map, range_with_len, slice_index, value-wire, wire, constant, Combination, value, Assigns, HasFrom}
 use Rattle.tv_core.proofs.Common.{Line}
 use Rattle.std.proofs.lemmas.List.Elements.{All-head, All-tail}
@@ -7,7 +7,6 @@ use Rattle.std.proofs.lemmas.List.{map-append}
 use Rattle.tv_core.proofs.CombinationLaws.{value-constant}
 use Rattle.tv_core.specs.declared.limits.TheConstants.{TAPE_CELLS, NULL_CELL}
 use Rattle.tv_lines.specs.PackedLines.{line_value}
-use Rattle.tv_lines.specs.Placed.{LinesFrom}
 use Rattle.tv_step.specs.Cells.{boot_from, boot_lines}
 use Rattle.tv_step.specs.Range.{AreWords}
 use Rattle.tv_step.specs.Trace.{null_line}
@@ -58,19 +57,7 @@ module _ (z : List ℕ) (assigns : Assigns z) where
       rw (small_constant NULL_CELL (omega arith), small_constant time (omega arith)) refl in
       ap₂ (λ (l : Line) (ls : List Line). l ∷ ls) line (padding_valued (time + 1) more (omega arith))
 
--- ---- in their places
-pub LinesFrom-append : (t u : ℕ) (xs ys : List Line) → t + length xs ≡ u → LinesFrom t xs → LinesFrom u ys → LinesFrom t (xs ++ ys)
-LinesFrom-append t u [] ys e h k = let same : u ≡ t = omega arith in subst (λ n. LinesFrom n ys) same k
-LinesFrom-append t u (x ∷ xs) ys e h k = (h.0, h.1, LinesFrom-append (t + 1) u xs ys (omega arith) h.2 k)
-
-boot_placed : (cell time : ℕ) (words : List ℕ) → AreWords 32 words → cell + length words ≤ 2 ^ 31 → LinesFrom time (boot_from cell time words)
-boot_placed cell time [] h i = tt
-boot_placed cell time (v ∷ vs) h i = (
-  refl,
-  record { cell = omega arith; old = omega arith; new = All-head (λ v. v < 2 ^ 32) v vs h },
-  boot_placed (cell + 1) (time + 1) vs (All-tail (λ v. v < 2 ^ 32) v vs h) (omega arith),
-)
-
+-- ---- how many there are, and one after another
 pub length-boot_from : (cell time : ℕ) (words : List ℕ) → length (boot_from cell time words) ≡ length words
 length-boot_from cell time [] = refl
 length-boot_from cell time (v ∷ vs) = ap suc (length-boot_from (cell + 1) (time + 1) vs)
@@ -90,8 +77,3 @@ boot_more cell time (v ∷ words) (suc i) h =
     let c : cell + suc i ≡ cell + 1 + i = omega arith in
     let t : time + suc i ≡ time + 1 + i = omega arith in
     rw (e, c, t) (ap (λ (l : List Line). record { cell = cell; time = time; old = 0; new = v } ∷ l) (boot_more (cell + 1) (time + 1) words i (omega arith)))
-
-pub boot_lines_placed : (image x : List ℕ) → AreWords 32 image → AreWords 32 x → length image ≤ 2 ^ 30 → length x ≤ 2 ^ 30 → LinesFrom 0 (boot_lines image x)
-boot_lines_placed image x words tape i j =
-    LinesFrom-append 0 (length image) (boot_from 0 0 image) (boot_from TAPE_CELLS (length image) x) (omega (arith, length-boot_from 0 0 image))
-    (boot_placed 0 0 image words (omega arith)) (boot_placed TAPE_CELLS (length image) x tape (omega arith))

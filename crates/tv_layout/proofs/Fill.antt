@@ -1,7 +1,7 @@
 -- The values for a run satisfy the system, and so it is a reduction.
-use Rattle.tv_core.proofs.Common.{◌≡◌, ℕ, suc, ◌+◌, ◌-◌, ◌*◌, ◌<◌, ◌^◌, List, [], ◌∷◌, ◌++◌, length, map, refl, sym, ap, ◌∙◌, arith, subst, take, drop, inl}
+use Rattle.tv_core.proofs.Common.{◌≡◌, ℕ, suc, ◌+◌, ◌-◌, ◌*◌, ◌<◌, ◌^◌, List, [], ◌∷◌, ◌++◌, length, refl, sym, ap, ◌∙◌, arith, subst, take, drop, inl}
 use Rattle.tv_core.proofs.Common.{inr, length-append, slice_index, length-each_below, InField-cons, HasFrom-split, joined_below, each_below, Assigns, Meets}
-use Rattle.tv_core.proofs.Common.{HasFrom, InField, Line, cases_eq}
+use Rattle.tv_core.proofs.Common.{HasFrom, InField, cases_eq}
 use Rattle.std.proofs.Common.{replicate, add-zero}
 use Rattle.std.proofs.Math.Seq.{take-append_seam}
 use Rattle.std.proofs.lemmas.List.{get_or-append-add, get_or-replicate, get_or-take, get_or-drop, length-take}
@@ -12,33 +12,33 @@ use Rattle.tv_bits.specs.Bits.{bits_values}
 use Rattle.tv_core.proofs.CombinationLaws.{Sat-from_Meets}
 use Rattle.tv_core.proofs.FieldLaws.{InField-append, InField-joined_below}
 use Rattle.tv_core.proofs.JoinedLaws.{length-joined_below, has_each_list}
-use Rattle.tv_core.specs.Lines.{Honest}
 use Rattle.tv_core.specs.declared.field.TheConstants.{P}
-use Rattle.tv_lines.specs.PackedLines.{line_value}
-use Rattle.tv_lines.specs.Placed.{LinesFrom}
-use Rattle.tv_argument.proofs.Complete.{memory_complete}
-use Rattle.tv_argument.specs.Memory.{argument_made}
-use Rattle.tv_argument.specs.Order.{argument_values}
+use Rattle.tv_block.specs.Sizes.{block_made}
+use Rattle.tv_double_argument.proofs.Complete.{memory_complete}
+use Rattle.tv_double_argument.proofs.Costs.{memory_cost}
+use Rattle.tv_double_argument.specs.Argument.{AreHonest, HasLines}
+use Rattle.tv_double_argument.specs.Order.{argument_values}
 use Rattle.tv_step.proofs.EndLaws.{end_answers}
 use Rattle.tv_step.proofs.RangeLaws.{start_in_range, run_keeps_range, answer_is_word, word_at}
-use Rattle.tv_step.specs.Cells.{boot_lines, run_lines}
 use Rattle.tv_step.specs.Machine.{start, state_after, Accepts}
 use Rattle.tv_step.specs.Range.{AreWords, StateInRange}
 use Rattle.tv_step.specs.Reads.{ended_after, Reads}
 use Rattle.tv_step.specs.Runs.{Answering}
+use Rattle.tv_layout.proofs.DoubleWords.{HoldsStep, has_lines}
 use Rattle.tv_layout.proofs.Ends.{at_place, words_met, zero_wires_met, tie_met}
 use Rattle.tv_layout.proofs.FirstState.{HoldsZeros}
 use Rattle.tv_layout.proofs.Positions.{layout_meets, layout_next, last_of, after_steps}
-use Rattle.tv_layout.proofs.RunLines.{input, run_many, run_few, run_placed, run_honest}
-use Rattle.tv_layout.proofs.StepsFill.{steps_met, steps_lines, steps_take, last_said}
+use Rattle.tv_layout.proofs.RunDoubles.{run_is_honest}
+use Rattle.tv_layout.proofs.RunLines.{input}
+use Rattle.tv_layout.proofs.Steps.{state_is}
+use Rattle.tv_layout.proofs.StepsFill.{steps_hold, steps_met, steps_take, last_said}
 use Rattle.tv_layout.proofs.TakenWords.{taken_of_is}
-use Rattle.tv_layout.proofs.Whole.{few, short, early, own_valued, own_many}
-use Rattle.tv_layout.proofs.Blocks.{BlockSizes, BlockIsSound, BlockIsComplete}
+use Rattle.tv_layout.proofs.Whole.{short, early}
+use Rattle.tv_layout.proofs.Blocks.{BlockIsPlaced, BlockIsSound, BlockIsComplete}
 use Rattle.tv_layout.specs.Blocks.{BlockCircuit, BlockValues}
-use Rattle.tv_layout.proofs.Checked.{are_of_kinds, are_near}
-use Rattle.tv_layout.specs.Checks.{checks_of}
-use Rattle.tv_layout.specs.Layout.{steps_of, own_lines, layout_of, layout, taken_of}
-use Rattle.tv_layout.specs.Places.{WithinLimits, boot_count, line_count, tape_at, zero_wires_at, first_at, runs_like, ProgramRuns, runs_of}
+use Rattle.tv_layout.specs.Doubles.{double_lines, machine_doubles, run_doubles, state_wires, step_wire}
+use Rattle.tv_layout.specs.Layout.{steps_of, layout_of, layout, taken_of}
+use Rattle.tv_layout.specs.Places.{WithinLimits, boot_count, tape_at, zero_wires_at, first_at, runs_like, ProgramRuns, runs_of}
 use Rattle.tv_layout.specs.RunInputs.{run_on}
 use Rattle.tv_layout.specs.Values.{run_step_values, fill, IsFill}
 use Rattle.tv_layout.specs.declared.places.TheConstants.{STATE_WIRES}
@@ -60,10 +60,13 @@ has_by_places z k (x ∷ xs) each = (
 has_after : (v : ℕ) (rest : List ℕ) → HasFrom (v ∷ rest) 1 rest
 has_after v rest = has_by_places (v ∷ rest) 1 rest (λ i h. get_or-append-add (v ∷ []) rest i 0)
 
-module _ (w : ℕ) (net : Net) (block : BlockCircuit) (made : ℕ) (values : BlockValues) (sizes : BlockSizes block made) (law : BlockIsSound w block)
-    (complete : BlockIsComplete w block made values)
+module _ (w : ℕ) (net : Net) (block : BlockCircuit) (values : BlockValues) (placed : BlockIsPlaced w block) (law : BlockIsSound w block)
+    (complete : BlockIsComplete w block (block_made w) values)
     (image x aux : List ℕ) (t v : ℕ) (fits : WithinLimits (runs_like w image x t)) (x_words : AreWords w x) (aux_words : AreWords w aux) (small : v < 2 ^ w)
     (runs : Answering w (start w image x aux) t v) where
+  abbrev made : ℕ
+  made = block_made w
+
   abbrev bits : List ℕ
   bits = joined_below (length x) (λ i. bits_values (slice_index x i) w)
 
@@ -71,10 +74,14 @@ module _ (w : ℕ) (net : Net) (block : BlockCircuit) (made : ℕ) (values : Blo
   blocks = joined_below t (run_step_values values w image x aux)
 
   abbrev lasts : List ℕ
-  lasts = argument_values net (checks_of (runs_like w image x t)) (run_lines w image x aux t)
+  lasts = argument_values net (2 ^ w) (run_doubles (run_on w image x aux t))
 
   abbrev z : List ℕ
   z = 1 ∷ ((v ∷ x) ++ (bits ++ (replicate STATE_WIRES 0 ++ (blocks ++ lasts))))
+
+  -- its double lines are honest
+  honest : AreHonest (2 ^ w) (run_doubles (run_on w image x aux t))
+  honest = run_is_honest w image x aux t v fits x_words aux_words runs
 
   range : (i : ℕ) → StateInRange w (state_after w i (start w image x aux))
   range i = run_keeps_range w fits.width (start w image x aux) i (start_in_range w fits.width image x aux x_words aux_words)
@@ -105,8 +112,7 @@ module _ (w : ℕ) (net : Net) (block : BlockCircuit) (made : ℕ) (values : Blo
       (InField-joined_below (λ i. bits_values (slice_index x i) w) (length x) (λ i h. bits_in_field (slice_index x i) w))
       (InField-append (replicate STATE_WIRES 0) (blocks ++ lasts) (All-replicate (λ v. v < P) STATE_WIRES 0 (omega arith))
       (InField-append blocks lasts (InField-joined_below (run_step_values values w image x aux) t (λ i h. block_small i))
-      ((memory_complete net).below (checks_of (runs_like w image x t)) (run_lines w image x aux t)
-      (run_few w image x aux t fits x_words aux_words) (run_placed w image x aux t fits x_words aux_words))))))
+      (memory_complete.below net (2 ^ w) (run_doubles (run_on w image x aux t)) honest.are)))))
 
   assigns : Assigns z
   assigns = record { below = in_field; one = refl }
@@ -149,42 +155,38 @@ module _ (w : ℕ) (net : Net) (block : BlockCircuit) (made : ℕ) (values : Blo
 
   met_steps : Meets z (steps_of block (length x) (boot_count image (length x)) t (zero_wires_at w (length x)) (first_at w (length x))).list
   met_steps =
-      steps_met w block made sizes values law complete image x aux z (zero_wires_at w (length x)) (first_at w (length x)) t v
+      steps_met w block made placed.sizes values law complete image x aux z (zero_wires_at w (length x)) (first_at w (length x)) t v
       (input w image x aux t fits x_words aux_words) assigns (early (runs_like w image x t) fits) has_parts.zero_wires has_steps runs
 
-  -- the lines are those of the run
-  lines_are : map (line_value z) (own_lines block (runs_like w image x t)) ≡ run_lines w image x aux t
-  lines_are =
-      own_valued w block made sizes law image x z t fits assigns x_words has_parts.public.1 has_parts.zero_wires met_steps
-      ∙ ap (λ (l : List Line). boot_lines image x ++ l)
-      (steps_lines w block made sizes values law complete image x aux z (zero_wires_at w (length x)) (first_at w (length x)) t v
-      (input w image x aux t fits x_words aux_words) assigns (early (runs_like w image x t) fits) has_parts.zero_wires has_steps runs t (omega arith))
+  -- the steps hold their double lines
+  steps_held : (i : ℕ) → i < t → HoldsStep w z (state_wires (runs_like w image x t) i) (step_wire (runs_like w image x t) i)
+      (machine_doubles w (length x) (state_after w i (start w image x aux)))
+  steps_held i h =
+      subst (λ state. HoldsStep w z state (step_wire (runs_like w image x t) i) (machine_doubles w (length x) (state_after w i (start w image x aux))))
+      (state_is w block placed (length x) (boot_count image (length x)) (zero_wires_at w (length x)) (first_at w (length x)) i)
+      (steps_hold w block made placed.sizes values law complete image x aux z (zero_wires_at w (length x)) (first_at w (length x)) t v
+      (input w image x aux t fits x_words aux_words) assigns (early (runs_like w image x t) fits) has_parts.zero_wires has_steps runs i h)
 
-  many_lines : length (own_lines block (runs_like w image x t)) ≡ line_count (runs_like w image x t)
-  many_lines = own_many w block made sizes law image x z t fits assigns x_words has_parts.public.1 has_parts.zero_wires met_steps
+  lines_held : HasLines z (double_lines (runs_like w image x t)) (run_doubles (run_on w image x aux t)).line
+  lines_held = has_lines (runs_like w image x t) fits x z assigns refl has_parts.public.1
+      (λ i. machine_doubles w (length x) (state_after w i (start w image x aux))) steps_held
 
   answer_small : v < P
   answer_small = let fit = word_small w fits.width v small in omega arith
 
   all_met : Meets z (layout_of block net (runs_like w image x t) (2 + length x)).list
   all_met =
-      let said = last_said w block made sizes values law complete image x aux z (zero_wires_at w (length x)) (first_at w (length x)) t v
+      let said = last_said w block made placed.sizes values law complete image x aux z (zero_wires_at w (length x)) (first_at w (length x)) t v
       (input w image x aux t fits x_words aux_words) assigns (early (runs_like w image x t) fits) has_parts.zero_wires has_steps runs (t - 1)
       (omega (arith, fits.some)) in
-      layout_meets block made sizes net (runs_like w image x t) z (record {
+      layout_meets block made placed.sizes net (runs_like w image x t) z (record {
         words = words_met w fits.width z assigns tape_at (length x) (2 + length x) x refl x_words has_parts.public.1 has_bits;
         zero_wires = zero_wires_met w fits.width z assigns (zero_wires_at w (length x)) has_parts.zero_wires;
         steps = met_steps;
-        tie = tie_met w fits.width z assigns (last_of block made sizes net (runs_like w image x t))
+        tie = tie_met w fits.width z assigns (last_of block made placed.sizes net (runs_like w image x t))
             (after_steps w made (length x) t) v said.0 said.1 has_parts.public.0 answer_small;
-        honest = (memory_complete net).met z (checks_of (runs_like w image x t)) (own_lines block (runs_like w image x t)) (after_steps w made (length x) t)
-            (omega (arith, many_lines, few (runs_like w image x t) fits))
-            (subst (LinesFrom 0) (sym lines_are) (run_placed w image x aux t fits x_words aux_words))
-            (are_of_kinds w block made sizes law image x z t fits assigns x_words has_parts.public.1 has_parts.zero_wires met_steps)
-            (are_near w block made sizes law image x z t fits assigns x_words has_parts.public.1 has_parts.zero_wires met_steps)
-            (subst Honest (sym lines_are) (run_honest w image x aux t fits x_words aux_words)) assigns
-            (subst (λ l. HasFrom z (after_steps w made (length x) t) (argument_values net (checks_of (runs_like w image x t)) l))
-            (sym lines_are) has_parts.last);
+        honest = memory_complete.met net z (2 ^ w) (double_lines (runs_like w image x t)) (run_doubles (run_on w image x aux t)).line
+            (after_steps w made (length x) t) honest assigns lines_held has_parts.last;
       })
 
   -- as many values as wires
@@ -194,16 +196,15 @@ module _ (w : ℕ) (net : Net) (block : BlockCircuit) (made : ℕ) (values : Blo
       let b = length-append bits (replicate STATE_WIRES 0 ++ (blocks ++ lasts)) in
       let c = length-append blocks lasts in
       let d = length-append (replicate STATE_WIRES 0) (blocks ++ lasts) in
-      let m = (memory_complete net).many (checks_of (runs_like w image x t)) (run_lines w image x aux t)
-      ∙ ap (argument_made net (checks_of (runs_like w image x t))) (run_many w image x aux t fits x_words aux_words ∙ sym many_lines) in
-      let e = layout_next block made sizes net (runs_like w image x t) _
-      (λ at. (memory_complete net).next (checks_of (runs_like w image x t)) (own_lines block (runs_like w image x t)) at) in
+      let m = memory_complete.many net (2 ^ w) (run_doubles (run_on w image x aux t)) in
+      let e = layout_next block made placed.sizes net (runs_like w image x t) _
+      (λ at. memory_cost.end net (2 ^ w) (double_lines (runs_like w image x t)) at) in
       omega (arith, a, b, c, d, m, length-bits, length-blocks, e)
 
   taken_is : taken_of block (runs_like w image x t) z ≡ Reads w image x aux t
   taken_is =
       taken_of_is block w image (length x) t z
-      ∙ steps_take w block made sizes values law complete image x aux z (zero_wires_at w (length x)) (first_at w (length x)) t v
+      ∙ steps_take w block made placed.sizes values law complete image x aux z (zero_wires_at w (length x)) (first_at w (length x)) t v
       (input w image x aux t fits x_words aux_words) assigns (early (runs_like w image x t) fits) has_parts.zero_wires has_steps runs t (omega arith)
 
   pub is_fill : IsFill net block (run_on w image x aux t) v z
@@ -214,17 +215,17 @@ module _ (w : ℕ) (net : Net) (block : BlockCircuit) (made : ℕ) (values : Blo
   }
 
 abbrev pub FillIsComplete : Type 0
-FillIsComplete = (w : ℕ) (net : Net) (block : BlockCircuit) (made : ℕ) (values : BlockValues)
-    → BlockSizes block made → BlockIsSound w block → BlockIsComplete w block made values
+FillIsComplete = (w : ℕ) (net : Net) (block : BlockCircuit) (values : BlockValues)
+    → BlockIsPlaced w block → BlockIsSound w block → BlockIsComplete w block (block_made w) values
     → (image x aux : List ℕ) (t v : ℕ) → WithinLimits (runs_like w image x t) → AreWords w x → AreWords w aux → Accepts w image x aux t v
     → IsFill net block (run_on w image x aux t) v (fill values net (run_on w image x aux t) v)
 
 pub fill_complete : FillIsComplete
 unfolding fill
-fill_complete w net block made values sizes law complete image x aux t v fits x_words aux_words run =
+fill_complete w net block values placed law complete image x aux t v fits x_words aux_words run =
     let runs = end_answers w t (start w image x aux) v run.0 run.2 in
     let last_range = run_keeps_range w fits.width (start w image x aux) (t - 1) (start_in_range w fits.width image x aux x_words aux_words) in
-    is_fill w net block made values sizes law complete image x aux t v fits x_words aux_words (answer_is_word w fits.width _ v last_range runs.last) runs
+    is_fill w net block values placed law complete image x aux t v fits x_words aux_words (answer_is_word w fits.width _ v last_range runs.last) runs
 
 -- ---- the reduction
 has_extended : (z : List ℕ) (k : ℕ) (xs : List ℕ) → take (length xs) (drop k z) ≡ xs → HasFrom z k xs
@@ -235,12 +236,12 @@ words_by_places w z k n each = All-from_get_or (λ v. v < 2 ^ w) (take n (drop k
     let within : i < n = omega (arith, length-take n (drop k z)) in
     subst (λ v. v < 2 ^ w) (sym (get_or-take n (drop k z) i 0 within ∙ get_or-drop k z i 0)) (each i within))
 
-module _ (net : Net) (block : BlockCircuit) (made : ℕ) (values : BlockValues) (runs : ProgramRuns) (sizes : BlockSizes block made)
-    (law : BlockIsSound runs.width block) (complete : BlockIsComplete runs.width block made values) (fits : WithinLimits runs) where
+module _ (net : Net) (block : BlockCircuit) (values : BlockValues) (runs : ProgramRuns) (placed : BlockIsPlaced runs.width block)
+    (law : BlockIsSound runs.width block) (complete : BlockIsComplete runs.width block (block_made runs.width) values) (fits : WithinLimits runs) where
   only_run : (v : ℕ) (x : List ℕ) → length x ≡ runs.n → HasSolution (layout block net runs) (v ∷ x) → HasShortRun runs x v
   only_run v x e s =
       let has = has_extended s.z 1 (v ∷ x) s.extends.values in
-      let run = layout_sound net block made runs sizes law x s.z fits e has.1 s.sat in
+      let run = layout_sound net block runs placed law x s.z fits e has.1 s.sat in
       let aux = taken_of block runs s.z in
       record {
         run = record { aux = aux; words = run.taken; accepts = subst (λ a. Accepts runs.width runs.image x aux runs.t a) has.0 run.accepts };
@@ -251,7 +252,7 @@ module _ (net : Net) (block : BlockCircuit) (made : ℕ) (values : BlockValues) 
   where_run : (v : ℕ) (x : List ℕ) → AreWords runs.width x → length x ≡ runs.n → HasRun runs x v → HasSolution (layout block net runs) (v ∷ x)
   where_run v x words e run =
       subst (λ n. WithinLimits (runs_of runs.width runs.image n runs.t) → HasSolution (layout block net (runs_of runs.width runs.image n runs.t)) (v ∷ x)) e
-      (λ fits. let f = fill_complete runs.width net block made values sizes law complete runs.image x run.aux runs.t v fits words run.words run.accepts in
+      (λ fits. let f = fill_complete runs.width net block values placed law complete runs.image x run.aux runs.t v fits words run.words run.accepts in
       record { z = fill values net (run_on runs.width runs.image x run.aux runs.t) v; sat = f.sat; extends = f.extends }) fits
 
   public_words : (z : List ℕ) → Sat (layout block net runs) z → AreWords runs.width (take (1 + runs.n) (drop 1 z))
@@ -259,7 +260,7 @@ module _ (net : Net) (block : BlockCircuit) (made : ℕ) (values : BlockValues) 
       let x : List ℕ = each_below runs.n (λ i. slice_index z (2 + i)) in
       let long : length x ≡ runs.n = length-each_below runs.n (λ i. slice_index z (2 + i)) in
       let has : HasFrom z 2 x = has_of_each z 2 runs.n (λ i. slice_index z (2 + i)) (λ i h. refl) in
-      let run = layout_sound net block made runs sizes law x z fits long has sat in
+      let run = layout_sound net block runs placed law x z fits long has sat in
       words_by_places runs.width z 1 (1 + runs.n) (λ i h. elim (cases_eq i 0) [
         | inl first ↦ let same : 1 + i ≡ 1 = omega arith in subst (λ k. slice_index z k < 2 ^ runs.width) (sym same) run.answer
         | inr later ↦

@@ -5,7 +5,8 @@ use Rattle.tv_numbers.specs.Views.{View}
 use Rattle.tv_inputs.specs.States.{StateUnder, state_in}
 use Rattle.tv_bits.specs.Wires.{words_at}
 use Rattle.tv_layout.specs.Blocks.{BlockCircuit}
-use Rattle.tv_layout.specs.Layout.{first_state, steps_of, state_at}
+use Rattle.tv_layout.specs.Layout.{steps_of, state_at}
+use Rattle.tv_layout.specs.StateBefore.{first_state}
 use Rattle.tv_layout.specs.declared.places.TheConstants.{STATE_WIRES}
 
 -- as many wires as a state has hold 0, from a first one on

@@ -1,8 +1,9 @@
 -- That a program is within the limits is a fact, and not data; so it comes out of a ghost field, which holds it truncated.
-use Rattle.tv_core.proofs.Common.{◌≡◌, ℕ, ◌≤◌, length, inl, inr, ap, arith, IsWidth}
+use Rattle.tv_core.proofs.Common.{◌≡◌, ℕ, ◌*◌, ◌≤◌, length, inl, inr, ap, arith, IsWidth}
 use denote.Struct.Props.{props}
 use mathlib.Core.Logic.{∥∥₁_elim}
 use Rattle.tv_core.specs.declared.limits.TheConstants.{IMAGE_WORDS, TAPE_WORDS, STEPS}
+use Rattle.tv_doubles.specs.Cells.{double_cells}
 use Rattle.tv_step.specs.Range.{AreWords}
 use Rattle.tv_layout.specs.Places.{WithinLimits, ProgramRuns}
 
@@ -16,6 +17,7 @@ within_prop : (runs : ProgramRuns) → IsProp (WithinLimits runs)
 within_prop runs x y =
     let words : IsProp (AreWords runs.width runs.image) = hlevel props in
     let image_fits : IsProp (length runs.image ≤ IMAGE_WORDS) = hlevel props in
+    let memory_fits : IsProp (length runs.image ≤ 2 * double_cells runs.width) = hlevel props in
     let tape_fits : IsProp (runs.n ≤ TAPE_WORDS) = hlevel props in
     let some : IsProp (1 ≤ runs.t) = hlevel props in
     let steps_fit : IsProp (runs.t ≤ STEPS) = hlevel props in
@@ -23,6 +25,7 @@ within_prop runs x y =
       width = width_prop runs.width x.width y.width i;
       words = words x.words y.words i;
       image_fits = image_fits x.image_fits y.image_fits i;
+      memory_fits = memory_fits x.memory_fits y.memory_fits i;
       tape_fits = tape_fits x.tape_fits y.tape_fits i;
       some = some x.some y.some i;
       steps_fit = steps_fit x.steps_fit y.steps_fit i;

@@ -1,30 +1,33 @@
--- A line of a system by its place, and what it is made of.
-use Rattle.tv_core.proofs.Common.{◌≡◌, ℕ, zero, suc, ◌+◌, ◌-◌, ◌*◌, ◌/◌, ◌%◌, ◌<◌, ◌≤◌, ◌^◌, List, [], ◌∷◌, length, map, All, inl, inr, refl, sym, ap}
+-- A line of a system by its place, and of which wires it is made.
+use Rattle.tv_core.proofs.Common.{◌≡◌, ℕ, zero, suc, ◌+◌, ◌-◌, ◌*◌, ◌/◌, ◌%◌, ◌<◌, ◌≤◌, ◌^◌, List, [], ◌∷◌, length, map, inl, inr, refl, sym, ap}
 use Rattle.tv_core.proofs.Common.{ap₂, ◌∙◌, arith, subst, get_or, range_with_len, slice_index, cases_lt, length-append, length-map, joined_below, pure, turns}
 use Rattle.tv_core.proofs.Common.{◌>>=◌, wire, constant, top, Combination, IsWidth}
 use Rattle.std.proofs.Common.{add-zero}
 use Rattle.std.proofs.Math.Nat.{mul-le-mul_right}
 use Rattle.std.proofs.lemmas.List.{get_or-map, get_or_append_left, get_or-append_right}
-use Rattle.std.proofs.lemmas.List.Elements.{All-get_or, All-from_get_or}
+use Rattle.std.proofs.lemmas.List.Elements.{All-get_or}
 use Rattle.std.proofs.lemmas.List.FromFn.{length-map-range_with_len, get_or-map-range_with_len}
+use Rattle.tv_block.proofs.NormalLaws.{block_normal}
 use Rattle.tv_block.proofs.Placed.{block_places}
 use Rattle.tv_block.specs.Block.{block_of}
-use Rattle.tv_block.specs.Complete.{block_made}
-use Rattle.tv_block.specs.Places.{next_state, block_wires, IsShortLine}
+use Rattle.tv_block.specs.Sizes.{block_made}
+use Rattle.tv_block.specs.Places.{next_state, block_wires}
 use Rattle.tv_block.specs.Under.{LineUnder}
 use Rattle.tv_block.specs.declared.records.Block.{Block}
+use Rattle.tv_inputs.specs.States.{StateUnder}
 use Rattle.tv_inputs.specs.declared.records.StateWires.{StateWires}
 use Rattle.tv_core.proofs.JoinedLaws.{joined_below-suc, length-joined_below}
 use Rattle.tv_core.specs.declared.limits.TheConstants.{TAPE_CELLS, NULL_CELL}
 use Rattle.tv_core.specs.declared.lines.LineLc.{LineLc}
 use Rattle.tv_lines.specs.Placed.{no_line, line_in}
-use Rattle.tv_argument.specs.Memory.{IsMade}
+use Rattle.tv_layout.proofs.FirstState.{first_under}
 use Rattle.tv_layout.proofs.Positions.{steps_next, log_above}
-use Rattle.tv_layout.proofs.Blocks.{step_sized}
+use Rattle.tv_layout.proofs.StepSizes.{step_sized}
 use Rattle.tv_layout.proofs.Whole.{few}
 use Rattle.tv_layout.specs.Layout.{steps_of, state_at, block_at, line_of_word, boot_wires, boot_lines_of, padding_of, own_lines, system_lines, step_block}
 use Rattle.tv_layout.specs.Places.{WithinLimits, boot_count, line_count, log_of, tape_at, zero_wires_at, first_at, memory_at, ProgramRuns}
 use Rattle.tv_layout.specs.StateBefore.{state_before}
+use Rattle.tv_layout.specs.declared.places.TheConstants.{STATE_WIRES}
 
 -- ---- lines that no step makes
 boot_wires_at : (cell time : ℕ) (words : List Combination) (i : ℕ) → i < length words
@@ -60,10 +63,10 @@ module _ (w : ℕ) (width : IsWidth w) (n time zero_wires first : ℕ) where
       ∙ ap (next_state w) (steps_next (block_of w) (block_made w) (step_sized w width) n time i zero_wires first)
 
   pub block_is : (i : ℕ) → block_at (block_of w) n time zero_wires first i
-      ≡ block_wires w (state_before w zero_wires first i) (time + 3 * i) (first + i * block_made w)
+      ≡ block_wires w n (state_before w zero_wires first i) (time + 3 * i) (first + i * block_made w)
   block_is i =
       block_places.answer w width n (state_at (block_of w) n time zero_wires first i) (time + 3 * i) (steps_of (block_of w) n time i zero_wires first).next
-      ∙ ap₂ (λ (s : StateWires) (at : ℕ). block_wires w s (time + 3 * i) at) (state_is i)
+      ∙ ap₂ (λ (s : StateWires) (at : ℕ). block_wires w n s (time + 3 * i) at) (state_is i)
       (steps_next (block_of w) (block_made w) (step_sized w width) n time i zero_wires first)
 
 -- three lines each, one after another
@@ -85,7 +88,7 @@ module _ {A : Type 0} (none : A) (f : ℕ → List A) (three : (i : ℕ) → len
 -- line j of the steps
 abbrev step_line : ProgramRuns → ℕ → LineLc
 step_line runs j =
-    line_in (block_wires runs.width (state_before runs.width (zero_wires_at runs.width runs.n) (first_at runs.width runs.n) (j / 3))
+    line_in (block_wires runs.width runs.n (state_before runs.width (zero_wires_at runs.width runs.n) (first_at runs.width runs.n) (j / 3))
     (boot_count runs.image runs.n + 3 * (j / 3)) (first_at runs.width runs.n + j / 3 * block_made runs.width)).lines (j % 3)
 
 module _ (runs : ProgramRuns) (fits : WithinLimits runs) where
@@ -176,79 +179,65 @@ module _ (runs : ProgramRuns) (fits : WithinLimits runs) where
         get_or-append_right own _ (line_count runs) i no_line own_number above
         ∙ padding_of_at (line_count runs) _ k (omega arith) ∙ ap (λ at. line_of_word NULL_CELL at []) z
 
--- ---- what it is made of
-word_made : (wires cell time : ℕ) (word : Combination) → 1 ≤ wires → top word ≤ wires → length word ≤ 14 → IsMade wires (line_of_word cell time word)
-word_made wires cell time word some h short = record {
-  cell = omega arith;
-  time = omega arith;
-  old = omega arith;
-  new = h;
-  cell_short = omega arith;
-  time_short = omega arith;
-  old_short = omega arith;
-  new_short = short;
-}
-
-short_made : (wires : ℕ) (line : LineLc) → IsShortLine line → top line.cell ≤ wires → top line.time ≤ wires → top line.old ≤ wires → top line.new ≤ wires
-    → IsMade wires line
-short_made wires line short cell time old new = record {
-  cell = cell;
-  time = time;
-  old = old;
-  new = new;
-  cell_short = short.cell;
-  time_short = short.time;
-  old_short = short.old;
-  new_short = short.new;
-}
-
--- a step's lines, after the wires of which its program counter is one
-block_line_made : (w : ℕ) → IsWidth w → (state : StateWires) (time at wires : ℕ) → state.pc < at → at + block_made w ≤ wires
-    → (k : ℕ) → k < 3 → IsMade wires (line_in (block_wires w state time at).lines k)
-block_line_made w width state time at wires pc end k h =
-    let short : IsShortLine (line_in (block_wires w state time at).lines k) =
-    All-get_or IsShortLine (block_wires w state time at).lines k no_line h (block_places.short w width state time at) in
-    let under : LineUnder (at + block_made w) (line_in (block_wires w state time at).lines k) =
-    All-get_or (LineUnder (at + block_made w)) (block_wires w state time at).lines k no_line h (block_places.below w width state time at (omega arith)) in
-    short_made wires (line_in (block_wires w state time at).lines k) short
-    (omega (arith, under.cell, end)) (omega (arith, under.time, end)) (omega (arith, under.old, end)) (omega (arith, under.new, end))
-
-pc_before : (w : ℕ) (width : IsWidth w) (zero_wires first i : ℕ) → zero_wires < first → (state_before w zero_wires first i).pc < first + i * block_made w
-pc_before w width zero_wires first zero h = omega arith
-pc_before w width zero_wires first (suc i) h = omega (arith, block_places.after w width (first + i * block_made w))
+-- ---- the wires of lines
+-- those of the state before a step, of which its lines are made, are before the step's
+module _ (w : ℕ) (width : IsWidth w) (zero_wires first : ℕ) (before : zero_wires + STATE_WIRES ≤ first) where
+  pub before_under : (i : ℕ) → StateUnder (first + i * block_made w) (state_before w zero_wires first i)
+  before_under zero = first_under zero_wires (first + 0 * block_made w) (omega arith)
+  before_under (suc i) =
+      let end : first + i * block_made w + block_made w ≡ first + suc i * block_made w = omega arith in
+      subst (λ at. StateUnder at (next_state w (first + i * block_made w))) end (block_normal.after_below w width (first + i * block_made w))
 
 module _ (runs : ProgramRuns) (fits : WithinLimits runs) where
-  abbrev made : ℕ → Type 0
-  made i = IsMade (memory_at runs) (line_in (system_lines (block_of runs.width) runs) i)
+  -- a step's wires are before those of the memory argument
+  pub step_before : (s : ℕ) → s < runs.t → first_at runs.width runs.n + s * block_made runs.width + block_made runs.width ≤ memory_at runs
+  step_before s h = more (first_at runs.width runs.n) s runs.t (block_made runs.width) h
+    where
+      more : (first q t made : ℕ) → q < t → first + q * made + made ≤ first + t * made
+      more first q t made h =
+          let next : q + 1 ≤ t = omega (arith, h) in
+          let p : (q + 1) * made ≤ t * made = mul-le-mul_right made next in
+          omega arith
 
-  step_made : (j : ℕ) → j < runs.t * 3 → IsMade (memory_at runs) (step_line runs j)
+  pub state_under : (s : ℕ) → StateUnder (first_at runs.width runs.n + s * block_made runs.width)
+      (state_before runs.width (zero_wires_at runs.width runs.n) (first_at runs.width runs.n) s)
+  state_under s = before_under runs.width fits.width (zero_wires_at runs.width runs.n) (first_at runs.width runs.n) (omega arith) s
+
+word_under : (wires cell time : ℕ) (word : Combination) → 1 ≤ wires → top word ≤ wires → LineUnder wires (line_of_word cell time word)
+word_under wires cell time word some h = record { cell = omega arith; time = omega arith; old = omega arith; new = h }
+
+under_more : (line : LineLc) (a b : ℕ) → a ≤ b → LineUnder a line → LineUnder b line
+under_more line a b h u = record {
+  cell = omega (arith, u.cell);
+  time = omega (arith, u.time);
+  old = omega (arith, u.old);
+  new = omega (arith, u.new);
+}
+
+module _ (runs : ProgramRuns) (fits : WithinLimits runs) where
+  step_made : (j : ℕ) → j < runs.t * 3 → LineUnder (memory_at runs) (step_line runs j)
   step_made j h =
       let q : ℕ = j / 3 in
-      let after : q + 1 ≤ runs.t = omega arith in
-      block_line_made runs.width fits.width (state_before runs.width (zero_wires_at runs.width runs.n) (first_at runs.width runs.n) q)
-      (boot_count runs.image runs.n + 3 * q) (first_at runs.width runs.n + q * block_made runs.width)
-      (memory_at runs)
-      (pc_before runs.width fits.width (zero_wires_at runs.width runs.n) (first_at runs.width runs.n) q (omega arith))
-      (more (first_at runs.width runs.n) q runs.t (block_made runs.width) after) (j % 3) (omega arith)
-    where
-      more : (first q t made : ℕ) → q + 1 ≤ t → first + q * made + made ≤ first + t * made
-      more first q t made h = let p : (q + 1) * made ≤ t * made = mul-le-mul_right made h in omega arith
+      let at : ℕ = first_at runs.width runs.n + q * block_made runs.width in
+      let state : StateWires = state_before runs.width (zero_wires_at runs.width runs.n) (first_at runs.width runs.n) q in
+      let before = state_under runs fits q in
+      let within : q < runs.t = omega arith in
+      let lines = block_places.below runs.width fits.width runs.n state (boot_count runs.image runs.n + 3 * q) at
+      (omega (arith, before.pc)) (omega (arith, before.taken)) in
+      under_more (step_line runs j) (at + block_made runs.width) (memory_at runs) (step_before runs fits q within)
+      (All-get_or (LineUnder (at + block_made runs.width)) (block_wires runs.width runs.n state (boot_count runs.image runs.n + 3 * q) at).lines
+      (j % 3) no_line (omega arith) lines)
 
-  pub line_made : (i : ℕ) → i < 2 ^ log_of (line_count runs) → made i
+  pub line_made : (i : ℕ) → i < 2 ^ log_of (line_count runs) → LineUnder (memory_at runs) (line_in (system_lines (block_of runs.width) runs) i)
   line_made i h = elim (cases_lt i (length runs.image)) [
-    | inl here ↦ subst (IsMade _) (sym (in_image runs fits i here))
-        (word_made _ i i (constant (slice_index runs.image i)) (omega arith) (omega arith) (omega arith))
+    | inl here ↦ subst (LineUnder _) (sym (in_image runs fits i here))
+        (word_under _ i i (constant (slice_index runs.image i)) (omega arith) (omega arith))
     | inr after ↦ elim (cases_lt i (boot_count runs.image runs.n)) [
-      | inl here ↦ subst (IsMade _) (sym (in_tape runs fits i after here))
-          (word_made _ (TAPE_CELLS + (i - length runs.image)) i (wire (tape_at + (i - length runs.image))) (omega arith) (omega arith) (omega arith))
+      | inl here ↦ subst (LineUnder _) (sym (in_tape runs fits i after here))
+          (word_under _ (TAPE_CELLS + (i - length runs.image)) i (wire (tape_at + (i - length runs.image))) (omega arith) (omega arith))
       | inr later ↦ elim (cases_lt i (line_count runs)) [
-        | inl here ↦ subst (IsMade _) (sym (in_steps runs fits i later here)) (step_made (i - boot_count runs.image runs.n) (omega arith))
-        | inr last ↦ subst (IsMade _) (sym (in_padding runs fits i last h)) (word_made _ NULL_CELL i [] (omega arith) (omega arith) (omega arith))
+        | inl here ↦ subst (LineUnder _) (sym (in_steps runs fits i later here)) (step_made (i - boot_count runs.image runs.n) (omega arith))
+        | inr last ↦ subst (LineUnder _) (sym (in_padding runs fits i last h)) (word_under _ NULL_CELL i [] (omega arith) (omega arith))
       ]
     ]
   ]
-
-  pub lines_made : All (IsMade (memory_at runs)) (own_lines (block_of runs.width) runs)
-  lines_made = All-from_get_or (IsMade _) (own_lines (block_of runs.width) runs) no_line (λ i h.
-      let within : i < line_count runs = omega (arith, h, own_number runs fits) in
-      subst (IsMade _) (in_own runs fits i within) (line_made i (omega (arith, within, log_above (line_count runs) (few runs fits)))))

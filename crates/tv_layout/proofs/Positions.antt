@@ -59,7 +59,7 @@ module _ (block : BlockCircuit) (made : ℕ) (sizes : BlockSizes block made) whe
         ++ ((zero_wires_of (zero_wires_at runs.width runs.n)).list
         ++ ((steps_of block runs.n (boot_count runs.image runs.n) runs.t (zero_wires_at runs.width runs.n) (first_at runs.width runs.n)).list
         ++ ((tie_of last_of (after_steps runs.width made runs.n runs.t)).list
-        ++ (lines_argument block net runs (after_steps runs.width made runs.n runs.t)).list)))
+        ++ (lines_argument net runs (after_steps runs.width made runs.n runs.t)).list)))
     unfolding layout_of tie_of put ◌>>=◌
     layout_list =
         rw (words_next runs.width tape_at runs.n (2 + runs.n))
@@ -71,7 +71,7 @@ module _ (block : BlockCircuit) (made : ℕ) (sizes : BlockSizes block made) whe
       pub zero_wires : Meets z (zero_wires_of (zero_wires_at runs.width runs.n)).list
       pub steps : Meets z (steps_of block runs.n (boot_count runs.image runs.n) runs.t (zero_wires_at runs.width runs.n) (first_at runs.width runs.n)).list
       pub tie : Meets z (tie_of last_of (after_steps runs.width made runs.n runs.t)).list
-      pub honest : Meets z (lines_argument block net runs (after_steps runs.width made runs.n runs.t)).list
+      pub honest : Meets z (lines_argument net runs (after_steps runs.width made runs.n runs.t)).list
 
     pub layout_met : (z : List ℕ) → Meets z (layout_of block net runs (2 + runs.n)).list → LayoutMet z
     layout_met z meets =
@@ -86,7 +86,7 @@ module _ (block : BlockCircuit) (made : ℕ) (sizes : BlockSizes block made) whe
         rw layout_list (Meets-join z _ _ m.words (Meets-join z _ _ m.zero_wires (Meets-join z _ _ m.steps (Meets-join z _ _ m.tie m.honest))))
 
     -- where it ends
-    pub layout_next : (argument_made : ℕ) → ((at : ℕ) → (lines_argument block net runs at).next ≡ at + argument_made)
+    pub layout_next : (argument_made : ℕ) → ((at : ℕ) → (lines_argument net runs at).next ≡ at + argument_made)
         → (layout_of block net runs (2 + runs.n)).next ≡ after_steps runs.width made runs.n runs.t + argument_made
     unfolding layout_of tie_of put ◌>>=◌
     layout_next argument_made ends =

@@ -6,8 +6,6 @@ use Rattle.tv_core.proofs.CombinationLaws.{Assigns-from_Sat, Meets-from_Sat}
 use Rattle.tv_core.specs.Constraints.{Sat}
 use Rattle.tv_core.specs.Lines.{Honest}
 use Rattle.tv_lines.specs.PackedLines.{line_value}
-use Rattle.tv_lines.specs.Placed.{LinesFrom}
-use Rattle.tv_argument.proofs.Sound.{memory_sound}
 use Rattle.tv_numbers.specs.Laws.{DoesStep}
 use Rattle.tv_numbers.specs.Numbers.{Transition}
 use Rattle.tv_numbers.specs.Views.{Matches}
@@ -15,6 +13,7 @@ use Rattle.tv_step.specs.Cells.{boot_lines, IsInput}
 use Rattle.tv_step.specs.Machine.{start, Accepts}
 use Rattle.tv_step.specs.Range.{AreWords}
 use Rattle.tv_block.specs.Block.{reached}
+use Rattle.tv_block.specs.Sizes.{block_made}
 use Rattle.tv_layout.proofs.Ends.{words_there, are_words, zero_wires_there, tie_there}
 use Rattle.tv_layout.proofs.FirstState.{HoldsZeros, first_view}
 use Rattle.tv_layout.proofs.Positions.{layout_met, last_of}
@@ -22,13 +21,12 @@ use Rattle.tv_layout.proofs.RunLines.{all_honest}
 use Rattle.tv_layout.proofs.Run.{Known, known_at, takes_at, accepts, reads_all}
 use Rattle.tv_layout.proofs.Steps.{step, transition_at, last_step, does, taken_words}
 use Rattle.tv_layout.proofs.TakenWords.{taken_in, taken_at_is, taken_of_is}
-use Rattle.tv_layout.proofs.Whole.{few, short, early, spare, lines, own_valued, lines_valued, own_placed, own_many}
+use Rattle.tv_layout.proofs.DoubleSound.{lines_honest}
+use Rattle.tv_layout.proofs.Whole.{short, early, spare, lines, lines_valued}
 use Rattle.tv_inputs.specs.States.{state_in}
-use Rattle.tv_layout.proofs.Blocks.{BlockSizes, BlockIsSound}
+use Rattle.tv_layout.proofs.Blocks.{BlockSizes, BlockIsPlaced, BlockIsSound}
 use Rattle.tv_layout.specs.Blocks.{BlockCircuit}
-use Rattle.tv_layout.proofs.Checked.{are_of_kinds}
-use Rattle.tv_layout.specs.Checks.{checks_of}
-use Rattle.tv_layout.specs.Layout.{steps_of, state_at, own_lines, system_lines, taken_of, layout}
+use Rattle.tv_layout.specs.Layout.{steps_of, state_at, system_lines, taken_of, layout}
 use Rattle.tv_layout.specs.Places.{WithinLimits, boot_count, line_count, tape_at, zero_wires_at, first_at, ProgramRuns, runs_of, runs_like}
 use Rattle.tv_layout.specs.Sound.{padding, all_lines, IsRun}
 
@@ -43,7 +41,7 @@ module _ (w : ℕ) (block : BlockCircuit) (made : ℕ) (sizes : BlockSizes block
     (fits : WithinLimits (runs_like w image x t))
     (assigns : Assigns z) (words : AreWords w x) (has : HasFrom z tape_at x) (zeros_there : HoldsZeros z (zero_wires_at w (length x)))
     (met : Meets z (steps_of block (length x) (boot_count image (length x)) t (zero_wires_at w (length x)) (first_at w (length x))).list)
-    (honest : Honest (map (line_value z) (own_lines block (runs_like w image x t))))
+    (lines_honest : Honest (boot_lines image x ++ joined_below t (lines w block made sizes image x z t fits assigns has)))
     (answers : slice_index z (steps_of block (length x) (boot_count image (length x)) t (zero_wires_at w (length x)) (first_at w (length x))).answer.answers
     ≡ 1)
     (value : slice_index z (steps_of block (length x) (boot_count image (length x)) t (zero_wires_at w (length x)) (first_at w (length x))).answer.value
@@ -78,9 +76,6 @@ module _ (w : ℕ) (block : BlockCircuit) (made : ℕ) (sizes : BlockSizes block
     aux_words = aux_words;
   }
 
-  lines_honest : Honest (boot_lines image x ++ joined_below t (lines w block made sizes law image x z t fits assigns words has zeros_there met))
-  lines_honest = subst Honest (own_valued w block made sizes law image x z t fits assigns words has zeros_there met) honest
-
   begins : Matches x (here 0).now (start w image x aux)
   begins = starts block w image x aux z (boot_count image (length x)) (zero_wires_at w (length x)) (first_at w (length x)) zeros_there
 
@@ -105,7 +100,7 @@ module _ (w : ℕ) (block : BlockCircuit) (made : ℕ) (sizes : BlockSizes block
 
   all_are : map (line_value z) (system_lines block (runs_like w image x t)) ≡ all_lines w image x aux t
   all_are =
-      lines_valued w block made sizes law image x z t fits assigns words has zeros_there met
+      lines_valued w block made sizes image x z t fits assigns has
       ∙ ap (λ l. (boot_lines image x ++ l) ++ padding (line_count (runs_like w image x t)) (spare (runs_like w image x t))) (known t (omega arith)).are
 
   pub is_run : IsRun block (runs_like w image x t) x z
@@ -128,27 +123,21 @@ module _ (w : ℕ) (block : BlockCircuit) (made : ℕ) (sizes : BlockSizes block
             lines_honest begins;
       }
 
-sound_like : (w : ℕ) (net : Net) (block : BlockCircuit) (made : ℕ) → BlockSizes block made → BlockIsSound w block
+sound_like : (w : ℕ) (net : Net) (block : BlockCircuit) → BlockIsPlaced w block → BlockIsSound w block
     → (image x z : List ℕ) (t : ℕ) → WithinLimits (runs_like w image x t) → HasFrom z tape_at x → Sat (layout block net (runs_like w image x t)) z
     → IsRun block (runs_like w image x t) x z
-sound_like w net block made sizes law image x z t fits has sat =
+sound_like w net block placed law image x z t fits has sat =
     let assigns = Assigns-from_Sat (layout block net (runs_like w image x t)) z sat in
-    let met = layout_met block made sizes net (runs_like w image x t) z (Meets-from_Sat (layout block net (runs_like w image x t)) z sat) in
+    let met = layout_met block (block_made w) placed.sizes net (runs_like w image x t) z (Meets-from_Sat (layout block net (runs_like w image x t)) z sat) in
     let words = are_words w fits.width z assigns tape_at x has (words_there w fits.width z assigns tape_at (length x) _ met.words) in
     let zeros_there = zero_wires_there w fits.width z assigns (zero_wires_at w (length x)) met.zero_wires in
-    let tie = tie_there w fits.width z assigns (last_of block made sizes net (runs_like w image x t)) _ met.tie in
-    let many = own_many w block made sizes law image x z t fits assigns words has zeros_there met.steps in
-    let honest = memory_sound net z (checks_of (runs_like w image x t)) (own_lines block (runs_like w image x t)) _
-    (omega (arith, many, few (runs_like w image x t) fits))
-    (subst (LinesFrom 0) (sym (own_valued w block made sizes law image x z t fits assigns words has zeros_there met.steps))
-    (own_placed w block made sizes law image x z t fits assigns words has zeros_there met.steps))
-    (are_of_kinds w block made sizes law image x z t fits assigns words has zeros_there met.steps)
-    assigns met.honest in
-    is_run w block made sizes law image x z t fits assigns words has zeros_there met.steps honest tie.0 tie.1
+    let tie = tie_there w fits.width z assigns (last_of block (block_made w) placed.sizes net (runs_like w image x t)) _ met.tie in
+    is_run w block (block_made w) placed.sizes law image x z t fits assigns words has zeros_there met.steps
+    (lines_honest w block placed law image x z t fits assigns words has zeros_there met.steps net _ met.honest) tie.0 tie.1
 
-pub layout_sound : (net : Net) (block : BlockCircuit) (made : ℕ) (runs : ProgramRuns) → BlockSizes block made → BlockIsSound runs.width block
+pub layout_sound : (net : Net) (block : BlockCircuit) (runs : ProgramRuns) → BlockIsPlaced runs.width block → BlockIsSound runs.width block
     → (x z : List ℕ) → WithinLimits runs → length x ≡ runs.n → HasFrom z tape_at x → Sat (layout block net runs) z → IsRun block runs x z
-layout_sound net block made runs sizes law x z fits long has =
+layout_sound net block runs placed law x z fits long has =
     subst (λ n. WithinLimits (runs_of runs.width runs.image n runs.t) → Sat (layout block net (runs_of runs.width runs.image n runs.t)) z
     → IsRun block (runs_of runs.width runs.image n runs.t) x z) long
-    (λ fits sat. sound_like runs.width net block made sizes law runs.image x z runs.t fits has sat) fits
+    (λ fits sat. sound_like runs.width net block placed law runs.image x z runs.t fits has sat) fits

@@ -3,7 +3,7 @@ use Rattle.tv_core.proofs.Common.{◌≡◌, ℕ, ◌+◌, ◌*◌, ◌^◌, ◌
 use Rattle.std.proofs.Math.Nat.{mul-le-mul_right}
 use Rattle.tv_stages.specs.declared.nets.Net.{Net}
 use Rattle.tv_block.specs.Block.{block_of}
-use Rattle.tv_block.specs.Complete.{block_made}
+use Rattle.tv_block.specs.Sizes.{block_made}
 use Rattle.tv_block.specs.Under.{LineUnder}
 use Rattle.tv_core.specs.declared.lines.LineLc.{LineLc}
 use Rattle.tv_lines.specs.Placed.{line_in}

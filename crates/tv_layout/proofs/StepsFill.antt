@@ -11,7 +11,10 @@ use Rattle.tv_step.specs.Cells.{cells_of, IsOn, IsInput}
 use Rattle.tv_step.specs.Machine.{next, state_after, start}
 use Rattle.tv_step.specs.Reads.{word_taken, finds_end, words_in, ended_after, words_taken}
 use Rattle.tv_step.specs.State.{State, Next}
+use Rattle.tv_layout.proofs.DoubleWords.{HoldsStep, holds_step}
 use Rattle.tv_layout.proofs.Machine.{led}
+use Rattle.tv_layout.proofs.MachineDoubles.{doubles_same, machine_parts}
+use Rattle.tv_layout.proofs.StepParts.{doubles_of}
 use Rattle.tv_layout.proofs.TakenWords.{AuxCase.{Takes, Ends, Other}, aux_case, taken_in}
 use Rattle.tv_block.specs.Block.{IsMachineStep, transition_in, reached}
 use Rattle.tv_layout.proofs.Blocks.{BlockIsSound, BlockIsComplete, Given, ShowsStep, BlockSizes}
@@ -27,14 +30,15 @@ use Rattle.tv_step.proofs.RangeLaws.{start_in_range, run_keeps_range}
 use Rattle.tv_step.proofs.ReadLaws.{tapes_are_left, ended_takes_nothing}
 use Rattle.tv_step.specs.Range.{AreWords, StateInRange}
 use Rattle.tv_step.specs.Runs.{Answering}
-use Rattle.tv_step.specs.Trace.{lines_of}
-use Rattle.tv_block.specs.Complete.{olds_of}
+use Rattle.tv_block.specs.Complete.{olds_of, word_beside}
+use Rattle.tv_doubles.specs.Cells.{double_beside, double_cells, double_of}
 use Rattle.tv_layout.proofs.FirstState.{HoldsZeros, view_same, first_view}
 use Rattle.tv_layout.proofs.Positions.{steps_next}
 use Rattle.tv_layout.proofs.Sound.{starts}
 use Rattle.tv_layout.proofs.Steps.{state, step, transition_at, next_state, last_step, start_held}
 use Rattle.tv_inputs.specs.States.{state_in}
 use Rattle.tv_numbers.specs.Shown.{MayTake}
+use Rattle.tv_layout.specs.Doubles.{machine_doubles}
 use Rattle.tv_layout.specs.Layout.{before_steps, step_of, steps_of}
 use Rattle.tv_layout.specs.Places.{boot_count}
 use Rattle.tv_layout.specs.Values.{run_step_values}
@@ -50,6 +54,9 @@ or_true false = refl
 not_both : (b : Bool) → b ≡ false → b ≡ true → ⊥
 not_both true e f = cc
 not_both false e f = cc
+
+three_same : (a b c d e f : Line) → a ∷ b ∷ c ∷ [] ≡ d ∷ e ∷ f ∷ [] → (a ≡ d) × (b ≡ e) × (c ≡ f)
+three_same a b c d e f same = (cc, cc, cc)
 
 -- what a step leads to
 pub record Stepped (w : ℕ) (x : List ℕ) (st : State) (b : Transition) : Type 0 where
@@ -75,6 +82,22 @@ module _ (w : ℕ) (width : IsWidth w) (block : BlockCircuit) (made : ℕ) (valu
 
   pub sound : IsMachineStep w z x time state here_made
   sound = (law z x state time at given.short given.early given.assigns given.range step_met).machine
+
+  -- its double lines are those of the machine's
+  pub holds : HoldsStep w z state at (machine_doubles w (length x) st)
+  holds =
+      let doubles = complete.doubles z x state time at st (word_taken w st) given in
+      let fetches = sound.does.fetches in
+      let same = three_same _ _ _ _ _ _ shows.lines in
+      subst (HoldsStep w z state at)
+      (ap₂ (λ (l m : Line). record { fetched = double_of l m; data_line = double_beside (double_cells w) (length x) b.data_line (word_beside w (length x) st) })
+      same.0 same.1
+      ∙ ap (λ (l : Line). record {
+        fetched = (doubles_of w (length x) (machine_parts w (length x) time st)).fetched;
+        data_line = double_beside (double_cells w) (length x) l (word_beside w (length x) st);
+      }) same.2
+      ∙ doubles_same w (length x) time st)
+      (holds_step w z (length x) state at b (word_beside w (length x) st) doubles fetches.0 fetches.1)
 
   olds : HoldsOlds w x b st
   olds =
@@ -235,15 +258,16 @@ module _ (w : ℕ) (block : BlockCircuit) (made : ℕ) (sizes : BlockSizes block
       whole z (block (length x) (state block made sizes z x time zero_wires first i) (time + 3 * i)) (λ b. pure (reached b))
       (steps_of block (length x) time i zero_wires first).next (one_met i h (before i (omega arith))) tt)
 
-  -- their lines are those of the run
-  pub steps_lines : (n : ℕ) → n ≤ t → joined_below n (λ i. lines_in (here i)) ≡ lines_of w (length x) time (start w image x aux) n
-  steps_lines zero h = joined_below-zero (λ i. lines_in (here i))
-  steps_lines (suc n) h =
-      let shown = shows w input.width block made values law complete z x (state block made sizes z x time zero_wires first n) (time + 3 * n)
-      (steps_of block (length x) time n zero_wires first).next (now n) (given n (omega arith) (before n (omega arith))) (on n) in
-      joined_below-suc n (λ i. lines_in (here i)) ∙ ap₂ (λ (a b : List Line). a ++ b) (steps_lines n (omega arith)) shown.lines
+  -- their double lines are those of the machine
+  pub steps_hold : (i : ℕ) → i < t
+      → HoldsStep w z (state block made sizes z x time zero_wires first i) (first + i * made) (machine_doubles w (length x) (now i))
+  steps_hold i h =
+      subst (λ at. HoldsStep w z (state block made sizes z x time zero_wires first i) at (machine_doubles w (length x) (now i)))
+      (steps_next block made sizes (length x) time i zero_wires first)
+      (holds w input.width block made values law complete z x (state block made sizes z x time zero_wires first i) (time + 3 * i)
+      (steps_of block (length x) time i zero_wires first).next (now i) (given i h (before i (omega arith))) (on i))
 
-  -- and so are the words that they take
+  -- the words that they take are those of the run
   pub steps_take : (n : ℕ) → n ≤ t → joined_below n (λ i. taken_in z (step block made sizes z x time zero_wires first i).spot)
       ≡ words_taken w n (start w image x aux)
   steps_take zero h = joined_below-zero (λ i. taken_in z (step block made sizes z x time zero_wires first i).spot)

@@ -7,28 +7,26 @@ use Rattle.std.proofs.lemmas.Nat.{pow_pos}
 use Rattle.tv_stages.specs.declared.nets.Net.{Net}
 use Rattle.tv_stages.specs.declared.nets.Net.TheVariants.{Benes, Waksman}
 use Rattle.tv_block.proofs.BlockChain.{block_counted}
-use Rattle.tv_block.specs.Complete.{block_made, block_added}
-use Rattle.tv_argument.proofs.CheckCosts.{checks_cheap}
-use Rattle.tv_argument.proofs.Complete.{memory_complete}
-use Rattle.tv_argument.proofs.Costs.{memory_cost}
+use Rattle.tv_double_argument.proofs.CheckCosts.{checks_cheap}
+use Rattle.tv_double_argument.proofs.Costs.{memory_cost}
+use Rattle.tv_block.specs.Sizes.{block_made, block_added}
 use Rattle.tv_network.proofs.NetworkLaws.{network_counted}
 use Rattle.tv_layout.proofs.Whole.{few, power_few}
-use Rattle.tv_argument.specs.Checks.{AreShort}
-use Rattle.tv_argument.specs.Costs.{network_on, network_made}
-use Rattle.tv_layout.proofs.LineKinds.{kinds_short}
+use Rattle.tv_layout.proofs.DoublePlaces.{doubles_made}
+use Rattle.tv_double_argument.specs.Checks.{AreShort}
+use Rattle.tv_double_argument.specs.Costs.{argument_made, network_made, network_on}
+use Rattle.tv_double_argument.specs.Memory.{argument_terms}
 use Rattle.tv_layout.proofs.MemoryCosts.{wires_are, constraints_are}
 use Rattle.tv_layout.proofs.Positions.{log_above, log_within, log_some, layout_next, after_steps, layout_list}
-use Rattle.tv_layout.specs.Checks.{checks_of}
+use Rattle.tv_layout.proofs.PartPlaces.{doubles_few, doubles_most, doubles_some, kinds_short}
+use Rattle.tv_layout.specs.Doubles.{double_count, double_lines}
 use Rattle.tv_layout.specs.Places.{WithinLimits, line_count, log_of, memory_at, ProgramRuns, boot_count, tape_at, zero_wires_at, first_at, runs_of}
 use Rattle.tv_layout.specs.Sizes.{memory_wires, memory_constraints, system_made, system_added, network_most, system_most, system_terms, SystemIsSized}
 use Rattle.tv_layout.specs.declared.places.TheConstants.{STATE_WIRES}
 use Rattle.tv_block.specs.Block.{block_of}
 use Rattle.tv_block.specs.Costs.{block_terms}
-use Rattle.tv_core.specs.declared.lines.LineLc.{LineLc}
-use Rattle.tv_argument.specs.Memory.{argument_made, argument_added, argument_terms}
-use Rattle.tv_layout.proofs.LinePlaces.{own_number, lines_made}
-use Rattle.tv_layout.proofs.Blocks.{step_sized}
-use Rattle.tv_layout.specs.Layout.{own_lines, word_of, words_of, zero_wire_of, zero_wires_of, step_of, steps_of, tie_of, before_steps, layout_of}
+use Rattle.tv_layout.proofs.StepSizes.{step_sized}
+use Rattle.tv_layout.specs.Layout.{word_of, words_of, zero_wire_of, zero_wires_of, step_of, steps_of, tie_of, before_steps, layout_of}
 use Rattle.tv_layout.specs.Layout.{lines_argument}
 use Rattle.tv_layout.specs.Systems.{system_of}
 use Rattle.std.proofs.lemmas.List.{append-nil}
@@ -84,7 +82,7 @@ module _ (m : List Constraint → ℕ) (law : IsMeasure m) (w : ℕ) (width : Is
   words_cost first next = turns_cost m law (λ i _. word_of w first i) tt next (λ _. word) n (λ i inside a at. parts.words first i at) ∙ sum_same n word
 
   layout_cost : (net : Net) (image : List ℕ) (t memory : ℕ)
-      → m (lines_argument (block_of w) net (runs_of w image n t) (after_steps w (block_made w) n t)).list ≡ memory
+      → m (lines_argument net (runs_of w image n t) (after_steps w (block_made w) n t)).list ≡ memory
       → m (layout_of (block_of w) net (runs_of w image n t) (2 + n)).list ≡ n * word + start + t * step + tie + memory
   layout_cost net image t memory is =
       let words = (words_of w tape_at n (2 + n)).list in
@@ -92,7 +90,7 @@ module _ (m : List Constraint → ℕ) (law : IsMeasure m) (w : ℕ) (width : Is
       let steps = (steps_of (block_of w) n (boot_count image n) t (zero_wires_at w n) (first_at w n)).list in
       let last = (steps_of (block_of w) n (boot_count image n) t (zero_wires_at w n) (first_at w n)).answer in
       let end = (tie_of last (after_steps w (block_made w) n t)).list in
-      let rest = (lines_argument (block_of w) net (runs_of w image n t) (after_steps w (block_made w) n t)).list in
+      let rest = (lines_argument net (runs_of w image n t) (after_steps w (block_made w) n t)).list in
       ap m (layout_list (block_of w) (block_made w) (step_sized w width) net (runs_of w image n t))
       ∙ law.adds words (none ++ (steps ++ (end ++ rest))) ∙ ap₂ (λ a b. a + b) (words_cost tape_at (2 + n))
       (law.adds none (steps ++ (end ++ rest)) ∙ ap₂ (λ a b. a + b) (parts.zero_wires (zero_wires_at w n))
@@ -105,7 +103,7 @@ module _ (m : List Constraint → ℕ) (law : IsMeasure m) (w : ℕ) (width : Is
 
 -- ---- in constraints and in terms
 module _ (net : Net) (runs : ProgramRuns) (width : IsWidth runs.width) (memory : ℕ) where
-  pub layout_count : length (lines_argument (block_of runs.width) net runs (after_steps runs.width (block_made runs.width) runs.n runs.t)).list ≡ memory
+  pub layout_count : length (lines_argument net runs (after_steps runs.width (block_made runs.width) runs.n runs.t)).list ≡ memory
       → length (layout_of (block_of runs.width) net runs (2 + runs.n)).list
       ≡ runs.n * (runs.width + 1) + STATE_WIRES + runs.t * block_added runs.width + 2 + memory
   layout_count is =
@@ -113,7 +111,7 @@ module _ (net : Net) (runs : ProgramRuns) (width : IsWidth runs.width) (memory :
       (record { words = word_count _ width; zero_wires = zeros_count; steps = block_counted.constraints _ width runs.n; ties = tie_count })
       net runs.image runs.t memory is
 
-  pub layout_terms : terms_in (lines_argument (block_of runs.width) net runs (after_steps runs.width (block_made runs.width) runs.n runs.t)).list ≡ memory
+  pub layout_terms : terms_in (lines_argument net runs (after_steps runs.width (block_made runs.width) runs.n runs.t)).list ≡ memory
       → terms_in (layout_of (block_of runs.width) net runs (2 + runs.n)).list
       ≡ runs.n * (4 * runs.width + 2) + 2 * STATE_WIRES + runs.t * block_terms runs.width runs.n + 6 + memory
   layout_terms is =
@@ -154,10 +152,6 @@ most_few Waksman k few =
     let most : 2 ^ k * (k - 1) ≤ 2 ^ 20 * 19 = mul-le-mul power level in
     omega (arith, most)
 
--- ---- the checks
-pub checks_short : (runs : ProgramRuns) → WithinLimits runs → (n : ℕ) → AreShort (checks_of runs) n
-checks_short runs fits n i h = kinds_short (log_of (line_count runs)) (length runs.image) runs.n i (log_within (line_count runs) (few runs fits))
-
 -- ---- all of it
 pub record SystemFits (net : Net) (runs : ProgramRuns) : Type 0 where
   pub wires_most : 2 + runs.n + system_made net runs ≤ system_most net runs
@@ -175,18 +169,22 @@ module _ (net : Net) (runs : ProgramRuns) (fits : WithinLimits runs) where
   above : line_count runs ≤ 2 ^ k
   above = log_above (line_count runs) (few runs fits)
 
-  network_small : network_made net (line_count runs) ≤ network_most net k
-  network_small = network_few net k (line_count runs) (log_some (line_count runs)) above
+  network_small : network_made net (double_count runs) ≤ network_most net k
+  network_small = network_few net k (double_count runs) (log_some (line_count runs)) (omega (arith, above, doubles_few runs fits))
+
+  -- no more lines are checked than there are
+  checked : AreShort (double_lines runs).kind (double_count runs - 1)
+  checked i h = kinds_short runs fits i (omega (arith, h))
 
   memory_few : memory_wires net runs ≤ network_most net k + 2 ^ k * 2 ^ 6
   memory_few =
-      let sum = checks_cheap.few_made (checks_of runs) (line_count runs) (checks_short runs fits (line_count runs)) in
-      omega (arith, sum, wires_are net runs, network_small, above)
+      let sum = checks_cheap.few_made (double_lines runs).kind (double_count runs - 1) checked in
+      omega (arith, sum, wires_are net runs fits, network_small, above, doubles_few runs fits)
 
   constraints_few : memory_constraints net runs ≤ network_most net k + 2 ^ k * 2 ^ 6
   constraints_few =
-      let sum = checks_cheap.few_added (checks_of runs) (line_count runs) (checks_short runs fits (line_count runs)) in
-      omega (arith, sum, constraints_are net runs, network_small, above)
+      let sum = checks_cheap.few_added (double_lines runs).kind (double_count runs - 1) checked in
+      omega (arith, sum, constraints_are net runs fits, network_small, above, doubles_few runs fits, doubles_some runs fits)
 
   wires_small : 2 + runs.n + system_made net runs ≤ system_most net runs
   wires_small =
@@ -227,43 +225,33 @@ module _ (net : Net) (runs : ProgramRuns) (fits : WithinLimits runs) where
   }
 
   -- ---- the counts
-  abbrev own : List LineLc
-  own = own_lines (block_of runs.width) runs
-
-  pub own_few : length own ≤ 2 ^ 20
-  own_few = omega (arith, own_number runs fits, few runs fits)
-
-  pub own_wires : argument_made net (checks_of runs) (length own) ≡ memory_wires net runs
-  own_wires = ap (argument_made net (checks_of runs)) (own_number runs fits) ∙ wires_are net runs
-
-  pub own_constraints : argument_added net (checks_of runs) (length own) ≡ memory_constraints net runs
-  own_constraints = ap (argument_added net (checks_of runs)) (own_number runs fits) ∙ constraints_are net runs
-
-  pub network_room : memory_at runs + network_made net (length own) < 2 ^ 32
-  network_room = omega (arith, own_wires, system_fits.wires)
+  pub network_room : memory_at runs + network_made net (double_count runs) < 2 ^ 32
+  network_room = omega (arith, system_fits.wires)
 
   pub system_wires : (system_of net runs).wires ≡ 2 + runs.n + system_made net runs
   system_wires =
       layout_next (block_of runs.width) (block_made runs.width) (step_sized runs.width fits.width) net runs
-      (argument_made net (checks_of runs) (length own)) (λ at. (memory_complete net).next (checks_of runs) own at) ∙ omega (arith, own_wires)
+      (argument_made net (double_lines runs).kind (double_count runs)) (λ at. memory_cost.end net (2 ^ runs.width) (double_lines runs) at)
+      ∙ omega (arith, wires_are net runs fits)
 
   system_count : length (system_of net runs).constraints ≡ system_added net runs
   system_count =
       layout_count net runs fits.width (memory_constraints net runs)
-      (memory_cost.constraints net (checks_of runs) own (memory_at runs) ∙ own_constraints)
+      (memory_cost.constraints net (2 ^ runs.width) (double_lines runs) (memory_at runs) ∙ constraints_are net runs fits)
 
   system_term_count : terms_in (system_of net runs).constraints ≡ system_terms net runs
   system_term_count =
-      layout_terms net runs fits.width (argument_terms net (checks_of runs) (memory_at runs) own)
-      (memory_cost.terms net (checks_of runs) own (memory_at runs) (omega arith) (lines_made runs fits))
+      layout_terms net runs fits.width (argument_terms net (2 ^ runs.width) (memory_at runs) (double_lines runs))
+      (memory_cost.terms net (2 ^ runs.width) (double_lines runs) (memory_at runs) (doubles_some runs fits) (doubles_made runs fits))
 
   terms_small : system_terms net runs < 2 ^ 60
   terms_small =
       let each : 4 * runs.width + 2 ≤ 130 = omega (arith, width_short runs.width fits.width) in
       let words : runs.n * (4 * runs.width + 2) ≤ 2 ^ 17 * 130 = mul-le-mul fits.tape_fits each in
       let steps : runs.t * block_terms runs.width runs.n ≤ 2 ^ 18 * 2 ^ 14 = mul-le-mul fits.steps_fit (block_counted.few runs.width fits.width runs.n) in
-      most (runs.n * (4 * runs.width + 2)) (runs.t * block_terms runs.width runs.n) (argument_terms net (checks_of runs) (memory_at runs) own) words steps
-      (memory_cost.few net (checks_of runs) own (memory_at runs) own_few (checks_short runs fits (length own)) (lines_made runs fits))
+      let memory : ℕ = argument_terms net (2 ^ runs.width) (memory_at runs) (double_lines runs) in
+      most (runs.n * (4 * runs.width + 2)) (runs.t * block_terms runs.width runs.n) memory words steps
+      (memory_cost.few net (2 ^ runs.width) (double_lines runs) (memory_at runs) (doubles_most runs fits) (kinds_short runs fits) (doubles_made runs fits))
     where
       most : (a b m : ℕ) → a ≤ 2 ^ 17 * 130 → b ≤ 2 ^ 18 * 2 ^ 14 → m < 2 ^ 44 → a + 2 * STATE_WIRES + b + 6 + m < 2 ^ 60
       most a b m c d e = omega arith

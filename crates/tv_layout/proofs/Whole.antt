@@ -1,20 +1,18 @@
--- The lines of a system, in an assignment that meets its steps.
-use Rattle.tv_core.proofs.Common.{◌≡◌, ℕ, ◌+◌, ◌-◌, ◌*◌, ◌<◌, ◌≤◌, ◌^◌, List, ◌++◌, length, map, sym, ap, ap₂, ◌∙◌, arith, pow-le-pow_right, length-append}
-use Rattle.tv_core.proofs.Common.{length-map, joined_below, Assigns, Meets, HasFrom, Line, IsWidth}
+-- How many lines a system has, and what they are in an assignment that has the words of the tape.
+use Rattle.tv_core.proofs.Common.{◌≡◌, ℕ, ◌+◌, ◌-◌, ◌*◌, ◌<◌, ◌≤◌, ◌^◌, List, ◌++◌, length, map, ap₂, ◌∙◌, arith, pow-le-pow_right}
+use Rattle.tv_core.proofs.Common.{joined_below, Assigns, HasFrom, Line, IsWidth}
 use Rattle.std.proofs.lemmas.List.{map-append}
 use Rattle.std.proofs.lemmas.List.Elements.{All-weaker}
 use Rattle.tv_lines.specs.PackedLines.{line_value}
-use Rattle.tv_lines.specs.Placed.{LinesFrom}
 use Rattle.tv_numbers.specs.Numbers.{lines_in}
 use Rattle.tv_step.specs.Cells.{boot_lines}
 use Rattle.tv_step.specs.Range.{AreWords}
-use Rattle.tv_layout.proofs.Boot.{boot_lines_valued, padding_valued, LinesFrom-append, length-boot_lines, boot_lines_placed}
-use Rattle.tv_layout.proofs.FirstState.{HoldsZeros}
+use Rattle.tv_layout.proofs.Boot.{boot_lines_valued, padding_valued}
 use Rattle.tv_layout.proofs.Positions.{log_above, log_within}
-use Rattle.tv_layout.proofs.Steps.{transition_at, lines_in_transition, length-lines_in_transition, lines_placed}
-use Rattle.tv_layout.proofs.Blocks.{BlockSizes, BlockIsSound}
+use Rattle.tv_layout.proofs.Steps.{transition_at, lines_in_transition}
+use Rattle.tv_layout.proofs.Blocks.{BlockSizes}
 use Rattle.tv_layout.specs.Blocks.{BlockCircuit}
-use Rattle.tv_layout.specs.Layout.{boot_lines_of, steps_of, own_lines, system_lines}
+use Rattle.tv_layout.specs.Layout.{boot_lines_of, own_lines, system_lines}
 use Rattle.tv_layout.specs.Places.{WithinLimits, boot_count, line_count, log_of, tape_at, zero_wires_at, first_at, ProgramRuns, runs_like}
 use Rattle.tv_layout.specs.Sound.{padding}
 use Rattle.tv_word.proofs.WidthLaws.{word_small}
@@ -40,10 +38,8 @@ module _ (runs : ProgramRuns) where
     pub early : boot_count runs.image runs.n + 3 * runs.t < 2 ^ 32
     early = omega (arith, fits.image_fits, fits.tape_fits, fits.steps_fit)
 
-module _ (w : ℕ) (block : BlockCircuit) (made : ℕ) (sizes : BlockSizes block made) (law : BlockIsSound w block) (image x z : List ℕ) (t : ℕ)
-    (fits : WithinLimits (runs_like w image x t))
-    (assigns : Assigns z) (words : AreWords w x) (has : HasFrom z tape_at x) (zeros_there : HoldsZeros z (zero_wires_at w (length x)))
-    (met : Meets z (steps_of block (length x) (boot_count image (length x)) t (zero_wires_at w (length x)) (first_at w (length x))).list) where
+module _ (w : ℕ) (block : BlockCircuit) (made : ℕ) (sizes : BlockSizes block made) (image x z : List ℕ) (t : ℕ)
+    (fits : WithinLimits (runs_like w image x t)) (assigns : Assigns z) (has : HasFrom z tape_at x) where
   abbrev pub lines : ℕ → List Line
   lines i = lines_in (transition_at block made sizes z x (boot_count image (length x)) (zero_wires_at w (length x)) (first_at w (length x)) i)
 
@@ -60,19 +56,3 @@ module _ (w : ℕ) (block : BlockCircuit) (made : ℕ) (sizes : BlockSizes block
       map-append (line_value z) (own_lines block (runs_like w image x t)) _ ∙ ap₂ (λ (u v : List Line). u ++ v) own_valued
       (padding_valued z assigns (line_count (runs_like w image x t)) (spare (runs_like w image x t))
       (omega (arith, log_above (line_count (runs_like w image x t)) (few (runs_like w image x t) fits), power_few (runs_like w image x t) fits)))
-
-  own_long : length (boot_lines image x ++ joined_below t lines) ≡ line_count (runs_like w image x t)
-  own_long =
-      let steps = length-lines_in_transition block made sizes z x (boot_count image (length x)) (zero_wires_at w (length x)) (first_at w (length x)) t in
-      length-append (boot_lines image x) (joined_below t lines) ∙ omega (arith, length-boot_lines image x, steps)
-
-  pub own_placed : LinesFrom 0 (boot_lines image x ++ joined_below t lines)
-  own_placed =
-      LinesFrom-append 0 (boot_count image (length x)) (boot_lines image x) (joined_below t lines) (omega (arith, length-boot_lines image x))
-      (boot_lines_placed image x (words_32 w fits.width image fits.words) (words_32 w fits.width x words) (omega (arith, fits.image_fits))
-      (omega (arith, fits.tape_fits)))
-      (lines_placed block made sizes z x (boot_count image (length x)) (zero_wires_at w (length x)) (first_at w (length x)) w fits.width law t assigns
-      (short (runs_like w image x t) fits) (early (runs_like w image x t) fits) zeros_there met t (omega arith))
-
-  pub own_many : length (own_lines block (runs_like w image x t)) ≡ line_count (runs_like w image x t)
-  own_many = sym (length-map (own_lines block (runs_like w image x t)) (line_value z)) ∙ ap length own_valued ∙ own_long

@@ -11,10 +11,11 @@ use Rattle.tv_core.specs.Constraints.{Combination, System}
 use Rattle.tv_core.specs.Loops.{sequence}
 use Rattle.tv_core.specs.declared.limits.TheConstants.{TAPE_CELLS, NULL_CELL}
 use Rattle.tv_core.specs.declared.lines.LineLc.{LineLc}
-use Rattle.tv_argument.specs.Memory.{argument_of}
+use Rattle.tv_double_argument.specs.Memory.{argument_of}
 use Rattle.tv_layout.specs.Blocks.{BlockCircuit}
-use Rattle.tv_layout.specs.Checks.{checks_of}
+use Rattle.tv_layout.specs.Doubles.{double_lines}
 use Rattle.tv_layout.specs.Places.{boot_count, line_count, log_of, tape_at, zero_wires_at, first_at, ProgramRuns}
+use Rattle.tv_layout.specs.StateBefore.{first_state}
 use Rattle.tv_layout.specs.declared.places.TheConstants.{STATE_WIRES}
 use Rattle.tv_block.specs.Block.{reached}
 use Rattle.tv_block.specs.declared.records.Block.{Block}
@@ -44,16 +45,6 @@ zero_wires_of = do
   first ← here
   _ ← sequence STATE_WIRES (λ _. zero_wire_of)
   pure first
-
--- the first state: the wires from a first one on, in a row
-abbrev pub first_state : ℕ → StateWires
-first_state zero_wires = record {
-  pc = zero_wires;
-  regs = range_with_len (zero_wires + 1) 16;
-  flag = zero_wires + 17;
-  taken_of_primary = zero_wires + 18;
-  aux_ended = zero_wires + 19;
-}
 
 -- nothing is answered before the steps
 abbrev pub before_steps : ℕ → Reached
@@ -92,6 +83,11 @@ taken_wire z spot = if slice_index z spot.taken == 1 then spot.word ∷ [] else 
 -- and the word there
 abbrev pub taken_at : List ℕ → Spot → List ℕ
 taken_at z spot = map (slice_index z) (taken_wire z spot)
+
+-- ---- memory
+-- the argument that the lines are honest, over the double lines whose words they are
+abbrev pub lines_argument : Net → ProgramRuns → Circuit (Unit {0})
+lines_argument net runs = argument_of net (2 ^ runs.width) (double_lines runs)
 
 -- ---- the whole, over one step's circuit
 module _ (block : BlockCircuit) where
@@ -133,10 +129,6 @@ module _ (block : BlockCircuit) where
 
   abbrev pub taken_of : ProgramRuns → List ℕ → List ℕ
   taken_of runs z = map (slice_index z) (taken_wires runs z)
-
-  -- the argument that the lines are honest
-  abbrev pub lines_argument : Net → ProgramRuns → Circuit (Unit {0})
-  lines_argument net runs = argument_of net (checks_of runs) (own_lines runs)
 
   -- the circuit of a system, after its public wires
   unfoldable pub layout_of : Net → ProgramRuns → Circuit (Unit {0})

@@ -1,11 +1,12 @@
 pub mod Blocks
-pub mod Checks
+pub mod Doubles
 pub mod Layout
 pub mod Normal
 pub mod Places
 pub mod Reached
 pub mod Reduces
 pub mod RunInputs
+pub mod Shapes
 pub mod Sizes
 pub mod Sound
 pub mod StateBefore

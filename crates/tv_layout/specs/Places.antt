@@ -1,7 +1,8 @@
 -- What a system is made for, how many lines it has, and where its parts stand.
 use Rattle.std.specs.Prelude.{ℕ, zero, suc, ◌+◌, ◌*◌, ◌^◌, ◌≤◌, nat_le, if◌then◌else◌, List, length}
 use Rattle.tv_core.specs.declared.limits.TheConstants.{IMAGE_WORDS, TAPE_WORDS, STEPS}
-use Rattle.tv_block.specs.Complete.{block_made}
+use Rattle.tv_block.specs.Sizes.{block_made}
+use Rattle.tv_doubles.specs.Cells.{double_cells}
 use Rattle.tv_step.specs.Range.{AreWords}
 use Rattle.tv_word.specs.Widths.{IsWidth}
 use Rattle.tv_layout.specs.declared.places.TheConstants.{STATE_WIRES}
@@ -21,11 +22,12 @@ runs_of w image n t = record { width = w; image = image; n = n; t = t }
 abbrev pub runs_like : ℕ → List ℕ → List ℕ → ℕ → ProgramRuns
 runs_like w image x t = runs_of w image (length x) t
 
--- an image of words, a primary tape and steps, within the limits
+-- an image of words that memory has, a primary tape and steps, within the limits
 pub record WithinLimits (runs : ProgramRuns) : Type 0 where
   pub width : IsWidth runs.width
   pub words : AreWords runs.width runs.image
   pub image_fits : length runs.image ≤ IMAGE_WORDS
+  pub memory_fits : length runs.image ≤ 2 * double_cells runs.width
   pub tape_fits : runs.n ≤ TAPE_WORDS
   pub some : 1 ≤ runs.t
   pub steps_fit : runs.t ≤ STEPS

@@ -1,15 +1,14 @@
 -- The values of a system's wires for a run.
-use Rattle.std.specs.Prelude.{◌≡◌, ℕ, ◌+◌, ◌*◌, List, ◌∷◌, ◌++◌, length, replicate, slice_index}
+use Rattle.std.specs.Prelude.{◌≡◌, ℕ, ◌+◌, ◌*◌, ◌^◌, List, ◌∷◌, ◌++◌, length, replicate, slice_index}
 use Rattle.tv_stages.specs.declared.nets.Net.{Net}
 use Rattle.tv_bits.specs.Bits.{bits_values}
 use Rattle.tv_block.specs.Complete.{olds_of}
 use Rattle.tv_core.specs.Below.{joined_below}
 use Rattle.tv_core.specs.Constraints.{Sat, Extends}
-use Rattle.tv_argument.specs.Order.{argument_values}
-use Rattle.tv_step.specs.Cells.{run_lines}
+use Rattle.tv_double_argument.specs.Order.{argument_values}
 use Rattle.tv_step.specs.Machine.{start, state_after}
 use Rattle.tv_step.specs.Reads.{word_taken, ended_after, Reads}
-use Rattle.tv_layout.specs.Checks.{checks_of}
+use Rattle.tv_layout.specs.Doubles.{run_doubles}
 use Rattle.tv_layout.specs.Blocks.{BlockCircuit, BlockValues, view_of}
 use Rattle.tv_layout.specs.Layout.{taken_of, layout}
 use Rattle.tv_layout.specs.Places.{boot_count, runs_like}
@@ -30,7 +29,7 @@ module _ (values : BlockValues) where
       let runs = runs_like run.width run.image run.tape run.t in
       1 ∷ ((v ∷ run.tape) ++ (joined_below (length run.tape) (λ i. bits_values (slice_index run.tape i) run.width)
       ++ (replicate STATE_WIRES 0 ++ (joined_below run.t (run_step_values run.width run.image run.tape run.aux)
-      ++ argument_values net (checks_of runs) (run_lines run.width run.image run.tape run.aux run.t)))))
+      ++ argument_values net (2 ^ run.width) (run_doubles run)))))
 
 -- the values satisfy the system and extend the answer and the tape, and the words taken are those that the run reads
 pub record IsFill (net : Net) (block : BlockCircuit) (run : RunInput) (v : ℕ) (z : List ℕ) : Type 0 where

@@ -1,17 +1,18 @@
 //! The sizes of a system.
 ghost use Rattle.std.specs.Prelude.{◌≡◌, ◌+◌, ◌^◌, ◌≤◌, ◌<◌, length};
 ghost use Rattle.tv_core.specs.Meanings.{IsCounted, system_counts, terms_in};
-ghost use Rattle.tv_layout.specs.Places.{WithinLimits, line_count, log_of, runs_of};
+ghost use Rattle.tv_layout.specs.Places.{WithinLimits, runs_of};
 ghost use Rattle.tv_layout.specs.Sizes.{memory_constraints, memory_wires};
 ghost use Rattle.tv_layout.specs.Systems.{system_of};
 
 use crate::lines::LayoutLines;
-use crate::places::{STATE_WIRES, log_of, memory_at, public_wires};
+use crate::places::{STATE_WIRES, memory_at, public_wires};
+use crate::shapes::Shape;
 use crate::system::emit_system;
-use crate::totals::{constraint_costs, total, wire_costs};
-use tv_argument::{argument_terms, network_made};
+use crate::totals::{Counted, total};
 use tv_block::{step_costs, step_terms};
 use tv_core::{CountSink, Counts};
+use tv_double_argument::{argument_terms, network_made};
 use tv_stages::Net;
 
 /// Returns how many wires the system has that `emit_system` emits. Takes time that grows with the
@@ -58,22 +59,12 @@ fn terms<const W: u32>(image: &[u32], n: u32, t: u32, net: Net) -> u64
     ensures is { result ≡ terms_in (system_of net (runs_of W image.now n t)).constraints }
     ensures few { result < 2 ^ 60 }
 {
-    let k = log_of_lines::<W>(image, n, t);
     let first = memory_at::<W>(n, t);
-    let memory = argument_terms(net, first, &LayoutLines::<W> { image, n, t, k });
+    let shape = Shape::of::<W>(image, n, t);
+    let lines = LayoutLines::<W> { image, n, t, shape };
+    let memory = argument_terms::<W, LayoutLines<W>>(net, first, &lines);
     let steps = u64::from(t) * u64::from(step_terms::<W>(n));
     u64::from(n * (4 * W + 2) + 2 * STATE_WIRES) + steps + 6 + memory
-}
-
-// The logarithm of how many lines there are.
-fn log_of_lines<const W: u32>(image: &[u32], n: u32, t: u32) -> u32
-    requires { WithinLimits (runs_of W image.now n t) }
-    ensures is { result ≡ log_of (line_count (runs_of W image.now n t)) }
-    ensures some { 1 ≤ result }
-    ensures few { result ≤ 20 }
-    ensures above { line_count (runs_of W image.now n t) ≤ 2 ^ result }
-{
-    log_of(image.len() as u32 + n + 3 * t)
 }
 
 // The wires of the memory argument.
@@ -81,19 +72,17 @@ fn memory_wires<const W: u32>(image: &[u32], n: u32, t: u32, net: Net) -> u64
     requires { WithinLimits (runs_of W image.now n t) }
     ensures { result ≡ memory_wires net (runs_of W image.now n t) }
 {
-    let words = image.len() as u32;
-    let k = log_of_lines::<W>(image, n, t);
-    network_made(net, words + n + 3 * t) + total(&wire_costs(k, words), words, n, t)
+    let lines = Shape::of::<W>(image, n, t).count();
+    network_made(net, lines) + total::<W>(Counted::Wires, image, n, t)
 }
 
-// Its constraints.
+// Its constraints: the check of the last line is one.
 fn memory_constraints<const W: u32>(image: &[u32], n: u32, t: u32, net: Net) -> u64
     requires { WithinLimits (runs_of W image.now n t) }
     ensures { result ≡ memory_constraints net (runs_of W image.now n t) }
 {
-    let words = image.len() as u32;
-    let k = log_of_lines::<W>(image, n, t);
-    network_made(net, words + n + 3 * t) + total(&constraint_costs(k, words), words, n, t)
+    let lines = Shape::of::<W>(image, n, t).count();
+    network_made(net, lines) + total::<W>(Counted::Constraints, image, n, t) + 1
 }
 
 /// Emits a system into a sink that counts, which proves that each combination has at most 128

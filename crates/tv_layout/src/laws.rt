@@ -26,9 +26,9 @@ pub fn systems_reduce()
 
 /// The counts of a system are those of its parts, all together: of a step what `step_costs` and
 /// `step_terms` say, and of the memory argument what `network_made`, `check_made`, `check_added`
-/// and `argument_terms` say. The number of lines decides the wires and the constraints; the terms
-/// of the memory argument are a sum over its switches and lines. For at most 2^k lines of T steps
-/// on n words, wires and constraints are each at most
+/// and `argument_terms` say. The numbers of words and of steps decide the wires and the
+/// constraints; the terms of the memory argument are a sum over its switches and double lines. For
+/// at most 2^k lines of T steps on n words, wires and constraints are each at most
 /// 2,048 T + 5 · 2^k (2k - 1) + 200 · 2^k + 40 (n + 1) + 64, or with 10 (2^k (k - 1) + 1) over
 /// Waksman's network, and within the limits numbers of 32 bits.
 pub fn systems_are_sized()

@@ -1,6 +1,6 @@
 //! Where the parts of a system stand.
 ghost use Rattle.std.specs.Prelude.{◌≡◌, ◌+◌, ◌*◌, ◌^◌, ◌≤◌, ◌<◌};
-ghost use Rattle.tv_block.specs.Complete.{block_made};
+ghost use Rattle.tv_block.specs.Sizes.{block_made};
 ghost use Rattle.tv_layout.specs.Places.{log_of, tape_at, zero_wires_at, first_at};
 ghost use Rattle.tv_word.specs.Widths.{IsWidth};
 

@@ -1,10 +1,11 @@
 //! The steps of a system, in a row.
 ghost use Rattle.std.specs.Prelude.{◌≡◌, ◌+◌, ◌*◌, ◌^◌, ◌<◌, ◌≤◌, ℕ, IfOk};
 ghost use Rattle.tv_block.specs.Block.{block_of};
-ghost use Rattle.tv_block.specs.Complete.{block_made, block_added};
+ghost use Rattle.tv_block.specs.Sizes.{block_made, block_added};
 ghost use Rattle.tv_core.specs.Sinks.{Emits, Room};
-ghost use Rattle.tv_layout.specs.Layout.{first_state, before_steps, steps_of};
+ghost use Rattle.tv_layout.specs.Layout.{before_steps, steps_of};
 ghost use Rattle.tv_layout.specs.Reached.{ReachedUnder};
+ghost use Rattle.tv_layout.specs.StateBefore.{first_state};
 ghost use Rattle.tv_word.specs.Widths.{IsWidth};
 
 use crate::places::STATE_WIRES;

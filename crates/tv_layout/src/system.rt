@@ -10,21 +10,22 @@ ghost use Rattle.tv_layout.specs.Sizes.{system_made, system_added};
 ghost use Rattle.tv_word.specs.Widths.{IsWidth};
 
 use crate::lines::LayoutLines;
-use crate::places::{ANSWER, STATE_WIRES, log_of, tape_wire};
+use crate::places::{ANSWER, STATE_WIRES, tape_wire};
 use crate::sequence::steps;
-use tv_argument::memory;
+use crate::shapes::Shape;
 use tv_bits::bits;
 use tv_block::Reached;
 use tv_core::{F, Lc, Put, Sink, Wire};
+use tv_double_argument::memory;
 use tv_stages::Net;
 
 /// Emits the system of a program's runs of `t` steps on primary tapes of `n` words, over a network.
 /// The sink has the constant wire and the public ones, which are the answer's and the tape's, and
 /// no constraint. Keeps nothing, and allocates nothing.
 ///
-/// Words have `W` bits, 16 or 32. The image has at most 131,072 of them, and `n` is at most
-/// 131,072; `t` is from 1 to 262,144. Fails only where the sink refuses a constraint; the sink then
-/// has a first part of the system.
+/// Words have `W` bits, 16 or 32. The image has at most 131,072 of them, and no more than memory
+/// has, which are 32,768 words of 16 bits; `n` is at most 131,072; `t` is from 1 to 262,144. Fails
+/// only where the sink refuses a constraint; the sink then has a first part of the system.
 pub fn emit_system<const W: u32, S: Sink>(
     image: &[u32],
     n: u32,
@@ -45,8 +46,8 @@ pub fn emit_system<const W: u32, S: Sink>(
     let zero_wires = zero_wires(s)?;
     let last = steps::<W, S>(s, n, t, zero_wires)?;
     tie(s, &last)?;
-    let k = log_of(image.len() as u32 + n + 3 * t);
-    memory(s, net, &LayoutLines::<W> { image, n, t, k })
+    let shape = Shape::of::<W>(image, n, t);
+    memory::<W, S, LayoutLines<W>>(s, net, &LayoutLines::<W> { image, n, t, shape })
 }
 
 // Constrains `n` wires from a first one on to words.

@@ -1,7 +1,8 @@
+pub mod DoubleCells
 pub mod FlagFills
 mod FlagLaws
 pub mod MemoryFills
-mod MemoryLaws
+pub mod MemoryLaws
 pub mod NormalFlag
 pub mod NormalMemory
 pub mod NormalWritten

@@ -1,30 +1,32 @@
 -- The laws of the data line and of the bytes of its word.
 use Rattle.tv_core.proofs.Common.{◌≡◌, ℕ, zero, suc, ◌+◌, ◌-◌, ◌*◌, ◌/◌, ◌%◌, ◌^◌, ◌<◌, ◌==◌, Bool, true, false, if◌then◌else◌, List, [], ◌∷◌, ◌++◌, inl, inr}
-use Rattle.tv_core.proofs.Common.{refl, sym, ◌∙◌, ap, ap₂, subst, arith, bit_at, slice_index, cases_eq, ne_eqb, value-wire, value-append, value-cons}
-use Rattle.tv_core.proofs.Common.{value-below, put, wire, constant, scaled, Combination, value, Assigns, width_short, for_widths, IsWidth, flag_of}
-use Rattle.std.proofs.Common.{◌||◌, true≢false}
+use Rattle.tv_core.proofs.Common.{refl, sym, ◌∙◌, ap, ap₂, subst, arith, bit_at, slice_index, value-wire, value-append, value-cons}
+use Rattle.tv_core.proofs.Common.{value-below, mod-eq_of_lt, wire-below, put, wire, constant, scaled, Combination, value, Assigns, width_short, for_widths}
+use Rattle.tv_core.proofs.Common.{IsWidth}
+use Rattle.tv_core.proofs.Common.{◌≤◌, flag_of}
+use Rattle.std.proofs.Common.{◌||◌, ◌&&◌}
 use Rattle.tv_bits.proofs.BitLaws.{bit_cases}
 use Rattle.tv_bits.proofs.BitNumbers.{value-bits_below, HasBits-below, HasBits-high, HasBits-low, HasBits-bit_at}
 use Rattle.tv_bits.specs.Bit.{IsBit}
 use Rattle.tv_bits.specs.Bits.{HasBits, bits_combination}
 use Rattle.tv_core.proofs.CombinationLaws.{value-scaled, value-constant}
 use Rattle.tv_core.specs.declared.field.TheConstants.{P}
-use Rattle.tv_core.specs.declared.limits.TheConstants.{TAPE_CELLS, NULL_CELL}
+use Rattle.tv_doubles.specs.Cells.{double_cells}
 use Rattle.tv_inputs.proofs.Settled.{Settles, sum_then, settles_sum}
-use Rattle.tv_isa.specs.Opcodes.{among, memory_ops}
+use Rattle.tv_isa.specs.Opcodes.{memory_ops}
 use Rattle.tv_isa.specs.declared.instr.Instr.{Instr}
 use Rattle.tv_mem.specs.Bytes.{byte_of}
-use Rattle.tv_numbers.specs.Numbers.{operand_word, touches, takes_primary, old_in, with_byte_in, data_line}
+use Rattle.tv_numbers.specs.Numbers.{operand_word, touches, takes_primary, old_in, with_byte_in}
 use Rattle.tv_numbers.specs.Views.{View}
 use Rattle.tv_step.specs.Rows.{word_size}
-use Rattle.tv_step.specs.Trace.{tape_cell}
-use Rattle.tv_inputs.proofs.FieldNumbers.{small_word, byte_small, flag_times}
-use Rattle.tv_inputs.proofs.TapeLaws.{no_primary}
+use Rattle.tv_inputs.proofs.FieldNumbers.{small_word, byte_small, either, flag_times}
 use Rattle.tv_inputs.proofs.OpcodeLaws.{opcode_sum_sound}
 use Rattle.tv_inputs.proofs.TapeGates.{value-two, value-three}
 use Rattle.tv_inputs.proofs.UpperLaws.{upper_once}
 use Rattle.tv_inputs.specs.Inputs.{input_of}
-use Rattle.tv_parts.specs.Memory.{byte_of_pair, byte_of_four, byte_at_of, byte_values, gained, HasMemory}
+use Rattle.tv_parts.proofs.DoubleCells.{doubles_small, line_double_is, line_side_is, no_take}
+use Rattle.tv_parts.specs.Memory.{byte_of_pair, byte_of_four, byte_at_of, byte_values, gained, null_double, line_double, line_side, beside_in, excess_of}
+use Rattle.tv_parts.specs.Memory.{HasMemory}
 use Rattle.tv_inputs.specs.OpcodeSums.{opcode_sum}
 use Rattle.tv_inputs.specs.Operand.{upper_of}
 use Rattle.tv_inputs.specs.Tapes.{primary_in}
@@ -39,13 +41,13 @@ located_by : (b : Bool) (x y d : ℕ) → x < P → y < P → d ≡ (x + (P - y)
 located_by true x y d h k e = omega arith
 located_by false x y d h k e = omega arith
 
-null_number : (n : ℕ) → n < P → ((P - NULL_CELL) * 1 + n) % P ≡ (n + (P - NULL_CELL)) % P
-null_number n h = omega arith
+null_number : (n c : ℕ) → n < P → c ≤ P → ((P - c) * 1 + n) % P ≡ (n + (P - c)) % P
+null_number n c h k = omega arith
 
-tape_number : (b c : ℕ) → b < 2 ^ 29 → c < P → (TAPE_CELLS * 1 + 1 * b + (P - 1) * c) % P ≡ (tape_cell b + (P - c)) % P
-tape_number b c h k = omega arith
+tape_number : (m b c : ℕ) → m ≤ 2 ^ 29 → b < 2 ^ 29 → c < P → (m * 1 + 1 * b + (P - 1) * c) % P ≡ (m + b + (P - c)) % P
+tape_number m b c l h k = omega arith
 
-rise_is : (p : Bool) (b t : ℕ) → b < 2 ^ 29 → t ≡ (if p then b + 1 else b) → ((P - 1) * b + 1 * t) % P ≡ flag_of p
+pub rise_is : (p : Bool) (b t : ℕ) → b < 2 ^ 29 → t ≡ (if p then b + 1 else b) → ((P - 1) * b + 1 * t) % P ≡ flag_of p
 rise_is true b t h e = omega arith
 rise_is false b t h e = omega arith
 
@@ -57,6 +59,23 @@ held_is false false b t h e none = rw e (omega arith)
 
 word_power : (w : ℕ) → IsWidth w → 2 ^ (w / 16) ≡ w / 8
 word_power w width = for_widths (λ w. 2 ^ (w / 16) ≡ w / 8) refl refl w width
+
+pair_power : (w : ℕ) → IsWidth w → 2 ^ (w / 16 + 1) ≡ 2 * (w / 8)
+pair_power w width = for_widths (λ w. 2 ^ (w / 16 + 1) ≡ 2 * (w / 8)) refl refl w width
+
+-- a flag times a bit
+both_flags : (t : Bool) (b : ℕ) → IsBit b → flag_of t * b % P ≡ flag_of (t && (b == 1))
+both_flags true b s = elim (bit_cases b s) [ inl none ↦ rw none refl | inr one ↦ rw one refl ]
+both_flags false b s = omega arith
+
+-- a flag times what one word exceeds another by
+pub excess_before : (side : Bool) (word other : ℕ) → word < P → flag_of side * (((P - 1) * word + 1 * other) % P) % P ≡ excess_of side word other
+excess_before true word other h = omega arith
+excess_before false word other h = omega arith
+
+pub excess_after : (side : Bool) (word other : ℕ) → word < P → flag_of side * ((1 * other + (P - 1) * word) % P) % P ≡ excess_of side word other
+excess_after true word other h = omega arith
+excess_after false word other h = omega arith
 
 -- ---- numbers of the byte
 picked_by : (bit x y : ℕ) → IsBit bit → x < P → y < P → (y + bit * (((P - 1) * y % P + x) % P)) % P ≡ (if bit == 1 then x else y)
@@ -108,8 +127,8 @@ place_small w width = for_widths (λ w. (at : ℕ) → at % (w / 8) < 4) (λ at.
 
 -- ---- the values
 module _ (w : ℕ) (width : IsWidth w) (z : List ℕ) (n : ℕ) (state : StateWires) (op : ℕ) (a : OperandWires) (d : DataWires) (t : TapeWires) (v : View)
-    (i : Instr) (x o : ℕ)
-    (has : HasMemory w z (record { state = state; op = op; operand = a; tapes = t }) d (input_of n v i o) x) where
+    (i : Instr) (x h o : ℕ)
+    (has : HasMemory w z (record { state = state; op = op; operand = a; tapes = t }) d (input_of n v i o) h x) where
   abbrev at : ℕ
   at = operand_word v i
 
@@ -119,8 +138,14 @@ module _ (w : ℕ) (width : IsWidth w) (z : List ℕ) (n : ℕ) (state : StateWi
   abbrev m : Bool
   m = touches v i
 
+  abbrev null : ℕ
+  null = null_double w n
+
   abbrev located_number : ℕ
-  located_number = if m then at / word_size w else NULL_CELL
+  located_number = if m then at / (2 * word_size w) else null
+
+  null_small : null < P
+  null_small = omega (arith, doubles_small w width, has.short)
 
   pub early : v.taken < 2 ^ 29
   early = omega (arith, has.within, has.short)
@@ -131,56 +156,61 @@ module _ (w : ℕ) (width : IsWidth w) (z : List ℕ) (n : ℕ) (state : StateWi
   gate : value (opcode_sum op memory_ops) z ≡ flag_of m
   gate = opcode_sum_sound z op i.op memory_ops has.opcode refl
 
-  abbrev cell_upper : Combination
-  cell_upper = upper_of 1 a (w / 16)
+  abbrev upper : Combination
+  upper = upper_of 1 a (w / 16 + 1)
 
-  cell_is : value cell_upper z ≡ at / word_size w
-  cell_is =
+  upper_value : value upper z ≡ at / (2 * word_size w)
+  upper_value =
       let most = width_short w width in
-      upper_once w width z a at (w / 16) has.assigns has.operand (omega arith) ∙ ap (λ k. at / k) (word_power w width)
+      upper_once w width z a at (w / 16 + 1) has.assigns has.operand (omega (arith, width)) ∙ ap (λ k. at / k) (pair_power w width)
 
-  cell_small : at / word_size w < P
-  cell_small = subst (λ k. k < P) cell_is (value-below cell_upper z)
+  upper_small : at / (2 * word_size w) < P
+  upper_small = subst (λ k. k < P) upper_value (value-below upper z)
 
-  pub located_is : (value (constant NULL_CELL) z + value (opcode_sum op memory_ops) z * value ((P - NULL_CELL, 0) ∷ cell_upper) z) % P ≡ located_number
+  pub located_is : (value (constant null) z + value (opcode_sum op memory_ops) z * value ((P - null, 0) ∷ upper) z) % P ≡ located_number
   located_is =
-      ap₂ (λ c k. (c + k) % P) (value-constant has.assigns NULL_CELL)
-      (ap₂ (λ g k. g * k) gate (value-cons (P - NULL_CELL) 0 cell_upper z ∙ ap₂ (λ j k. ((P - NULL_CELL) * j + k) % P) has.assigns.one cell_is
-      ∙ null_number (at / word_size w) cell_small)) ∙ located_by m (at / word_size w) NULL_CELL _ cell_small (omega arith) refl
+      ap₂ (λ c k. (c + k) % P) (value-constant has.assigns null ∙ mod-eq_of_lt null_small)
+      (ap₂ (λ g k. g * k) gate (value-cons (P - null) 0 upper z ∙ ap₂ (λ j k. ((P - null) * j + k) % P) has.assigns.one upper_value
+      ∙ null_number (at / (2 * word_size w)) null upper_small (omega (arith, null_small))))
+      ∙ located_by m (at / (2 * word_size w)) null _ upper_small null_small refl
 
   located_small : located_number < P
-  located_small = lower m (at / word_size w) cell_small
-    where
-      lower : (b : Bool) (k : ℕ) → k < P → (if b then k else NULL_CELL) < P
-      lower true k h = h
-      lower false k h = omega arith
+  located_small = either m (at / (2 * word_size w)) null upper_small null_small
 
-  pub line_cell : (located : ℕ) → slice_index z located ≡ located_number
-      → (value (wire located) z + value (primary_in state t) z * value ((TAPE_CELLS, 0) ∷ (1, state.taken_of_primary) ∷ (P - 1, located) ∷ []) z) % P
-      ≡ (data_line w n v i o 0).cell
-  line_cell located is =
+  pub double_is : (located : ℕ) → slice_index z located ≡ located_number
+      → (value (wire located) z + value (primary_in state t) z * value ((double_cells w, 0) ∷ (1, state.taken_of_primary) ∷ (P - 1, located) ∷ []) z) % P
+      ≡ line_double w n v i
+  double_is located is =
       ap₂ (λ c k. (c + k) % P) (value-wire has.assigns located ∙ is)
       (ap₂ (λ g k. g * k)
       (value-two z (P - 1) 1 state.taken_of_primary t.taken ∙ ap (λ b. ((P - 1) * b + 1 * slice_index z t.taken) % P) has.before
       ∙ rise_is p v.taken (slice_index z t.taken) early has.tapes.taken)
-      (value-three z TAPE_CELLS 1 (P - 1) 0 state.taken_of_primary located
-      ∙ ap₂ (λ j b. (TAPE_CELLS * j + 1 * b + (P - 1) * slice_index z located) % P) has.assigns.one has.before
-      ∙ ap (λ c. (TAPE_CELLS * 1 + 1 * v.taken + (P - 1) * c) % P) is ∙ tape_number v.taken located_number early located_small))
-      ∙ located_by p (tape_cell v.taken) located_number _ (omega (arith, early)) located_small refl
-
-  no_take : m ≡ true → p ≡ false
-  no_take e = elim (cases_eq i.op 30) [
-    | inl same ↦ absurd (true≢false (sym e ∙ ap (among memory_ops) same))
-    | inr other ↦ no_primary v i n (ne_eqb i.op 30 other)
-  ]
+      (value-three z (double_cells w) 1 (P - 1) 0 state.taken_of_primary located
+      ∙ ap₂ (λ j b. (double_cells w * j + 1 * b + (P - 1) * slice_index z located) % P) has.assigns.one has.before
+      ∙ ap (λ c. (double_cells w * 1 + 1 * v.taken + (P - 1) * c) % P) is
+      ∙ tape_number (double_cells w) v.taken located_number (doubles_small w width) early located_small))
+      ∙ located_by p (double_cells w + v.taken) located_number _ (omega (arith, early, doubles_small w width)) located_small refl
+      ∙ sym (line_double_is w width n v i has.within has.short (HasBits-below has.operand.bits))
 
   pub line_old : value ((P - 1, state.taken_of_primary) ∷ (opcode_sum op memory_ops ++ wire t.taken)) z * value (wire d.word) z % P ≡ old_in n v i o
   line_old =
       ap₂ (λ g k. g * k % P)
       (value-cons (P - 1) state.taken_of_primary (opcode_sum op memory_ops ++ wire t.taken) z ∙ ap₂ (λ b k. ((P - 1) * b + k) % P) has.before
       (value-append (opcode_sum op memory_ops) (wire t.taken) z ∙ ap₂ (λ g k. (g + k) % P) gate (value-wire has.assigns t.taken))
-      ∙ held_is m p v.taken (slice_index z t.taken) early has.tapes.taken no_take)
+      ∙ held_is m p v.taken (slice_index z t.taken) early has.tapes.taken (no_take v i n))
       (value-wire has.assigns d.word ∙ has.word) ∙ flag_times (m || p) o word_below
+
+  pub line_side_of : value (opcode_sum op memory_ops) z * value (wire (a.bits.first + w / 16)) z % P ≡ flag_of (line_side w n v i)
+  line_side_of =
+      ap₂ (λ g k. g * k % P) gate
+      (value-wire has.assigns (a.bits.first + w / 16) ∙ HasBits-bit_at has.operand.bits (w / 16) (omega (arith, width))
+      ∙ ap (λ k. at / k % 2) (word_power w width))
+      ∙ both_flags m (at / word_size w % 2) (omega arith) ∙ ap flag_of (sym (line_side_is w width n v i (HasBits-below has.operand.bits)))
+
+  pub line_beside : value (opcode_sum op memory_ops) z * value (wire d.beside) z % P ≡ beside_in v i h
+  line_beside =
+      ap₂ (λ g k. g * k % P) gate (value-wire has.assigns d.beside ∙ has.beside)
+      ∙ flag_times m h (subst (λ k. k < P) has.beside (wire-below has.assigns d.beside))
 
 -- ---- the byte
 pub byte_value : (z : List ℕ) (w bits first o j m : ℕ) → first ≡ bits + 8 * j → 8 * j + (8 + m) ≡ w → HasBits z bits w o

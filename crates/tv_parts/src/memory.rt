@@ -1,51 +1,46 @@
-//! The data line of a step, and the bytes of its word.
+//! The data line of a step: its word before and after the step, the bytes of that word, and the words
+//! of its double cell.
 ghost use Rattle.std.specs.Prelude.{◌≡◌, ◌+◌, ◌-◌, ◌*◌, ◌/◌, ◌%◌, ◌≤◌, ◌<◌, ◌^◌, false};
 ghost use Rattle.std.specs.Prelude.{[], ◌∷◌, ◌++◌, max, IfOk, OnOk};
 ghost use Rattle.tv_bits.specs.Bits.{bits_combination};
 ghost use Rattle.tv_bits.specs.Times.{times_of};
-ghost use Rattle.tv_core.specs.Combinations.{constant, top, wire};
+ghost use Rattle.tv_core.specs.Combinations.{top, wire};
 ghost use Rattle.tv_core.specs.declared.field.TheConstants.{P};
-ghost use Rattle.tv_core.specs.declared.limits.TheConstants.{TAPE_CELLS, NULL_CELL};
 ghost use Rattle.tv_inputs.specs.Accumulation.{accumulated_of};
 ghost use Rattle.tv_inputs.specs.OpcodeSums.{opcode_sum};
-ghost use Rattle.tv_inputs.specs.Operand.{upper_of};
 ghost use Rattle.tv_core.specs.Values.{GivesIn};
 ghost use Rattle.tv_core.specs.Sinks.{Emits, Room};
-ghost use Rattle.tv_parts.specs.Memory.{located_line, byte_of_pair, byte_of_four, byte_at_of};
+ghost use Rattle.tv_parts.specs.Memory.{byte_of_pair, byte_of_four, byte_at_of};
 ghost use Rattle.tv_parts.specs.Memory.{power_in, new_of, memory_of};
 ghost use Rattle.tv_parts.specs.Memory.{MemoryIsSound, MemoryIsComplete, MemorySizes, MemoryCosts};
 ghost use Rattle.tv_inputs.specs.Inputs.{taped_of};
-ghost use Rattle.tv_inputs.specs.States.{TapedUnder, DataUnder, LineUnder, StoreUnder};
-ghost use Rattle.tv_inputs.specs.States.{OperandUnder};
-ghost use Rattle.tv_parts.specs.Memory.{line_values, byte_values, gained, new_values};
+ghost use Rattle.tv_inputs.specs.States.{TapedUnder, DataUnder, StoreUnder};
+ghost use Rattle.tv_parts.specs.Memory.{byte_values, gained, new_values, excess_of, excess_values};
 ghost use Rattle.tv_parts.specs.Memory.{memory_values};
 ghost use Rattle.tv_inputs.specs.Traced.{traced_view, traced_input, AreNumbers};
-ghost use Rattle.tv_isa.specs.Opcodes.{among, memory_ops};
 ghost use Rattle.tv_isa.specs.declared.opcode.TheConstants.{STORE_B, STORE_W};
 ghost use Rattle.tv_mem.specs.Bytes.{byte_of};
-ghost use Rattle.tv_numbers.specs.Numbers.{with_byte_in};
+ghost use Rattle.tv_numbers.specs.Numbers.{data_line, with_byte_in};
 ghost use Rattle.tv_word.specs.Widths.{IsWidth};
 
+use crate::data_lines::{line_values, put_line, side_of, word_beside};
 use tv_bits::{Bits, times_by};
-use tv_core::limits::{NULL_CELL, TAPE_CELLS};
 use tv_core::{F, Lc, Put, Scratch, Sink, Values, Wire, give_values};
 use tv_inputs::{
     DataWires, LineWires, OperandWires, StateWires, StepNumbers, StoreWires, TapeWires,
-    accumulated, byte_of, byte_power, opcode_wire, plus_opcodes, plus_upper, set_minus,
-    set_opcodes, set_rise,
+    accumulated, byte_of, byte_power, opcode_wire, set_minus, set_rise,
 };
-use tv_isa::opcode::{LOAD_B, LOAD_W, STORE_B, STORE_W};
+use tv_isa::opcode::{STORE_B, STORE_W};
 use tv_step::TraceState;
 
-// The opcodes that load or store.
-const MEMORY_OPS: [u8; 4] = [STORE_B, LOAD_B, STORE_W, LOAD_W];
-
-/// Constrains the data line of a step and the byte at its operand's address: `op` is the row of its
-/// opcode, and `a` its operand. Makes 9 wires and 9 constraints for words of 32 bits, and 7 of each
-/// for words of 16 bits.
+/// Constrains the data line of a step, with the words of its double cell, and the byte at its
+/// operand's address: `n` is the number of the primary tape's words, `op` the row of
+/// its opcode, and `a` its operand. Makes 13 wires and 13 constraints for words of 32 bits, and 11
+/// of each for words of 16 bits.
 pub fn put_memory<const W: u32, S: Sink>(
     s: &mut S,
     scratch: &mut Scratch,
+    n: u32,
     state: &StateWires,
     op: Wire,
     a: &OperandWires,
@@ -53,121 +48,66 @@ pub fn put_memory<const W: u32, S: Sink>(
     tapes: &TapeWires,
 ) -> Put<StoreWires>
     requires width { IsWidth W }
-    requires room { Room S.meaning s.old (W / 8 + 5) (W / 8 + 5) }
+    requires room { Room S.meaning s.old (W / 8 + 9) (W / 8 + 9) }
     requires step_made { TapedUnder W (S.meaning.wires s.old)
         (taped_of state.now op a.now tapes.now) }
     requires data_made { DataUnder W (S.meaning.wires s.old) d.now }
     ensures emits { Emits S.meaning s.old s.new
-        (memory_of W state.now op a.now d.now tapes.now) (W / 8 + 5) (W / 8 + 5) result }
+        (memory_of W n state.now op a.now d.now tapes.now) (W / 8 + 9) (W / 8 + 9) result }
     ensures below { IfOk result (λ made. StoreUnder (S.meaning.wires s.new) made) }
 {
-    let line = put_line::<W, S>(s, scratch, state, op, a, d.word, tapes)?;
+    let line = put_line::<W, S>(s, scratch, n, state, op, a, d, tapes)?;
     let byte = byte_at::<W, S>(s, scratch, d.bits, a.bits.first)?;
     let new = put_new::<W, S>(s, scratch, op, d, a, &line, byte)?;
-    Ok(StoreWires { line, byte, new })
+    let before = put_excess_before(s, scratch, line.side, line.old, line.beside)?;
+    let after = put_excess_after(s, scratch, line.side, new, line.beside)?;
+    Ok(StoreWires {
+        line,
+        byte,
+        new,
+        before,
+        after,
+    })
 }
 
-// Constrains the cell of the data line, and the word in it before the step.
-fn put_line<const W: u32, S: Sink>(
-    s: &mut S,
-    scratch: &mut Scratch,
-    state: &StateWires,
-    op: Wire,
-    a: &OperandWires,
-    word: Wire,
-    tapes: &TapeWires,
-) -> Put<LineWires>
-    requires width { IsWidth W }
-    requires room { Room S.meaning s.old 3 3 }
-    requires step_made { TapedUnder W (S.meaning.wires s.old)
-        (taped_of state.now op a.now tapes.now) }
-    requires word_made { word < S.meaning.wires s.old }
-    ensures emits { Emits S.meaning s.old s.new
-        (located_line W state.now op a.now word tapes.now) 3 3 result }
-    ensures below { IfOk result (λ made. LineUnder (S.meaning.wires s.new) made) }
-{
-    let before = state.taken_of_primary;
-    let located = put_located::<W, S>(s, scratch, op, a)?;
-    let cell = put_cell(s, scratch, before, located, tapes.taken)?;
-    let old = put_old(s, scratch, op, before, tapes.taken, word)?;
-    Ok(LineWires { cell, old })
-}
-
-// Constrains the word in the cell before the step: `word`, or 0 where the step has no cell.
+// Constrains by how much the first word of the double cell exceeds the line's word before the step.
 #[inline]
-fn put_old<S: Sink>(
+fn put_excess_before<S: Sink>(
     s: &mut S,
     scratch: &mut Scratch,
-    op: Wire,
-    before: Wire,
-    taken: Wire,
-    word: Wire,
+    side: Wire,
+    old: Wire,
+    beside: Wire,
 ) -> Put<Wire>
     requires room { Room S.meaning s.old 1 1 }
-    requires op_made { op + 29 ≤ S.meaning.wires s.old }
-    requires wires_made { max before (max taken word) < S.meaning.wires s.old }
+    requires wires_made { max side (max old beside) < S.meaning.wires s.old }
     ensures emits { Emits S.meaning s.old s.new
-        (times_of ((P - 1, before) ∷ (opcode_sum op memory_ops ++ wire taken)) (wire word))
-        1 1 result }
+        (times_of (wire side) ((P - 1, old) ∷ (1, beside) ∷ [])) 1 1 result }
     ensures below { IfOk result (λ w. w < S.meaning.wires s.new) }
 {
-    set_minus(&mut scratch.a, before);
-    plus_opcodes(&mut scratch.a, F::ONE, op, &MEMORY_OPS);
-    scratch.a.plus(F::ONE, taken);
-    scratch.b.set_wire(word);
+    scratch.a.set_wire(side);
+    set_rise(&mut scratch.b, old, beside);
     times_by(s, scratch)
 }
 
-// Constrains the cell of a load or store.
-fn put_located<const W: u32, S: Sink>(
+// Constrains by how much it exceeds the line's word after the step.
+#[inline]
+fn put_excess_after<S: Sink>(
     s: &mut S,
     scratch: &mut Scratch,
-    op: Wire,
-    a: &OperandWires,
-) -> Put<Wire>
-    requires width { IsWidth W }
-    requires room { Room S.meaning s.old 1 1 }
-    requires op_made { op + 29 ≤ S.meaning.wires s.old }
-    requires operand_made { OperandUnder W (S.meaning.wires s.old) a.now }
-    ensures emits { Emits S.meaning s.old s.new
-        (accumulated_of (constant NULL_CELL) (opcode_sum op memory_ops)
-        ((P - NULL_CELL, 0) ∷ upper_of 1 a.now (W / 16)))
-        1 1 result }
-    ensures below { IfOk result (λ w. w < S.meaning.wires s.new) }
-{
-    let null = -F::from(NULL_CELL);
-    set_opcodes(&mut scratch.a, op, &MEMORY_OPS);
-    scratch.b.clear();
-    scratch.b.plus(null, Wire(0));
-    plus_upper(&mut scratch.b, F::ONE, a, W / 16);
-    scratch.c.clear();
-    scratch.c.plus(null, Wire(0));
-    accumulated(s, scratch)
-}
-
-// Constrains the cell, which is that of the next word of tape 0 where one is taken.
-fn put_cell<S: Sink>(
-    s: &mut S,
-    scratch: &mut Scratch,
-    before: Wire,
-    located: Wire,
-    taken: Wire,
+    side: Wire,
+    new: Wire,
+    beside: Wire,
 ) -> Put<Wire>
     requires room { Room S.meaning s.old 1 1 }
-    requires wires_made { max before (max located taken) < S.meaning.wires s.old }
+    requires wires_made { max side (max new beside) < S.meaning.wires s.old }
     ensures emits { Emits S.meaning s.old s.new
-        (accumulated_of (wire located) ((P - 1, before) ∷ (1, taken) ∷ [])
-        ((TAPE_CELLS, 0) ∷ (1, before) ∷ (P - 1, located) ∷ []))
-        1 1 result }
+        (times_of (wire side) ((1, beside) ∷ (P - 1, new) ∷ [])) 1 1 result }
     ensures below { IfOk result (λ w. w < S.meaning.wires s.new) }
 {
-    set_rise(&mut scratch.a, before, taken);
-    scratch.b.clear();
-    scratch.b.plus(F::from(TAPE_CELLS), Wire(0));
-    scratch.b.plus(F::ONE, before);
-    scratch.b.plus(-F::ONE, located);
-    set_minus(&mut scratch.c, located);
-    accumulated(s, scratch)
+    scratch.a.set_wire(side);
+    scratch.b.set_difference(beside, new);
+    times_by(s, scratch)
 }
 
 // Constrains the byte of a word that the lowest bits of an address choose.
@@ -340,7 +280,8 @@ fn set_power<const W: u32>(lc: &mut Lc, a: Wire, both: Wire)
     }
 }
 
-/// Assigns the values of the wires that `put_memory` makes.
+/// Assigns the values of the wires that `put_memory` makes. The high half of the row is the word
+/// beside the data word at loads and stores.
 pub fn fill_memory<const W: u32, V: Values>(
     v: &mut V,
     state: &TraceState,
@@ -352,41 +293,13 @@ pub fn fill_memory<const W: u32, V: Values>(
     requires taken { state.now.primary ≤ step.now.n }
     requires whole { V.giving.broken v.old ≡ false }
     ensures gives { GivesIn V.giving v.old v.new
-        (memory_values W (traced_input state.now step.now) step.now.decomposed) result }
+        (memory_values W (traced_input state.now step.now) step.now.high step.now.decomposed)
+        result }
     ensures whole { OnOk result (V.giving.broken v.new ≡ false) }
 {
     give_values(v, &line_values::<W>(state, step))?;
     fill_bytes::<W, V>(v, step.low, step.operand)?;
-    give_values(v, &new_values::<W>(state, step))
-}
-
-// The values of the wires that `put_line` makes.
-fn line_values<const W: u32>(state: &TraceState, step: &StepNumbers) -> [F; 3]
-    requires width { IsWidth W }
-    requires step { AreNumbers W (traced_view state.now) step.now }
-    requires short { step.now.n < 2 ^ 29 }
-    requires taken { state.now.primary ≤ step.now.n }
-    ensures { result ≡ line_values W step.now.n (traced_view state.now) step.now.instr
-        step.now.low }
-{
-    let located = if touches(step.instr.op) {
-        step.operand / (W / 8)
-    } else {
-        NULL_CELL
-    };
-    let cell = if step.primary {
-        TAPE_CELLS + state.primary
-    } else {
-        located
-    };
-    [F::from(located), F::from(cell), F::from(step.old)]
-}
-
-/// Says whether an instruction loads or stores.
-pub fn touches(op: u8) -> bool
-    ensures { result ≡ among memory_ops op }
-{
-    matches!(op, STORE_B | LOAD_B | STORE_W | LOAD_W)
+    give_values(v, &stored_values::<W>(state, step))
 }
 
 // Assigns the values of the wires that `byte_at` makes, for a word and an address.
@@ -409,11 +322,12 @@ fn fill_bytes<const W: u32, V: Values>(v: &mut V, word: u32, at: u32) -> Put<()>
     }
 }
 
-// The values of the wires that `put_new` makes.
-fn new_values<const W: u32>(state: &TraceState, step: &StepNumbers) -> [F; 3]
+// The values of the wires that `put_new` and the two excesses make.
+fn stored_values<const W: u32>(state: &TraceState, step: &StepNumbers) -> [F; 5]
     requires width { IsWidth W }
     requires step { AreNumbers W (traced_view state.now) step.now }
-    ensures { result ≡ new_values W (traced_input state.now step.now) step.now.decomposed }
+    ensures { result ≡ new_values W (traced_input state.now step.now) step.now.decomposed
+        ++ excess_values W (traced_input state.now step.now) step.now.high }
 {
     let change = gained(step.low, step.operand % (W / 8), step.decomposed % 256);
     let changed = if step.instr.op == STORE_B {
@@ -421,14 +335,40 @@ fn new_values<const W: u32>(state: &TraceState, step: &StepNumbers) -> [F; 3]
     } else {
         F::ZERO
     };
-    let new = if step.instr.op == STORE_W {
+    let new = word_after::<W>(state, step);
+    let side = side_of::<W>(step);
+    let beside = word_beside(step);
+    let before = excess(side, step.old, beside);
+    let after = excess(side, new, beside);
+    [change, changed, F::from(new), before, after]
+}
+
+// The line's word after the step.
+fn word_after<const W: u32>(state: &TraceState, step: &StepNumbers) -> u32
+    requires width { IsWidth W }
+    requires step { AreNumbers W (traced_view state.now) step.now }
+    ensures { result ≡ (data_line W step.now.n (traced_view state.now) step.now.instr
+        step.now.low 0).new }
+{
+    if step.instr.op == STORE_W {
         step.other
     } else if step.instr.op == STORE_B {
         with_byte::<W>(step.low, step.operand % (W / 8), step.other % 256)
     } else {
         step.old
-    };
-    [change, changed, F::from(new)]
+    }
+}
+
+// By how much a double cell's first word exceeds a word at its side, modulo P.
+#[inline]
+fn excess(side: bool, word: u32, other: u32) -> F
+    ensures { result ≡ excess_of side word other }
+{
+    if side {
+        F::from(other) - F::from(word)
+    } else {
+        F::ZERO
+    }
 }
 
 // What a word gains by another byte in place of its byte number `j`.
@@ -453,7 +393,7 @@ fn with_byte<const W: u32>(word: u32, j: u32, byte: u32) -> u32
 }
 
 /// The laws of the data line. An assignment that meets the constraints has the data line of the
-/// step, and the byte, and one that has these meets the constraints. They also say which wires
+/// step, the words of its double cell, and the byte, and one that has these meets the constraints. They also say which wires
 /// `put_memory` returns, that `fill_memory` assigns one number to each wire that it makes, and how
 /// many constraints and terms memory costs.
 pub fn memory_laws()

@@ -9,5 +9,5 @@ returns-in_err-fill_bits g c =
 pub returns-clause-gives : goal.returns-clause-gives
 returns-clause-gives g c =
     let bits = rw (c.from.ensures, c.decomposed_word.ensures) at c.in_ok-fill_bits.ensures.gives in
-    let row = rw c.is_signed_product.ensures at c.fill_double_row.ensures.gives in
+    let row = rw c.is_free.ensures at c.fill_double_row.ensures.gives in
     in_given _ _ _ bits row

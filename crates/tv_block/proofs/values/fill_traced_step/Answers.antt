@@ -16,7 +16,7 @@ returns-in_err-fill_computed-clause-gives g c =
     let v : View = traced_view c.args.state.now in
     let test = c.test_of-test.result in
     let tests = rw c.results_values-results.ensures at c.test_of-test.ensures in
-    let same = filled w c.args.n v c.args.head c.args.tail c.args.word c.args.takes step test s.by.count s.by.instr s.by.aux
+    let same = filled w c.args.n v c.args.head c.args.tail c.args.word c.args.takes c.args.beside step test s.by.count s.by.instr s.by.aux
     s.by.low s.by.high s.numbers.numbers tests in
     let given = gives_refused_then m _ (effects_by w v step test) _ _ _ c.in_err-fill_computed.ensures.gives in
     gives_refused m _ _ _ c.from_residual.result c.from_residual.ensures.1
@@ -31,7 +31,7 @@ returns-clause-gives g c =
     let v : View = traced_view c.args.state.now in
     let test = c.test_of-test.result in
     let tests = rw c.results_values-results.ensures at c.test_of-test.ensures in
-    let same = filled w c.args.n v c.args.head c.args.tail c.args.word c.args.takes step test s.by.count s.by.instr s.by.aux
+    let same = filled w c.args.n v c.args.head c.args.tail c.args.word c.args.takes c.args.beside step test s.by.count s.by.instr s.by.aux
     s.by.low s.by.high s.numbers.numbers tests in
     let given = gives_in_then m _ (effects_by w v step test) _ _ _ _ c.in_ok-fill_computed.ensures.gives c.fill_effects.ensures.gives in
     subst (λ (l : List ℕ). GivesIn m c.args.v.now c.fill_effects.new.v l c.fill_effects.result) same given

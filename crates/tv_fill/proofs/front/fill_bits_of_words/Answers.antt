@@ -1,7 +1,7 @@
 use Rattle.tv_core.proofs.Common.{ℕ, length, ap, slice_index, gives_refused}
 use Rattle.tv_bits.specs.Bits.{bits_values}
 use Rattle.tv_core.proofs.JoinedLaws.{gives_no_list, gives_list, gives_list_refused}
-use Rattle.tv_argument.proofs.FillingLaws.{given_all, given_some}
+use Rattle.tv_double_argument.proofs.Given.{given_all, given_some}
 use Rattle.tv_fill.proofs.front.fill_bits_of_words.Goals as goal
 
 pub loop-word-init : goal.loop-word-init

@@ -1,6 +1,6 @@
 use Rattle.tv_core.proofs.Common.{ℕ, [], ◌∷◌, ap, first_given, in_given, gives_refused_whole}
 use Rattle.tv_core.proofs.ValuesChain.{some_given}
-use Rattle.tv_argument.proofs.FillingLaws.{given_all, given_some}
+use Rattle.tv_double_argument.proofs.Given.{given_all, given_some}
 use Rattle.tv_fill.proofs.front.fill_front.Goals as goal
 
 pub returns-in_err-give_values : goal.returns-in_err-give_values

@@ -1,5 +1,5 @@
 use Rattle.tv_core.proofs.Common.{◌≡◌, ◌≢◌, ℕ, zero, suc, ◌+◌, ◌-◌, ◌*◌, refl, sym, ap, ◌∙◌, arith}
-use Rattle.tv_block.specs.Complete.{block_made}
+use Rattle.tv_block.specs.Sizes.{block_made}
 use Rattle.tv_block.specs.Places.{next_state}
 use Rattle.tv_layout.specs.Places.{zero_wires_at, first_at}
 use Rattle.tv_layout.specs.StateBefore.{state_before}

@@ -1,7 +1,7 @@
 use Rattle.tv_core.proofs.Common.{◌≡◌, ℕ, ◌+◌, ◌*◌, ◌<◌, ◌≤◌, arith, emits_as, emits_no_turn, emits_turn, refused, turn_some}
 use Rattle.std.proofs.Math.Nat.{mul-le-mul_right}
 use Rattle.tv_block.specs.Block.{block_of}
-use Rattle.tv_block.specs.Complete.{block_made, block_added}
+use Rattle.tv_block.specs.Sizes.{block_made, block_added}
 use Rattle.tv_core.proofs.Rooms.{room_left}
 use Rattle.tv_layout.proofs.FirstState.{first_under}
 use Rattle.tv_layout.specs.Layout.{before_steps, step_of, steps_of}

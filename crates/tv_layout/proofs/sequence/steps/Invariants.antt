@@ -1,6 +1,6 @@
 use Rattle.tv_core.proofs.Common.{ℕ, ◌*◌, turns, EmitsAll}
 use Rattle.tv_block.specs.Block.{block_of}
-use Rattle.tv_block.specs.Complete.{block_made, block_added}
+use Rattle.tv_block.specs.Sizes.{block_made, block_added}
 use Rattle.tv_layout.specs.Layout.{before_steps, step_of}
 use Rattle.tv_layout.specs.Reached.{ReachedUnder}
 use Rattle.tv_layout.proofs.sequence.steps.Given as goal

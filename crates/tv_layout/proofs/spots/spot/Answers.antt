@@ -11,8 +11,8 @@ pub returns-clause-is : goal.returns-clause-is
 returns-clause-is g c time =
     let w = g.row.W in
     let state = state_before w (zero_wires_at w c.args.n) (first_at w c.args.n) c.args.step in
-    c.block_spot.ensures.is state (time + 3 * c.args.step)
-    ∙ ap (λ at. (block_wires w state (time + 3 * c.args.step) at).spot) c.step_at.ensures
+    c.block_spot.ensures.is c.args.n state (time + 3 * c.args.step)
+    ∙ ap (λ at. (block_wires w c.args.n state (time + 3 * c.args.step) at).spot) c.step_at.ensures
     ∙ sym (ap (λ (b : Block). b.spot) (block_is w c.requires.fits.width c.args.n time (zero_wires_at w c.args.n) (first_at w c.args.n) c.args.step))
 
 pub returns-clause-taken : goal.returns-clause-taken

@@ -1,10 +1,12 @@
-use Rattle.tv_core.proofs.Common.{◌≡◌, ◌+◌, ◌*◌, All, subst, arith, some_then, some_first, refused_whole, then_in, emits_in}
-use Rattle.tv_block.specs.Block.{block_of}
-use Rattle.tv_block.specs.Complete.{block_made}
-use Rattle.tv_layout.proofs.LinePlaces.{lines_made}
-use Rattle.tv_layout.proofs.SystemSizes.{system_fits, checks_short, own_few, own_wires, own_constraints}
-use Rattle.tv_argument.specs.Memory.{IsMade}
-use Rattle.tv_layout.specs.Layout.{own_lines, layout_of}
+use Rattle.tv_core.proofs.Common.{◌≡◌, ◌+◌, ◌*◌, subst, arith, some_then, some_first, refused_whole, then_in, emits_in}
+use Rattle.tv_block.specs.Sizes.{block_made}
+use Rattle.tv_double_argument.specs.Memory.{AreMade}
+use Rattle.tv_layout.proofs.DoublePlaces.{doubles_made}
+use Rattle.tv_layout.proofs.MemoryCosts.{wires_are, constraints_are}
+use Rattle.tv_layout.proofs.PartPlaces.{doubles_most, doubles_some, kinds_short}
+use Rattle.tv_layout.proofs.SystemSizes.{system_fits}
+use Rattle.tv_layout.specs.Doubles.{double_lines}
+use Rattle.tv_layout.specs.Layout.{layout_of}
 use Rattle.tv_layout.specs.Places.{boot_count, first_at, runs_of}
 use Rattle.tv_layout.proofs.system.emit_system.Goals as goal
 
@@ -27,10 +29,13 @@ tie-requires-clause-answer_made g c =
     omega (arith, (c.in_ok-last.ensures.emits 0).grows.wires, zero_wires.wires, c.in_ok-words.ensures.emits.grows.wires, c.requires.begins)
 
 pub memory-requires-clause-few : goal.memory-requires-clause-few
-memory-requires-clause-few g c = own_few c.args.net _ c.requires.fits
+memory-requires-clause-few g c = doubles_most _ c.requires.fits
 
-pub memory-requires-clause-checks : goal.memory-requires-clause-checks
-memory-requires-clause-checks g c = checks_short _ c.requires.fits _
+pub memory-requires-clause-some : goal.memory-requires-clause-some
+memory-requires-clause-some g c = doubles_some _ c.requires.fits
+
+pub memory-requires-clause-short : goal.memory-requires-clause-short
+memory-requires-clause-short g c = kinds_short _ c.requires.fits
 
 pub memory-requires-clause-room : goal.memory-requires-clause-room
 memory-requires-clause-room g c =
@@ -43,10 +48,10 @@ memory-requires-clause-room g c =
       whole = tie.whole;
       constant = omega (arith, tie.wires, steps.wires, zero_wires.wires, words.wires, c.requires.begins);
       wires =
-          let own = own_wires c.args.net _ c.requires.fits in
+          let own = wires_are c.args.net _ c.requires.fits in
           omega (arith, own, fits.wires, tie.wires, steps.wires, zero_wires.wires, words.wires, c.requires.begins);
       constraints =
-          let own = own_constraints c.args.net _ c.requires.fits in
+          let own = constraints_are c.args.net _ c.requires.fits in
           omega (arith, own, fits.constraints, tie.constraints, steps.constraints, zero_wires.constraints, words.constraints, c.requires.empty);
     }
 
@@ -58,8 +63,7 @@ memory-requires-clause-made g c =
     let tie = c.in_ok-tie.ensures.emits.grows in
     let wires : first_at g.row.W c.args.n + c.args.t * block_made g.row.W
     ≡ g.S.Sink.meaning.wires c.tie.new.s = omega (arith, tie.wires, steps.wires, zero_wires.wires, words.wires, c.requires.begins) in
-    subst (λ wires. All (IsMade wires) (own_lines (block_of g.row.W) (runs_of g.row.W c.args.image.now c.args.n c.args.t))) wires
-    (lines_made _ c.requires.fits)
+    subst (λ wires. AreMade wires (double_lines (runs_of g.row.W c.args.image.now c.args.n c.args.t))) wires (doubles_made _ c.requires.fits)
 
 pub returns-in_err-words : goal.returns-in_err-words
 unfolding layout_of
@@ -88,8 +92,8 @@ returns-in_err-tie g c =
 pub returns : goal.returns
 unfolding layout_of
 returns g c =
-    let wires = own_wires c.args.net _ c.requires.fits in
-    let constraints = own_constraints c.args.net _ c.requires.fits in
+    let wires = wires_are c.args.net _ c.requires.fits in
+    let constraints = constraints_are c.args.net _ c.requires.fits in
     let words = rw c.tape_wire.ensures at c.in_ok-words.ensures.emits in
     record {
       emits = emits_in _ _ _ _ _ (omega (arith, wires)) (omega (arith, constraints)) (then_in _ _ _ _ _ words

@@ -17,5 +17,5 @@ pub returns-clause-gives : goal.returns-clause-gives
 returns-clause-gives g c =
     let part0 = rw c.line_values.ensures at c.in_ok-give_values.ensures.gives in
     let part1 = rw c.requires.step.operand at c.in_ok-fill_bytes.ensures.gives in
-    let part2 = rw c.new_values.ensures at c.give_values-2.ensures.gives in
+    let part2 = rw c.stored_values.ensures at c.give_values-2.ensures.gives in
     in_given _ _ _ part0 (in_given _ _ _ part1 part2)

@@ -1,4 +1,4 @@
-use Rattle.tv_core.proofs.Common.{refl, List, ℕ, Option, subst, ap, ap₂, ◌∙◌}
+use Rattle.tv_core.proofs.Common.{refl, slice_index, List, ℕ, Option, subst, ap, ap₂, ◌∙◌}
 use Rattle.std.specs.Prelude.{is_some, unwrap_or}
 use Rattle.tv_block.proofs.StepFills.{same_values}
 use Rattle.tv_block.specs.Values.{block_values}
@@ -11,7 +11,7 @@ use Rattle.tv_fill.proofs.steps.Steps.fill_step.Goals as goal
 pub returns-clause-gives : goal.returns-clause-gives
 unfolding traced_values
 returns-clause-gives g c =
-    let same = same_values (λ v head tail o takes. block_values g.row.W c.args.n v (step_words head tail o takes)) {v = traced_view
+    let same = same_values (λ v head tail o takes. block_values g.row.W c.args.n v (step_words head tail o takes) (slice_index c.args.self.now.besides.now c.args.i)) {v = traced_view
     (traced_state_at c.args.self.now.states.now c.args.i)} refl c.old-head.ensures c.old-tail.ensures
     (c.unwrap_or-word.ensures ∙ ap₂ (λ (word : Option ℕ) (old : ℕ). unwrap_or word old) c.taken-taken.ensures c.old.ensures)
     (c.is_some.ensures ∙ ap is_some c.taken-taken.ensures) in
